@@ -1,0 +1,2 @@
+//! Numbers and tags as the protocol-buffers encoding writes them.
+#![tactic(auto)]
