@@ -1,0 +1,4 @@
+pub mod Delivery
+pub mod Laws
+pub mod Record
+pub mod Tells

@@ -1,0 +1,8 @@
+//! Laws about the definitions: each is the contract of a function with nothing to do.
+ghost use Rattle.trace_model.specs.Laws.{AllRecordsTell};
+
+/// Where every emitted packet has its record, in order, and the first record alone is marked, the
+/// records tell of the emitted packets.
+pub fn all_records_tell()
+    ensures { AllRecordsTell }
+{}

@@ -1,0 +1,8 @@
+//! What the service promises, as definitions and laws about them; there is no program code here.
+//! A layer above may cite the definitions of `specs/` in its contracts, and the laws, which are
+//! public functions with empty bodies whose contracts are the statements.
+#![tactic(auto)]
+
+mod laws;
+
+pub use laws::all_records_tell;
