@@ -1,3 +1,7 @@
 pub mod Groups
+pub mod Joined
 pub mod Lengths
+pub mod Scanning
+pub mod Varints
+pub mod Whole
 pub mod Writing
