@@ -1,9 +1,9 @@
 -- How many bytes a varint and a tag have. `varint_lengths` is the set of them for callers.
-use Rattle.std.proofs.Common.{ℕ, suc, zero, ◌+◌, ◌*◌, ◌/◌, ◌^◌, ◌<◌, ◌≤◌, length, arith, inl, inr}
+use Rattle.std.proofs.Common.{◌≡◌, refl, ℕ, suc, zero, ◌+◌, ◌*◌, ◌/◌, ◌^◌, ◌<◌, ◌≤◌, length, arith, inl, inr}
 use Rattle.std.proofs.lemmas.Bool.{cases_lt}
 use Rattle.std.proofs.lemmas.Nat.{div_below}
 use Rattle.std.proofs.Math.Nat.{pow-suc}
-use Rattle.wire_varint.specs.Varint.{groups, varint, tag}
+use Rattle.wire_varint.specs.Varint.{groups, varint, redundant, tag}
 use Rattle.wire_varint.proofs.Groups.{groups_last, groups_more}
 
 pub length-groups-pos : (most n : ℕ) → 1 ≤ length (groups (suc most) n)
@@ -54,4 +54,8 @@ pub length-tag-le : (field wire : ℕ) → field ≤ 536870911 → wire < 8 → 
 unfolding tag
 length-tag-le field wire in_range small = length-varint-below 4 (8 * field + wire) (omega arith)
 
-pub ruleset varint_lengths = (length-varint-pos, length-varint-le, length-tag-pos, length-tag-le)
+pub length-redundant : (n : ℕ) → length (redundant n) ≡ 4
+unfolding redundant
+length-redundant n = refl
+
+pub ruleset varint_lengths = (length-varint-pos, length-varint-le, length-tag-pos, length-tag-le, length-redundant)

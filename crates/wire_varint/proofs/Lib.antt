@@ -1,3 +1,5 @@
+pub mod ByteBounds
+pub mod FewBytes
 pub mod Groups
 pub mod Joined
 pub mod Lengths

@@ -1,10 +1,10 @@
 -- The loop that reads a varint: what it has read, and what each end of it says.
 use Rattle.std.proofs.Common.{◌≡◌, ◌≢◌, ℕ, ◌+◌, ◌*◌, ◌%◌, ◌^◌, ◌<◌, ◌≤◌, List, [], ◌∷◌, length, take, get_or, arith, All, sym, refl, ◌∙◌, add-one, inl, inr}
-use Rattle.std.proofs.lemmas.Bool.{cases_lt}
+use Rattle.std.proofs.lemmas.Bool.{cases_lt, cases_eq}
 use Rattle.std.proofs.lemmas.List.{take_more, take-take, length-take-le, get_or-take, length-take, take_all}
 use Rattle.std.proofs.lemmas.List.Elements.{All-more, All-take}
 use Rattle.std.proofs.Math.Nat.{pow-le-pow_right, mul-le-mul_left, pow-suc}
-use Rattle.wire_varint.specs.Reading.{joined, IsVarint}
+use Rattle.wire_varint.specs.Reading.{joined, IsVarint, NoVarintInFront}
 use Rattle.wire_varint.proofs.Joined.{joined-append}
 use Rattle.wire_varint.proofs.Whole.{IsWhole-push, high_not_whole, last_low}
 
@@ -23,11 +23,23 @@ read_below bytes at value scale group read small =
     let most : 128 ^ at * group ≤ 128 ^ at * 127 = mul-le-mul_left (128 ^ at) (omega arith) in
     rw (read.scale_is, add-one, pow-suc 128 at) (omega (arith, most, read.small))
 
-pub read_fits : (bytes : List ℕ) (at value scale group : ℕ) → IsReadUpTo bytes at value scale → group < 128 → at ≢ 9
+pub scale_fits : (bytes : List ℕ) (at value scale : ℕ) → IsReadUpTo bytes at value scale → at ≢ 9 → scale * 128 < 2 ^ 64
+scale_fits bytes at value scale read before =
+    let most : 128 ^ at ≤ 128 ^ 8 = pow-le-pow_right {n = 128} (omega arith) {i = at} {j = 8} (omega arith) in
+    omega (arith, most, read.scale_is)
+
+-- of the tenth byte one bit is left
+pub read_fits : (bytes : List ℕ) (at value scale group : ℕ) → IsReadUpTo bytes at value scale → group < 128 → (at ≡ 9 → group ≤ 1)
     → value + scale * group < 2 ^ 64
-read_fits bytes at value scale group read small before =
-    let most : 128 ^ (at + 1) ≤ 128 ^ 9 = pow-le-pow_right {n = 128} (omega arith) {i = at + 1} {j = 9} (omega arith) in
-    omega (arith, most, read_below bytes at value scale group read small)
+read_fits bytes at value scale group read small tenth = elim (cases_eq at 9) [
+  | inl is ↦
+      let scale_is : scale ≡ 128 ^ 9 = rw is at read.scale_is in
+      let below : value < 128 ^ 9 = rw is at read.small in
+      rw scale_is (omega (arith, below, tenth is))
+  | inr before ↦
+      let most : 128 ^ (at + 1) ≤ 128 ^ 9 = pow-le-pow_right {n = 128} (omega arith) {i = at + 1} {j = 9} (omega arith) in
+      omega (arith, most, read_below bytes at value scale group read small)
+]
 
 pub joined_more : (bytes : List ℕ) (at value scale group : ℕ) → IsReadUpTo bytes at value scale → at < length bytes
     → group ≡ get_or bytes at 0 % 128 → joined (take (at + 1) bytes) ≡ value + scale * group
@@ -46,44 +58,29 @@ read_more bytes at value scale group read within high is before = record {
   small = read_below bytes at value scale group read (omega (arith, is));
 }
 
+-- the byte that ends a varint
 pub read_last : (bytes : List ℕ) (at value scale group : ℕ) → IsReadUpTo bytes at value scale → at < length bytes
-    → get_or bytes at 0 < 128 → group ≡ get_or bytes at 0 % 128 → value + scale * group < 2 ^ 64
+    → get_or bytes at 0 < 128 → group ≡ get_or bytes at 0 % 128 → (at ≡ 9 → get_or bytes at 0 ≤ 1)
     → IsVarint (take (at + 1) bytes) (value + scale * group)
-read_last bytes at value scale group read within low is fits = record {
+read_last bytes at value scale group read within low is tenth = record {
   whole = rw (take_more bytes at 0 within) (IsWhole-push (take at bytes) (get_or bytes at 0) read.high low);
   most = omega (arith, length-take (at + 1) bytes, read.place);
   value = joined_more bytes at value scale group read within is;
-  fits = fits;
+  fits = read_fits bytes at value scale group read (omega (arith, is)) (λ nine. omega (arith, is, tenth nine));
 }
 
--- the byte that ends a varint of at most nine bytes
-pub read_end : (bytes : List ℕ) (at value scale group : ℕ) → IsReadUpTo bytes at value scale → at < length bytes
-    → get_or bytes at 0 < 128 → group ≡ get_or bytes at 0 % 128 → at ≢ 9
-    → IsVarint (take (at + 1) bytes) (value + scale * group)
-read_end bytes at value scale group read within low is before =
-    read_last bytes at value scale group read within low is (read_fits bytes at value scale group read (omega (arith, is)) before)
-
--- the tenth byte, of which one bit is left
-pub read_tenth : (bytes : List ℕ) (at value scale group : ℕ) → IsReadUpTo bytes at value scale → at < length bytes
-    → get_or bytes at 0 ≤ 1 → group ≡ get_or bytes at 0 % 128 → at ≡ 9
-    → IsVarint (take 10 bytes) (value + scale * group)
-read_tenth bytes at value scale group read within low is tenth =
-    let at_nine : IsReadUpTo bytes 9 value scale = rw tenth at read in
-    let fits : value + scale * group < 2 ^ 64 = rw at_nine.scale_is (omega (arith, at_nine.small, is, low)) in
-    rw tenth at (read_last bytes at value scale group read within (omega arith) is fits)
-
 -- where each byte goes on, no varint stands in front
-pub none_short : (bytes : List ℕ) → All (λ b. 128 ≤ b) bytes → (n len : ℕ) → IsVarint (take len bytes) n → ⊥
+pub none_short : (bytes : List ℕ) → All (λ b. 128 ≤ b) bytes → NoVarintInFront bytes
 none_short bytes high n len found = high_not_whole (take len bytes) (All-take (λ b. 128 ≤ b) len bytes high) found.whole
 
 -- where the bytes end with one that goes on, none does
 pub none_end : (bytes : List ℕ) (at value scale : ℕ) → IsReadUpTo bytes at value scale → length bytes ≤ at
-    → (n len : ℕ) → IsVarint (take len bytes) n → ⊥
+    → NoVarintInFront bytes
 none_end bytes at value scale read end = none_short bytes (rw (take_all at bytes end) at read.high)
 
 -- where nine bytes go on and the tenth is above 1, none does
 pub none_over : (bytes : List ℕ) (at value scale : ℕ) → IsReadUpTo bytes at value scale → at < length bytes → 1 < get_or bytes at 0 → at ≡ 9
-    → (n len : ℕ) → IsVarint (take len bytes) n → ⊥
+    → NoVarintInFront bytes
 none_over bytes at value scale read within large tenth n len found = elim (cases_lt len 10) [
   | inl early ↦ none_short (take 9 bytes) (rw tenth at read.high) n len (rw (take-take len 9 bytes (omega arith)) found)
   | inr late ↦

@@ -1,7 +1,7 @@
 -- The laws of varints.
 use Rattle.std.proofs.Common.{◌≡◌, ℕ, ◌+◌, ◌*◌, ◌^◌, ◌<◌, ◌≤◌, List, [], ◌∷◌, ◌++◌, length, sym, ◌∙◌, ap, arith, refl, take, drop, Result, Ok, Err, IfOk, OnErr}
 use Rattle.std.proofs.lemmas.List.{take-append-drop, length-take-le, take_at, drop_at}
-use Rattle.wire_varint.specs.Reading.{joined, IsVarint}
+use Rattle.wire_varint.specs.Reading.{joined, IsVarint, NoVarintInFront}
 use Rattle.wire_varint.specs.Varint.{varint, redundant, tag}
 use Rattle.wire_varint.specs.declared.read.VarintFault.{VarintFault}
 use Rattle.wire_varint.proofs.Joined.{joined-lt, joined-groups}
@@ -40,6 +40,20 @@ one_varint front other behind follows m n p q e =
     sym (drop_at front behind (length front) refl) ∙ (ap (drop (length front)) e ∙ drop_at other follows (length front) (ap length (sym same))) in
     (same, sym p.value ∙ (ap joined same ∙ q.value), rest)
 
+-- two readings of the front of the same bytes are one
+pub one_front : (bytes : List ℕ) (l k m n : ℕ) → l ≤ length bytes → k ≤ length bytes → IsVarint (take l bytes) m → IsVarint (take k bytes) n
+    → (l ≡ k) × (m ≡ n)
+one_front bytes l k m n l_within k_within p q =
+    let one : (take l bytes ≡ take k bytes) × (m ≡ n) × (drop l bytes ≡ drop k bytes) =
+    one_varint (take l bytes) (take k bytes) (drop l bytes) (drop k bytes) m n p q (take-append-drop l bytes ∙ sym (take-append-drop k bytes)) in
+    (sym (length-take-le l bytes l_within) ∙ (ap length one.0 ∙ length-take-le k bytes k_within), one.1)
+
+-- what is written in front can be told from what follows
+pub varint_cancels : (m n : ℕ) (x y : List ℕ) → m < 2 ^ 64 → n < 2 ^ 64 → varint m ++ x ≡ varint n ++ y → (m ≡ n) × (x ≡ y)
+varint_cancels m n x y p q e =
+    let one : (varint m ≡ varint n) × (m ≡ n) × (x ≡ y) = one_varint (varint m) (varint n) x y m n (varint_is_varint m p) (varint_is_varint n q) e in
+    (one.1, one.2)
+
 pub varint_shortest : (bytes : List ℕ) (n : ℕ) → IsVarint bytes n → length (varint n) ≤ length bytes
 varint_shortest [] n p = absurd p.whole
 varint_shortest (byte ∷ bytes) n p =
@@ -49,7 +63,7 @@ varint_shortest (byte ∷ bytes) n p =
 pub read_every : (bytes : List ℕ) (read : Result (ℕ × ℕ) VarintFault)
     → IfOk read (λ found. (1 ≤ found.1) × (found.1 ≤ length bytes))
     → IfOk read (λ found. IsVarint (take found.1 bytes) found.0)
-    → OnErr read ((n len : ℕ) → IsVarint (take len bytes) n → ⊥)
+    → OnErr read (NoVarintInFront bytes)
     → (front rest : List ℕ) (n : ℕ) → IsVarint front n → bytes ≡ front ++ rest → read ≡ Ok (n, length front)
 read_every bytes (Ok (m, len)) within found none front rest n p e =
     let one : (take len bytes ≡ front) × (m ≡ n) × (drop len bytes ≡ rest) = one_varint (take len bytes) front (drop len bytes) rest m n found p (take-append-drop len bytes ∙ e) in

@@ -1,4 +1,8 @@
-//! Numbers and tags as the protocol-buffers encoding writes them.
+//! Numbers and tags as the protocol-buffers encoding writes them: seven bits a byte, the lowest
+//! first, and the high bit on each byte but the last.
+//! A layer above may rely on what is written being the shortest varint, on a reading answering the
+//! one varint that stands in front, whatever follows, and on each refusal having its cause. The
+//! form of four bytes is a varint too. The laws are public functions with empty bodies.
 #![tactic(auto)]
 
 mod laws;

@@ -1,9 +1,9 @@
-//! The varint of four bytes, which has one length whatever the number.
+//! Numbers in four bytes, so that room can be left for one before it is known.
 ghost use Rattle.std.specs.Prelude.{◌≡◌, ℕ, ◌^◌, ◌<◌};
 ghost use Rattle.wire_varint.specs.Reading.{joined};
 ghost use Rattle.wire_varint.specs.Varint.{redundant};
 
-/// The varint of four bytes of `value`: its space can be left before the value is known.
+/// The varint of four bytes of `value`.
 #[tactic(auto, unfolding(crate::specs::Varint::redundant))]
 pub fn put_redundant(value: u32) -> [u8; 4]
     requires { value < 2 ^ 28 }

@@ -4,7 +4,7 @@ ghost use Rattle.wire_varint.specs.Varint.{varint, tag};
 
 use trace_base::limits::MAX_FIELD;
 
-/// The shortest varint of `value` in the first bytes of `out`, and its length, 1 to 10.
+/// Writes the shortest varint of `value` into the first bytes of `out`, and answers its length.
 #[tactic(auto, using(crate::proofs::Lengths::varint_lengths))]
 pub fn put_varint(value: u64, out: &mut [u8; 10]) -> usize
     ensures written { take result out.new ≡ varint value }
@@ -15,7 +15,9 @@ pub fn put_varint(value: u64, out: &mut [u8; 10]) -> usize
     put_shortest(value, out)
 }
 
-/// The tag of a field in the first bytes of `out`, and its length, 1 to 5.
+/// Writes what stands in front of a field into the first bytes of `out`, and answers its length.
+/// `wire` says how the value is written: 0 as a varint, 1 in eight bytes, 2 with its length in
+/// front, 5 in four bytes; 3 and 4 enclose a group.
 #[tactic(auto, using(crate::proofs::Lengths::varint_lengths), unfolding(crate::specs::Varint::tag))]
 pub fn put_tag(field: u32, wire: u8, out: &mut [u8; 5]) -> usize
     requires field { (1 ≤ field) × (field ≤ MAX_FIELD) }
@@ -28,7 +30,7 @@ pub fn put_tag(field: u32, wire: u8, out: &mut [u8; 5]) -> usize
     put_shortest(8 * u64::from(field) + u64::from(wire), out)
 }
 
-/// The shortest varint of `value` in the first bytes of `out`.
+/// `put_varint` into any array that has the room.
 #[tactic(auto, using(crate::proofs::Writing::writing_steps))]
 fn put_shortest(value: u64, out: &mut [u8]) -> usize
     requires { length (varint value) ≤ length out.old }
