@@ -1,1 +1,2 @@
+pub mod EncodingLemmas
 pub mod TellsLemmas

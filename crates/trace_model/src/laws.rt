@@ -1,5 +1,11 @@
 //! Laws about the definitions: each is the contract of a function with nothing to do.
+ghost use Rattle.trace_model.specs.EncodingLaws.{EncodingsAreAsLong};
 ghost use Rattle.trace_model.specs.Laws.{AllRecordsTell};
+
+/// The length of an encoding is the sum of the lengths of its parts.
+pub fn encodings_are_as_long()
+    ensures { EncodingsAreAsLong }
+{}
 
 /// Where every emitted packet has its record, in order, and the first record alone is marked, the
 /// records tell of the emitted packets.
