@@ -1,0 +1,104 @@
+-- A trace buffer: its records, and what is lost where a new record displaces others. After the tracing service's buffers
+-- document.
+use Rattle.std.specs.Prelude.{ℕ, Bool, true, false, ◌&&◌, not, nat_lt, ◌==◌, List, [], length, map, filter, find, sum_by, count_by, Option, if◌then◌else◌}
+use Rattle.trace_model.specs.Counts.{raised}
+use Rattle.trace_model.specs.Images.{Chunk}
+use Rattle.trace_model.specs.Places.{is_met}
+use Rattle.trace_model.specs.Sequences.{Sequence, unread_of, unread_starts, sequence_in}
+
+-- a record of a buffer: what it has of a chunk, and where it lies
+pub record BufferRecord : Type 0 where
+  pub sequence : ℕ
+  pub chunk_id : ℕ
+  pub at : ℕ
+  pub size : ℕ
+  pub chunk : Chunk
+
+-- what a full buffer does with a new record that would meet one with unread fragments
+pub data Policy : Type 0 where
+  Ring : Policy
+  Discard : Policy
+
+abbrev pub discards : Policy → Bool
+discards Ring = false
+discards Discard = true
+
+pub record Buffer : Type 0 where
+  -- its size in bytes
+  pub room : ℕ
+  pub policy : Policy
+  -- the write place
+  pub next : ℕ
+  -- the live records, in the order in which they got their places
+  pub live : List BufferRecord
+  -- a record was refused by the discard policy, and so is every later one that needs a new place
+  pub shut : Bool
+  -- records put in a new place; replaced in place; lost with unread fragments; complete images that got no place; live
+  -- records that awaited a patch when their sequence was closed; bytes of padding
+  pub placed : ℕ
+  pub rewritten : ℕ
+  pub overwritten : ℕ
+  pub discarded : ℕ
+  pub unpatched : ℕ
+  pub padding : ℕ
+  pub sequences : List Sequence
+
+abbrev pub empty_buffer : ℕ → Policy → List Sequence → Buffer
+empty_buffer room policy sequences = record {
+  room = room;
+  policy = policy;
+  next = 0;
+  live = [];
+  shut = false;
+  placed = 0;
+  rewritten = 0;
+  overwritten = 0;
+  discarded = 0;
+  unpatched = 0;
+  padding = 0;
+  sequences = sequences;
+}
+
+-- the record is of this chunk
+abbrev pub is_of : ℕ → ℕ → BufferRecord → Bool
+is_of sequence chunk_id r = (r.sequence == sequence) && (r.chunk_id == chunk_id)
+
+abbrev pub live_at : Buffer → ℕ → ℕ → Option BufferRecord
+live_at b sequence chunk_id = find (is_of sequence chunk_id) b.live
+
+-- Losses
+
+-- a next record of this size, or its padding, meets the record
+abbrev pub meets : Buffer → ℕ → BufferRecord → Bool
+meets b size r = is_met b.room b.next size r.at r.size
+
+-- how many fragments of the record its reader hasn't passed
+abbrev pub unread_in : Sequence → BufferRecord → ℕ
+unread_in s r = unread_of s r.chunk_id (length r.chunk.fragments)
+
+abbrev pub is_unread : List Sequence → BufferRecord → Bool
+is_unread sequences r = nat_lt 0 (unread_in (sequence_in sequences r.sequence) r)
+
+-- Losing the record loses something of the sequence: it is one of its records, and no partial one of an open sequence,
+-- whose chunk is still to come whole.
+abbrev pub is_loss_of : Sequence → BufferRecord → Bool
+is_loss_of s r = (r.sequence == s.number) && not (r.chunk.partial && not s.closed)
+
+abbrev pub is_unread_loss : Sequence → BufferRecord → Bool
+is_unread_loss s r = is_loss_of s r && nat_lt 0 (unread_in s r)
+
+-- how many packets the sequence loses with the record
+abbrev pub packets_lost : Sequence → BufferRecord → ℕ
+packets_lost s r = if is_loss_of s r then unread_starts s r.chunk_id r.chunk else 0
+
+-- the sequence once these records are lost
+abbrev pub with_losses : List BufferRecord → Sequence → Sequence
+with_losses records s = record s { lost = raised s.lost (sum_by (packets_lost s) records) }
+
+-- the buffer once a next record of this size has displaced what it meets
+abbrev pub made_room : Buffer → ℕ → Buffer
+made_room b size = record b {
+  live = filter (λ r. not (meets b size r)) b.live;
+  overwritten = raised b.overwritten (sum_by (λ r. count_by (λ s. is_unread_loss s r) b.sequences) (filter (meets b size) b.live));
+  sequences = map (with_losses (filter (meets b size) b.live)) b.sequences;
+}

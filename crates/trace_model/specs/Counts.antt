@@ -1,0 +1,13 @@
+-- Counts that stay at the last value of 64 bits.
+use Rattle.std.specs.Prelude.{ℕ, ◌+◌, ◌-◌, ◌^◌, min, max, Bool, true, false}
+
+abbrev pub last_count : ℕ
+last_count = 2 ^ 64 - 1
+
+-- a count that rises, up to the last value
+abbrev pub raised : ℕ → ℕ → ℕ
+raised count more = max count (min (count + more) last_count)
+
+abbrev pub one_if : Bool → ℕ
+one_if true = 1
+one_if false = 0

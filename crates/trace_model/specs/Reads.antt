@@ -1,0 +1,138 @@
+-- What a read delivers of a row, what it passes, and where it ends.
+use Rattle.std.specs.Prelude.{ℕ, ◌-◌, Bool, true, false, ◌&&◌, ◌||◌, not, ◌==◌, List, [], ◌∷◌, count_by, if◌then◌else◌}
+use Rattle.trace_model.specs.Counts.{raised, one_if}
+use Rattle.trace_model.specs.Sequences.{Sequence, Cursor, sequence_in, changed_at}
+use Rattle.trace_model.specs.Buffers.{Buffer}
+use Rattle.trace_model.specs.Row.{Fate, Whole, Marked, IntoLost, CutOff, Open, Link, Joined, Gap, Stop, bytes_of, row_from_cursor}
+
+-- why a packet isn't delivered: its writer dropped it; it was overwritten, or discarded; none of these
+pub data Cause : Type 0 where
+  Dropped : Cause
+  Lost : Cause
+  Cut : Cause
+
+-- what a read does at a link: it delivers the packet; it passes it and counts it under a cause; it passes something that
+-- is no packet, or was counted before; it ends
+pub data Turn : Type 0 where
+  Delivers : Turn
+  Counts : Cause → Turn
+  Skips : Turn
+  Ends : Turn
+
+abbrev pub turn_by : Fate → (headless awaits : Bool) → Turn
+turn_by Open headless awaits = Ends
+turn_by Whole true awaits = Skips
+turn_by Whole false awaits = if awaits then Counts Cut else Delivers
+turn_by Marked headless awaits = if headless then Skips else Counts Dropped
+turn_by IntoLost headless awaits = if headless then Skips else Counts Lost
+turn_by CutOff headless awaits = if headless then Skips else Counts Cut
+
+abbrev pub turn_of : Link → Turn
+turn_of (Joined chain) = turn_by chain.fate chain.headless chain.awaits
+turn_of (Gap at next lost) = Skips
+turn_of (Stop at why may) = Ends
+
+abbrev pub delivers : Turn → Bool
+delivers Delivers = true
+delivers other = false
+
+abbrev pub ends : Turn → Bool
+ends Ends = true
+ends other = false
+
+abbrev pub is_same_cause : Cause → Cause → Bool
+is_same_cause Dropped Dropped = true
+is_same_cause Lost Lost = true
+is_same_cause Cut Cut = true
+is_same_cause cause other = false
+
+abbrev pub counts_under : Cause → Turn → Bool
+counts_under cause (Counts other) = is_same_cause cause other
+counts_under cause turn = false
+
+-- the links that a read passes, delivered ones among them, and those that are left
+abbrev pub passed_by : ℕ → List Link → List Link
+passed_by limit [] = []
+passed_by limit (link ∷ links) =
+    if ends (turn_of link) || (delivers (turn_of link) && (limit == 0)) then []
+    else link ∷ passed_by (limit - one_if (delivers (turn_of link))) links
+
+abbrev pub left_by : ℕ → List Link → List Link
+left_by limit [] = []
+left_by limit (link ∷ links) =
+    if ends (turn_of link) || (delivers (turn_of link) && (limit == 0)) then link ∷ links
+    else left_by (limit - one_if (delivers (turn_of link))) links
+
+-- a packet as a read delivers it: its body, and whether the service marks it
+pub record Delivery : Type 0 where
+  pub body : List ℕ
+  pub marked : Bool
+
+abbrev pub link_bytes : Link → List ℕ
+link_bytes (Joined chain) = bytes_of chain.pieces
+link_bytes (Gap at next lost) = []
+link_bytes (Stop at why may) = []
+
+-- the packets of the links that are delivered; the mark stands where something was passed before
+abbrev pub delivered_of : Bool → List Link → List Delivery
+delivered_of marked [] = []
+delivered_of marked (link ∷ links) =
+    if delivers (turn_of link)
+    then record { body = link_bytes link; marked = marked } ∷ delivered_of false links
+    else delivered_of true links
+
+-- whether something was passed since the last delivery
+abbrev pub missing_after : Bool → List Link → Bool
+missing_after missing [] = missing
+missing_after missing (link ∷ links) = missing_after (not (delivers (turn_of link))) links
+
+abbrev pub next_of : Cursor → Link → Cursor
+next_of cursor (Joined chain) = chain.next
+next_of cursor (Gap at next lost) = next
+next_of cursor (Stop at why may) = cursor
+
+-- the cursor behind the links that were passed
+abbrev pub cursor_after : Cursor → List Link → Cursor
+cursor_after cursor [] = cursor
+cursor_after cursor (link ∷ links) = cursor_after (next_of cursor link) links
+
+abbrev pub count_of : (Turn → Bool) → List Link → ℕ
+count_of test links = count_by (λ link. test (turn_of link)) links
+
+-- the sequence once a read has passed these links
+abbrev pub sequence_after : List Link → Sequence → Sequence
+sequence_after links s = record s {
+  cursor = cursor_after s.cursor links;
+  missing = missing_after s.missing links;
+  delivered = raised s.delivered (count_of delivers links);
+  dropped = raised s.dropped (count_of (counts_under Dropped) links);
+  lost = raised s.lost (count_of (counts_under Lost) links);
+  cut = raised s.cut (count_of (counts_under Cut) links);
+}
+
+-- the first delivery of a sequence is marked, and one before which something was passed
+abbrev pub is_marked : Sequence → Bool
+is_marked s = s.missing || (s.delivered == 0)
+
+-- what a read of a sequence with a limit delivers, and the buffer after it
+abbrev pub delivered_by : Buffer → ℕ → ℕ → List Delivery
+delivered_by b sequence limit =
+    let s = sequence_in b.sequences sequence in
+    delivered_of (is_marked s) (passed_by limit (row_from_cursor b s))
+
+abbrev pub with_read : Buffer → ℕ → ℕ → Buffer
+with_read b sequence limit = record b {
+  sequences =
+      changed_at sequence (sequence_after (passed_by limit (row_from_cursor b (sequence_in b.sequences sequence)))) b.sequences;
+}
+
+-- The same one link at a time, as a reader goes on: the sequence once one thing was passed, up to a place.
+abbrev pub advanced : Cursor → Turn → Sequence → Sequence
+advanced to turn s = record s {
+  cursor = to;
+  missing = not (delivers turn);
+  delivered = raised s.delivered (one_if (delivers turn));
+  dropped = raised s.dropped (one_if (counts_under Dropped turn));
+  lost = raised s.lost (one_if (counts_under Lost turn));
+  cut = raised s.cut (one_if (counts_under Cut turn));
+}

@@ -1,0 +1,99 @@
+-- What a buffer knows of one sequence: what has arrived, how far a reader has come, and what was lost.
+use Rattle.std.specs.Prelude.{ℕ, zero, suc, ◌-◌, max, Bool, false, ◌&&◌, nat_lt, ◌==◌, List, [], ◌∷◌, length, map, if◌then◌else◌}
+use Rattle.std.specs.List.{list_any}
+use Rattle.trace_model.specs.Counts.{one_if}
+use Rattle.trace_model.specs.Images.{Chunk}
+
+-- a place in a sequence: a chunk, and how many of its fragments come before
+pub record Cursor : Type 0 where
+  pub chunk_id : ℕ
+  pub passed : ℕ
+
+pub record Sequence : Type 0 where
+  -- its sequence id
+  pub number : ℕ
+  -- the size of each of its records
+  pub size : ℕ
+  -- the ids that arrived complete, in the order of their arrival
+  pub arrived : List ℕ
+  -- what a reader has passed
+  pub cursor : Cursor
+  pub closed : Bool
+  -- the ids that had a live partial record when it was closed
+  pub final : List ℕ
+  -- something was passed since the last delivery
+  pub missing : Bool
+  -- the packets that were delivered; those whose drop mark was passed; those that were overwritten in a ring buffer or
+  -- discarded in a discard buffer; those that were passed as cut
+  pub delivered : ℕ
+  pub dropped : ℕ
+  pub lost : ℕ
+  pub cut : ℕ
+
+abbrev pub first_place : Cursor
+first_place = record { chunk_id = 0; passed = 0 }
+
+-- a sequence of which nothing has arrived
+abbrev pub fresh : ℕ → ℕ → Sequence
+fresh number size = record {
+  number = number;
+  size = size;
+  arrived = [];
+  cursor = first_place;
+  closed = false;
+  final = [];
+  missing = false;
+  delivered = 0;
+  dropped = 0;
+  lost = 0;
+  cut = 0;
+}
+
+abbrev pub is_among : ℕ → List ℕ → Bool
+is_among n numbers = list_any (λ m. m == n) numbers
+
+abbrev pub has_arrived : Sequence → ℕ → Bool
+has_arrived s chunk_id = is_among chunk_id s.arrived
+
+-- the least number from n on that isn't among these, of so many that are tried
+abbrev pub first_absent : ℕ → ℕ → List ℕ → ℕ
+first_absent zero n numbers = n
+first_absent (suc tries) n numbers = if is_among n numbers then first_absent tries (suc n) numbers else n
+
+-- the least id that hasn't arrived complete
+abbrev pub base_of : Sequence → ℕ
+base_of s = first_absent (length s.arrived) 0 s.arrived
+
+-- one above the greatest number, or 0
+abbrev pub above_all : List ℕ → ℕ
+above_all [] = 0
+above_all (n ∷ numbers) = max (suc n) (above_all numbers)
+
+-- one above the last id of which a closed sequence ever had anything
+abbrev pub end_of : Sequence → ℕ
+end_of s = max (above_all s.arrived) (above_all s.final)
+
+-- of so many fragments of an id, those that the cursor hasn't passed
+abbrev pub unread_of : Sequence → ℕ → ℕ → ℕ
+unread_of s chunk_id count =
+    if nat_lt chunk_id s.cursor.chunk_id then 0
+    else if chunk_id == s.cursor.chunk_id then count - s.cursor.passed
+    else count
+
+-- how many packets begin in the fragments of the chunk that the cursor hasn't passed
+abbrev pub unread_starts : Sequence → ℕ → Chunk → ℕ
+unread_starts s chunk_id chunk =
+    unread_of s chunk_id (length chunk.fragments)
+    - one_if (chunk.continues && (unread_of s chunk_id (length chunk.fragments) == length chunk.fragments))
+
+-- the sequence with this number among those of a buffer
+abbrev pub sequence_in : List Sequence → ℕ → Sequence
+sequence_in [] number = fresh number 0
+sequence_in (s ∷ others) number = if s.number == number then s else sequence_in others number
+
+abbrev pub is_known : List Sequence → ℕ → Bool
+is_known sequences number = list_any (λ s. s.number == number) sequences
+
+-- the sequences once this one has changed
+abbrev pub changed_at : ℕ → (Sequence → Sequence) → List Sequence → List Sequence
+changed_at number change sequences = map (λ s. if s.number == number then change s else s) sequences
