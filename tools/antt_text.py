@@ -4,11 +4,12 @@
 class Statement:
     """One run: what the specs file says of it, its fact's name, and the proof."""
 
-    def __init__(self, name, specs, proof, spoilt=None):
+    def __init__(self, name, specs, proof, wrong=None, uses=()):
         self.name = name
         self.specs = specs
         self.proof = proof
-        self.wrong = spoilt     # the same with a wrong number, where one was made
+        self.wrong = wrong      # the same with a wrong number, where one was made
+        self.uses = list(uses)  # what the proof names beside the fact
 
     def size(self):
         return len(self.specs)

@@ -64,8 +64,8 @@ def make_scratch(scratch):
     for line in lines:
         name = line.split(':')[0]
         target = os.path.join(scratch, 'crates', name)
-        if not os.path.exists(target):
-            shutil.copytree(os.path.join(top, 'crates', name), target)
+        shutil.rmtree(target, ignore_errors=True)
+        shutil.copytree(os.path.join(top, 'crates', name), target)
     crate = os.path.join(scratch, 'crates', 'computed')
     os.makedirs(os.path.join(crate, 'src'), exist_ok=True)
     os.makedirs(os.path.join(crate, 'proofs', 'holds'), exist_ok=True)
@@ -107,7 +107,7 @@ def is_as_wanted(crate, name, makers, group, right):
     """Checks one generated file; whether it was proved exactly where it is to be."""
     put(crate, 'specs/Runs.antt', makers.HEAD + '\n'.join(one.specs for one in group)
         + '\nabbrev pub Holds : Type 0\nHolds = ' + '\n    × '.join(one.name for one in group) + '\n')
-    names = ', '.join(one.name for one in group)
+    names = ', '.join(name for one in group for name in [one.name, *one.uses])
     put(crate, 'proofs/holds/Answers.antt', makers.PROOF_HEAD
         + f'use Rattle.computed.specs.Runs.{{{names}}}\nuse Rattle.computed.proofs.holds.Goals as goal\n\n'
         + ''.join(f'{one.name.lower()} : {one.name}\n{makers.UNFOLDING}{one.name.lower()} = {one.proof}\n\n' for one in group)

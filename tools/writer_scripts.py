@@ -1,1 +1,337 @@
-HEAD=WORDS=PROOF_HEAD=UNFOLDING=""
+"""Scripts of one writer's calls: its images are a cut of its packets, whose bodies are the model's."""
+
+import random
+from types import SimpleNamespace
+
+from antt_text import Statement, flag, listed, nested, octets, record
+from model import writers
+from model.wire import DROP_MARK, FRONT_MARK, OPEN_LENGTH, head_bytes, head_nested, head_number, put_redundant
+
+SEQUENCE = 2
+
+WORDS = '''-- What a script of a writer's calls is compared in.
+use Rattle.std.specs.Prelude.{◌≡◌, ℕ, List, map}
+use Rattle.trace_model.specs.Calls.{Call}
+use Rattle.trace_model.specs.Images.{Image, Patch}
+use Rattle.trace_model.specs.Reading.{Reading, Fragments, reading_of}
+use Rattle.trace_model.specs.Packets.{bodies_of, emissions_of, begun_count, dropped_at_begin, packets_of, AreCalls}
+use Rattle.trace_model.specs.Pages.{Page, chunk_of}
+use Rattle.trace_model.specs.Cut.{IsCut}
+
+pub record IsComputed (size : ℕ) (calls : List Call) (images : List Image) (patches : List (List Patch))
+    (bodies emissions : List (List ℕ)) (begun dropped : ℕ) : Type 0 where
+  pub possible : AreCalls calls
+  pub cut : IsCut size 2 calls images patches
+  pub kept : bodies_of calls ≡ bodies
+  pub emitted : emissions_of calls ≡ emissions
+  pub counted : begun_count calls ≡ begun
+  pub refused : dropped_at_begin calls ≡ dropped
+  pub read :
+    map (λ (image : Image). reading_of image.count image.payload) images
+    ≡ map (λ (page : Page). Fragments (chunk_of page).fragments) cut.pages
+'''
+
+HEAD = '''-- Scripts of a writer's calls.
+use Rattle.std.specs.Prelude.{ℕ, Bool, true, false, List, [], ◌∷◌, ◌++◌, replicate}
+use Rattle.trace_model.specs.Calls.{Call, Begun, Number, Bytes, Nested, Ended, GivenUp, Finished, Flushed}
+use Rattle.trace_model.specs.Images.{Image, Patch}
+use Rattle.trace_model.specs.Pages.{Page}
+use Rattle.computed.specs.Words.{IsComputed}
+
+'''
+
+PROOF_HEAD = '''use Rattle.std.proofs.Common.{ℕ, true, false, List, [], ◌∷◌, ◌++◌, replicate, refl, arith}
+use Rattle.std.proofs.lemmas.List.Elements.{All-from_recursion}
+use Rattle.wire_varint.specs.Varint.{varint, groups, tag, redundant}
+use Rattle.trace_model.specs.Encoding.{number_field, bytes_head, bytes_field}
+use Rattle.trace_model.specs.Cut.{IsFull}
+'''
+
+UNFOLDING = 'unfolding groups varint tag redundant number_field bytes_head bytes_field\n'
+
+
+# The packets that a list of calls makes, the newest first.
+
+def flat_text(four, levels):
+    if len(levels) == 1:
+        return levels[0]
+    return flat_text(four, levels[1:]) + four + levels[0]
+
+
+def open_places(levels):
+    return [len(flat_text(OPEN_LENGTH, levels[i:])) for i in range(1, len(levels))]
+
+
+class Packet:
+    def __init__(self, kept, front):
+        self.kept, self.front = kept, front
+        self.levels = [front]
+        self.given_up = None
+        self.finished = False
+
+    def lost(self):
+        return not self.kept or self.given_up is not None
+
+    def body(self):
+        return flat_text(OPEN_LENGTH, self.levels)
+
+
+def packets_of(calls):
+    packets = []
+    for kind, *rest in calls:
+        if kind == 'Begun':
+            front = FRONT_MARK if rest[0] and packets and packets[0].lost() else b''
+            packets.insert(0, Packet(rest[0], front))
+            continue
+        newest = packets[0] if packets else None
+        if kind == 'Number':
+            newest.levels[0] += head_number(*rest)
+        elif kind == 'Bytes':
+            newest.levels[0] += head_bytes(rest[0], len(rest[1]) * rest[2]) + rest[1] * rest[2]
+        elif kind == 'Nested':
+            newest.levels[0] += head_nested(rest[0])
+            newest.levels.insert(0, b'')
+        elif kind == 'Ended':
+            level = newest.levels.pop(0)
+            newest.levels[0] += put_redundant(len(level)) + level
+        elif kind == 'GivenUp':
+            newest.given_up = list(newest.levels)
+        elif kind == 'Finished':
+            newest.finished = True
+    return packets
+
+
+# Pages.
+
+class Page:
+    def __init__(self, count, flags, payload, patches):
+        self.count, self.flags, self.payload, self.patches = count, flags, bytes(payload), patches
+        self.fragments, self.dropped, at = [], False, 0
+        for number in range(count):
+            size = self.payload[at:at + 4]
+            if size == DROP_MARK:
+                assert number == count - 1
+                self.dropped = True
+                self.fragments.append(self.payload[at + 4:])
+                at = len(self.payload)
+                break
+            length = sum((byte & 127) << 7 * i for i, byte in enumerate(size))
+            self.fragments.append(self.payload[at + 4:at + 4 + length])
+            at += 4 + length
+        self.rest = self.payload[at:]
+
+    def term(self):
+        return record(continues=flag(self.flags & 1), runs_on=flag(self.flags & 2), awaits=flag(self.flags & 4),
+                      fragments=listed(map(octets, self.fragments)), dropped=flag(self.dropped),
+                      rest=octets(self.rest), patches=listed(map(patch_term, self.patches)))
+
+
+def patch_term(patch):
+    chunk_id, offset, data, last = patch
+    return record(chunk_id=chunk_id, offset=offset, bytes=listed(map(str, data)), last=flag(last))
+
+
+def chains_of(pages):
+    """The bytes of each chain with all patches put in, the newest first."""
+    payloads = [bytearray(page.payload) for page in pages]
+    for page in pages:
+        for chunk_id, offset, data, _ in page.patches:
+            payloads[chunk_id][offset:offset + 4] = data
+    chains = []
+    for page, payload in zip(pages, payloads):
+        at = 0
+        for number, fragment in enumerate(page.fragments):
+            piece = bytes(payload[at + 4:at + 4 + len(fragment)])
+            at += 4 + len(fragment)
+            if number == 0 and page.flags & 1:
+                chains[0] += piece
+            else:
+                chains.insert(0, piece)
+    return chains
+
+
+# Playing.
+
+class Run:
+    """A writer of the model on a producer of a few chunks, with a service that takes chunks now and then."""
+
+    def __init__(self, size, chunks, policy, seed):
+        self.random = random.Random(seed)
+        self.size = size
+        self.chunks = writers.ProducerChunks(1, SimpleNamespace(payload_size=size, chunks=chunks))
+        self.writer = writers.Writer(1, SimpleNamespace(policy=policy, first_id=0, tries=0), self.chunks, self.help)
+        self.writer.images = []
+        self.calls = []
+        self.depth = 0
+
+    def help(self):
+        return self.random.random() >= .1 and self.take()
+
+    def take(self):
+        if not self.writer.ready:
+            return False
+        slot, _ = self.writer.ready.popleft()
+        self.chunks.release(slot)
+        return True
+
+    def begin(self):
+        self.writer.begin()
+        self.depth = 0
+        self.calls.append(('Begun', not self.writer.dropping))
+
+    def flush(self):
+        self.writer.flush()
+        self.calls.append(('Flushed',))
+
+    def call(self, kind, *rest):
+        """A call on the begun packet, which is noted before a stall, and its giving up behind it."""
+        was = self.writer.dropping
+        self.calls.append((kind, *rest))
+        if kind == 'Number':
+            self.writer.fields([(writers.NUMBER, *rest)])
+        elif kind == 'Bytes':
+            self.writer.fields([(99, *rest)])
+        elif kind == 'Nested':
+            self.depth += 1
+            self.writer.begin_nested(*rest)
+        elif kind == 'Ended':
+            self.depth -= 1
+            self.writer.end_nested()
+        else:
+            self.writer.finish()
+        if self.writer.dropping and not was:
+            self.calls.append(('GivenUp',))
+
+    def play(self, steps):
+        roll = self.random.random
+        pick = self.random.choice
+        try:
+            for _ in range(steps):
+                x = roll()
+                if not self.writer.in_packet:
+                    self.flush() if x < .15 else self.begin()
+                elif x < .25:
+                    self.call('Number', pick([1, 2, 900]), pick([7, 300, 2 ** 40]))
+                elif x < .45:
+                    text = bytes(self.random.randrange(256) for _ in range(pick([0, 1, 2, 3])))
+                    self.call('Bytes', pick([1, 900]), text, pick([0, 1, 2, self.size // 2]))
+                elif x < .65 and self.depth < 5:
+                    self.call('Nested', pick([1, 900]))
+                elif self.depth:
+                    self.call('Ended')
+                elif x < .9:
+                    self.call('Finished')
+                if roll() < .3:
+                    self.take()
+                    self.take()
+        except writers.Stalled:
+            pass
+
+    def pages(self):
+        """The completed images, and the held chunk as the last one."""
+        pages = [Page(image.count, image.flags, image.payload,
+                      [(patch.chunk_id, patch.offset, patch.data, patch.last) for patch in image.patches])
+                 for image in self.writer.images]
+        held = self.writer.held
+        if held is not None and held.count:
+            payload = bytearray(held.payload)
+            if self.writer.in_packet and not self.writer.dropping:
+                payload[held.fragment_at:held.fragment_at + 4] = put_redundant(held.at - held.fragment_at - 4)
+            open_chunks = {hole.position for hole in self.writer.holes}
+            unsent = self.writer.unsent
+            patches = [(position, offset, put_redundant(value), position not in open_chunks
+                        and not any(other[0] == position for other in unsent[i + 1:]))
+                       for i, (position, offset, value) in enumerate(unsent)]
+            pages.append(Page(held.count, held.flags, payload, patches))
+        return pages
+
+
+# Statements.
+
+def call_term(call):
+    kind, *rest = call
+    if kind == 'Begun':
+        return f'Begun {flag(rest[0])}'
+    if kind == 'Bytes':
+        return f'Bytes {rest[0]} {octets(rest[1])} {rest[2]}'
+    return ' '.join([kind, *map(str, rest)])
+
+
+def bytes_proof(packet, bytes_written):
+    """That the bytes of a chain are those of its packet."""
+    if packet.given_up is not None:
+        whole = flat_text(put_redundant(0), packet.given_up)
+        same = 0
+        while same < min(len(bytes_written), len(whole)) and bytes_written[same] == whole[same]:
+            same += 1
+        places = open_places(packet.given_up)
+        for part in range(same, -1, -1):
+            unused = bytes_written[part:]
+            if part < len(whole) and len(unused) <= 3 and (not unused or part in places):
+                break
+        return record(part=octets(bytes_written[:part]), unused=octets(unused), lost=octets(whole[part:]), cut='refl',
+                      whole='refl', proper='omega arith', few='omega arith',
+                      next='λ h. refl' if unused else 'λ h. absurd (omega arith)')
+    if packet.finished:
+        return 'refl'
+    return f'({octets(packet.body()[len(bytes_written):])}, refl)'
+
+
+def cut_proof(size, packets, pages, pages_term):
+    kept = [packet for packet in packets if packet.kept]
+    chains = chains_of(pages)
+    assert len(kept) == len(chains), (len(kept), len(chains))
+    full = nested(record(some='omega arith', most='omega arith', whole='refl',
+                         dropped='λ h. (refl, refl)' if page.dropped else 'λ h. absurd (cc)') for page in pages)
+    goes_on = bool(packets) and not packets[0].lost() and not packets[0].finished
+    refls = nested('refl' for _ in pages)
+    return record(
+        full=f'All-from_recursion (IsFull {size}) {pages_term} {full}', flags=refls,
+        last='λ h. refl' if goes_on else 'λ h. absurd (cc)',
+        chains=nested(record(marked='refl', bytes=bytes_proof(packet, chain), ends='refl')
+                      for packet, chain in zip(kept, chains)),
+        patches=record(sent=refls, lasts=nested('refl' for page in pages for _ in page.patches), awaits=refls,
+                       placed='refl'),
+        begins='refl')
+
+
+def statement_of(name, run, counts):
+    packets, pages = packets_of(run.calls), run.pages()
+    counts['packets'] += len(packets)
+    counts['dropped at begin'] += sum(not packet.kept for packet in packets)
+    counts['given up'] += sum(packet.given_up is not None for packet in packets)
+    counts['patches'] += sum(len(page.patches) for page in pages)
+    counts['images'] += len(pages)
+    oldest = packets[::-1]
+    bodies = [packet.body() for packet in oldest if packet.kept]
+    emissions = [packet.body()[len(packet.front):] for packet in oldest if packet.finished]
+    images = [record(sequence=SEQUENCE, chunk_id=number, count=page.count, flags=page.flags,
+                     payload=octets(page.payload)) for number, page in enumerate(pages)]
+    patches = listed(listed(map(patch_term, page.patches)) for page in pages)
+
+    def specs(images):
+        return (f'abbrev pub calls_{name} : List Call\ncalls_{name} = {listed(map(call_term, run.calls))}\n\n'
+                f'abbrev pub pages_{name} : List Page\npages_{name} = {listed(page.term() for page in pages)}\n\n'
+                f'abbrev pub Run{name} : Type 0\nRun{name} = IsComputed {run.size} calls_{name} {listed(images)} {patches} '
+                f'{listed(map(octets, bodies))} {listed(map(octets, emissions))} {len(packets)} '
+                f'{sum(not packet.kept for packet in packets)}\n')
+
+    proof = record(possible='refl', cut=record(pages=f'pages_{name}', images_are='refl', patches_are='refl',
+                                               cut=cut_proof(run.size, packets, pages, f'pages_{name}')),
+                   kept='refl', emitted='refl', counted='refl', refused='refl', read='refl')
+    wrong, uses = None, [f'pages_{name}']
+    if pages and pages[-1].flags & 2 == 0:
+        last = pages[-1]
+        spoilt = record(sequence=SEQUENCE, chunk_id=len(pages) - 1, count=last.count, flags=last.flags + 2,
+                        payload=octets(last.payload))
+        wrong = Statement(f'Run{name}', specs(images[:-1] + [spoilt]), proof, uses=uses)
+    return Statement(f'Run{name}', specs(images), proof, wrong, uses)
+
+
+def statements(first, wanted, counts):
+    for seed in range(first, first + wanted):
+        pick = random.Random(seed).choice
+        run = Run(pick([16, 20, 24, 30, 37, 50, 64, 90]), pick([2, 3, 5, 8]), pick(['drop', 'drop', 'stall']), seed)
+        run.play(pick([10, 25, 40]))
+        yield statement_of(str(seed), run, counts)
+    counts['scripts'] += wanted

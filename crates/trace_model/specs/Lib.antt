@@ -2,6 +2,7 @@ pub mod Arrivals
 pub mod Buffers
 pub mod Calls
 pub mod Counts
+pub mod Cut
 pub mod Delivery
 pub mod Encoding
 pub mod EncodingLaws
@@ -17,5 +18,7 @@ pub mod Reading
 pub mod Reads
 pub mod Record
 pub mod Row
+pub mod Sent
 pub mod Sequences
 pub mod Tells
+pub mod Written
