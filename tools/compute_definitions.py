@@ -31,19 +31,23 @@ def main():
     parser.add_argument('model', help='the folder of the model')
     parser.add_argument('--histories', type=int, default=200, help='how many histories of buffers (200)')
     parser.add_argument('--scripts', type=int, default=500, help='how many scripts of a writer (500)')
+    parser.add_argument('--writers', type=int, default=100, help='how many writers of whole scenarios (100)')
     parser.add_argument('--first', type=int, default=0, help='the first seed (0)')
     parser.add_argument('--characters', type=int, default=60000, help='about the size of a generated file (60,000)')
     parser.add_argument('--keep', metavar='FOLDER', help='leave the scratch folder there')
     options = parser.parse_args()
     sys.path.insert(0, os.path.abspath(options.model))
     import histories
+    import worlds
     import writer_scripts
     scratch = options.keep or tempfile.mkdtemp(prefix='computed-')
     try:
         crate = make_scratch(scratch)
         counts = Counter()
         agreed = True
-        for kind, makers, wanted in (('Histories', histories, options.histories), ('Scripts', writer_scripts, options.scripts)):
+        for kind, makers, wanted in (('Histories', histories, options.histories),
+                                     ('Scripts', writer_scripts, options.scripts),
+                                     ('Worlds', worlds, options.writers)):
             if wanted:
                 put(crate, 'specs/Words.antt', makers.WORDS)
                 for file in files_of(kind, makers, options, wanted, counts):

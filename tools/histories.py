@@ -63,7 +63,8 @@ HEAD = f'''-- Histories of buffers.
 use Rattle.std.specs.Prelude.{{{PRELUDE}}}
 use Rattle.trace_model.specs.Images.{{Fragment, Image, Chunk, Patch}}
 use Rattle.trace_model.specs.Sequences.{{fresh}}
-use Rattle.trace_model.specs.Buffers.{{Buffer, Ring, Discard, empty_buffer}}
+use Rattle.trace_base.specs.declared.policy.FullPolicy.TheVariants.{{Ring, Discard}}
+use Rattle.trace_model.specs.Buffers.{{Buffer, empty_buffer}}
 use Rattle.trace_model.specs.Arrivals.{{Kept, Rewritten, Duplicate, Discarded, TooFar, BadChunk}}
 use Rattle.trace_model.specs.Patches.{{Applied, NoChunk, BadOffset}}
 use Rattle.trace_model.specs.History.{{Event, Arrives, ArrivesInPart, Patched, Committed, Closed, Read}}
@@ -106,10 +107,6 @@ def patch_of(position, patch):
     return record(chunk_id=position, offset=patch.offset, bytes=octets(patch.data), last=flag(patch.last))
 
 
-def patch_answer(buffer_event, done):
-    return 'Applied' if done else None
-
-
 def events_of(history, choose):
     """The events of a buffer's history as terms, their answers and the records of its reads."""
     events, answers, records = [], [], []
@@ -139,8 +136,11 @@ def events_of(history, choose):
     return events, answers, records
 
 
-def named_patch_answers():
-    """Lets the recorder note which answer a patch got, in place of whether it was applied."""
+def record_all():
+    """Starts the model's recorder once, and lets it note which answer a patch got, in place of whether it was applied."""
+    if laws.model_service.TraceBuffer.__name__ == 'Named':
+        return
+    laws.recording()
     recorded = laws.model_service.TraceBuffer
     plain = recorded.__mro__[1]
 
@@ -159,8 +159,7 @@ def named_patch_answers():
 def statements(first, wanted, counts):
     """At least so many histories; the check of packets is no part of the definitions."""
     reader.check_packet = lambda body: True
-    laws.recording()
-    named_patch_answers()
+    record_all()
     made, seed = 0, first
     while made < wanted:
         laws.HISTORY.clear()

@@ -1,6 +1,8 @@
 -- A trace buffer: its records, and what is lost where a new record displaces others. After the tracing service's buffers
 -- document.
 use Rattle.std.specs.Prelude.{ℕ, Bool, true, false, ◌&&◌, not, nat_lt, ◌==◌, List, [], length, map, filter, find, sum_by, count_by, Option, if◌then◌else◌}
+use Rattle.trace_base.specs.declared.policy.FullPolicy.{FullPolicy}
+use Rattle.trace_base.specs.declared.policy.FullPolicy.TheVariants.{Ring, Discard}
 use Rattle.trace_model.specs.Counts.{raised}
 use Rattle.trace_model.specs.Images.{Chunk}
 use Rattle.trace_model.specs.Places.{is_met}
@@ -14,19 +16,15 @@ pub record BufferRecord : Type 0 where
   pub size : ℕ
   pub chunk : Chunk
 
--- what a full buffer does with a new record that would meet one with unread fragments
-pub data Policy : Type 0 where
-  Ring : Policy
-  Discard : Policy
-
-abbrev pub discards : Policy → Bool
+-- what a new record meets may not be lost unread: the new record is discarded
+abbrev pub discards : FullPolicy → Bool
 discards Ring = false
 discards Discard = true
 
 pub record Buffer : Type 0 where
   -- its size in bytes
   pub room : ℕ
-  pub policy : Policy
+  pub policy : FullPolicy
   -- the write place
   pub next : ℕ
   -- the live records, in the order in which they got their places
@@ -43,7 +41,7 @@ pub record Buffer : Type 0 where
   pub padding : ℕ
   pub sequences : List Sequence
 
-abbrev pub empty_buffer : ℕ → Policy → List Sequence → Buffer
+abbrev pub empty_buffer : ℕ → FullPolicy → List Sequence → Buffer
 empty_buffer room policy sequences = record {
   room = room;
   policy = policy;

@@ -1,11 +1,14 @@
 pub mod Arrivals
+pub mod Balance
 pub mod Buffers
 pub mod Calls
+pub mod Causes
 pub mod Counts
 pub mod Cut
 pub mod Delivery
 pub mod Encoding
 pub mod EncodingLaws
+pub mod Enough
 pub mod Fragments
 pub mod History
 pub mod Images

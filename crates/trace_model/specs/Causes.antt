@@ -1,0 +1,110 @@
+-- What becomes of each packet: which events fix it, at the place where the packet begins.
+use Rattle.std.specs.Prelude.{ℕ, zero, suc, ◌-◌, Bool, true, false, not, ◌&&◌, ◌==◌, List, [], ◌∷◌, ◌++◌, length, filter, map, Option, Some, None, if◌then◌else◌}
+use Rattle.std.specs.List.{flat_map}
+use Rattle.trace_model.specs.Images.{Chunk, Image, whole_chunk}
+use Rattle.trace_model.specs.Reading.{Reading, Fragments, Unreadable, reading_of}
+use Rattle.trace_model.specs.Sequences.{Sequence, Cursor, unread_of, sequence_in, is_known}
+use Rattle.trace_model.specs.Buffers.{Buffer, BufferRecord, meets, is_loss_of}
+use Rattle.trace_model.specs.Arrivals.{Arrived, Kept, Discarded, arrival_of, partial_arrival_of}
+use Rattle.trace_model.specs.Row.{Chain, Link, Joined, Gap, Stop, place, row_from_cursor}
+use Rattle.trace_model.specs.Reads.{Cause, Lost, Turn, Delivers, Counts, Skips, Ends, turn_of, passed_by}
+use Rattle.trace_model.specs.History.{Event, Arrives, ArrivesInPart, Patched, Committed, Closed, Read, event_sequence, buffer_after}
+
+-- what became of a packet
+pub data Outcome : Type 0 where
+  Delivered : Outcome
+  Absent : Cause → Outcome
+
+-- that of the packet which begins at the place
+pub record Fixed : Type 0 where
+  pub at : Cursor
+  pub outcome : Outcome
+
+-- Reads
+
+abbrev pub fixed_by_turn : Cursor → Turn → List Fixed
+fixed_by_turn at Delivers = record { at = at; outcome = Delivered } ∷ []
+fixed_by_turn at (Counts cause) = record { at = at; outcome = Absent cause } ∷ []
+fixed_by_turn at Skips = []
+fixed_by_turn at Ends = []
+
+abbrev pub fixed_by_link : Link → List Fixed
+fixed_by_link (Joined chain) = fixed_by_turn chain.at (turn_of (Joined chain))
+fixed_by_link (Gap at next lost) = []
+fixed_by_link (Stop at why may) = []
+
+-- Losses
+
+-- so many places of a chunk, from this one on
+abbrev pub places_from : ℕ → ℕ → ℕ → List Cursor
+places_from chunk_id passed zero = []
+places_from chunk_id passed (suc count) = place chunk_id passed ∷ places_from chunk_id (suc passed) count
+
+-- all fragments of a chunk begin a packet but the first one, where it continues another
+abbrev pub starts_among : Chunk → List Cursor → List Cursor
+starts_among chunk places = filter (λ at. not (chunk.continues && (at.passed == 0))) places
+
+-- where packets begin in the fragments of the chunk that the cursor hasn't passed
+abbrev pub unread_start_places : Sequence → ℕ → Chunk → List Cursor
+unread_start_places s chunk_id chunk =
+    let count = length chunk.fragments in
+    let unread = unread_of s chunk_id count in
+    starts_among chunk (places_from chunk_id (count - unread) unread)
+
+abbrev pub lost_at : Cursor → Fixed
+lost_at at = record { at = at; outcome = Absent Lost }
+
+-- the packets that the sequence loses with a record
+abbrev pub fixed_by_loss : Sequence → BufferRecord → List Fixed
+fixed_by_loss s r =
+    if is_loss_of s r then map lost_at (unread_start_places s r.chunk_id r.chunk) else []
+
+-- and with all that a next record of this size displaces
+abbrev pub fixed_by_losses : Buffer → ℕ → Sequence → List Fixed
+fixed_by_losses b size s = flat_map (fixed_by_loss s) (filter (meets b size) b.live)
+
+-- Events
+
+-- what an outcome fixes of sequence s, where the chunk is one of the sequence `owner`
+abbrev pub fixed_by_arrival : Buffer → Sequence → Sequence → Arrived → Bool → ℕ → Chunk → List Fixed
+fixed_by_arrival b s owner Kept partial chunk_id chunk = fixed_by_losses b owner.size s
+fixed_by_arrival b s owner Discarded partial chunk_id chunk =
+    if (s.number == owner.number) && not partial
+    then map lost_at (unread_start_places s chunk_id chunk)
+    else []
+fixed_by_arrival b s owner other partial chunk_id chunk = []
+
+abbrev pub fixed_once_read : Buffer → Sequence → ℕ → ℕ → ℕ → Reading → List Fixed
+fixed_once_read b s owner chunk_id flags (Fragments fragments) =
+    fixed_by_arrival b s (sequence_in b.sequences owner) (arrival_of b owner chunk_id) false chunk_id
+    (whole_chunk flags fragments)
+fixed_once_read b s owner chunk_id flags (Unreadable number) = []
+
+-- what an event of the buffer fixes of one of its sequences
+abbrev pub fixed_by : Buffer → Sequence → Event → List Fixed
+fixed_by b s (Arrives owner chunk_id chunk) =
+    fixed_by_arrival b s (sequence_in b.sequences owner) (arrival_of b owner chunk_id) false chunk_id chunk
+fixed_by b s (ArrivesInPart owner chunk_id chunk) =
+    fixed_by_arrival b s (sequence_in b.sequences owner) (partial_arrival_of b owner chunk_id (length chunk.fragments))
+    true chunk_id chunk
+fixed_by b s (Patched owner patches) = []
+fixed_by b s (Committed image patches) =
+    fixed_once_read b s image.sequence image.chunk_id image.flags (reading_of image.count image.payload)
+fixed_by b s (Closed owner) = []
+fixed_by b s (Read owner limit) =
+    if owner == s.number then flat_map fixed_by_link (passed_by limit (row_from_cursor b s)) else []
+
+-- what a history fixes of a sequence, in the order of its events
+abbrev pub fixed_after : ℕ → Buffer → List Event → List Fixed
+fixed_after sequence b [] = []
+fixed_after sequence b (event ∷ events) =
+    (if is_known b.sequences (event_sequence event) then fixed_by b (sequence_in b.sequences sequence) event else [])
+    ++ fixed_after sequence (buffer_after b event) events
+
+-- what was fixed first of the packet that begins at the place
+abbrev pub is_same_place : Cursor → Cursor → Bool
+is_same_place a b = (a.chunk_id == b.chunk_id) && (a.passed == b.passed)
+
+abbrev pub outcome_at : Cursor → List Fixed → Option Outcome
+outcome_at at [] = None
+outcome_at at (fixed ∷ others) = if is_same_place fixed.at at then Some fixed.outcome else outcome_at at others
