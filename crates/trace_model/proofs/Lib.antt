@@ -1,2 +1,3 @@
 pub mod EncodingLemmas
 pub mod TellsLemmas
+pub mod ToldPlacesLemmas

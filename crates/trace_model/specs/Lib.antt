@@ -24,4 +24,5 @@ pub mod Row
 pub mod Sent
 pub mod Sequences
 pub mod Tells
+pub mod TellsLaws
 pub mod Written

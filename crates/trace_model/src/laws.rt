@@ -1,6 +1,7 @@
 //! Laws about the definitions: each is the contract of a function with nothing to do.
 ghost use Rattle.trace_model.specs.EncodingLaws.{EncodingsAreAsLong};
 ghost use Rattle.trace_model.specs.Laws.{AllRecordsTell};
+ghost use Rattle.trace_model.specs.TellsLaws.{TellsByPlaces};
 
 /// The length of an encoding is the sum of the lengths of its parts.
 pub fn encodings_are_as_long()
@@ -11,4 +12,10 @@ pub fn encodings_are_as_long()
 /// records tell of the emitted packets.
 pub fn all_records_tell()
     ensures { AllRecordsTell }
+{}
+
+/// The records of a sequence tell of the emitted packets exactly where they are theirs at strictly
+/// rising places, each marked where it is the first or its place isn't the next one.
+pub fn tells_by_places()
+    ensures { TellsByPlaces }
 {}
