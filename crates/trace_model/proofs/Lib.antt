@@ -1,3 +1,5 @@
 pub mod EncodingLemmas
+pub mod LiveLemmas
+pub mod PlaceLemmas
 pub mod TellsLemmas
 pub mod ToldPlacesLemmas

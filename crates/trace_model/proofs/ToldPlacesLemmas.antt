@@ -1,6 +1,6 @@
 -- `Tells` and strictly rising places say the same.
-use Rattle.std.proofs.Common.{◌≡◌, ◌∙◌, ℕ, zero, suc, ◌<◌, ◌≤◌, length, Bool, true, false, not, ◌||◌, List, [], ◌∷◌, ◌++◌, Option, Some, None, refl, sym, ap, subst, arith}
-use Rattle.std.specs.Prelude.{◌↔◌, ◌==◌, slice_get, is_none, ⊤}
+use Rattle.std.proofs.Common.{◌≡◌, ◌∙◌, ℕ, zero, suc, ◌<◌, ◌≤◌, Bool, true, false, not, ◌||◌, List, [], ◌∷◌, Option, Some, None, refl, sym, ap, subst, arith}
+use Rattle.std.specs.Prelude.{◌==◌, slice_get, is_none}
 use Rattle.std.proofs.lemmas.Bool.{eq-eqb, ne_eqb, both_ways, not_from_true, not_from_false}
 use Rattle.std.proofs.lemmas.Option.{none-some, same_Some}
 use Rattle.trace_model.specs.Tells.{IsTold, TellsFrom}
@@ -46,20 +46,25 @@ module _ (emitted : List (List ℕ)) (sequence : ℕ) where
 
   to_places : (before : Option ℕ) (records : List (List ℕ)) → TellsFrom emitted sequence (is_none before) (next_of before) records
       → (places : List ℕ) × AreRecordsAt emitted sequence before records places
-  to_places before [] told = ([], record {
-    as_many = refl;
-    rising = λ number b p h e. absurd (none-some p e);
-    each = λ number p bytes e f. absurd (none-some p e);
-  })
+  to_places before [] told = (
+    [],
+    record {
+      as_many = refl;
+      rising = λ number b p h e. absurd (none-some p e);
+      each = λ number p bytes e f. absurd (none-some p e);
+    },
+  )
   to_places before (bytes ∷ others) told =
-    let place : ℕ = told.0 in
-    let rest : (places : List ℕ) × AreRecordsAt emitted sequence (Some place) others places = to_places (Some place) others told.2 in
-    let places : List ℕ = rest.0 in
-    (place ∷ places, record {
-      as_many = ap suc rest.1.as_many;
-      rising = rises before place places told.1.not_before rest.1.rising;
-      each = each_is before place places bytes others (to_record before place bytes told.1) rest.1.each;
-    })
+      let place : ℕ = told.0 in
+      let rest : (places : List ℕ) × AreRecordsAt emitted sequence (Some place) others places = to_places (Some place) others told.2 in
+      let places : List ℕ = rest.0 in (
+        place ∷ places,
+        record {
+          as_many = ap suc rest.1.as_many;
+          rising = rises before place places told.1.not_before rest.1.rising;
+          each = each_is before place places bytes others (to_record before place bytes told.1) rest.1.each;
+        },
+      )
     where
       rises : (before : Option ℕ) (place : ℕ) (places : List ℕ) → next_of before ≤ place
           → ((number b p : ℕ) → place_before (Some place) places number ≡ Some b → slice_get places number ≡ Some p → b < p)
@@ -70,27 +75,29 @@ module _ (emitted : List (List ℕ)) (sequence : ℕ) where
       each_is : (before : Option ℕ) (place : ℕ) (places : List ℕ) (bytes : List ℕ) (others : List (List ℕ))
           → IsRecordAt emitted sequence before place bytes
           → ((number p : ℕ) (xs : List ℕ) → slice_get places number ≡ Some p → slice_get others number ≡ Some xs
-            → IsRecordAt emitted sequence (place_before (Some place) places number) p xs)
+          → IsRecordAt emitted sequence (place_before (Some place) places number) p xs)
           → (number p : ℕ) (xs : List ℕ) → slice_get (place ∷ places) number ≡ Some p → slice_get (bytes ∷ others) number ≡ Some xs
           → IsRecordAt emitted sequence (place_before before (place ∷ places) number) p xs
       each_is before place places bytes others here rest zero p xs e f =
-        subst (λ (n : ℕ). IsRecordAt emitted sequence before n xs) (same_Some place p e)
-        (subst (λ (ys : List ℕ). IsRecordAt emitted sequence before place ys) (same_Some bytes xs f) here)
+          subst (λ (n : ℕ). IsRecordAt emitted sequence before n xs) (same_Some place p e)
+          (subst (λ (ys : List ℕ). IsRecordAt emitted sequence before place ys) (same_Some bytes xs f) here)
       each_is before place places bytes others here rest (suc number) p xs e f =
-        subst (λ (o : Option ℕ). IsRecordAt emitted sequence o p xs) (sym (shift before place places number)) (rest number p xs e f)
+          subst (λ (o : Option ℕ). IsRecordAt emitted sequence o p xs) (sym (shift before place places number)) (rest number p xs e f)
 
   from_places : (before : Option ℕ) (records : List (List ℕ)) (places : List ℕ) → AreRecordsAt emitted sequence before records places
       → TellsFrom emitted sequence (is_none before) (next_of before) records
   from_places before [] places are = tt
   from_places before (bytes ∷ others) [] are = absurd (omega (arith, are.as_many))
-  from_places before (bytes ∷ others) (place ∷ places) are =
-    (place, from_record before place bytes (are.each 0 place bytes refl refl) (not_below before (are.rising 0)),
-      from_places (Some place) others places (record {
-        as_many = omega (arith, are.as_many);
-        rising = λ number b p e f. are.rising (suc number) b p (shift before place places number ∙ e) f;
-        each = λ number p xs e f. subst (λ (o : Option ℕ). IsRecordAt emitted sequence o p xs) (shift before place places number)
+  from_places before (bytes ∷ others) (place ∷ places) are = (
+    place,
+    from_record before place bytes (are.each 0 place bytes refl refl) (not_below before (are.rising 0)),
+    from_places (Some place) others places (record {
+      as_many = omega (arith, are.as_many);
+      rising = λ number b p e f. are.rising (suc number) b p (shift before place places number ∙ e) f;
+      each = λ number p xs e f. subst (λ (o : Option ℕ). IsRecordAt emitted sequence o p xs) (shift before place places number)
           (are.each (suc number) p xs e f);
-      }))
+    }),
+  )
     where
       not_below : (before : Option ℕ) → ((b p : ℕ) → before ≡ Some b → Some place ≡ Some p → b < p) → next_of before ≤ place
       not_below None h = omega arith

@@ -1,12 +1,12 @@
 -- What becomes of each packet: which events fix it, at the place where the packet begins.
 use Rattle.std.specs.Prelude.{ℕ, zero, suc, ◌-◌, Bool, true, false, not, ◌&&◌, ◌==◌, List, [], ◌∷◌, ◌++◌, length, filter, map, Option, Some, None, if◌then◌else◌}
 use Rattle.std.specs.List.{flat_map}
-use Rattle.trace_model.specs.Images.{Chunk, Image, whole_chunk}
+use Rattle.trace_model.specs.Images.{Chunk, whole_chunk}
 use Rattle.trace_model.specs.Reading.{Reading, Fragments, Unreadable, reading_of}
 use Rattle.trace_model.specs.Sequences.{Sequence, Cursor, unread_of, sequence_in, is_known}
 use Rattle.trace_model.specs.Buffers.{Buffer, BufferRecord, meets, is_loss_of}
 use Rattle.trace_model.specs.Arrivals.{Arrived, Kept, Discarded, arrival_of, partial_arrival_of}
-use Rattle.trace_model.specs.Row.{Chain, Link, Joined, Gap, Stop, place, row_from_cursor}
+use Rattle.trace_model.specs.Row.{Link, Joined, Gap, Stop, place, row_from_cursor}
 use Rattle.trace_model.specs.Reads.{Cause, Lost, Turn, Delivers, Counts, Skips, Ends, turn_of, passed_by}
 use Rattle.trace_model.specs.History.{Event, Arrives, ArrivesInPart, Patched, Committed, Closed, Read, event_sequence, buffer_after}
 

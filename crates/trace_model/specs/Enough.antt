@@ -43,8 +43,8 @@ is_enough_for loads room =
 abbrev pub HasChunksEnough : List ChunkRoom → List WriterLoad → Type 0
 HasChunksEnough producers loads =
     IsTrue (list_all
-      (λ producer. is_enough_for (filter (λ load. load.spec.producer == producer.0) loads) producer.1)
-      (enumerate_from 1 producers))
+    (λ producer. is_enough_for (filter (λ load. load.spec.producer == producer.0) loads) producer.1)
+    (enumerate_from 1 producers))
 
 -- the bytes that a writer's records take at most
 abbrev pub most_bytes : List ChunkRoom → WriterLoad → ℕ
@@ -55,8 +55,8 @@ most_bytes producers load =
 abbrev pub HasBytesEnough : List ℕ → List ChunkRoom → List WriterLoad → Type 0
 HasBytesEnough buffers producers loads =
     IsTrue (list_all
-      (λ buffer. nat_le (sum_by (most_bytes producers) (filter (λ load. load.spec.buffer == buffer.0) loads)) buffer.1)
-      (enumerate_from 1 buffers))
+    (λ buffer. nat_le (sum_by (most_bytes producers) (filter (λ load. load.spec.buffer == buffer.0) loads)) buffer.1)
+    (enumerate_from 1 buffers))
 
 pub record IsEnough (buffers : List ℕ) (producers : List ChunkRoom) (loads : List WriterLoad) : Type 0 where
   pub chunks : HasChunksEnough producers loads

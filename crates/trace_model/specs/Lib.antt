@@ -16,6 +16,7 @@ pub mod Laws
 pub mod Packets
 pub mod Pages
 pub mod Patches
+pub mod PlaceLaws
 pub mod Places
 pub mod Reading
 pub mod Reads

@@ -1,6 +1,7 @@
 //! Laws about the definitions: each is the contract of a function with nothing to do.
 ghost use Rattle.trace_model.specs.EncodingLaws.{EncodingsAreAsLong};
 ghost use Rattle.trace_model.specs.Laws.{AllRecordsTell};
+ghost use Rattle.trace_model.specs.PlaceLaws.{LiveAreUnmet};
 ghost use Rattle.trace_model.specs.TellsLaws.{TellsByPlaces};
 
 /// The length of an encoding is the sum of the lengths of its parts.
@@ -18,4 +19,10 @@ pub fn all_records_tell()
 /// rising places, each marked where it is the first or its place isn't the next one.
 pub fn tells_by_places()
     ensures { TellsByPlaces }
+{}
+
+/// After any history a record of a buffer is live exactly where no later record and no padding meets
+/// its interval.
+pub fn live_are_unmet()
+    ensures { LiveAreUnmet }
 {}
