@@ -1,21 +1,20 @@
 -- What follows from told bytes for the callers of sinks and sources.
-use Rattle.std.proofs.Common.{◌≡◌, ℕ, ◌+◌, ◌-◌, ◌<◌, ◌≤◌, List, [], ◌++◌, length, take, drop, Option, Some, None, IfSome, refl, sym, ◌∙◌, ap, subst, arith, append_assoc}
+use Rattle.std.proofs.Common.{◌≡◌, ℕ, ◌+◌, ◌-◌, ◌<◌, ◌≤◌, List, [], ◌++◌, length, take, drop, Option, Some, None, IfSome, refl, sym, ◌∙◌, ap, subst, arith, append_assoc, append-nil}
 use Rattle.std.proofs.lemmas.Grind.{common_steps}
-use Rattle.std.proofs.lemmas.List.{take_rest, take-append-drop}
-use Rattle.std.specs.Borrow.{GName}
-use Rattle.byte_io.specs.Bytes.{Intake, told, untold, before_told, after_told, lent_by, GivesAtMost, TakesPart, TakesUpTo}
+use Rattle.std.proofs.lemmas.List.{take_rest, take-append-drop, drop-drop}
+use Rattle.byte_io.specs.Bytes.{Intake, told, untold, before_told, after_told, GivesAtMost, TakesPart, TakesUpTo}
 
 pub before_told_again : (a b : List ℕ) (left : Option (List ℕ)) → before_told a (before_told b left) ≡ before_told (a ++ b) left
 before_told_again a b None = refl
 before_told_again a b (Some left) = ap (λ bytes. Some bytes) (sym (append_assoc a b left))
 
 pub after_told_again : (old : Intake) (a b : List ℕ) → after_told (after_told old a) b ≡ after_told old (a ++ b)
-after_told_again (told taken lenders) a b = ap (λ bytes. told bytes lenders) (append_assoc taken a b)
-after_told_again (untold lenders) a b = refl
+after_told_again (told taken loans) a b = ap (λ bytes. told bytes loans) (append_assoc taken a b)
+after_told_again (untold loans) a b = refl
 
 pub after_told_nothing : (old : Intake) → after_told old [] ≡ old
-after_told_nothing (told taken lenders) = grind (arith, common_steps)
-after_told_nothing (untold lenders) = refl
+after_told_nothing (told taken loans) = grind (arith, common_steps)
+after_told_nothing (untold loans) = refl
 
 -- nothing is taken yet
 pub up_to_start : (old : Intake) (bytes : List ℕ) → TakesUpTo old old bytes bytes
@@ -32,16 +31,19 @@ up_to_more old mid new bytes rest count done write =
       taken = write ∙ ap (λ intake. after_told intake (take count rest)) done.taken ∙ after_told_again old done.part (take count rest);
     }
 
+-- the same where the rest stands behind a place in a list that stays, which moves on
+pub up_to_further : (old mid new : Intake) (bytes all : List ℕ) (at count : ℕ) → TakesUpTo old mid bytes (drop at all)
+    → new ≡ after_told mid (take count (take (length all - at) (drop at all))) → TakesUpTo old new bytes (drop (at + count) all)
+up_to_further old mid new bytes all at count done write =
+    let P : List ℕ → Type 0 = λ rest. TakesUpTo old new bytes rest in
+    let here : new ≡ after_told mid (take count (drop at all)) = rw (take_rest all at) at write in
+    subst P (take_rest (drop at all) count ∙ drop-drop count at all) (up_to_more old mid new bytes (drop at all) count done here)
+
 pub up_to_part : (old new : Intake) (bytes rest : List ℕ) → TakesUpTo old new bytes rest → TakesPart old new bytes
 up_to_part old new bytes rest done = record { part = done.part; rest = rest; cut = done.cut; taken = done.taken }
 
 pub up_to_end : (old new : Intake) (bytes : List ℕ) → TakesUpTo old new bytes [] → new ≡ after_told old bytes
 up_to_end old new bytes done = grind (arith, common_steps, done.cut, done.taken)
-
--- an adapter takes the bytes, and so does what it hands them on to
-pub after_told_lent : (name : GName) (old : Intake) (bytes : List ℕ) → after_told (lent_by name old) bytes ≡ lent_by name (after_told old bytes)
-after_told_lent name (told taken borrows) bytes = refl
-after_told_lent name (untold borrows) bytes = refl
 
 -- part of the first of two pieces
 pub part_first : (old new : Intake) (first second : List ℕ) → TakesPart old new first → TakesPart old new (first ++ second)
@@ -89,3 +91,7 @@ longer_told limit items old (Some rest) given more = let P : Option (List ℕ) �
 pub told_has : (P : List ℕ → Type 0) (items : List ℕ) (old : Option (List ℕ)) → IfSome old (λ bytes. items ≡ bytes) → P items → IfSome old P
 told_has P items None same holds = tt
 told_has P items (Some bytes) same holds = subst P same holds
+
+-- part of the first of these bytes
+pub part_whole : (old new : Intake) (bytes : List ℕ) → new ≡ after_told old bytes → TakesPart old new bytes
+part_whole old new bytes whole = record { part = bytes; rest = []; cut = sym (append-nil bytes); taken = whole }

@@ -1,14 +1,21 @@
 -- What sources and sinks tell of their bytes, and how they count their faults.
-use Rattle.std.specs.Prelude.{◌≡◌, ℕ, ◌-◌, ◌^◌, ◌<◌, ◌≤◌, ◌⊎◌, List, ◌∷◌, ◌++◌, length, Option, Some, None, Result, MatchResult}
+use Rattle.std.specs.Prelude.{◌≡◌, ℕ, ◌-◌, ◌^◌, ◌<◌, ◌≤◌, ◌⊎◌, List, [], ◌∷◌, ◌++◌, length, take, Option, Some, None, Result, MatchResult}
 use Rattle.std.specs.Borrow.{GName}
 
+-- how an adapter stands on the sink that it borrows: by which borrows it reaches that sink and the
+-- bytes that wait for it, and which bytes the sink had taken when it was lent
+pub record Loan : Type 0 where
+  pub inner : GName
+  pub pending : GName
+  pub start : List ℕ
+
 -- What a sink has taken in. A sink that tells its bytes has them here; a standard stream tells none.
--- An adapter that hands its bytes on to a sink which it borrows has the names of its borrows here, and
--- every other sink has none. So a clause that says what a sink has taken also says that an adapter still
+-- An adapter has the loan on which it hands bytes on, before those of the sink that it borrows; every
+-- other sink has none. So a clause that says what a sink has taken also says that an adapter still
 -- stands on the sink that it was made over, and who made it knows what that sink holds once it is gone.
 pub data Intake : Type 0 where
-  told : List ℕ → List GName → Intake
-  untold : List GName → Intake
+  told : List ℕ → List Loan → Intake
+  untold : List Loan → Intake
 
 -- what a source told before it gave these bytes, by what it tells after
 abbrev pub before_told : List ℕ → Option (List ℕ) → Option (List ℕ)
@@ -17,13 +24,22 @@ before_told bytes (Some left) = Some (bytes ++ left)
 
 -- what a sink tells after it took these bytes, by what it told before
 abbrev pub after_told : Intake → List ℕ → Intake
-after_told (told taken borrows) bytes = told (taken ++ bytes) borrows
-after_told (untold borrows) bytes = untold borrows
+after_told (told taken loans) bytes = told (taken ++ bytes) loans
+after_told (untold loans) bytes = untold loans
 
--- the intake of an adapter that hands on by this borrow
-abbrev pub lent_by : GName → Intake → Intake
-lent_by borrow (told taken borrows) = told taken (borrow ∷ borrows)
-lent_by borrow (untold borrows) = untold (borrow ∷ borrows)
+-- the intake of an adapter on this loan
+abbrev pub lent_by : Loan → Intake → Intake
+lent_by loan (told taken loans) = told taken (loan ∷ loans)
+lent_by loan (untold loans) = untold (loan ∷ loans)
+
+-- the bytes that a sink tells, and none where it tells nothing
+abbrev pub told_bytes : Intake → List ℕ
+told_bytes (told taken loans) = taken
+told_bytes (untold loans) = []
+
+-- a sink has taken no byte back
+abbrev pub IsGrown : Intake → Intake → Type 0
+IsGrown old new = take (length (told_bytes old)) (told_bytes new) ≡ told_bytes old
 
 -- the count of faults rose, or stands at its last value
 abbrev pub Faulted : ℕ → ℕ → Type 0
@@ -55,3 +71,8 @@ pub record TakesUpTo (old new : Intake) (bytes rest : List ℕ) : Type 0 where
   pub part : List ℕ
   pub cut : bytes ≡ part ++ rest
   pub taken : new ≡ after_told old part
+
+-- a sink that was lent to an adapter took these bytes but for those that still wait, and took none back
+pub record HandsOn (old new : Intake) (bytes waits : List ℕ) : Type 0 where
+  pub all : after_told new waits ≡ after_told old bytes
+  pub grown : IsGrown old new

@@ -1,2 +1,5 @@
+pub mod Buffered
 pub mod Bytes
+pub mod Calls
 pub mod Memory
+pub mod Script

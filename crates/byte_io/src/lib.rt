@@ -5,8 +5,12 @@
 //! rose; and an `Ok` leaves that count as it was.
 #![tactic(auto)]
 
+pub mod buffered;
 pub mod fill;
 pub mod memory;
 pub mod put;
+pub mod script;
 pub mod standard;
+#[cfg(test)]
+mod tests;
 pub mod traits;

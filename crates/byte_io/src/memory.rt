@@ -102,11 +102,11 @@ impl Sink for MemSink {
     ghost count_fits = { λ sink. sink.count_fits };
 
     fn write(&mut self, piece: &[u8]) -> Result<usize, Failed>
-        ensures full { IsErr result ↔ ((0 < length piece.now) × (mem_sink_room self.old ≤ length (mem_sink_taken self.old))) }
-        ensures count { IfOk result (λ count. count ≡ min (length piece.now) (mem_sink_room self.old - length (mem_sink_taken self.old))) }
+        ensures fails { IsErr result ↔ ((0 < length piece.now) × (mem_sink_room self.old ≤ length (mem_sink_taken self.old))) }
+        ensures exact { IfOk result (λ count. count ≡ min (length piece.now) (mem_sink_room self.old - length (mem_sink_taken self.old))) }
         ensures bytes { IfOk result (λ count. told (mem_sink_taken self.new) [] ≡ after_told (told (mem_sink_taken self.old) []) (take count piece.now)) }
         ensures err { OnErr result (told (mem_sink_taken self.new) [] ≡ told (mem_sink_taken self.old) []) }
-        ensures faults { CountsFaults (mem_sink_faults self.old) (mem_sink_faults self.new) result }
+        ensures count { CountsFaults (mem_sink_faults self.old) (mem_sink_faults self.new) result }
         ensures room { mem_sink_room self.new ≡ mem_sink_room self.old }
     {
         let count = piece.len().min(self.room - self.taken.len());

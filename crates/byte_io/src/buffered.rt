@@ -1,0 +1,144 @@
+//! A sink that gathers many short writes into few long ones to another sink. Who wants it makes
+//! `PendingBytes`, lends them and the sink to a `BufferedSink`, hands that to whatever writes,
+//! drops it, and at last passes on what waits: only then are all bytes where they belong, and
+//! only that call knows whether the last of them could be written.
+ghost use Rattle.std.specs.Prelude.{◌≡◌, ℕ, ◌+◌, ◌-◌, ◌<◌, ◌≤◌, List, [], ◌++◌, length, take, drop, vec_len, vec_capacity, IfOk, OnOk, OnErr};
+ghost use Rattle.byte_io.specs.Bytes.{Intake, Loan, after_told, lent_by, told_bytes, IsGrown, CountsFaults, TakesUpTo};
+
+use super::put::WriteFault;
+use super::traits::{Failed, Sink};
+use std::alloc::{AllocError, Global};
+use std::snapshot::Snapshot;
+
+// How many bytes wait at most.
+const ROOM: usize = 65_536;
+
+/// Bytes that a `BufferedSink` accepted and hasn't passed on yet, with room for 64 KiB. They
+/// outlive the sink, and are lost where nobody passes them on.
+#[derive(Drop)]
+pub struct PendingBytes {
+    bytes: Vec<u8>,
+    passed: usize,
+    ghost in_bytes: { passed ≤ vec_len bytes },
+    ghost in_room: { vec_len bytes ≤ 65536 },
+    ghost has_room: { 65536 ≤ vec_capacity bytes },
+}
+
+impl PendingBytes {
+    ghost use Rattle.byte_io.specs.Buffered.{pending_bytes, pending_count};
+
+    /// Takes all memory that it will ever need.
+    pub fn new(alloc: Global) -> Result<PendingBytes, AllocError>
+        ensures { IfOk result (λ pending. pending_bytes pending ≡ []) }
+    {
+        let bytes = Vec::with_capacity(alloc, ROOM)?;
+        Ok(PendingBytes { bytes, passed: 0 })
+    }
+
+    /// Passes on all that waits. After a fault, what the sink took waits no longer.
+    #[tactic(auto, using(crate::proofs::Told::up_to_start, crate::proofs::Told::up_to_further))]
+    pub fn pass_on<O: Sink>(&mut self, inner: &mut O) -> Result<(), WriteFault>
+        ensures passed { TakesUpTo (O.taken inner.old) (O.taken inner.new) (pending_bytes self.old) (pending_bytes self.new) }
+        ensures all { OnOk result (pending_bytes self.new ≡ []) }
+        ensures room { OnOk result (pending_count self.new ≡ 0) }
+        ensures count { CountsFaults (O.faults inner.old) (O.faults inner.new) result }
+    {
+        while self.passed < self.bytes.len() {
+            match inner.write(&self.bytes[self.passed..]) {
+                Ok(count) => self.passed += count,
+                Err(Failed) => return Err(WriteFault),
+            }
+        }
+        self.passed = 0;
+        self.bytes.clear();
+        Ok(())
+    }
+
+    // How many bytes can be kept before what waits has to be passed on.
+    fn room_left(&self) -> usize
+        ensures { result + pending_count self.now ≡ 65536 }
+    {
+        ROOM - self.bytes.len()
+    }
+
+    // Keeps the piece behind what waits.
+    fn keep(&mut self, piece: &[u8])
+        requires { pending_count self.old + length piece.now ≤ 65536 }
+        ensures { pending_bytes self.new ≡ pending_bytes self.old ++ piece.now }
+    {
+        match self.bytes.extend_from_slice(piece) {
+            Ok(()) => {}
+            Err(_) => unreachable!(),
+        }
+    }
+}
+
+/// Hands on to a sink what was written, in pieces of up to 64 KiB or longer ones as they came.
+/// What it was given counts as taken even while it waits in `pending`, and each fault is one of
+/// the sink behind it. It passes nothing on when it is dropped: `PendingBytes::pass_on` does.
+pub struct BufferedSink<'a, O: Sink> {
+    inner: &'a mut O,
+    pending: &'a mut PendingBytes,
+    start: Snapshot<O>,
+    ghost grown: { IsGrown (O.taken start.value) (O.taken inner.now) },
+}
+
+impl<'a, O: Sink> BufferedSink<'a, O> {
+    ghost use Rattle.byte_io.specs.Buffered.{buffered_inner, buffered_pending, buffered_loan};
+
+    /// A sink over `inner`. What waits in `pending` already goes before all that is written.
+    pub fn new(inner: &'a mut O, pending: &'a mut PendingBytes) -> BufferedSink<'a, O>
+        ensures same_inner { (buffered_inner result).ghost_name ≡ inner.entry.ghost_name }
+        ensures same_pending { (buffered_pending result).ghost_name ≡ pending.entry.ghost_name }
+        ensures inner { (buffered_inner result).now ≡ inner.old }
+        ensures pending { (buffered_pending result).now ≡ pending.old }
+        ensures start { (buffered_loan result).start ≡ told_bytes (O.taken inner.old) }
+    {
+        let start = Snapshot::of(inner);
+        BufferedSink {
+            inner,
+            pending,
+            start,
+        }
+    }
+}
+
+impl<O: Sink> Sink for BufferedSink<'_, O> {
+    ghost use Rattle.byte_io.specs.Buffered.{buffered_intake, buffered_inner};
+
+    ghost taken = { λ sink. buffered_intake sink };
+
+    ghost faults = { λ sink. O.faults (buffered_inner sink).now };
+
+    ghost count_fits = { λ sink. O.count_fits (buffered_inner sink).now };
+
+    #[tactic(auto, using(crate::proofs::Lent::after_told_lent, crate::proofs::Told::after_told_again, crate::proofs::Told::after_told_nothing, crate::proofs::Lent::up_to_joined, crate::proofs::Lent::grown_up_to, crate::proofs::Lent::grown_after))]
+    fn write(&mut self, piece: &[u8]) -> Result<usize, Failed> {
+        if piece.len() > self.pending.room_left() {
+            match self.pending.pass_on(self.inner) {
+                Ok(()) => {}
+                Err(WriteFault) => return Err(Failed),
+            }
+        }
+        if piece.len() > ROOM {
+            return self.inner.write(piece);
+        }
+        self.pending.keep(piece);
+        Ok(piece.len())
+    }
+}
+
+impl<O: Sink> Drop for BufferedSink<'_, O> {
+    ghost use Rattle.byte_io.specs.Buffered.{buffered_inner, buffered_pending};
+
+    fn drop(self)
+        ensures inner { self.exit.0.now ≡ (buffered_inner self.entry).now }
+        ensures pending { self.exit.1.0.now ≡ (buffered_pending self.entry).now }
+    {
+        let BufferedSink {
+            inner: _,
+            pending: _,
+            start: _,
+        } = self;
+    }
+}
