@@ -1,0 +1,4 @@
+pub mod Header
+pub mod Masks
+pub mod PageBits
+pub mod Sizes
