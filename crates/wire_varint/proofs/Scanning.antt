@@ -84,11 +84,10 @@ pub none_over : (bytes : List ℕ) (at value scale : ℕ) → IsReadUpTo bytes a
 none_over bytes at value scale read within large tenth n len found = elim (cases_lt len 10) [
   | inl early ↦ none_short (take 9 bytes) (rw tenth at read.high) n len (rw (take-take len 9 bytes (omega arith)) found)
   | inr late ↦
-      let ten : take len bytes ≡ take (at + 1) bytes =
-      rw tenth (sym (take_all 10 (take len bytes) found.most) ∙ take-take 10 len bytes late) in
+      let short : take 10 (take len bytes) ≡ take len bytes = take_all 10 (take len bytes) found.most in
+      let ten : take len bytes ≡ take (at + 1) bytes = rw tenth (sym short ∙ take-take 10 len bytes late) in
       let low : get_or bytes at 0 < 128 = last_low (take at bytes) (get_or bytes at 0) (rw (ten, take_more bytes at 0 within) at found.whole) in
-      let value_is : joined (take (at + 1) bytes) ≡ value + scale * (get_or bytes at 0 % 128) =
-      joined_more bytes at value scale (get_or bytes at 0 % 128) read within refl in
+      let value_is = joined_more bytes at value scale (get_or bytes at 0 % 128) read within refl in
       let scale_is : scale ≡ 128 ^ 9 = rw tenth at read.scale_is in
       omega (arith, rw (ten, value_is, scale_is) at found.value, found.fits, low, large)
 ]

@@ -36,22 +36,22 @@ pub one_varint : (front other behind follows : List ℕ) (m n : ℕ) → IsVarin
     → (front ≡ other) × (m ≡ n) × (behind ≡ follows)
 one_varint front other behind follows m n p q e =
     let same : front ≡ other = whole_once front other behind follows p.whole q.whole e in
-    let rest : behind ≡ follows =
-    sym (drop_at front behind (length front) refl) ∙ (ap (drop (length front)) e ∙ drop_at other follows (length front) (ap length (sym same))) in
+    let cut : drop (length front) (front ++ behind) ≡ drop (length front) (other ++ follows) = ap (drop (length front)) e in
+    let rest : behind ≡ follows = sym (drop_at front behind _ refl) ∙ (cut ∙ drop_at other follows _ (ap length (sym same))) in
     (same, sym p.value ∙ (ap joined same ∙ q.value), rest)
 
 -- two readings of the front of the same bytes are one
 pub one_front : (bytes : List ℕ) (l k m n : ℕ) → l ≤ length bytes → k ≤ length bytes → IsVarint (take l bytes) m → IsVarint (take k bytes) n
     → (l ≡ k) × (m ≡ n)
 one_front bytes l k m n l_within k_within p q =
-    let one : (take l bytes ≡ take k bytes) × (m ≡ n) × (drop l bytes ≡ drop k bytes) =
-    one_varint (take l bytes) (take k bytes) (drop l bytes) (drop k bytes) m n p q (take-append-drop l bytes ∙ sym (take-append-drop k bytes)) in
+    let whole : take l bytes ++ drop l bytes ≡ take k bytes ++ drop k bytes = take-append-drop l bytes ∙ sym (take-append-drop k bytes) in
+    let one = one_varint (take l bytes) (take k bytes) (drop l bytes) (drop k bytes) m n p q whole in
     (sym (length-take-le l bytes l_within) ∙ (ap length one.0 ∙ length-take-le k bytes k_within), one.1)
 
 -- what is written in front can be told from what follows
 pub varint_cancels : (m n : ℕ) (x y : List ℕ) → m < 2 ^ 64 → n < 2 ^ 64 → varint m ++ x ≡ varint n ++ y → (m ≡ n) × (x ≡ y)
 varint_cancels m n x y p q e =
-    let one : (varint m ≡ varint n) × (m ≡ n) × (x ≡ y) = one_varint (varint m) (varint n) x y m n (varint_is_varint m p) (varint_is_varint n q) e in
+    let one = one_varint (varint m) (varint n) x y m n (varint_is_varint m p) (varint_is_varint n q) e in
     (one.1, one.2)
 
 pub varint_shortest : (bytes : List ℕ) (n : ℕ) → IsVarint bytes n → length (varint n) ≤ length bytes

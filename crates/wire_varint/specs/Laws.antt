@@ -13,11 +13,11 @@ OneVarintInFront = (front other behind follows : List ℕ) (m n : ℕ)
 abbrev pub NumbersAreVarints : Type 0
 NumbersAreVarints = (n : ℕ) → n < 2 ^ 64 → IsVarint (varint n) n
 
--- so is what is written in front of a field, of eight times its number and how its value is written
+-- so is a tag: of eight times the field's number and the wire type
 abbrev pub TagsAreVarints : Type 0
 TagsAreVarints = (field wire : ℕ) → field < 2 ^ 29 → wire < 8 → IsVarint (tag field wire) (8 * field + wire)
 
--- and the four bytes, which no other number has
+-- so is the form of four bytes
 abbrev pub RedundantsAreVarints : Type 0
 RedundantsAreVarints = (n : ℕ) → n < 2 ^ 28 → IsVarint (redundant n) n
 
