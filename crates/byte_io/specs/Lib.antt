@@ -3,3 +3,4 @@ pub mod Bytes
 pub mod Calls
 pub mod Memory
 pub mod Script
+pub mod Standard

@@ -15,15 +15,21 @@ pub struct StdSource<R: Read + Drop> {
 }
 
 impl<R: Read + Drop> StdSource<R> {
-    pub fn new(reader: R) -> StdSource<R> {
+    ghost use Rattle.byte_io.specs.Standard.{std_source_faults};
+
+    pub fn new(reader: R) -> StdSource<R>
+        ensures { std_source_faults result ≡ 0 }
+    {
         StdSource { reader, faults: 0 }
     }
 }
 
 impl<R: Read + Drop> Source for StdSource<R> {
+    ghost use Rattle.byte_io.specs.Standard.{std_source_faults};
+
     ghost left = { λ _. None };
 
-    ghost faults = { λ source. source.faults };
+    ghost faults = { λ source. std_source_faults source };
 
     ghost count_fits = { λ source. source.count_fits };
 
@@ -48,15 +54,21 @@ pub struct StdSink<W: Write + Drop> {
 }
 
 impl<W: Write + Drop> StdSink<W> {
-    pub fn new(writer: W) -> StdSink<W> {
+    ghost use Rattle.byte_io.specs.Standard.{std_sink_faults};
+
+    pub fn new(writer: W) -> StdSink<W>
+        ensures { std_sink_faults result ≡ 0 }
+    {
         StdSink { writer, faults: 0 }
     }
 }
 
 impl<W: Write + Drop> Sink for StdSink<W> {
+    ghost use Rattle.byte_io.specs.Standard.{std_sink_faults};
+
     ghost taken = { λ _. untold [] };
 
-    ghost faults = { λ sink. sink.faults };
+    ghost faults = { λ sink. std_sink_faults sink };
 
     ghost count_fits = { λ sink. sink.count_fits };
 
