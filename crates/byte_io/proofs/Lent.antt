@@ -21,12 +21,13 @@ grown_after (told first loans) (told taken loans') bytes grown = grind (arith, c
 grown_after (untold loans) old bytes grown = grind (arith, common_steps)
 grown_after (told first loans) (untold loans') bytes grown = grown
 
+-- the same after a run of writes
 pub grown_up_to : (start old new : Intake) (bytes rest : List ℕ) → TakesUpTo old new bytes rest → IsGrown start old → IsGrown start new
 grown_up_to start old new bytes rest done grown =
     let P : Intake → Type 0 = λ intake. IsGrown start intake in
     subst P (sym done.taken) (grown_after start old done.part grown)
 
--- whatever a write answered
+-- the same whatever a write answered
 pub grown_written : {E : Type 0} (start old new : Intake) (result : Result ℕ E) (piece : List ℕ) → IsGrown start old
     → IfOk result (λ count. new ≡ after_told old (take count piece)) → OnErr result (new ≡ old) → IsGrown start new
 grown_written start old new (Ok count) piece grown wrote failed =
@@ -42,6 +43,7 @@ record Passed (start first waits part : List ℕ) : Type 0 where
   first_is : first ≡ start ++ passed
   part_is : part ≡ passed ++ waits
 
+-- a list that still has its start, and with what waits is the start and a part, has what was passed on of the part
 passed_of : (start first waits part : List ℕ) → take (length start) first ≡ start → first ++ waits ≡ start ++ part → Passed start first waits part
 passed_of start first waits part grown same =
     let split : first ≡ start ++ drop (length start) first = sym (take-append-drop (length start) first) ∙ ap (λ front. front ++ drop (length start) first) grown in
@@ -49,9 +51,11 @@ passed_of start first waits part grown same =
     sym same ∙ ap (λ all. all ++ waits) split ∙ append_assoc start (drop (length start) first) waits in
     record { passed = drop (length start) first; first_is = split; part_is = append_cancel_left start _ _ joined }
 
+-- a part that is cut again cuts the whole
 cut_again : (bytes part rest passed waits : List ℕ) → bytes ≡ part ++ rest → part ≡ passed ++ waits → bytes ≡ passed ++ (waits ++ rest)
 cut_again bytes part rest passed waits whole front = whole ∙ ap (λ all. all ++ rest) front ∙ append_assoc passed waits rest
 
+-- equal bytes on equal loans
 same_told : (bytes bytes' : List ℕ) (loans loans' : List Loan) → bytes ≡ bytes' → loans ≡ loans' → told bytes loans ≡ told bytes' loans'
 same_told bytes bytes' loans loans' same same_loans = cc
 

@@ -4,19 +4,22 @@ use Rattle.std.proofs.lemmas.Grind.{common_steps}
 use Rattle.std.proofs.lemmas.List.{take_rest, take-append-drop, drop-drop}
 use Rattle.byte_io.specs.Bytes.{Intake, told, untold, before_told, after_told, GivesAtMost, TakesPart, TakesUpTo}
 
+-- two reads give what one of both would
 pub before_told_again : (a b : List ℕ) (left : Option (List ℕ)) → before_told a (before_told b left) ≡ before_told (a ++ b) left
 before_told_again a b None = refl
 before_told_again a b (Some left) = ap (λ bytes. Some bytes) (sym (append_assoc a b left))
 
+-- two writes take what one of both would
 pub after_told_again : (old : Intake) (a b : List ℕ) → after_told (after_told old a) b ≡ after_told old (a ++ b)
 after_told_again (told taken loans) a b = ap (λ bytes. told bytes loans) (append_assoc taken a b)
 after_told_again (untold loans) a b = refl
 
+-- no bytes taken change nothing
 pub after_told_nothing : (old : Intake) → after_told old [] ≡ old
 after_told_nothing (told taken loans) = grind (arith, common_steps)
 after_told_nothing (untold loans) = refl
 
--- nothing is taken yet
+-- before the first write nothing is taken
 pub up_to_start : (old : Intake) (bytes : List ℕ) → TakesUpTo old old bytes bytes
 up_to_start old bytes = record { part = []; cut = refl; taken = sym (after_told_nothing old) }
 
@@ -39,9 +42,11 @@ up_to_further old mid new bytes all at count done write =
     let here : new ≡ after_told mid (take count (drop at all)) = rw (take_rest all at) at write in
     subst P (take_rest (drop at all) count ∙ drop-drop count at all) (up_to_more old mid new bytes (drop at all) count done here)
 
+-- a write that fails leaves the sink with a part
 pub up_to_part : (old new : Intake) (bytes rest : List ℕ) → TakesUpTo old new bytes rest → TakesPart old new bytes
 up_to_part old new bytes rest done = record { part = done.part; rest = rest; cut = done.cut; taken = done.taken }
 
+-- with no rest all was taken
 pub up_to_end : (old new : Intake) (bytes : List ℕ) → TakesUpTo old new bytes [] → new ≡ after_told old bytes
 up_to_end old new bytes done = grind (arith, common_steps, done.cut, done.taken)
 
@@ -63,10 +68,11 @@ part_second old mid new first second whole done = record {
   taken = done.taken ∙ ap (λ intake. after_told intake done.part) whole ∙ after_told_again old first done.part;
 }
 
+-- the bytes of all reads so far
 pub gives_at_most : (most : ℕ) (bytes : List ℕ) (old new : Option (List ℕ)) → old ≡ before_told bytes new → length bytes ≤ most → GivesAtMost most old new
 gives_at_most most bytes old new given within = record { bytes = bytes; within = within; given = given }
 
--- the same of what one more read gave
+-- and of one read more
 pub gives_more : (most : ℕ) (bytes piece : List ℕ) (old mid new : Option (List ℕ)) → old ≡ before_told bytes mid → mid ≡ before_told piece new
     → length bytes + length piece ≤ most → GivesAtMost most old new
 gives_more most bytes piece old mid new first second within = record {
@@ -92,6 +98,6 @@ pub told_has : (P : List ℕ → Type 0) (items : List ℕ) (old : Option (List 
 told_has P items None same holds = tt
 told_has P items (Some bytes) same holds = subst P same holds
 
--- part of the first of these bytes
+-- all of the bytes are a part of them
 pub part_whole : (old new : Intake) (bytes : List ℕ) → new ≡ after_told old bytes → TakesPart old new bytes
 part_whole old new bytes whole = record { part = bytes; rest = []; cut = sym (append-nil bytes); taken = whole }

@@ -37,6 +37,7 @@ pub fn fill_all<S: Source>(alloc: Global, src: &mut S, limit: usize) -> Result<V
     ensures other_fault { S.faults src.old < S.faults src.new → IsErrOf result FillFault.ReadFault }
     ensures later { S.faults src.old ≤ S.faults src.new }
 
+    // At most one byte too many is taken.
     ensures too_long { IsErrOf result FillFault.TooLong → IfSome (S.left src.old) (λ left. limit < length left) }
     ensures taken { GivesAtMost (limit + 1) (S.left src.old) (S.left src.new) }
 {
