@@ -1,0 +1,2 @@
+pub mod InnerFirst
+pub mod PatchLemmas
