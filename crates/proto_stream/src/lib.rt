@@ -1,0 +1,11 @@
+//! Writing a packet's bytes into the payload of a chunk.
+//! A layer above may rely on this: what a cursor writes is the next bytes of what it is given, as
+//! many as fit, and nothing else in the payload changes; a hole is four bytes at the offset that is
+//! answered; and a head is exactly what stands before a field's content in the encoding.
+#![tactic(auto)]
+
+mod cursor;
+mod head;
+
+pub use cursor::ChunkCursor;
+pub use head::{Head, head_bytes, head_nested, head_number};
