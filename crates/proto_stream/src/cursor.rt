@@ -1,7 +1,7 @@
 //! A cursor in the payload of a chunk that is lent to it.
 ghost use Rattle.std.specs.Prelude.{◌≡◌, ℕ, ◌+◌, ◌-◌, ◌<◌, ◌≤◌, ◌↔◌, [], ◌∷◌, List, length, min, take, Some, IsNone, IfSome, IfNone, OnSome};
 ghost use Rattle.trace_model.specs.Packets.{open_length};
-ghost use Rattle.proto_stream.specs.Written.{with_bytes};
+ghost use Rattle.trace_model.specs.Images.{with_bytes};
 
 use trace_base::limits::MAX_INPUT;
 
@@ -9,7 +9,6 @@ use trace_base::limits::MAX_INPUT;
 const OPEN_LENGTH: [u8; 4] = [0x80, 0x80, 0x80, 0x00];
 
 /// Puts bytes into a payload at a place.
-#[tactic(auto, unfolding(crate::specs::Written::with_bytes))]
 fn write_at(payload: &mut [u8], at: usize, bytes: &[u8])
     requires { at + length bytes.now ≤ length payload.old }
     ensures { payload.new ≡ with_bytes payload.old at bytes.now }
