@@ -1,5 +1,6 @@
 pub mod EncodingLemmas
 pub mod LiveLemmas
+pub mod PacketLemmas
 pub mod PlaceLemmas
 pub mod TellsLemmas
 pub mod ToldPlacesLemmas

@@ -13,6 +13,7 @@ pub mod Fragments
 pub mod History
 pub mod Images
 pub mod Laws
+pub mod PacketLaws
 pub mod Packets
 pub mod Pages
 pub mod Patches

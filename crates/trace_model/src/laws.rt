@@ -1,6 +1,7 @@
 //! Laws about the definitions: each is the contract of a function with nothing to do.
 ghost use Rattle.trace_model.specs.EncodingLaws.{EncodingsAreAsLong};
 ghost use Rattle.trace_model.specs.Laws.{AllRecordsTell};
+ghost use Rattle.trace_model.specs.PacketLaws.{PacketsAreFronted};
 ghost use Rattle.trace_model.specs.PlaceLaws.{LiveAreUnmet};
 ghost use Rattle.trace_model.specs.TellsLaws.{TellsByPlaces};
 
@@ -25,4 +26,10 @@ pub fn tells_by_places()
 /// its interval.
 pub fn live_are_unmet()
     ensures { LiveAreUnmet }
+{}
+
+/// Of any list of a writer's calls, the body of each packet is its front mark, where it has one, and
+/// then its encoding.
+pub fn packets_are_fronted()
+    ensures { PacketsAreFronted }
 {}

@@ -5,4 +5,6 @@
 
 mod laws;
 
-pub use laws::{all_records_tell, encodings_are_as_long, live_are_unmet, tells_by_places};
+pub use laws::{
+    all_records_tell, encodings_are_as_long, live_are_unmet, packets_are_fronted, tells_by_places,
+};
