@@ -1,3 +1,4 @@
+pub mod CallLemmas
 pub mod EncodingLemmas
 pub mod LiveLemmas
 pub mod PacketLemmas

@@ -1,12 +1,12 @@
 -- Laws of the packets that a list of calls makes.
-use Rattle.std.proofs.Common.{◌≡◌, ◌∙◌, ℕ, length, Bool, true, false, not, ◌&&◌, List, [], ◌∷◌, ◌++◌, drop, refl, sym, ap, subst, append_assoc}
+use Rattle.std.proofs.Common.{◌≡◌, ◌∙◌, ℕ, length, ◌&&◌, List, [], ◌∷◌, ◌++◌, drop, refl, sym, ap, append_assoc}
 use Rattle.std.specs.Prelude.{fold}
 use Rattle.std.proofs.lemmas.List.{append-nil}
 use Rattle.std.proofs.Math.Seq.{drop-append_seam}
 use Rattle.wire_varint.specs.Varint.{redundant}
 use Rattle.trace_model.specs.Calls.{Call, Begun, Number, Bytes, Nested, Ended, GivenUp, Finished, Flushed}
 use Rattle.trace_model.specs.Encoding.{number_field, bytes_field, nested_tag}
-use Rattle.trace_model.specs.Packets.{Packet, Text, NestedLength, Account, open_length, flat, written, closed_levels, front_of, body_of, packet_encoding, newest_is_lost, begun_packet, noted, nothing_yet, packets_of, with_more, with_nested, with_nested_ended, given_up_packet, finished_packet, on_newest}
+use Rattle.trace_model.specs.Packets.{Packet, NestedLength, Account, open_length, flat, written, closed_levels, front_of, body_of, newest_is_lost, noted, nothing_yet, packets_of, with_more, with_nested, with_nested_ended, given_up_packet, finished_packet, on_newest}
 use Rattle.trace_model.specs.PacketLaws.{AreFronted, PacketsAreFronted}
 use Rattle.trace_model.specs.Record.{mark_where}
 

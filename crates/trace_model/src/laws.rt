@@ -1,7 +1,7 @@
 //! Laws about the definitions: each is the contract of a function with nothing to do.
 ghost use Rattle.trace_model.specs.EncodingLaws.{EncodingsAreAsLong};
 ghost use Rattle.trace_model.specs.Laws.{AllRecordsTell};
-ghost use Rattle.trace_model.specs.PacketLaws.{PacketsAreFronted};
+ghost use Rattle.trace_model.specs.PacketLaws.{CallsGiveEncodings, PacketsAreFronted};
 ghost use Rattle.trace_model.specs.PlaceLaws.{LiveAreUnmet};
 ghost use Rattle.trace_model.specs.TellsLaws.{TellsByPlaces};
 
@@ -32,4 +32,10 @@ pub fn live_are_unmet()
 /// then its encoding.
 pub fn packets_are_fronted()
     ensures { PacketsAreFronted }
+{}
+
+/// The calls by which packets are written whole give their encodings as emissions, and as bodies the
+/// encodings of those that were kept, with the mark in front of each that follows a dropped one.
+pub fn calls_give_encodings()
+    ensures { CallsGiveEncodings }
 {}

@@ -6,5 +6,6 @@
 mod laws;
 
 pub use laws::{
-    all_records_tell, encodings_are_as_long, live_are_unmet, packets_are_fronted, tells_by_places,
+    all_records_tell, calls_give_encodings, encodings_are_as_long, live_are_unmet,
+    packets_are_fronted, tells_by_places,
 };
