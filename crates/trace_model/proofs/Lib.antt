@@ -5,3 +5,4 @@ pub mod PacketLemmas
 pub mod PlaceLemmas
 pub mod TellsLemmas
 pub mod ToldPlacesLemmas
+pub mod WorkedLemmas

@@ -27,4 +27,6 @@ pub mod Sent
 pub mod Sequences
 pub mod Tells
 pub mod TellsLaws
+pub mod WorkedRows
+pub mod WorkedWriters
 pub mod Written

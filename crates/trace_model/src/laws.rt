@@ -4,6 +4,7 @@ ghost use Rattle.trace_model.specs.Laws.{AllRecordsTell};
 ghost use Rattle.trace_model.specs.PacketLaws.{CallsGiveEncodings, PacketsAreFronted};
 ghost use Rattle.trace_model.specs.PlaceLaws.{LiveAreUnmet};
 ghost use Rattle.trace_model.specs.TellsLaws.{TellsByPlaces};
+ghost use Rattle.trace_model.specs.WorkedRows.{WorkedRows};
 
 /// The length of an encoding is the sum of the lengths of its parts.
 pub fn encodings_are_as_long()
@@ -38,4 +39,10 @@ pub fn packets_are_fronted()
 /// encodings of those that were kept, with the mark in front of each that follows a dropped one.
 pub fn calls_give_encodings()
     ensures { CallsGiveEncodings }
+{}
+
+/// The definitions give what the worked examples say: how packets are cut, the bytes of the trace,
+/// and the report.
+pub fn worked_rows()
+    ensures { WorkedRows }
 {}
