@@ -2,6 +2,7 @@ pub mod Arrivals
 pub mod Balance
 pub mod Buffers
 pub mod Calls
+pub mod CauseLaws
 pub mod Causes
 pub mod Counts
 pub mod Cut

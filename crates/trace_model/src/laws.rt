@@ -1,4 +1,5 @@
 //! Laws about the definitions: each is the contract of a function with nothing to do.
+ghost use Rattle.trace_model.specs.CauseLaws.{PacketsHaveOneOutcome};
 ghost use Rattle.trace_model.specs.EncodingLaws.{EncodingsAreAsLong};
 ghost use Rattle.trace_model.specs.Laws.{AllRecordsTell};
 ghost use Rattle.trace_model.specs.PacketLaws.{CallsGiveEncodings, PacketsAreFronted};
@@ -45,4 +46,10 @@ pub fn calls_give_encodings()
 /// and the report.
 pub fn worked_rows()
     ensures { WorkedRows }
+{}
+
+/// Each packet is delivered once or absent under one cause: whatever a history does whose arrivals
+/// of a sequence come before its close, it fixes the outcome of no packet of that sequence twice.
+pub fn packets_have_one_outcome()
+    ensures { PacketsHaveOneOutcome }
 {}

@@ -7,5 +7,5 @@ mod laws;
 
 pub use laws::{
     all_records_tell, calls_give_encodings, encodings_are_as_long, live_are_unmet,
-    packets_are_fronted, tells_by_places, worked_rows,
+    packets_are_fronted, packets_have_one_outcome, tells_by_places, worked_rows,
 };

@@ -1,0 +1,38 @@
+-- Each packet is delivered once, or absent under one cause: whatever a history does, it fixes the outcome of no packet
+-- twice.
+use Rattle.std.specs.Prelude.{◌≡◌, ℕ, Bool, true, false, not, ◌&&◌, ◌||◌, ◌==◌, IsTrue, List, [], ◌∷◌, ⊤}
+use Rattle.std.specs.List.{list_any}
+use Rattle.trace_base.specs.declared.policy.FullPolicy.{FullPolicy}
+use Rattle.trace_model.specs.Sequences.{Sequence, fresh, sequence_in, is_known}
+use Rattle.trace_model.specs.Buffers.{empty_buffer}
+use Rattle.trace_model.specs.History.{Event, Arrives, ArrivesInPart, Committed, Closed}
+use Rattle.trace_model.specs.Causes.{Fixed, fixed_after, is_same_place}
+
+abbrev pub is_arrival_of : ℕ → Event → Bool
+is_arrival_of sequence (Arrives other chunk_id chunk) = other == sequence
+is_arrival_of sequence (ArrivesInPart other chunk_id chunk) = other == sequence
+is_arrival_of sequence (Committed image patches) = image.sequence == sequence
+is_arrival_of sequence event = false
+
+abbrev pub is_close_of : ℕ → Event → Bool
+is_close_of sequence (Closed other) = other == sequence
+is_close_of sequence event = false
+
+-- nothing of the sequence arrives once it is closed
+abbrev pub closes_last : ℕ → Bool → List Event → Bool
+closes_last sequence closed [] = true
+closes_last sequence closed (event ∷ events) =
+    not (closed && is_arrival_of sequence event)
+    && closes_last sequence (closed || is_close_of sequence event) events
+
+-- no two outcomes are of one packet
+abbrev pub AreDistinct : List Fixed → Type 0
+AreDistinct [] = ⊤
+AreDistinct (fixed ∷ others) =
+    IsTrue (not (list_any (λ other. is_same_place other.at fixed.at) others)) × AreDistinct others
+
+abbrev pub PacketsHaveOneOutcome : Type 0
+PacketsHaveOneOutcome = (room : ℕ) (policy : FullPolicy) (sequences : List Sequence) (sequence size : ℕ) (events : List Event)
+    → is_known sequences sequence ≡ true → sequence_in sequences sequence ≡ fresh sequence size
+    → IsTrue (closes_last sequence false events)
+    → AreDistinct (fixed_after sequence (empty_buffer room policy sequences) events)
