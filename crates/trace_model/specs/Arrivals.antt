@@ -1,6 +1,7 @@
 -- What arrives in a buffer, and what becomes of it.
 use Rattle.std.specs.Prelude.{ℕ, suc, ◌+◌, Bool, true, false, ◌&&◌, ◌||◌, nat_le, ◌==◌, [], ◌∷◌, ◌++◌, length, map, Option, Some, None, is_some, if◌then◌else◌}
 use Rattle.std.specs.List.{list_any}
+use Rattle.trace_base.specs.declared.limits.TheConstants.{IDS_AHEAD}
 use Rattle.trace_model.specs.Counts.{raised}
 use Rattle.trace_model.specs.Images.{Image, Chunk, whole_chunk, partial_chunk, complete_chunk}
 use Rattle.trace_model.specs.Places.{place_after, padding_before}
@@ -44,12 +45,9 @@ pub data Arrived : Type 0 where
   -- the number of the first fragment that can't be read
   BadChunk : (fragment : ℕ) → Arrived
 
--- ids so far ahead of the least missing one are refused
-abbrev pub ids_ahead : ℕ
-ids_ahead = 1024
-
+-- an id so far ahead of the least missing one is refused
 abbrev pub is_too_far : Sequence → ℕ → Bool
-is_too_far s chunk_id = nat_le (base_of s + ids_ahead) chunk_id
+is_too_far s chunk_id = nat_le (base_of s + IDS_AHEAD) chunk_id
 
 -- where a record goes that is neither a double nor too far
 abbrev pub placing_of : Buffer → ℕ → ℕ → Arrived

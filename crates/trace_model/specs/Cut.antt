@@ -3,6 +3,7 @@
 -- in, without flags 2 and 4, and with the patches that weren't sent yet as those of its body.
 use Rattle.std.specs.Prelude.{◌≡◌, ℕ, ◌+◌, ◌-◌, ◌<◌, ◌≤◌, Bool, true, false, not, ◌&&◌, ◌||◌, ◌==◌, nat_lt, IsTrue, List, [], ◌∷◌, ◌++◌, length, map, All, Option, Some, None, is_some, MatchOption, MatchBool, if◌then◌else◌, ⊤}
 use Rattle.std.specs.List.{AllZip, list_all}
+use Rattle.trace_base.specs.declared.limits.TheConstants.{MAX_FRAGMENTS}
 use Rattle.wire_varint.specs.Varint.{redundant}
 use Rattle.trace_model.specs.Calls.{Call}
 use Rattle.trace_model.specs.Images.{Image, Patch}
@@ -15,15 +16,11 @@ use Rattle.trace_model.specs.Written.{chains_of}
 
 -- Pages
 
--- at most so many fragments stand in a chunk
-abbrev pub most_fragments : ℕ
-most_fragments = 1023
-
 -- A page of this payload size has a count from 1 to 1,023. A drop mark stands only in a last fragment that runs on nowhere,
 -- and its bytes are all that follows.
 pub record IsFull (size : ℕ) (page : Page) : Type 0 where
   pub some : 1 ≤ length page.fragments
-  pub most : length page.fragments ≤ most_fragments
+  pub most : length page.fragments ≤ MAX_FRAGMENTS
   pub whole : length (laid page.dropped page.fragments page.rest) ≡ size
   pub dropped : page.dropped ≡ true → (page.runs_on ≡ false) × (page.rest ≡ [])
 
@@ -109,7 +106,7 @@ room_to_begin = 12
 -- behind this fragment no packet can begin in the same chunk
 abbrev pub is_end : ℕ → Option Piece → Bool
 is_end size None = true
-is_end size (Some piece) = nat_lt (left_behind size piece) room_to_begin || (piece.at.passed + 1 == most_fragments)
+is_end size (Some piece) = nat_lt (left_behind size piece) room_to_begin || (piece.at.passed + 1 == MAX_FRAGMENTS)
 
 abbrev pub newest_piece : List Chain → Option Piece
 newest_piece [] = None

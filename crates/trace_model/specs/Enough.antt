@@ -5,7 +5,7 @@ use Rattle.std.specs.List.{list_all, enumerate_from}
 use Rattle.trace_base.specs.declared.policy.WriterPolicy.{WriterPolicy}
 use Rattle.trace_base.specs.declared.policy.WriterPolicy.TheVariants.{Stalls}
 use Rattle.trace_base.specs.declared.policy.WriterSpec.{WriterSpec}
-use Rattle.trace_model.specs.Places.{record_size}
+use Rattle.page_geometry.specs.Sizes.{record_size}
 
 -- a producer's chunks, and the payload size of each
 pub record ChunkRoom : Type 0 where

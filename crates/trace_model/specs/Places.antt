@@ -1,12 +1,8 @@
 -- Where the records of a buffer lie, and which are live. After the tracing service's buffers document: records stand one
 -- behind another, a record that doesn't fit behind the last one goes to the buffer's start, and what a new record or the
 -- padding before it meets is overwritten.
-use Rattle.std.specs.Prelude.{ℕ, ◌+◌, ◌-◌, ◌*◌, ◌/◌, min, max, Bool, ◌||◌, not, nat_le, nat_lt, List, [], ◌∷◌, ◌++◌, filter, if◌then◌else◌}
+use Rattle.std.specs.Prelude.{ℕ, ◌+◌, ◌-◌, min, max, Bool, ◌||◌, not, nat_le, nat_lt, List, [], ◌∷◌, ◌++◌, filter, if◌then◌else◌}
 use Rattle.std.specs.List.{list_any}
-
--- a record has a header of 16 bytes, and its size is rounded up to a multiple of 16
-abbrev pub record_size : ℕ → ℕ
-record_size payload = (16 + payload + 15) / 16 * 16
 
 -- some byte lies both in the m bytes from a on and in the n bytes from b on
 abbrev pub overlaps : ℕ → ℕ → ℕ → ℕ → Bool

@@ -1,12 +1,12 @@
 -- Worked examples whole: what the service does with the pages of writers, the bytes of the trace, and the report.
 use Rattle.std.specs.Prelude.{◌≡◌, ℕ, zero, suc, ◌-◌, ◌*◌, ◌^◌, true, false, List, [], ◌∷◌, ◌++◌, length, map}
 use Rattle.std.specs.List.{flat_map}
+use Rattle.page_geometry.specs.Sizes.{record_size}
 use Rattle.trace_base.specs.declared.policy.FullPolicy.TheVariants.{Ring, Discard}
 use Rattle.trace_model.specs.Calls.{Call, Begun, Number, Finished}
 use Rattle.trace_model.specs.Images.{first_fragments}
 use Rattle.trace_model.specs.Packets.{packets_of}
 use Rattle.trace_model.specs.Pages.{Page, chunk_of}
-use Rattle.trace_model.specs.Places.{record_size}
 use Rattle.trace_model.specs.Sequences.{fresh, sequence_in}
 use Rattle.trace_model.specs.Buffers.{Buffer, empty_buffer}
 use Rattle.trace_model.specs.History.{Event, Arrives, ArrivesInPart, Patched, Closed, Read, state_after, records_after}
