@@ -1,5 +1,6 @@
 pub mod ArrivalLemmas
 pub mod CallLemmas
+pub mod CountedLemmas
 pub mod CursorLemmas
 pub mod EncodingLemmas
 pub mod FixedLemmas
@@ -13,6 +14,7 @@ pub mod ReadPlaceLemmas
 pub mod RecordLemmas
 pub mod RowPlaceLemmas
 pub mod SequenceLemmas
+pub mod TallyLemmas
 pub mod TellsLemmas
 pub mod ToldPlacesLemmas
 pub mod WorkedLemmas

@@ -107,11 +107,11 @@ new_record b p chunk_id chunk = record {
 }
 
 -- what the outcome of a complete chunk, and of a partial one, leaves
-abbrev complete_after : Buffer → ℕ → ℕ → Chunk → Arrived → Buffer
+abbrev pub complete_after : Buffer → ℕ → ℕ → Chunk → Arrived → Buffer
 complete_after b p chunk_id chunk outcome =
     arrival_noted outcome p chunk_id (length chunk.fragments) (settled outcome b p chunk_id (complete_chunk chunk))
 
-abbrev partial_after : Buffer → ℕ → ℕ → Chunk → Arrived → Buffer
+abbrev pub partial_after : Buffer → ℕ → ℕ → Chunk → Arrived → Buffer
 partial_after b p chunk_id chunk outcome = settled outcome b p chunk_id (partial_chunk chunk)
 
 abbrev CompleteSteps : ℕ → Bool → Buffer → List Fixed → ℕ → Chunk → ℕ → Arrived → Type 0

@@ -1,11 +1,14 @@
 -- Each packet is delivered once, or absent under one cause: whatever a history does, it fixes the outcome of no packet
 -- twice.
-use Rattle.std.specs.Prelude.{◌≡◌, ℕ, Bool, true, false, not, ◌&&◌, ◌||◌, ◌==◌, IsTrue, List, [], ◌∷◌, ⊤}
+use Rattle.std.specs.Prelude.{◌≡◌, ℕ, Bool, true, false, not, ◌&&◌, ◌||◌, ◌==◌, IsTrue, List, [], ◌∷◌, count_by, ⊤}
 use Rattle.std.specs.List.{list_any}
 use Rattle.trace_base.specs.declared.policy.FullPolicy.{FullPolicy}
 use Rattle.trace_model.specs.Sequences.{Sequence, fresh, sequence_in, is_known}
 use Rattle.trace_model.specs.Buffers.{empty_buffer}
-use Rattle.trace_model.specs.History.{Event, Arrives, ArrivesInPart, Committed, Closed}
+use Rattle.trace_model.specs.History.{Event, Arrives, ArrivesInPart, Committed, Closed, state_after}
+use Rattle.trace_model.specs.Counts.{raised}
+use Rattle.trace_model.specs.Reads.{Dropped, Lost, Cut}
+use Rattle.trace_model.specs.Balance.{is_delivered, is_absent_under}
 use Rattle.trace_model.specs.Causes.{Fixed, fixed_after, is_same_place}
 
 abbrev pub is_arrival_of : ℕ → Event → Bool
@@ -36,3 +39,16 @@ PacketsHaveOneOutcome = (room : ℕ) (policy : FullPolicy) (sequences : List Seq
     → is_known sequences sequence ≡ true → sequence_in sequences sequence ≡ fresh sequence size
     → IsTrue (closes_last sequence false events)
     → AreDistinct (fixed_after sequence (empty_buffer room policy sequences) events)
+
+-- What a buffer counts of a sequence is what a history fixed of its packets.
+pub record AreCounted (fixed : List Fixed) (s : Sequence) : Type 0 where
+  pub delivered : s.delivered ≡ raised 0 (count_by (λ one. is_delivered one.outcome) fixed)
+  pub dropped : s.dropped ≡ raised 0 (count_by (λ one. is_absent_under Dropped one.outcome) fixed)
+  pub lost : s.lost ≡ raised 0 (count_by (λ one. is_absent_under Lost one.outcome) fixed)
+  pub cut : s.cut ≡ raised 0 (count_by (λ one. is_absent_under Cut one.outcome) fixed)
+
+abbrev pub CountsAreOutcomes : Type 0
+CountsAreOutcomes = (room : ℕ) (policy : FullPolicy) (sequences : List Sequence) (sequence size : ℕ) (events : List Event)
+    → is_known sequences sequence ≡ true → sequence_in sequences sequence ≡ fresh sequence size
+    → AreCounted (fixed_after sequence (empty_buffer room policy sequences) events)
+    (sequence_in (state_after (empty_buffer room policy sequences) events).sequences sequence)

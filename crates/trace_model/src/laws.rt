@@ -1,5 +1,5 @@
 //! Laws about the definitions: each is the contract of a function with nothing to do.
-ghost use Rattle.trace_model.specs.CauseLaws.{PacketsHaveOneOutcome};
+ghost use Rattle.trace_model.specs.CauseLaws.{CountsAreOutcomes, PacketsHaveOneOutcome};
 ghost use Rattle.trace_model.specs.EncodingLaws.{EncodingsAreAsLong};
 ghost use Rattle.trace_model.specs.Laws.{AllRecordsTell};
 ghost use Rattle.trace_model.specs.PacketLaws.{CallsGiveEncodings, PacketsAreFronted};
@@ -52,4 +52,10 @@ pub fn worked_rows()
 /// of a sequence come before its close, it fixes the outcome of no packet of that sequence twice.
 pub fn packets_have_one_outcome()
     ensures { PacketsHaveOneOutcome }
+{}
+
+/// What a buffer counts of a sequence is how many of its packets a history has fixed as delivered, and
+/// as absent under each cause.
+pub fn counts_are_outcomes()
+    ensures { CountsAreOutcomes }
 {}
