@@ -6,7 +6,7 @@ use Rattle.trace_model.specs.Encoding.{number_field, bytes_head, bytes_field}
 use Rattle.trace_model.specs.Record.{content_of, record_of}
 use Rattle.trace_model.specs.Cut.{IsFull}
 use Rattle.trace_model.specs.WorkedWriters.{letters, small_pages, empty_pages, long_pages, patched_pages, moved_pages, given_up_pages}
-use Rattle.trace_model.specs.WorkedRows.{shared_pages, WorkedRows, SmallPacket, EmptyPacket, LongPacket, PatchedPacket, MovedLength, GivenUpPacket, OverwritesUnread, DiscardsRest, FillsBuffer, DropsAtBegin, LosesScraped, RewritesScraped, ClosesUnpatched}
+use Rattle.trace_model.specs.WorkedRows.{shared_pages, WorkedRows, SmallPacket, EmptyPacket, LongPacket, PatchedPacket, MovedLength, GivenUpPacket, OverwritesUnread, DiscardsRest, FillsBuffer, DropsAtBegin, LosesScraped, RewritesScraped, ClosesUnpatched, AwaitsPatch, RunsIntoDiscarded, halved_pages}
 
 small : SmallPacket
 unfolding groups varint tag redundant number_field bytes_head bytes_field content_of record_of
@@ -195,6 +195,28 @@ closes : ClosesUnpatched
 unfolding groups varint tag redundant number_field bytes_head bytes_field content_of record_of
 closes = record { played = record { trace_is = refl; counts_are = refl }; reported = refl }
 
+awaits : AwaitsPatch
+unfolding groups varint tag redundant number_field bytes_head bytes_field content_of record_of
+awaits = record { trace_is = refl; counts_are = refl }
+
+halved : RunsIntoDiscarded
+unfolding groups varint tag redundant number_field bytes_head bytes_field content_of record_of
+halved = record {
+  cut = record {
+    full = All-from_recursion (IsFull 2036) halved_pages (
+      record { some = omega arith; most = omega arith; whole = refl; dropped = λ h. absurd (cc) },
+      (record { some = omega arith; most = omega arith; whole = refl; dropped = λ h. absurd (cc) }, tt),
+    );
+    flags = (refl, (refl, tt));
+    last = λ h. absurd (cc);
+    chains = (record { marked = refl; bytes = refl; ends = refl }, (record { marked = refl; bytes = refl; ends = refl }, tt));
+    patches = record { sent = (refl, (refl, tt)); lasts = tt; awaits = (refl, (refl, tt)); placed = refl };
+    begins = refl;
+  };
+  played = record { trace_is = refl; counts_are = refl };
+  reported = refl;
+}
+
 pub worked_rows : WorkedRows
 worked_rows = record {
   small = small;
@@ -210,4 +232,6 @@ worked_rows = record {
   loses = loses;
   rewrites = rewrites;
   closes = closes;
+  awaits = awaits;
+  halved = halved;
 }

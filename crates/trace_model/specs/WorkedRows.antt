@@ -4,16 +4,17 @@ use Rattle.std.specs.List.{flat_map}
 use Rattle.page_geometry.specs.Sizes.{record_size}
 use Rattle.trace_base.specs.declared.policy.FullPolicy.TheVariants.{Ring, Discard}
 use Rattle.trace_model.specs.Calls.{Call, Begun, Number, Finished}
+use Rattle.trace_model.specs.Encoding.{NoFields, NumberField}
 use Rattle.trace_model.specs.Images.{first_fragments}
 use Rattle.trace_model.specs.Packets.{packets_of}
-use Rattle.trace_model.specs.Pages.{Page, chunk_of}
+use Rattle.trace_model.specs.Pages.{Page, chunk_of, patches_of}
 use Rattle.trace_model.specs.Sequences.{fresh, sequence_in}
 use Rattle.trace_model.specs.Buffers.{Buffer, empty_buffer}
 use Rattle.trace_model.specs.History.{Event, Arrives, ArrivesInPart, Patched, Closed, Read, state_after, records_after}
 use Rattle.trace_model.specs.Delivery.{trace_of}
 use Rattle.trace_model.specs.Balance.{PacketCounts, counts_of}
 use Rattle.trace_model.specs.Cut.{CutsInto}
-use Rattle.trace_model.specs.WorkedWriters.{letters, number_calls, number_page, plain_page, small_calls, small_pages, empty_calls, empty_pages, long_calls, long_pages, patched_calls, patched_pages, moved_calls, moved_pages, given_up_calls, given_up_pages}
+use Rattle.trace_model.specs.WorkedWriters.{letters, letter_field, whole, number_calls, number_page, plain_page, small_calls, small_pages, empty_calls, empty_pages, long_calls, long_pages, patched_calls, patched_pages, moved_calls, moved_pages, given_up_calls, given_up_pages}
 
 -- Words of the examples
 
@@ -219,6 +220,39 @@ pub record ClosesUnpatched : Type 0 where
   pub reported : IsReported (ring_of 64 284) closing_events 2 closing_calls
       (record { begun = 2; delivered = 0; dropped = 0; overwritten = 0; discarded = 0; cut = 2 })
 
+-- A packet that is there whole isn't delivered while the patch of its length is still to come.
+abbrev pub awaiting_events : List Event
+awaiting_events = arrived 0 patched_pages ++ (Read 2 no_limit ∷ Read 2 no_limit ∷ []) ++ Patched 2 (patches_of patched_pages) ∷ ended
+  where
+    arrived : ℕ → List Page → List Event
+    arrived chunk_id [] = []
+    arrived chunk_id (page ∷ pages) = Arrives 2 chunk_id (chunk_of page) ∷ arrived (suc chunk_id) pages
+
+abbrev pub AwaitsPatch : Type 0
+AwaitsPatch = IsPlayed (ring_of 64 284) awaiting_events
+    (0x0A ∷ 0xBA ∷ 0x02 ∷ 0xA2 ∷ 0x38 ∷ 0xAF ∷ 0x82 ∷ 0x80 ∷ 0x00 ∷ 0x0A ∷ 0xAC ∷ 0x02 ∷ letters 300
+    ++ 0x50 ∷ 0x02 ∷ 0xD0 ∷ 0x02 ∷ 0x01 ∷ [])
+    (only_placed 2)
+
+-- The second of two packets runs on into a chunk that is discarded.
+abbrev pub halved_calls : List Call
+halved_calls = whole (NumberField 8 1 NoFields) ++ whole (letter_field 3000)
+
+abbrev pub halved_pages : List Page
+halved_pages =
+    record (plain_page ((0x40 ∷ 0x01 ∷ []) ∷ (0x0A ∷ 0xB8 ∷ 0x17 ∷ letters 2023) ∷ []) 0) { runs_on = true }
+    ∷ record (plain_page (letters 977 ∷ []) 1055) { continues = true } ∷ []
+
+abbrev pub halved_buffer : Buffer
+halved_buffer = empty_buffer 4096 Discard (fresh 2 2064 ∷ fresh 3 2064 ∷ [])
+
+pub record RunsIntoDiscarded : Type 0 where
+  pub cut : CutsInto 2036 (packets_of halved_calls) halved_pages
+  pub played : IsPlayed halved_buffer (taken 2 0 halved_pages ++ ended) (marked_record 2 1)
+      (record { placed = 1; rewritten = 0; overwritten = 0; discarded = 1; unpatched = 0; padding = 0 })
+  pub reported : IsReported halved_buffer (taken 2 0 halved_pages ++ ended) 2 halved_calls
+      (record { begun = 2; delivered = 1; dropped = 0; overwritten = 0; discarded = 1; cut = 0 })
+
 -- All of them
 pub record WorkedRows : Type 0 where
   pub small : SmallPacket
@@ -234,3 +268,5 @@ pub record WorkedRows : Type 0 where
   pub loses : LosesScraped
   pub rewrites : RewritesScraped
   pub closes : ClosesUnpatched
+  pub awaits : AwaitsPatch
+  pub halved : RunsIntoDiscarded
