@@ -1,5 +1,6 @@
 pub mod ArrivalLemmas
 pub mod CallLemmas
+pub mod ContinuedLemmas
 pub mod CountedLemmas
 pub mod CursorLemmas
 pub mod EncodingLemmas

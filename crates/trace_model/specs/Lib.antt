@@ -24,6 +24,7 @@ pub mod Reading
 pub mod Reads
 pub mod Record
 pub mod Row
+pub mod RowLaws
 pub mod Sent
 pub mod Sequences
 pub mod Tells

@@ -4,6 +4,7 @@ ghost use Rattle.trace_model.specs.EncodingLaws.{EncodingsAreAsLong};
 ghost use Rattle.trace_model.specs.Laws.{AllRecordsTell};
 ghost use Rattle.trace_model.specs.PacketLaws.{CallsGiveEncodings, PacketsAreFronted};
 ghost use Rattle.trace_model.specs.PlaceLaws.{LiveAreUnmet};
+ghost use Rattle.trace_model.specs.RowLaws.{RowsContinue};
 ghost use Rattle.trace_model.specs.TellsLaws.{TellsByPlaces};
 ghost use Rattle.trace_model.specs.WorkedRows.{WorkedRows};
 
@@ -58,4 +59,10 @@ pub fn packets_have_one_outcome()
 /// as absent under each cause.
 pub fn counts_are_outcomes()
     ensures { CountsAreOutcomes }
+{}
+
+/// The row of whole chunks goes on where more come: the chain that stands open at its end is joined to
+/// the row of what comes, and nothing before it changes.
+pub fn rows_continue()
+    ensures { RowsContinue }
 {}
