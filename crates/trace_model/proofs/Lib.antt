@@ -12,6 +12,8 @@ pub mod OutcomeLemmas
 pub mod PacketLemmas
 pub mod PlaceLemmas
 pub mod ReadPlaceLemmas
+pub mod ReadingLemmas
+pub mod ReadsAsLemmas
 pub mod RecordLemmas
 pub mod RowPlaceLemmas
 pub mod SequenceLemmas

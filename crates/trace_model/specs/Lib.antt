@@ -21,6 +21,7 @@ pub mod Patches
 pub mod PlaceLaws
 pub mod Places
 pub mod Reading
+pub mod ReadingLaws
 pub mod Reads
 pub mod Record
 pub mod Row

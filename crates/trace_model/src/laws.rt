@@ -4,6 +4,7 @@ ghost use Rattle.trace_model.specs.EncodingLaws.{EncodingsAreAsLong};
 ghost use Rattle.trace_model.specs.Laws.{AllRecordsTell};
 ghost use Rattle.trace_model.specs.PacketLaws.{CallsGiveEncodings, PacketsAreFronted};
 ghost use Rattle.trace_model.specs.PlaceLaws.{LiveAreUnmet};
+ghost use Rattle.trace_model.specs.ReadingLaws.{ReadingIsExact};
 ghost use Rattle.trace_model.specs.RowLaws.{RowsContinue};
 ghost use Rattle.trace_model.specs.TellsLaws.{TellsByPlaces};
 ghost use Rattle.trace_model.specs.WorkedRows.{WorkedRows};
@@ -65,4 +66,10 @@ pub fn counts_are_outcomes()
 /// the row of what comes, and nothing before it changes.
 pub fn rows_continue()
     ensures { RowsContinue }
+{}
+
+/// What is read of a payload step by step is what the payload reads as, with so many fragments, and
+/// whatever the payload reads as is read.
+pub fn reading_is_exact()
+    ensures { ReadingIsExact }
 {}
