@@ -10,6 +10,7 @@ pub mod LossPlaceLemmas
 pub mod OneOutcomeLemmas
 pub mod OutcomeLemmas
 pub mod PacketLemmas
+pub mod PageLemmas
 pub mod PlaceLemmas
 pub mod ReadPlaceLemmas
 pub mod ReadingLemmas

@@ -1,7 +1,9 @@
 -- The fragments that are read step by step are those that the payload reads as.
-use Rattle.std.specs.Prelude.{◌≡◌, ℕ, List, length}
+use Rattle.std.specs.Prelude.{◌≡◌, ℕ, ◌<◌, List, length}
 use Rattle.trace_model.specs.Images.{Fragment}
-use Rattle.trace_model.specs.Fragments.{ReadsAs}
+use Rattle.trace_model.specs.Fragments.{ReadsAs, drop_size}
+use Rattle.trace_model.specs.Pages.{Page, laid, chunk_of}
+use Rattle.trace_model.specs.Cut.{IsFull}
 use Rattle.trace_model.specs.Reading.{Fragments, reading_of}
 
 -- what is read is a reading of the payload, with so many fragments
@@ -10,3 +12,8 @@ pub record ReadingIsExact : Type 0 where
       → ReadsAs payload fragments × (length fragments ≡ count)
   pub complete : (payload : List ℕ) (fragments : List Fragment) → ReadsAs payload fragments
       → reading_of (length fragments) payload ≡ Fragments fragments
+
+-- a writer's image reads as the fragments that it wrote
+abbrev pub PagesReadAsWritten : Type 0
+PagesReadAsWritten = (size : ℕ) (page : Page) → size < drop_size → IsFull size page
+    → ReadsAs (laid page.dropped page.fragments page.rest) (chunk_of page).fragments

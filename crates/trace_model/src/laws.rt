@@ -4,7 +4,7 @@ ghost use Rattle.trace_model.specs.EncodingLaws.{EncodingsAreAsLong};
 ghost use Rattle.trace_model.specs.Laws.{AllRecordsTell};
 ghost use Rattle.trace_model.specs.PacketLaws.{CallsGiveEncodings, PacketsAreFronted};
 ghost use Rattle.trace_model.specs.PlaceLaws.{LiveAreUnmet};
-ghost use Rattle.trace_model.specs.ReadingLaws.{ReadingIsExact};
+ghost use Rattle.trace_model.specs.ReadingLaws.{PagesReadAsWritten, ReadingIsExact};
 ghost use Rattle.trace_model.specs.RowLaws.{RowsContinue};
 ghost use Rattle.trace_model.specs.TellsLaws.{TellsByPlaces};
 ghost use Rattle.trace_model.specs.WorkedRows.{WorkedRows};
@@ -72,4 +72,9 @@ pub fn rows_continue()
 /// whatever the payload reads as is read.
 pub fn reading_is_exact()
     ensures { ReadingIsExact }
+{}
+
+/// A writer's image, of whatever size below the drop mark's, reads as the fragments that it wrote.
+pub fn pages_read_as_written()
+    ensures { PagesReadAsWritten }
 {}
