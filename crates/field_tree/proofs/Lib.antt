@@ -1,0 +1,17 @@
+pub mod Accepted
+pub mod AnswerLemmas
+pub mod Completes
+pub mod Cuts
+pub mod Faults
+pub mod JudgedLemmas
+pub mod LoopLemmas
+pub mod Messages
+pub mod NodeLaws
+pub mod NumberLemmas
+pub mod Outcomes
+pub mod RangeLemmas
+pub mod Runs
+pub mod Spelled
+pub mod Steps
+pub mod TestLemmas
+pub mod Words

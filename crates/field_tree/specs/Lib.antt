@@ -1,0 +1,9 @@
+pub mod Answers
+pub mod Grammar
+pub mod Judged
+pub mod Laws
+pub mod Machine
+pub mod Nodes
+pub mod Ranges
+pub mod Refusals
+pub mod Views

@@ -1,0 +1,173 @@
+//! What a list of nodes may have as part of a packet.
+ghost use Rattle.std.specs.Prelude.{◌≡◌, ℕ, ◌+◌, ◌*◌, ◌<◌, ◌≤◌, List, length, map, sum_by, drop, Option, Some, None};
+ghost use Rattle.std.specs.Option.{option_or};
+ghost use Rattle.field_tree.specs.Judged as judged;
+ghost use Rattle.field_tree.specs.Judged.{Measures, node_len_at, placed_len, kind_of, deepest, reserved_from, reserved_at, placed_refusal, Judges};
+ghost use Rattle.field_tree.specs.Refusals as refusals;
+ghost use Rattle.wire_varint.specs.Varint.{varint, tag};
+
+use crate::fault::FieldFault;
+use crate::node::{FieldNode, Node};
+use trace_base::limits::{MAX_NESTING, MAX_PACKET_LEN};
+use trace_base::reserved::is_reserved;
+use wire_varint::put_varint;
+
+/// The length of a number as a varint.
+fn varint_len(value: u64) -> u64
+    ensures len { result ≡ length (varint value) }
+    ensures few { result ≤ 10 }
+{
+    let mut bytes = [0; 10];
+    put_varint(value, &mut bytes) as u64
+}
+
+/// The length of what stands in front of a field.
+#[tactic(auto, unfolding(wire_varint::specs::Varint::tag))]
+fn tag_len(field: u32, wire: u8) -> u64
+    requires { wire < 8 }
+    ensures len { result ≡ length (tag field wire) }
+    ensures few { result ≤ 10 }
+{
+    varint_len(8 * u64::from(field) + u64::from(wire))
+}
+
+fn within(len: u64) -> Option<u32>
+    ensures { Measures len result }
+{
+    if len > u64::from(MAX_PACKET_LEN) {
+        None
+    } else {
+        Some(len as u32)
+    }
+}
+
+/// How many bytes a node takes in the encoding, where its text has this length.
+#[tactic(auto, unfolding(crate::specs::Judged::node_len_at, trace_model::specs::Encoding::number_field, trace_model::specs::Encoding::bytes_head), using(crate::proofs::JudgedLemmas::length_number_field, crate::proofs::JudgedLemmas::length_bytes_head))]
+fn node_len(node: FieldNode, len: usize) -> Option<u32>
+    ensures { Measures (node_len_at node len) result }
+{
+    match node {
+        FieldNode::Number { field, value } => within(tag_len(field, 0) + varint_len(value)),
+        FieldNode::Bytes { field, times } => {
+            let whole = (len as u64).saturating_mul(u64::from(times));
+            if whole > u64::from(MAX_PACKET_LEN) {
+                return None;
+            }
+            within(tag_len(field, 2) + varint_len(whole) + whole)
+        }
+        FieldNode::Begin { field } => within(tag_len(field, 2) + 4),
+        FieldNode::End => Some(0),
+    }
+}
+
+/// How many bytes the nodes take in the encoding.
+fn encoded_len(nodes: &[Node]) -> Option<u32>
+    ensures { Measures (sum_by placed_len nodes.now) result }
+{
+    let mut sum = 0u32;
+    for placed in nodes {
+        match node_len(placed.node, placed.len) {
+            Some(len) => {
+                if len > MAX_PACKET_LEN - sum {
+                    return None;
+                }
+                sum += len;
+            }
+            None => return None,
+        }
+    }
+    Some(sum)
+}
+
+/// How many messages are open behind a node.
+#[tactic(auto, unfolding(crate::specs::Judged::level))]
+fn level(now: usize, node: FieldNode) -> usize
+    requires { now < usize.MAX }
+    ensures level { result ≡ judged.level now node }
+    ensures one_more { result ≤ now + 1 }
+{
+    match node {
+        FieldNode::Begin { field: _ } => now + 1,
+        FieldNode::End => now.saturating_sub(1),
+        _ => now,
+    }
+}
+
+/// How many nested messages stand inside one another.
+#[tactic(auto, unfolding(crate::specs::Judged::deepest))]
+fn most_open(nodes: &[Node]) -> usize
+    ensures { result ≡ deepest 0 0 (map kind_of nodes.now) }
+{
+    let mut now = 0usize;
+    let mut most = 0usize;
+    for placed in nodes {
+        now = level(now, placed.node);
+        most = most.max(now);
+    }
+    most
+}
+
+/// A node's field, where it is the service's own and no message is open.
+#[tactic(auto, unfolding(crate::specs::Judged::reserved_at))]
+fn reserved_node(now: usize, node: FieldNode) -> Option<u32>
+    ensures { (later : Option ℕ) → reserved_at now node later ≡ option_or result later }
+{
+    let field = match node {
+        FieldNode::Number { field, value: _ } => field,
+        FieldNode::Bytes { field, times: _ } => field,
+        FieldNode::Begin { field } => field,
+        FieldNode::End => return None,
+    };
+    if now == 0 && is_reserved(field) {
+        Some(field)
+    } else {
+        None
+    }
+}
+
+/// The first field at the top level that is the service's own.
+#[tactic(auto, unfolding(crate::specs::Judged::reserved_from))]
+fn first_reserved(nodes: &[Node]) -> Option<u32>
+    ensures { result ≡ reserved_from 0 (map kind_of nodes.now) }
+{
+    let mut now = 0usize;
+    for placed in nodes {
+        if let Some(field) = reserved_node(now, placed.node) {
+            return Some(field);
+        }
+        now = level(now, placed.node);
+    }
+    None
+}
+
+/// The first reserved field, where no message is around the nodes.
+fn reserved_fault(nodes: &[Node], depth: u8) -> Option<FieldFault>
+    ensures { result ≡ refusals.reserved_fault depth (reserved_from 0 (map kind_of nodes.now)) }
+{
+    if depth > 0 {
+        return None;
+    }
+    match first_reserved(nodes) {
+        Some(field) => Some(FieldFault::Reserved { field }),
+        None => None,
+    }
+}
+
+/// The length of the encoding, or the first reason for which the nodes aren't taken inside `depth`
+/// messages.
+#[tactic(auto, unfolding(crate::specs::Judged::placed_refusal))]
+pub(crate) fn judge(nodes: &[Node], depth: u8) -> Result<u32, FieldFault>
+    requires { depth ≤ MAX_NESTING }
+    ensures { Judges (sum_by placed_len nodes.now) result (placed_refusal depth nodes.now) }
+{
+    if let Some(fault) = reserved_fault(nodes, depth) {
+        return Err(fault);
+    }
+    if most_open(nodes) > usize::from(MAX_NESTING - depth) {
+        return Err(FieldFault::TooDeep);
+    }
+    match encoded_len(nodes) {
+        Some(len) => Ok(len),
+        None => Err(FieldFault::PacketTooLong),
+    }
+}

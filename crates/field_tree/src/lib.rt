@@ -1,0 +1,25 @@
+//! The fields of a packet as a scenario's line spells them: `parse_fields` reads a text into a list
+//! of nodes, and refuses it for the first reason that it gives.
+//! A layer above may rely on a text being accepted exactly where the grammar spells a tree of
+//! fields so, on the nodes being those of this one tree, on the column of a fault, and on
+//! `enc_len` being the length of the tree's encoding. The laws are functions with empty bodies.
+#![tactic(auto)]
+
+mod act;
+mod fault;
+mod judge;
+mod laws;
+mod mode;
+mod node;
+mod parse;
+mod parser;
+mod tree;
+
+pub use fault::{FieldError, FieldFault};
+pub use laws::{
+    faults_have_no_tree, fields_begin_before_faults, no_other_is_right, nodes_are_as_long,
+    nodes_tell_the_tree, one_fault_of_a_text, one_tree_of_a_text, outcomes_are_right,
+};
+pub use node::FieldNode;
+pub use parse::parse_fields;
+pub use tree::FieldTree;

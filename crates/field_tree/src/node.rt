@@ -1,0 +1,20 @@
+//! The nodes of a tree of fields.
+
+/// A field, or the end of a nested message.
+#[derive(Clone, Copy, Debug, PartialEq, Eq)]
+pub enum FieldNode {
+    Number { field: u32, value: u64 },
+    /// A text, so many times over.
+    Bytes { field: u32, times: u32 },
+    /// The fields of a nested message follow, up to the `End` that belongs to it.
+    Begin { field: u32 },
+    End,
+}
+
+/// A node, and which of the bytes of all texts are its text.
+#[derive(Clone, Copy, Debug, PartialEq, Eq, Drop)]
+pub(crate) struct Node {
+    pub node: FieldNode,
+    pub start: usize,
+    pub len: usize,
+}

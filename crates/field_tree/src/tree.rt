@@ -1,0 +1,76 @@
+//! A tree of fields that was read: its nodes one after another, each with its text.
+ghost use Rattle.std.specs.Prelude.{◌≡◌, ℕ, ◌≤◌, ◌<◌, List, length, map, Some, slice_get};
+ghost use Rattle.std.specs.Option.{option_map};
+ghost use Rattle.field_tree.specs.Judged.{nodes_len};
+ghost use Rattle.field_tree.specs.Ranges.{shown, IsWhole};
+
+use crate::node::{FieldNode, Node};
+use std::marker::Model;
+use trace_base::limits::MAX_PACKET_LEN;
+
+/// A well-nested list of nodes, each with the text of one repetition, which is empty for nodes
+/// other than `Bytes`. It has no way to be made but by `parse_fields`.
+#[derive(Drop)]
+pub struct FieldTree {
+    nodes: Vec<Node>,
+    bytes: Vec<u8>,
+    encoded: u32,
+}
+
+impl Model for FieldTree {
+    ghost use Rattle.std.specs.Prelude.{List, map};
+    ghost use Rattle.field_tree.specs.Nodes.{Shown};
+    ghost use Rattle.field_tree.specs.Ranges.{shown, IsWhole};
+
+    ghost Value = { List Shown };
+
+    ghost view = { λ tree. map (shown tree.bytes.items) tree.nodes.items };
+
+    ghost invariant = { λ tree. IsWhole tree.bytes.items tree.nodes.items tree.encoded };
+}
+
+impl FieldTree {
+    /// The tree of some nodes with their texts, whose encoding has this length.
+    pub(crate) fn from_parts(nodes: Vec<Node>, bytes: Vec<u8>, encoded: u32) -> Self
+        requires { IsWhole bytes.items nodes.items encoded }
+        ensures { result ≡ map (shown bytes.items) nodes.items }
+    {
+        FieldTree {
+            nodes,
+            bytes,
+            encoded,
+        }
+    }
+
+    /// How many nodes there are.
+    pub fn len(&self) -> usize
+        ensures { result ≡ length self.now }
+    {
+        self.nodes.len()
+    }
+
+    /// The length of the encoding: nested messages have their lengths in four bytes, all other
+    /// numbers are written as short as they can be.
+    pub fn enc_len(&self) -> u32
+        ensures len { result ≡ nodes_len self.now }
+        ensures most { result ≤ MAX_PACKET_LEN }
+    {
+        self.encoded
+    }
+
+    pub fn node(&self, i: usize) -> FieldNode
+        requires { i < length self.now }
+        ensures { option_map (λ n. n.0) (slice_get self.now i) ≡ Some result }
+    {
+        self.nodes[i].node
+    }
+
+    /// The text of one repetition, which is empty for nodes other than `Bytes`.
+    pub fn text(&self, i: usize) -> &[u8]
+        requires { i < length self.now }
+        ensures { option_map (λ n. n.1) (slice_get self.now i) ≡ Some result.now }
+    {
+        let placed = &self.nodes[i];
+        &self.bytes[placed.start..placed.start + placed.len]
+    }
+}
