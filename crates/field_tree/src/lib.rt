@@ -13,6 +13,8 @@ mod mode;
 mod node;
 mod parse;
 mod parser;
+#[cfg(test)]
+mod tests;
 mod tree;
 
 pub use fault::{FieldError, FieldFault};
