@@ -1,0 +1,5 @@
+pub mod FragmentLemmas
+pub mod NextLemmas
+pub mod ReadableLemmas
+pub mod ReadingLemmas
+pub mod SizeLemmas
