@@ -150,7 +150,7 @@ may_piece piece next headless awaits links m = step (piece.runs_on && not piece.
     step false = m
 
 -- a fragment of a chunk that awaits nothing isn't the stop place
-unstopped : (chunk_id passed : ℕ) (chunk : Chunk) (fragment : Fragment) (others : List Fragment) (links : List Link) → chunk.awaits ≡ false
+pub unstopped : (chunk_id passed : ℕ) (chunk : Chunk) (fragment : Fragment) (others : List Fragment) (links : List Link) → chunk.awaits ≡ false
     → chunk_links false chunk_id chunk passed (fragment ∷ others) links
     ≡ with_piece (record { at = place chunk_id passed; fragment = fragment; runs_on = chunk.runs_on && is_last others })
     (place_behind (is_part false chunk) chunk_id passed (is_last others)) (chunk.continues && (passed == 0)) (chunk.awaits && is_last others)

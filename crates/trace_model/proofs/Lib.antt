@@ -4,6 +4,7 @@ pub mod ContinuedLemmas
 pub mod CountedLemmas
 pub mod CursorLemmas
 pub mod EncodingLemmas
+pub mod FadingLemmas
 pub mod FixedLemmas
 pub mod LiveLemmas
 pub mod LossPlaceLemmas

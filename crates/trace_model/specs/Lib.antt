@@ -10,6 +10,7 @@ pub mod Delivery
 pub mod Encoding
 pub mod EncodingLaws
 pub mod Enough
+pub mod Fading
 pub mod Fragments
 pub mod History
 pub mod Images

@@ -1,6 +1,7 @@
 //! Laws about the definitions: each is the contract of a function with nothing to do.
 ghost use Rattle.trace_model.specs.CauseLaws.{CountsAreOutcomes, PacketsHaveOneOutcome};
 ghost use Rattle.trace_model.specs.EncodingLaws.{EncodingsAreAsLong};
+ghost use Rattle.trace_model.specs.Fading.{RowsFade};
 ghost use Rattle.trace_model.specs.Laws.{AllRecordsTell};
 ghost use Rattle.trace_model.specs.PacketLaws.{CallsGiveEncodings, PacketsAreFronted};
 ghost use Rattle.trace_model.specs.PlaceLaws.{LiveAreUnmet};
@@ -77,4 +78,11 @@ pub fn reading_is_exact()
 /// A writer's image, of whatever size below the drop mark's, reads as the fragments that it wrote.
 pub fn pages_read_as_written()
     ensures { PagesReadAsWritten }
+{}
+
+/// What a reader sees is what was written, faded: in the row of chunks that are there whole, in part,
+/// or awaiting patches, with others missing, each chain in which nothing is missing is the chain that
+/// was written at its place, byte for byte.
+pub fn rows_fade()
+    ensures { RowsFade }
 {}
