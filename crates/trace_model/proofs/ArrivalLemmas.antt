@@ -8,7 +8,8 @@ use Rattle.trace_model.specs.Sequences.{Sequence, has_arrived, sequence_in, is_k
 use Rattle.trace_model.specs.Buffers.{BufferRecord, is_of, with_losses}
 use Rattle.trace_model.specs.Arrivals.{with_arrived, with_discarded}
 use Rattle.trace_model.specs.Causes.{Fixed, fixed_by_loss}
-use Rattle.trace_model.proofs.CursorLemmas.{each-append, each-then, each-filter, UpTo, same_up_to, differs_by}
+use Rattle.trace_model.specs.RowLaws.{UpTo}
+use Rattle.trace_model.proofs.CursorLemmas.{each-append, each-then, each-filter, same_up_to, differs_by}
 use Rattle.trace_model.proofs.SequenceLemmas.{sequence_in-map, known-map, number_of, changed_here, changed_other, known_changed, among_more, among_new}
 use Rattle.trace_model.proofs.RecordLemmas.{NoneOf, not_none, Once, once-filter, Finished, IsLost, AreLost, losses_fix}
 use Rattle.trace_model.proofs.FixedLemmas.{Later, later_same, IsFixed, fixed_later, finished_later, IsNew, new_apart, Holds, Steps, Turns}

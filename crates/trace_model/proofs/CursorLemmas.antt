@@ -1,10 +1,11 @@
 -- The order of places in a sequence, and facts about each element of a list.
-use Rattle.std.proofs.Common.{◌≡◌, ◌∙◌, ◌<◌, ◌≤◌, Bool, true, false, not, ◌||◌, List, [], ◌∷◌, ◌++◌, map, refl, sym, arith, inl, inr}
-use Rattle.std.specs.Prelude.{filter, cond, ◌⊎◌, ◌==◌, IsTrue}
+use Rattle.std.proofs.Common.{◌≡◌, ◌∙◌, Bool, true, false, not, ◌||◌, List, [], ◌∷◌, ◌++◌, map, refl, sym, arith, inl, inr}
+use Rattle.std.specs.Prelude.{filter, cond, ◌==◌, IsTrue}
 use Rattle.std.specs.List.{list_any}
 use Rattle.std.proofs.lemmas.Bool.{and_parts, and_from, eqb-true, eq-eqb, false≢true}
 use Rattle.trace_model.specs.Sequences.{Cursor}
 use Rattle.trace_model.specs.Causes.{Fixed, is_same_place}
+use Rattle.trace_model.specs.RowLaws.{Before, UpTo}
 use Rattle.trace_model.specs.CauseLaws.{AreDistinct}
 
 -- each element has the property
@@ -36,13 +37,7 @@ pub each-map : {X Y : Type 0} (P : X → Type 0) (Q : Y → Type 0) (f : X → Y
 each-map P Q f g [] h = tt
 each-map P Q f g (x ∷ xs) h = (g x h.0, each-map P Q f g xs h.1)
 
--- the first place comes before the second; or is the same at most
-abbrev pub Before : Cursor → Cursor → Type 0
-Before a b = (a.chunk_id < b.chunk_id) ⊎ ((a.chunk_id ≡ b.chunk_id) × (a.passed < b.passed))
-
-abbrev pub UpTo : Cursor → Cursor → Type 0
-UpTo a b = (a.chunk_id < b.chunk_id) ⊎ ((a.chunk_id ≡ b.chunk_id) × (a.passed ≤ b.passed))
-
+-- the order of places
 pub up_to_up_to : (a b c : Cursor) → UpTo a b → UpTo b c → UpTo a c
 up_to_up_to a b c (inl h) (inl k) = inl (omega (arith, h, k))
 up_to_up_to a b c (inl h) (inr k) = inl (omega (arith, h, k.0))

@@ -6,7 +6,8 @@ use Rattle.trace_model.specs.Sequences.{Sequence, has_arrived, sequence_in, is_k
 use Rattle.trace_model.specs.Buffers.{BufferRecord, is_of}
 use Rattle.trace_model.specs.Causes.{Fixed, is_same_place}
 use Rattle.trace_model.specs.CauseLaws.{AreDistinct}
-use Rattle.trace_model.proofs.CursorLemmas.{Each, each-then, each-map, Before, UpTo, before_up_to, up_to_up_to, not_both, same_parts, same_up_to, differs_by, Apart, AllApart}
+use Rattle.trace_model.specs.RowLaws.{Before, UpTo}
+use Rattle.trace_model.proofs.CursorLemmas.{Each, each-then, each-map, before_up_to, up_to_up_to, not_both, same_parts, same_up_to, differs_by, Apart, AllApart}
 use Rattle.trace_model.proofs.RecordLemmas.{NoneOf, Once, Come, Finished}
 
 -- the second state of a sequence comes after the first

@@ -7,7 +7,8 @@ use Rattle.trace_model.specs.Sequences.{Cursor, Sequence, unread_of}
 use Rattle.trace_model.specs.Row.{place}
 use Rattle.trace_model.specs.Causes.{Fixed, is_same_place, places_from, starts_among, unread_start_places, lost_at}
 use Rattle.trace_model.specs.CauseLaws.{AreDistinct}
-use Rattle.trace_model.proofs.CursorLemmas.{Each, each-then, UpTo, differs_behind, distinct_first}
+use Rattle.trace_model.specs.RowLaws.{UpTo}
+use Rattle.trace_model.proofs.CursorLemmas.{Each, each-then, differs_behind, distinct_first}
 
 -- Places of one chunk
 

@@ -14,7 +14,8 @@ use Rattle.trace_model.specs.Reads.{passed_by, cursor_after, sequence_after, wit
 use Rattle.trace_model.specs.History.{Event, Arrives, ArrivesInPart, Patched, Committed, Closed, Read, event_sequence, after, buffer_after}
 use Rattle.trace_model.specs.Causes.{Fixed, is_same_place, fixed_by_link, fixed_once_read, fixed_by, fixed_after}
 use Rattle.trace_model.specs.CauseLaws.{AreDistinct, is_arrival_of, is_close_of, closes_last, PacketsHaveOneOutcome}
-use Rattle.trace_model.proofs.CursorLemmas.{Each, each-append, each-then, Before, same_up_to, Apart, AllApart, distinct-append}
+use Rattle.trace_model.specs.RowLaws.{Before}
+use Rattle.trace_model.proofs.CursorLemmas.{Each, each-append, each-then, same_up_to, Apart, AllApart, distinct-append}
 use Rattle.trace_model.proofs.RowPlaceLemmas.{Stands, EachHere, stands_row}
 use Rattle.trace_model.proofs.ReadPlaceLemmas.{Within, AreWithin, reads_within}
 use Rattle.trace_model.proofs.SequenceLemmas.{number_of, changed_here, changed_other, known_changed}

@@ -8,7 +8,8 @@ use Rattle.trace_model.specs.Sequences.{Sequence, has_arrived, sequence_in, is_k
 use Rattle.trace_model.specs.Buffers.{Buffer, BufferRecord, is_of, live_at, meets, with_losses}
 use Rattle.trace_model.specs.Arrivals.{Arrived, Kept, Rewritten, Duplicate, Discarded, TooFar, BadChunk, arrival_of, partial_arrival_of, is_refused, is_too_far, has_as_many, settled, arrival_noted, with_arrived, with_discarded}
 use Rattle.trace_model.specs.Causes.{Fixed, fixed_by_arrival, unread_start_places, lost_at}
-use Rattle.trace_model.proofs.CursorLemmas.{Each, each-append, each-then, UpTo}
+use Rattle.trace_model.specs.RowLaws.{UpTo}
+use Rattle.trace_model.proofs.CursorLemmas.{Each, each-append, each-then}
 use Rattle.trace_model.proofs.SequenceLemmas.{number_of}
 use Rattle.trace_model.proofs.LossPlaceLemmas.{AreUnread, unread_places}
 use Rattle.trace_model.proofs.RecordLemmas.{NoneOf}

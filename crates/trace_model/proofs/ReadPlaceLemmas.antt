@@ -8,7 +8,8 @@ use Rattle.trace_model.specs.Reads.{Turn, Delivers, Counts, Skips, Ends, turn_of
 use Rattle.trace_model.specs.Counts.{one_if}
 use Rattle.trace_model.specs.Causes.{Fixed, Delivered, Absent, fixed_by_turn, fixed_by_link, is_same_place}
 use Rattle.trace_model.specs.CauseLaws.{AreDistinct}
-use Rattle.trace_model.proofs.CursorLemmas.{Each, each-then, Before, UpTo, up_to_up_to, before_up_to, before_then, same_up_to, differs_behind, distinct_first}
+use Rattle.trace_model.specs.RowLaws.{Before, UpTo}
+use Rattle.trace_model.proofs.CursorLemmas.{Each, each-then, up_to_up_to, before_up_to, before_then, same_up_to, differs_behind, distinct_first}
 use Rattle.trace_model.proofs.RowPlaceLemmas.{Stands}
 
 -- the place of an outcome: from the first cursor on, before the second one, in a chunk with the property

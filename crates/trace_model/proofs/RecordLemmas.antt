@@ -7,7 +7,8 @@ use Rattle.trace_model.specs.Sequences.{Sequence, has_arrived}
 use Rattle.trace_model.specs.Buffers.{BufferRecord, is_of, is_loss_of}
 use Rattle.trace_model.specs.Causes.{Fixed, is_same_place, unread_start_places, lost_at, fixed_by_loss}
 use Rattle.trace_model.specs.CauseLaws.{AreDistinct}
-use Rattle.trace_model.proofs.CursorLemmas.{Each, each-append, each-then, each-filter, UpTo, same_parts, differs_by, distinct-append, Apart}
+use Rattle.trace_model.specs.RowLaws.{UpTo}
+use Rattle.trace_model.proofs.CursorLemmas.{Each, each-append, each-then, each-filter, same_parts, differs_by, distinct-append, Apart}
 use Rattle.trace_model.proofs.LossPlaceLemmas.{AreUnread, unread_places}
 
 -- no record is of the chunk; some record is

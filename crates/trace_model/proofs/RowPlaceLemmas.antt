@@ -4,14 +4,8 @@ use Rattle.std.specs.Prelude.{cond, ◌==◌}
 use Rattle.trace_model.specs.Images.{Fragment, Chunk}
 use Rattle.trace_model.specs.Sequences.{Cursor}
 use Rattle.trace_model.specs.Row.{Slot, Here, Gone, Never, Piece, Chain, Whole, Marked, CutOff, Link, Joined, Gap, Stop, Missing, Partial, Unpatched, joined_to, with_piece, place, is_last, is_part, place_behind, chunk_links, row_of}
-use Rattle.trace_model.proofs.CursorLemmas.{Before, UpTo, up_to_up_to, before_up_to, before_then, same_up_to}
-
--- each link is at the place behind the one before, or further, and ends behind it
-abbrev pub Rises : Cursor → List Link → Type 0
-Rises at [] = Unit {0}
-Rises at (Joined chain ∷ links) = UpTo at chain.at × Before chain.at chain.next × Rises chain.next links
-Rises at (Gap here next lost ∷ links) = UpTo at here × Before here next × Rises next links
-Rises at (Stop here why may ∷ links) = Unit {0}
+use Rattle.trace_model.specs.RowLaws.{Before, UpTo, Rises, RowsRise}
+use Rattle.trace_model.proofs.CursorLemmas.{up_to_up_to, before_up_to, before_then, same_up_to}
 
 -- each chain begins in a chunk with the property
 abbrev pub EachChain : (ℕ → Type 0) → List Link → Type 0
@@ -141,3 +135,15 @@ module _ (P : ℕ → Type 0) (closed : Bool) where
           (Stop (place chunk_id passed) Missing true ∷ []))
       never true s = ((same_up_to (place chunk_id passed), inl (omega arith), s.0), s.1)
       never false s = (tt, tt)
+
+rise : (closed : Bool) (slots : List Slot) (chunk_id passed : ℕ) → EachHere (λ n. Unit {0}) closed chunk_id slots → Rises (place chunk_id passed) (row_of closed chunk_id passed slots)
+rise closed slots chunk_id passed h = (stands_row (λ n. Unit {0}) closed slots chunk_id passed h).0
+
+each_here : (closed : Bool) (slots : List Slot) (chunk_id : ℕ) → EachHere (λ n. Unit {0}) closed chunk_id slots
+each_here closed [] chunk_id = tt
+each_here closed (Here chunk ∷ slots) chunk_id = (tt, each_here closed slots (suc chunk_id))
+each_here closed (Gone ∷ slots) chunk_id = each_here closed slots (suc chunk_id)
+each_here closed (Never ∷ slots) chunk_id = each_here closed slots (suc chunk_id)
+
+pub rows_rise : RowsRise
+rows_rise closed slots chunk_id passed = rise closed slots chunk_id passed (each_here closed slots chunk_id)

@@ -1,6 +1,27 @@
--- How a row goes on where more chunks come: the chain that stands open at its end is joined to what comes.
-use Rattle.std.specs.Prelude.{◌≡◌, ℕ, ◌+◌, Bool, true, false, List, [], ◌∷◌, ◌++◌, length, if◌then◌else◌, ⊤}
-use Rattle.trace_model.specs.Row.{Slot, Here, Gone, Never, Fate, Open, Link, Joined, Gap, Stop, joined_to, row_of}
+-- The links of a row stand in rising places, and a row goes on where more chunks come: the chain that stands open at its
+-- end is joined to what comes.
+use Rattle.std.specs.Prelude.{◌≡◌, ℕ, ◌+◌, ◌<◌, ◌≤◌, ◌⊎◌, Bool, true, false, List, [], ◌∷◌, ◌++◌, length, if◌then◌else◌, ⊤}
+use Rattle.trace_model.specs.Sequences.{Cursor}
+use Rattle.trace_model.specs.Row.{Slot, Here, Gone, Never, Fate, Open, Link, Joined, Gap, Stop, joined_to, place, row_of}
+
+-- the first place comes before the second; or is the same at most
+abbrev pub Before : Cursor → Cursor → Type 0
+Before a b = (a.chunk_id < b.chunk_id) ⊎ ((a.chunk_id ≡ b.chunk_id) × (a.passed < b.passed))
+
+abbrev pub UpTo : Cursor → Cursor → Type 0
+UpTo a b = (a.chunk_id < b.chunk_id) ⊎ ((a.chunk_id ≡ b.chunk_id) × (a.passed ≤ b.passed))
+
+-- each link is at the place behind the one before, or further, and ends behind its own
+abbrev pub Rises : Cursor → List Link → Type 0
+Rises at [] = ⊤
+Rises at (Joined chain ∷ links) = UpTo at chain.at × Before chain.at chain.next × Rises chain.next links
+Rises at (Gap here next lost ∷ links) = UpTo at here × Before here next × Rises next links
+Rises at (Stop here why may ∷ links) = ⊤
+
+-- the links of a row stand in rising places
+abbrev pub RowsRise : Type 0
+RowsRise = (closed : Bool) (slots : List Slot) (chunk_id passed : ℕ)
+    → Rises (place chunk_id passed) (row_of closed chunk_id passed slots)
 
 abbrev pub is_open : Fate → Bool
 is_open Open = true

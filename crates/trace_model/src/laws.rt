@@ -6,7 +6,7 @@ ghost use Rattle.trace_model.specs.Laws.{AllRecordsTell};
 ghost use Rattle.trace_model.specs.PacketLaws.{CallsGiveEncodings, PacketsAreFronted};
 ghost use Rattle.trace_model.specs.PlaceLaws.{LiveAreUnmet};
 ghost use Rattle.trace_model.specs.ReadingLaws.{PagesReadAsWritten, ReadingIsExact};
-ghost use Rattle.trace_model.specs.RowLaws.{RowsContinue};
+ghost use Rattle.trace_model.specs.RowLaws.{RowsContinue, RowsRise};
 ghost use Rattle.trace_model.specs.TellsLaws.{TellsByPlaces};
 ghost use Rattle.trace_model.specs.WorkedRows.{WorkedRows};
 
@@ -85,4 +85,10 @@ pub fn pages_read_as_written()
 /// was written at its place, byte for byte.
 pub fn rows_fade()
     ensures { RowsFade }
+{}
+
+/// The links of a row stand in rising places: each begins at the place behind the one before or
+/// further on, and ends behind its own.
+pub fn rows_rise()
+    ensures { RowsRise }
 {}
