@@ -122,7 +122,8 @@ def is_as_wanted(crate, name, makers, group, right):
     proved = answer.returncode == 0 and 'computed::holds: proved' in text
     print(f'{name}: {len(group)} runs, {"computed" if proved else "refused"} in {time.time() - began:.0f} s', flush=True)
     if proved != right or not right:
-        print('\n'.join(line for line in text.splitlines() if 'error' in line or 'two types' in line)[-3000:])
+        wanted = [line for line in text.splitlines() if ': error: ' in line or 'two types' in line]
+        print('\n'.join(line[:400] for line in wanted[:8]), flush=True)
     return proved == right
 
 

@@ -30,6 +30,7 @@ use Rattle.trace_model.specs.Delivery.{records_of}
 use Rattle.trace_model.specs.Tells.{Tells}
 use Rattle.trace_model.specs.Causes.{Fixed, fixed_after, is_same_place}
 use Rattle.trace_model.specs.Balance.{PacketCounts, IsBalanced, CountsOutcomes, counts_of, packet_outcomes}
+use Rattle.trace_model.specs.Enough.{ChunkRoom, WriterLoad, has_chunks_enough, has_bytes_enough}
 
 abbrev pub are_distinct : List Cursor → Bool
 are_distinct [] = true
@@ -45,10 +46,14 @@ pub record IsComputed (size sequence : ℕ) (calls : List Call) (images : List I
   pub balanced : IsBalanced counts
   pub caused : CountsOutcomes b.policy (packet_outcomes (fixed_after sequence b events) calls cut.pages) counts
   pub once : IsTrue (are_distinct (map (λ (fixed : Fixed). fixed.at) (fixed_after sequence b events)))
+
+-- whether chunks and bytes are enough
+abbrev pub are_enough : List ℕ → List ChunkRoom → List WriterLoad → Bool
+are_enough buffers producers loads = has_chunks_enough producers loads && has_bytes_enough buffers producers loads
 '''
 
 HEAD = '''-- Writers of whole scenarios.
-use Rattle.std.specs.Prelude.{ℕ, ◌-◌, ◌^◌, Bool, true, false, List, [], ◌∷◌, ◌++◌, replicate}
+use Rattle.std.specs.Prelude.{◌≡◌, ℕ, ◌-◌, ◌^◌, Bool, true, false, List, [], ◌∷◌, ◌++◌, replicate}
 use Rattle.trace_base.specs.declared.policy.FullPolicy.TheVariants.{Ring, Discard}
 use Rattle.trace_model.specs.Calls.{Call, Begun, Number, Bytes, Nested, Ended, GivenUp, Finished, Flushed}
 use Rattle.trace_model.specs.Images.{Fragment, Image, Chunk, Patch}
@@ -57,7 +62,9 @@ use Rattle.trace_model.specs.Sequences.{fresh}
 use Rattle.trace_model.specs.Buffers.{Buffer, empty_buffer}
 use Rattle.trace_model.specs.History.{Event, Arrives, ArrivesInPart, Patched, Committed, Closed, Read}
 use Rattle.trace_model.specs.Balance.{PacketCounts}
-use Rattle.computed.specs.Words.{IsComputed}
+use Rattle.trace_base.specs.declared.policy.WriterPolicy.TheVariants.{Drops, Stalls}
+use Rattle.trace_model.specs.Enough.{ChunkRoom, WriterLoad}
+use Rattle.computed.specs.Words.{IsComputed, are_enough}
 
 abbrev pub no_limit : ℕ
 no_limit = 2 ^ 64 - 1
@@ -151,6 +158,20 @@ def told_proof(emitted, records, sequence):
     return proof
 
 
+def enough_of(world):
+    """The sizes of buffers, the chunks of producers and the packets of writers, as terms."""
+    scenario = world.scenario
+    buffers = listed(str(kb * 1024) for kb, _ in scenario.buffers)
+    producers = listed(record(chunks=pages * geometry.chunks, payload=geometry.payload_size)
+                       for pages, geometry in scenario.producers)
+    policies = {'drop': 'Drops', 'stall': 'Stalls'}
+    loads = listed(
+        record(spec=record(producer=spec.producer, buffer=spec.buffer, policy=policies[spec.policy]),
+               emitted=listed(f'(replicate {length} 0)' for length in lengths))
+        for spec, lengths in zip(scenario.writers, early.packet_lengths(scenario)))
+    return f'{buffers} {producers} {loads}'
+
+
 def statement_of(name, writer, world, reported, counts):
     spec = writer.spec
     buffer = world.service.buffers[spec.buffer - 1]
@@ -172,22 +193,26 @@ def statement_of(name, writer, world, reported, counts):
     fresh = listed(f'fresh {one.number} {one.record_size}' for one in buffer.sequences.values())
     policy = {'ring': 'Ring', 'discard': 'Discard'}[buffer.policy]
 
+    enough = early.is_enough(world.scenario)
+    counts['enough'] += enough
+
     def specs(numbers):
         return (f'abbrev pub calls_{name} : List Call\ncalls_{name} = {calls}\n\n'
                 f'abbrev pub pages_{name} : List Page\npages_{name} = {listed(page.term() for page in pages)}\n\n'
                 f'abbrev pub events_{name} : List Event\nevents_{name} = {listed(events)}\n\n'
-                f'abbrev pub Run{name} : Type 0\nRun{name} = IsComputed {writer.payload_size} {sequence} calls_{name} '
+                f'abbrev pub Run{name} : Type 0\nRun{name} = (are_enough {enough_of(world)} ≡ {flag(enough)}) × '
+                f'IsComputed {writer.payload_size} {sequence} calls_{name} '
                 f'{listed(images)} {patches} (empty_buffer {buffer.size} {policy} {fresh}) events_{name} '
                 f'{listed(map(octets, records))} ({record(**numbers)})\n')
 
     pages_name = f'pages_{name}'
     outcomes = record(begun='refl', delivered='refl', dropped='refl', overwritten='refl', discarded='refl', cut='refl')
-    proof = record(
+    proof = '(refl, ' + record(
         possible='refl',
         cut=record(pages=pages_name, images_are='refl', patches_are='refl',
                    cut=writer_scripts.cut_proof(writer.payload_size, packets, pages, pages_name)),
         written='refl', told=told_proof(emitted, records, sequence), reported='refl', balanced=record(sum='refl'),
-        caused=outcomes, once='refl')
+        caused=outcomes, once='refl') + ')'
     spoilt = dict(reported, cut=reported['cut'] + 1, begun=reported['begun'] + 1)
     return Statement(f'Run{name}', specs(reported), proof, Statement(f'Run{name}', specs(spoilt), proof, uses=[pages_name]),
                      uses=[pages_name])

@@ -40,11 +40,11 @@ is_enough_for loads room =
     list_all (λ load. stalls load.spec.policy) loads
     || nat_le (sum_by (λ load. most_chunks room.payload load.emitted) loads) room.chunks
 
-abbrev pub HasChunksEnough : List ChunkRoom → List WriterLoad → Type 0
-HasChunksEnough producers loads =
-    IsTrue (list_all
+abbrev pub has_chunks_enough : List ChunkRoom → List WriterLoad → Bool
+has_chunks_enough producers loads =
+    list_all
     (λ producer. is_enough_for (filter (λ load. load.spec.producer == producer.0) loads) producer.1)
-    (enumerate_from 1 producers))
+    (enumerate_from 1 producers)
 
 -- the bytes that a writer's records take at most
 abbrev pub most_bytes : List ChunkRoom → WriterLoad → ℕ
@@ -52,12 +52,12 @@ most_bytes producers load =
     most_chunks (payload_of producers load) load.emitted * record_size (payload_of producers load)
 
 -- each buffer, of which the sizes are given, has room for all records of its writers
-abbrev pub HasBytesEnough : List ℕ → List ChunkRoom → List WriterLoad → Type 0
-HasBytesEnough buffers producers loads =
-    IsTrue (list_all
+abbrev pub has_bytes_enough : List ℕ → List ChunkRoom → List WriterLoad → Bool
+has_bytes_enough buffers producers loads =
+    list_all
     (λ buffer. nat_le (sum_by (most_bytes producers) (filter (λ load. load.spec.buffer == buffer.0) loads)) buffer.1)
-    (enumerate_from 1 buffers))
+    (enumerate_from 1 buffers)
 
 pub record IsEnough (buffers : List ℕ) (producers : List ChunkRoom) (loads : List WriterLoad) : Type 0 where
-  pub chunks : HasChunksEnough producers loads
-  pub bytes : HasBytesEnough buffers producers loads
+  pub chunks : IsTrue (has_chunks_enough producers loads)
+  pub bytes : IsTrue (has_bytes_enough buffers producers loads)
