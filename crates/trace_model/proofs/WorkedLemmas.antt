@@ -197,7 +197,12 @@ closes = record { played = record { trace_is = refl; counts_are = refl }; report
 
 awaits : AwaitsPatch
 unfolding groups varint tag redundant number_field bytes_head bytes_field content_of record_of
-awaits = record { trace_is = refl; counts_are = refl }
+awaits = record {
+  played = record { trace_is = refl; counts_are = refl };
+  waits = refl;
+  due = refl;
+  missing = refl;
+}
 
 halved : RunsIntoDiscarded
 unfolding groups varint tag redundant number_field bytes_head bytes_field content_of record_of

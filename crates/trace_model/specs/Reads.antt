@@ -1,9 +1,9 @@
 -- What a read delivers of a row, what it passes, and where it ends.
 use Rattle.std.specs.Prelude.{ℕ, ◌-◌, Bool, true, false, ◌&&◌, ◌||◌, not, ◌==◌, List, [], ◌∷◌, count_by, if◌then◌else◌}
 use Rattle.trace_model.specs.Counts.{raised, one_if}
-use Rattle.trace_model.specs.Sequences.{Sequence, Cursor, sequence_in, changed_at}
+use Rattle.trace_model.specs.Sequences.{Sequence, Cursor, first_place, sequence_in, changed_at}
 use Rattle.trace_model.specs.Buffers.{Buffer}
-use Rattle.trace_model.specs.Row.{Fate, Whole, Marked, IntoLost, CutOff, Open, Link, Joined, Gap, Stop, bytes_of, row_from_cursor}
+use Rattle.trace_model.specs.Row.{Fate, Whole, Marked, IntoLost, CutOff, Open, Link, Joined, Gap, Stop, bytes_of, row_from_cursor, Why, End}
 
 -- why a packet isn't delivered: its writer dropped it; it was overwritten, or discarded; none of these
 pub data Cause : Type 0 where
@@ -125,6 +125,33 @@ with_read b sequence limit = record b {
   sequences =
       changed_at sequence (sequence_after (passed_by limit (row_from_cursor b (sequence_in b.sequences sequence)))) b.sequences;
 }
+
+-- Where a read ends
+
+-- where a row stops, and why
+pub record StopPlace : Type 0 where
+  pub at : Cursor
+  pub why : Why
+
+-- the last link of a row is its stop place
+abbrev pub stop_place : List Link → StopPlace
+stop_place [] = record { at = first_place; why = End }
+stop_place (Joined chain ∷ links) = stop_place links
+stop_place (Gap at next lost ∷ links) = stop_place links
+stop_place (Stop at why may ∷ links) = record { at = at; why = why }
+
+pub data ReadEnd : Type 0 where
+  -- as many packets as the limit were delivered, and one more is due
+  AtLimit : ReadEnd
+  -- the read met the stop place, or a chain that reaches it
+  Stopped : StopPlace → ReadEnd
+
+abbrev pub end_before : List Link → ReadEnd
+end_before [] = Stopped (stop_place [])
+end_before (link ∷ links) = if delivers (turn_of link) then AtLimit else Stopped (stop_place (link ∷ links))
+
+abbrev pub read_end : ℕ → List Link → ReadEnd
+read_end limit links = end_before (left_by limit links)
 
 -- The same one link at a time, as a reader goes on: the sequence once one thing was passed, up to a place.
 abbrev pub advanced : Cursor → Turn → Sequence → Sequence

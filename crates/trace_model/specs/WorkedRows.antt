@@ -1,5 +1,5 @@
 -- Worked examples whole: what the service does with the pages of writers, the bytes of the trace, and the report.
-use Rattle.std.specs.Prelude.{◌≡◌, ℕ, zero, suc, ◌-◌, ◌*◌, ◌^◌, true, false, List, [], ◌∷◌, ◌++◌, length, map}
+use Rattle.std.specs.Prelude.{◌≡◌, ℕ, zero, suc, ◌-◌, ◌*◌, ◌^◌, true, false, List, [], ◌∷◌, ◌++◌, length, map, take}
 use Rattle.std.specs.List.{flat_map}
 use Rattle.page_geometry.specs.Sizes.{record_size}
 use Rattle.trace_base.specs.declared.policy.FullPolicy.TheVariants.{Ring, Discard}
@@ -10,6 +10,8 @@ use Rattle.trace_model.specs.Packets.{packets_of}
 use Rattle.trace_model.specs.Pages.{Page, chunk_of, patches_of}
 use Rattle.trace_model.specs.Sequences.{fresh, sequence_in}
 use Rattle.trace_model.specs.Buffers.{Buffer, empty_buffer}
+use Rattle.trace_model.specs.Row.{Missing, Unpatched, row_from_cursor}
+use Rattle.trace_model.specs.Reads.{ReadEnd, AtLimit, Stopped, read_end}
 use Rattle.trace_model.specs.History.{Event, Arrives, ArrivesInPart, Patched, Closed, Read, state_after, records_after}
 use Rattle.trace_model.specs.Delivery.{trace_of}
 use Rattle.trace_model.specs.Balance.{PacketCounts, counts_of}
@@ -228,11 +230,22 @@ awaiting_events = arrived 0 patched_pages ++ (Read 2 no_limit ∷ Read 2 no_limi
     arrived chunk_id [] = []
     arrived chunk_id (page ∷ pages) = Arrives 2 chunk_id (chunk_of page) ∷ arrived (suc chunk_id) pages
 
-abbrev pub AwaitsPatch : Type 0
-AwaitsPatch = IsPlayed (ring_of 64 284) awaiting_events
-    (0x0A ∷ 0xBA ∷ 0x02 ∷ 0xA2 ∷ 0x38 ∷ 0xAF ∷ 0x82 ∷ 0x80 ∷ 0x00 ∷ 0x0A ∷ 0xAC ∷ 0x02 ∷ letters 300
-    ++ 0x50 ∷ 0x02 ∷ 0xD0 ∷ 0x02 ∷ 0x01 ∷ [])
-    (only_placed 2)
+-- where a read of sequence 2 ends behind these events
+abbrev pub end_behind : Buffer → List Event → ℕ → ReadEnd
+end_behind b events limit =
+    read_end limit (row_from_cursor (state_after b events) (sequence_in (state_after b events).sequences 2))
+
+pub record AwaitsPatch : Type 0 where
+  pub played : IsPlayed (ring_of 64 284) awaiting_events
+      (0x0A ∷ 0xBA ∷ 0x02 ∷ 0xA2 ∷ 0x38 ∷ 0xAF ∷ 0x82 ∷ 0x80 ∷ 0x00 ∷ 0x0A ∷ 0xAC ∷ 0x02 ∷ letters 300
+      ++ 0x50 ∷ 0x02 ∷ 0xD0 ∷ 0x02 ∷ 0x01 ∷ [])
+      (only_placed 2)
+  -- the first chunk's last fragment awaits its patch; with it one packet is due; and then the third chunk is missing
+  pub waits : end_behind (ring_of 64 284) (take 3 awaiting_events) no_limit
+      ≡ Stopped (record { at = record { chunk_id = 0; passed = 0 }; why = Unpatched })
+  pub due : end_behind (ring_of 64 284) (take 5 awaiting_events) 0 ≡ AtLimit
+  pub missing : end_behind (ring_of 64 284) (Read 2 1 ∷ take 5 awaiting_events ++ Read 2 1 ∷ []) 1
+      ≡ Stopped (record { at = record { chunk_id = 2; passed = 0 }; why = Missing })
 
 -- The second of two packets runs on into a chunk that is discarded.
 abbrev pub halved_calls : List Call
