@@ -11,30 +11,33 @@ use Rattle.trace_model.specs.Buffers.{Buffer, BufferRecord, discards, is_of, liv
 
 -- a record in a new place, what it meets being gone
 abbrev pub with_record : Buffer → ℕ → ℕ → ℕ → Chunk → Buffer
-with_record b sequence chunk_id size chunk = record b {
-  live = b.live ++ record {
+with_record buffer sequence chunk_id size chunk = record buffer {
+  live = buffer.live ++ record {
     sequence = sequence;
     chunk_id = chunk_id;
-    at = place_after b.room b.next size;
+    at = place_after buffer.room buffer.next size;
     size = size;
     chunk = chunk;
   } ∷ [];
-  next = place_after b.room b.next size + size;
-  placed = raised b.placed 1;
-  padding = raised b.padding (padding_before b.room b.next size);
+  next = place_after buffer.room buffer.next size + size;
+  placed = raised buffer.placed 1;
+  padding = raised buffer.padding (padding_before buffer.room buffer.next size);
 }
 
 -- what the chunk's record has is replaced in its place
 abbrev pub with_rewritten : Buffer → ℕ → ℕ → Chunk → Buffer
-with_rewritten b sequence chunk_id chunk = record b {
-  live = map (λ r. if is_of sequence chunk_id r then record r { chunk = chunk } else r) b.live;
-  rewritten = raised b.rewritten 1;
+with_rewritten buffer sequence chunk_id chunk = record buffer {
+  live = map
+      (λ stored. if is_of sequence chunk_id stored then record stored { chunk = chunk } else stored)
+      buffer.live;
+  rewritten = raised buffer.rewritten 1;
 }
 
 -- the discard policy refuses a next record of this size
 abbrev pub is_refused : Buffer → ℕ → Bool
-is_refused b size =
-    discards b.policy && (b.shut || list_any (λ r. meets b size r && is_unread b.sequences r) b.live)
+is_refused buffer size =
+    discards buffer.policy
+    && (buffer.shut || list_any (λ stored. meets buffer size stored && is_unread buffer.sequences stored) buffer.live)
 
 pub data Arrived : Type 0 where
   Kept : Arrived
@@ -47,68 +50,68 @@ pub data Arrived : Type 0 where
 
 -- an id so far ahead of the least missing one is refused
 abbrev pub is_too_far : Sequence → ℕ → Bool
-is_too_far s chunk_id = nat_le (base_of s + IDS_AHEAD) chunk_id
+is_too_far state chunk_id = nat_le (base_of state + IDS_AHEAD) chunk_id
 
 -- where a record goes that is neither a double nor too far
 abbrev pub placing_of : Buffer → ℕ → ℕ → Arrived
-placing_of b sequence chunk_id =
-    if is_some (live_at b sequence chunk_id) then Rewritten
-    else if is_refused b (sequence_in b.sequences sequence).size then Discarded
+placing_of buffer sequence chunk_id =
+    if is_some (live_at buffer sequence chunk_id) then Rewritten
+    else if is_refused buffer (sequence_in buffer.sequences sequence).size then Discarded
     else Kept
 
 -- the outcome of the arrival of a complete chunk
 abbrev pub arrival_of : Buffer → ℕ → ℕ → Arrived
-arrival_of b sequence chunk_id =
-    if has_arrived (sequence_in b.sequences sequence) chunk_id then Duplicate
-    else if is_too_far (sequence_in b.sequences sequence) chunk_id then TooFar
-    else placing_of b sequence chunk_id
+arrival_of buffer sequence chunk_id =
+    if has_arrived (sequence_in buffer.sequences sequence) chunk_id then Duplicate
+    else if is_too_far (sequence_in buffer.sequences sequence) chunk_id then TooFar
+    else placing_of buffer sequence chunk_id
 
 -- the record has at least so many fragments
 abbrev pub has_as_many : ℕ → Option BufferRecord → Bool
 has_as_many count None = false
-has_as_many count (Some r) = nat_le count (length r.chunk.fragments)
+has_as_many count (Some stored) = nat_le count (length stored.chunk.fragments)
 
 -- the outcome of the arrival of the first fragments of a chunk, so many
 abbrev pub partial_arrival_of : Buffer → ℕ → ℕ → ℕ → Arrived
-partial_arrival_of b sequence chunk_id count =
-    if has_arrived (sequence_in b.sequences sequence) chunk_id
-    || (has_as_many count (live_at b sequence chunk_id)
-    || (unread_of (sequence_in b.sequences sequence) chunk_id count == 0))
+partial_arrival_of buffer sequence chunk_id count =
+    if has_arrived (sequence_in buffer.sequences sequence) chunk_id
+    || (has_as_many count (live_at buffer sequence chunk_id)
+    || (unread_of (sequence_in buffer.sequences sequence) chunk_id count == 0))
     then Duplicate
-    else if is_too_far (sequence_in b.sequences sequence) chunk_id then TooFar
-    else placing_of b sequence chunk_id
+    else if is_too_far (sequence_in buffer.sequences sequence) chunk_id then TooFar
+    else placing_of buffer sequence chunk_id
 
 -- the id has arrived: where the cursor has passed all fragments of the chunk it moves to the next id
 abbrev pub with_arrived : ℕ → ℕ → Sequence → Sequence
-with_arrived chunk_id count s = record s {
-  arrived = s.arrived ++ chunk_id ∷ [];
-  cursor = if (s.cursor.chunk_id == chunk_id) && nat_le count s.cursor.passed
+with_arrived chunk_id count state = record state {
+  arrived = state.arrived ++ chunk_id ∷ [];
+  cursor = if (state.cursor.chunk_id == chunk_id) && nat_le count state.cursor.passed
       then record { chunk_id = suc chunk_id; passed = 0 }
-      else s.cursor;
+      else state.cursor;
 }
 
 -- the packets that begin in a chunk which gets no place are lost
 abbrev pub with_discarded : ℕ → Chunk → Sequence → Sequence
-with_discarded chunk_id chunk s = record s { lost = raised s.lost (unread_starts s chunk_id chunk) }
+with_discarded chunk_id chunk state = record state { lost = raised state.lost (unread_starts state chunk_id chunk) }
 
 abbrev pub discarded_buffer : Buffer → ℕ → ℕ → Chunk → Buffer
-discarded_buffer b sequence chunk_id chunk = record b {
+discarded_buffer buffer sequence chunk_id chunk = record buffer {
   shut = true;
-  discarded = raised b.discarded 1;
-  sequences = changed_at sequence (with_discarded chunk_id chunk) b.sequences;
+  discarded = raised buffer.discarded 1;
+  sequences = changed_at sequence (with_discarded chunk_id chunk) buffer.sequences;
 }
 
 -- what the outcome does to records and losses
 abbrev pub settled : Arrived → Buffer → ℕ → ℕ → Chunk → Buffer
-settled Kept b sequence chunk_id chunk =
-    with_record (made_room b (sequence_in b.sequences sequence).size) sequence chunk_id
-    (sequence_in b.sequences sequence).size chunk
-settled Rewritten b sequence chunk_id chunk = with_rewritten b sequence chunk_id chunk
-settled Discarded b sequence chunk_id chunk =
-    if chunk.partial then record b { shut = true } else discarded_buffer b sequence chunk_id chunk
-settled Duplicate b sequence chunk_id chunk = b
-settled TooFar b sequence chunk_id chunk = b
-settled (BadChunk fragment) b sequence chunk_id chunk = b
+settled Kept buffer sequence chunk_id chunk =
+    with_record (made_room buffer (sequence_in buffer.sequences sequence).size) sequence chunk_id
+    (sequence_in buffer.sequences sequence).size chunk
+settled Rewritten buffer sequence chunk_id chunk = with_rewritten buffer sequence chunk_id chunk
+settled Discarded buffer sequence chunk_id chunk =
+    if chunk.partial then record buffer { shut = true } else discarded_buffer buffer sequence chunk_id chunk
+settled Duplicate buffer sequence chunk_id chunk = buffer
+settled TooFar buffer sequence chunk_id chunk = buffer
+settled (BadChunk fragment) buffer sequence chunk_id chunk = buffer
 
 -- after this outcome the id has arrived
 abbrev pub makes_arrive : Arrived → Bool
@@ -118,21 +121,22 @@ makes_arrive Discarded = true
 makes_arrive other = false
 
 abbrev pub arrival_noted : Arrived → ℕ → ℕ → ℕ → Buffer → Buffer
-arrival_noted outcome sequence chunk_id count b = record b {
+arrival_noted outcome sequence chunk_id count buffer = record buffer {
   sequences = if makes_arrive outcome
-      then changed_at sequence (with_arrived chunk_id count) b.sequences
-      else b.sequences;
+      then changed_at sequence (with_arrived chunk_id count) buffer.sequences
+      else buffer.sequences;
 }
 
 -- the buffer once a complete chunk has arrived, and once the first fragments of a chunk have
 abbrev pub with_arrival : Buffer → ℕ → ℕ → Chunk → Buffer
-with_arrival b sequence chunk_id chunk =
-    arrival_noted (arrival_of b sequence chunk_id) sequence chunk_id (length chunk.fragments)
-    (settled (arrival_of b sequence chunk_id) b sequence chunk_id (complete_chunk chunk))
+with_arrival buffer sequence chunk_id chunk =
+    arrival_noted (arrival_of buffer sequence chunk_id) sequence chunk_id (length chunk.fragments)
+    (settled (arrival_of buffer sequence chunk_id) buffer sequence chunk_id (complete_chunk chunk))
 
 abbrev pub with_partial_arrival : Buffer → ℕ → ℕ → Chunk → Buffer
-with_partial_arrival b sequence chunk_id chunk =
-    settled (partial_arrival_of b sequence chunk_id (length chunk.fragments)) b sequence chunk_id (partial_chunk chunk)
+with_partial_arrival buffer sequence chunk_id chunk =
+    settled (partial_arrival_of buffer sequence chunk_id (length chunk.fragments)) buffer sequence chunk_id
+    (partial_chunk chunk)
 
 -- The same of an image whose fragments are yet to be read
 
@@ -141,20 +145,23 @@ outcome_of outcome (Fragments fragments) = outcome
 outcome_of outcome (Unreadable number) = BadChunk number
 
 abbrev pub image_arrival_of : Buffer → Image → Arrived
-image_arrival_of b image = outcome_of (arrival_of b image.sequence image.chunk_id) (reading_of image.count image.payload)
+image_arrival_of buffer image =
+    outcome_of (arrival_of buffer image.sequence image.chunk_id) (reading_of image.count image.payload)
 
 abbrev pub partial_image_arrival_of : Buffer → Image → Arrived
-partial_image_arrival_of b image =
-    outcome_of (partial_arrival_of b image.sequence image.chunk_id image.count) (reading_of image.count image.payload)
+partial_image_arrival_of buffer image =
+    outcome_of (partial_arrival_of buffer image.sequence image.chunk_id image.count) (reading_of image.count image.payload)
 
 abbrev pub once_read : Buffer → (Chunk → Buffer) → ℕ → Reading → Buffer
-once_read b arrive flags (Fragments fragments) = arrive (whole_chunk flags fragments)
-once_read b arrive flags (Unreadable number) = b
+once_read buffer arrive flags (Fragments fragments) = arrive (whole_chunk flags fragments)
+once_read buffer arrive flags (Unreadable number) = buffer
 
 abbrev pub with_image : Buffer → Image → Buffer
-with_image b image =
-    once_read b (with_arrival b image.sequence image.chunk_id) image.flags (reading_of image.count image.payload)
+with_image buffer image =
+    once_read buffer (with_arrival buffer image.sequence image.chunk_id) image.flags
+    (reading_of image.count image.payload)
 
 abbrev pub with_partial_image : Buffer → Image → Buffer
-with_partial_image b image =
-    once_read b (with_partial_arrival b image.sequence image.chunk_id) image.flags (reading_of image.count image.payload)
+with_partial_image buffer image =
+    once_read buffer (with_partial_arrival buffer image.sequence image.chunk_id) image.flags
+    (reading_of image.count image.payload)

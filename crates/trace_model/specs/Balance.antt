@@ -26,13 +26,13 @@ pub record IsBalanced (counts : PacketCounts) : Type 0 where
 -- The counts of a sequence at the end, from its writer's calls and what losses and reads counted of it: a packet that is
 -- still without a cause is cut.
 abbrev pub counts_of : FullPolicy → List Call → Sequence → PacketCounts
-counts_of policy calls s = record {
+counts_of policy calls state = record {
   begun = begun_count calls;
-  delivered = s.delivered;
-  dropped = dropped_at_begin calls + s.dropped;
-  overwritten = if discards policy then 0 else s.lost;
-  discarded = if discards policy then s.lost else 0;
-  cut = begun_count calls - (s.delivered + (dropped_at_begin calls + s.dropped) + s.lost);
+  delivered = state.delivered;
+  dropped = dropped_at_begin calls + state.dropped;
+  overwritten = if discards policy then 0 else state.lost;
+  discarded = if discards policy then state.lost else 0;
+  cut = begun_count calls - (state.delivered + (dropped_at_begin calls + state.dropped) + state.lost);
 }
 
 -- The same packet by packet

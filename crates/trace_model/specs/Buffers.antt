@@ -59,44 +59,47 @@ empty_buffer room policy sequences = record {
 
 -- the record is of this chunk
 abbrev pub is_of : ℕ → ℕ → BufferRecord → Bool
-is_of sequence chunk_id r = (r.sequence == sequence) && (r.chunk_id == chunk_id)
+is_of sequence chunk_id stored = (stored.sequence == sequence) && (stored.chunk_id == chunk_id)
 
 abbrev pub live_at : Buffer → ℕ → ℕ → Option BufferRecord
-live_at b sequence chunk_id = find (is_of sequence chunk_id) b.live
+live_at buffer sequence chunk_id = find (is_of sequence chunk_id) buffer.live
 
 -- Losses
 
 -- a next record of this size, or its padding, meets the record
 abbrev pub meets : Buffer → ℕ → BufferRecord → Bool
-meets b size r = is_met b.room b.next size r.at r.size
+meets buffer size stored = is_met buffer.room buffer.next size stored.at stored.size
 
 -- how many fragments of the record its reader hasn't passed
 abbrev pub unread_in : Sequence → BufferRecord → ℕ
-unread_in s r = unread_of s r.chunk_id (length r.chunk.fragments)
+unread_in state stored = unread_of state stored.chunk_id (length stored.chunk.fragments)
 
 abbrev pub is_unread : List Sequence → BufferRecord → Bool
-is_unread sequences r = nat_lt 0 (unread_in (sequence_in sequences r.sequence) r)
+is_unread sequences stored = nat_lt 0 (unread_in (sequence_in sequences stored.sequence) stored)
 
 -- Losing the record loses something of the sequence: it is one of its records, and no partial one of an open sequence,
 -- whose chunk is still to come whole.
 abbrev pub is_loss_of : Sequence → BufferRecord → Bool
-is_loss_of s r = (r.sequence == s.number) && not (r.chunk.partial && not s.closed)
+is_loss_of state stored = (stored.sequence == state.number) && not (stored.chunk.partial && not state.closed)
 
 abbrev pub is_unread_loss : Sequence → BufferRecord → Bool
-is_unread_loss s r = is_loss_of s r && nat_lt 0 (unread_in s r)
+is_unread_loss state stored = is_loss_of state stored && nat_lt 0 (unread_in state stored)
 
 -- how many packets the sequence loses with the record
 abbrev pub packets_lost : Sequence → BufferRecord → ℕ
-packets_lost s r = if is_loss_of s r then unread_starts s r.chunk_id r.chunk else 0
+packets_lost state stored = if is_loss_of state stored then unread_starts state stored.chunk_id stored.chunk else 0
 
 -- the sequence once these records are lost
 abbrev pub with_losses : List BufferRecord → Sequence → Sequence
-with_losses records s = record s { lost = raised s.lost (sum_by (packets_lost s) records) }
+with_losses records state = record state { lost = raised state.lost (sum_by (packets_lost state) records) }
 
 -- the buffer once a next record of this size has displaced what it meets
 abbrev pub made_room : Buffer → ℕ → Buffer
-made_room b size = record b {
-  live = filter (λ r. not (meets b size r)) b.live;
-  overwritten = raised b.overwritten (sum_by (λ r. count_by (λ s. is_unread_loss s r) b.sequences) (filter (meets b size) b.live));
-  sequences = map (with_losses (filter (meets b size) b.live)) b.sequences;
+made_room buffer size = record buffer {
+  live = filter (λ stored. not (meets buffer size stored)) buffer.live;
+  overwritten =
+      raised buffer.overwritten
+      (sum_by (λ stored. count_by (λ state. is_unread_loss state stored) buffer.sequences)
+      (filter (meets buffer size) buffer.live));
+  sequences = map (with_losses (filter (meets buffer size) buffer.live)) buffer.sequences;
 }

@@ -41,11 +41,11 @@ PacketsHaveOneOutcome = (room : ℕ) (policy : FullPolicy) (sequences : List Seq
     → AreDistinct (fixed_after sequence (empty_buffer room policy sequences) events)
 
 -- What a buffer counts of a sequence is what a history fixed of its packets.
-pub record AreCounted (fixed : List Fixed) (s : Sequence) : Type 0 where
-  pub delivered : s.delivered ≡ raised 0 (count_by (λ one. is_delivered one.outcome) fixed)
-  pub dropped : s.dropped ≡ raised 0 (count_by (λ one. is_absent_under Dropped one.outcome) fixed)
-  pub lost : s.lost ≡ raised 0 (count_by (λ one. is_absent_under Lost one.outcome) fixed)
-  pub cut : s.cut ≡ raised 0 (count_by (λ one. is_absent_under Cut one.outcome) fixed)
+pub record AreCounted (fixed : List Fixed) (state : Sequence) : Type 0 where
+  pub delivered : state.delivered ≡ raised 0 (count_by (λ one. is_delivered one.outcome) fixed)
+  pub dropped : state.dropped ≡ raised 0 (count_by (λ one. is_absent_under Dropped one.outcome) fixed)
+  pub lost : state.lost ≡ raised 0 (count_by (λ one. is_absent_under Lost one.outcome) fixed)
+  pub cut : state.cut ≡ raised 0 (count_by (λ one. is_absent_under Cut one.outcome) fixed)
 
 abbrev pub CountsAreOutcomes : Type 0
 CountsAreOutcomes = (room : ℕ) (policy : FullPolicy) (sequences : List Sequence) (sequence size : ℕ) (events : List Event)

@@ -46,9 +46,9 @@ starts_among chunk places = filter (λ at. not (chunk.continues && (at.passed ==
 
 -- where packets begin in the fragments of the chunk that the cursor hasn't passed
 abbrev pub unread_start_places : Sequence → ℕ → Chunk → List Cursor
-unread_start_places s chunk_id chunk =
+unread_start_places state chunk_id chunk =
     let count = length chunk.fragments in
-    let unread = unread_of s chunk_id count in
+    let unread = unread_of state chunk_id count in
     starts_among chunk (places_from chunk_id (count - unread) unread)
 
 abbrev pub lost_at : Cursor → Fixed
@@ -56,50 +56,51 @@ lost_at at = record { at = at; outcome = Absent Lost }
 
 -- the packets that the sequence loses with a record
 abbrev pub fixed_by_loss : Sequence → BufferRecord → List Fixed
-fixed_by_loss s r =
-    if is_loss_of s r then map lost_at (unread_start_places s r.chunk_id r.chunk) else []
+fixed_by_loss state stored =
+    if is_loss_of state stored then map lost_at (unread_start_places state stored.chunk_id stored.chunk) else []
 
 -- and with all that a next record of this size displaces
 abbrev pub fixed_by_losses : Buffer → ℕ → Sequence → List Fixed
-fixed_by_losses b size s = flat_map (fixed_by_loss s) (filter (meets b size) b.live)
+fixed_by_losses buffer size state = flat_map (fixed_by_loss state) (filter (meets buffer size) buffer.live)
 
 -- Events
 
 -- what an outcome fixes of sequence s, where the chunk is one of the sequence `owner`
 abbrev pub fixed_by_arrival : Buffer → Sequence → Sequence → Arrived → Bool → ℕ → Chunk → List Fixed
-fixed_by_arrival b s owner Kept partial chunk_id chunk = fixed_by_losses b owner.size s
-fixed_by_arrival b s owner Discarded partial chunk_id chunk =
-    if (s.number == owner.number) && not partial
-    then map lost_at (unread_start_places s chunk_id chunk)
+fixed_by_arrival buffer state owner Kept partial chunk_id chunk = fixed_by_losses buffer owner.size state
+fixed_by_arrival buffer state owner Discarded partial chunk_id chunk =
+    if (state.number == owner.number) && not partial
+    then map lost_at (unread_start_places state chunk_id chunk)
     else []
-fixed_by_arrival b s owner other partial chunk_id chunk = []
+fixed_by_arrival buffer state owner other partial chunk_id chunk = []
 
 abbrev pub fixed_once_read : Buffer → Sequence → ℕ → ℕ → ℕ → Reading → List Fixed
-fixed_once_read b s owner chunk_id flags (Fragments fragments) =
-    fixed_by_arrival b s (sequence_in b.sequences owner) (arrival_of b owner chunk_id) false chunk_id
+fixed_once_read buffer state owner chunk_id flags (Fragments fragments) =
+    fixed_by_arrival buffer state (sequence_in buffer.sequences owner) (arrival_of buffer owner chunk_id) false chunk_id
     (whole_chunk flags fragments)
-fixed_once_read b s owner chunk_id flags (Unreadable number) = []
+fixed_once_read buffer state owner chunk_id flags (Unreadable number) = []
 
 -- what an event of the buffer fixes of one of its sequences
 abbrev pub fixed_by : Buffer → Sequence → Event → List Fixed
-fixed_by b s (Arrives owner chunk_id chunk) =
-    fixed_by_arrival b s (sequence_in b.sequences owner) (arrival_of b owner chunk_id) false chunk_id chunk
-fixed_by b s (ArrivesInPart owner chunk_id chunk) =
-    fixed_by_arrival b s (sequence_in b.sequences owner) (partial_arrival_of b owner chunk_id (length chunk.fragments))
+fixed_by buffer state (Arrives owner chunk_id chunk) =
+    fixed_by_arrival buffer state (sequence_in buffer.sequences owner) (arrival_of buffer owner chunk_id) false chunk_id chunk
+fixed_by buffer state (ArrivesInPart owner chunk_id chunk) =
+    fixed_by_arrival buffer state (sequence_in buffer.sequences owner)
+    (partial_arrival_of buffer owner chunk_id (length chunk.fragments))
     true chunk_id chunk
-fixed_by b s (Patched owner patches) = []
-fixed_by b s (Committed image patches) =
-    fixed_once_read b s image.sequence image.chunk_id image.flags (reading_of image.count image.payload)
-fixed_by b s (Closed owner) = []
-fixed_by b s (Read owner limit) =
-    if owner == s.number then flat_map fixed_by_link (passed_by limit (row_from_cursor b s)) else []
+fixed_by buffer state (Patched owner patches) = []
+fixed_by buffer state (Committed image patches) =
+    fixed_once_read buffer state image.sequence image.chunk_id image.flags (reading_of image.count image.payload)
+fixed_by buffer state (Closed owner) = []
+fixed_by buffer state (Read owner limit) =
+    if owner == state.number then flat_map fixed_by_link (passed_by limit (row_from_cursor buffer state)) else []
 
 -- what a history fixes of a sequence, in the order of its events
 abbrev pub fixed_after : ℕ → Buffer → List Event → List Fixed
-fixed_after sequence b [] = []
-fixed_after sequence b (event ∷ events) =
-    (if is_known b.sequences (event_sequence event) then fixed_by b (sequence_in b.sequences sequence) event else [])
-    ++ fixed_after sequence (buffer_after b event) events
+fixed_after sequence buffer [] = []
+fixed_after sequence buffer (event ∷ events) =
+    (if is_known buffer.sequences (event_sequence event) then fixed_by buffer (sequence_in buffer.sequences sequence) event else [])
+    ++ fixed_after sequence (buffer_after buffer event) events
 
 -- what was fixed first of the packet that begins at the place
 abbrev pub is_same_place : Cursor → Cursor → Bool

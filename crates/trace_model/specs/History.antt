@@ -32,37 +32,37 @@ event_sequence (Read sequence limit) = sequence
 
 -- the buffer of the event's sequence after it
 abbrev pub after : Buffer → Event → Buffer
-after b (Arrives sequence chunk_id chunk) = with_arrival b sequence chunk_id chunk
-after b (ArrivesInPart sequence chunk_id chunk) = with_partial_arrival b sequence chunk_id chunk
-after b (Patched sequence patches) = with_patches b sequence patches
-after b (Committed image patches) = with_patches (with_image b image) image.sequence patches
-after b (Closed sequence) = with_close b sequence
-after b (Read sequence limit) = with_read b sequence limit
+after buffer (Arrives sequence chunk_id chunk) = with_arrival buffer sequence chunk_id chunk
+after buffer (ArrivesInPart sequence chunk_id chunk) = with_partial_arrival buffer sequence chunk_id chunk
+after buffer (Patched sequence patches) = with_patches buffer sequence patches
+after buffer (Committed image patches) = with_patches (with_image buffer image) image.sequence patches
+after buffer (Closed sequence) = with_close buffer sequence
+after buffer (Read sequence limit) = with_read buffer sequence limit
 
 -- a buffer takes part in the events of its own sequences alone
 abbrev pub buffer_after : Buffer → Event → Buffer
-buffer_after b event = if is_known b.sequences (event_sequence event) then after b event else b
+buffer_after buffer event = if is_known buffer.sequences (event_sequence event) then after buffer event else buffer
 
 -- the buffer after all events of a history
 abbrev pub state_after : Buffer → List Event → Buffer
-state_after b [] = b
-state_after b (event ∷ events) = state_after (buffer_after b event) events
+state_after buffer [] = buffer
+state_after buffer (event ∷ events) = state_after (buffer_after buffer event) events
 
 -- what an event delivers of a sequence
 abbrev pub delivered_at : ℕ → Buffer → Event → List Delivery
-delivered_at sequence b (Read other limit) = if other == sequence then delivered_by b other limit else []
-delivered_at sequence b event = []
+delivered_at sequence buffer (Read other limit) = if other == sequence then delivered_by buffer other limit else []
+delivered_at sequence buffer event = []
 
 -- what a history delivers of a sequence of the buffer
 abbrev pub delivered_to : ℕ → Buffer → List Event → List Delivery
-delivered_to sequence b [] = []
-delivered_to sequence b (event ∷ events) =
-    delivered_at sequence b event ++ delivered_to sequence (buffer_after b event) events
+delivered_to sequence buffer [] = []
+delivered_to sequence buffer (event ∷ events) =
+    delivered_at sequence buffer event ++ delivered_to sequence (buffer_after buffer event) events
 
 -- The whole service: its buffers have distinct sequences.
 
 abbrev pub buffers_after : List Buffer → List Event → List Buffer
-buffers_after buffers events = map (λ b. state_after b events) buffers
+buffers_after buffers events = map (λ buffer. state_after buffer events) buffers
 
 -- a delivery as the record that it is in the trace
 abbrev pub record_in : ℕ → Delivery → Delivered
@@ -73,7 +73,8 @@ record_in sequence delivery =
 abbrev pub records_at : List Buffer → Event → List Delivered
 records_at buffers (Read sequence limit) =
     flat_map
-    (λ b. if is_known b.sequences sequence then map (record_in sequence) (delivered_by b sequence limit) else [])
+    (λ buffer.
+    if is_known buffer.sequences sequence then map (record_in sequence) (delivered_by buffer sequence limit) else [])
     buffers
 records_at buffers event = []
 
@@ -81,10 +82,11 @@ records_at buffers event = []
 abbrev pub records_after : List Buffer → List Event → List Delivered
 records_after buffers [] = []
 records_after buffers (event ∷ events) =
-    records_at buffers event ++ records_after (map (λ b. buffer_after b event) buffers) events
+    records_at buffers event ++ records_after (map (λ buffer. buffer_after buffer event) buffers) events
 
 -- Reading a whole buffer with a limit: its sequences in the given order, each with what is left of the limit.
 abbrev pub reads_of : ℕ → Buffer → List ℕ → List Event
-reads_of limit b [] = []
-reads_of limit b (sequence ∷ others) =
-    Read sequence limit ∷ reads_of (limit - length (delivered_by b sequence limit)) (with_read b sequence limit) others
+reads_of limit buffer [] = []
+reads_of limit buffer (sequence ∷ others) =
+    Read sequence limit
+    ∷ reads_of (limit - length (delivered_by buffer sequence limit)) (with_read buffer sequence limit) others

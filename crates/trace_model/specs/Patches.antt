@@ -13,14 +13,14 @@ pub data PatchAnswer : Type 0 where
   BadOffset : PatchAnswer
 
 abbrev pub awaits_at : ℕ → ℕ → BufferRecord → Bool
-awaits_at sequence chunk_id r = is_of sequence chunk_id r && r.chunk.awaits
+awaits_at sequence chunk_id stored = is_of sequence chunk_id stored && stored.chunk.awaits
 
 abbrev pub answer_to : Patch → Option BufferRecord → PatchAnswer
 answer_to patch None = NoChunk
-answer_to patch (Some r) = if last_holds r.chunk.fragments patch then Applied else BadOffset
+answer_to patch (Some stored) = if last_holds stored.chunk.fragments patch then Applied else BadOffset
 
 abbrev pub patch_answer : Buffer → ℕ → Patch → PatchAnswer
-patch_answer b sequence patch = answer_to patch (find (awaits_at sequence patch.chunk_id) b.live)
+patch_answer buffer sequence patch = answer_to patch (find (awaits_at sequence patch.chunk_id) buffer.live)
 
 abbrev pub patched_chunk : Patch → Chunk → Chunk
 patched_chunk patch chunk =
@@ -28,30 +28,34 @@ patched_chunk patch chunk =
 
 -- the buffer once the patch was tried
 abbrev pub with_patch : Buffer → ℕ → Patch → Buffer
-with_patch b sequence patch = record b {
+with_patch buffer sequence patch = record buffer {
   live = map
-      (λ r. if awaits_at sequence patch.chunk_id r && last_holds r.chunk.fragments patch
-      then record r { chunk = patched_chunk patch r.chunk }
-      else r)
-      b.live;
+      (λ stored. if awaits_at sequence patch.chunk_id stored && last_holds stored.chunk.fragments patch
+      then record stored { chunk = patched_chunk patch stored.chunk }
+      else stored)
+      buffer.live;
 }
 
 -- once all were tried, in their order
 abbrev pub with_patches : Buffer → ℕ → List Patch → Buffer
-with_patches b sequence [] = b
-with_patches b sequence (patch ∷ others) = with_patches (with_patch b sequence patch) sequence others
+with_patches buffer sequence [] = buffer
+with_patches buffer sequence (patch ∷ others) = with_patches (with_patch buffer sequence patch) sequence others
 
 -- Closing
 
 -- the sequence's live partial records are final from then on
 abbrev pub closed_sequence : List BufferRecord → Sequence → Sequence
-closed_sequence live s = record s {
+closed_sequence live state = record state {
   closed = true;
-  final = map (λ (r : BufferRecord). r.chunk_id) (filter (λ r. (r.sequence == s.number) && r.chunk.partial) live);
+  final = map
+      (λ (stored : BufferRecord). stored.chunk_id)
+      (filter (λ stored. (stored.sequence == state.number) && stored.chunk.partial) live);
 }
 
 abbrev pub with_close : Buffer → ℕ → Buffer
-with_close b sequence = record b {
-  unpatched = raised b.unpatched (count_by (λ r. (r.sequence == sequence) && r.chunk.awaits) b.live);
-  sequences = changed_at sequence (closed_sequence b.live) b.sequences;
+with_close buffer sequence = record buffer {
+  unpatched =
+      raised buffer.unpatched
+      (count_by (λ stored. (stored.sequence == sequence) && stored.chunk.awaits) buffer.live);
+  sequences = changed_at sequence (closed_sequence buffer.live) buffer.sequences;
 }

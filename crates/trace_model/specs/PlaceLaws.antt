@@ -14,7 +14,7 @@ pub record Interval : Type 0 where
   pub size : ℕ
 
 abbrev pub interval_of : BufferRecord → Interval
-interval_of r = record { at = r.at; size = r.size }
+interval_of stored = record { at = stored.at; size = stored.size }
 
 abbrev pub placed_interval : Placement → Interval
 placed_interval placement = record { at = placement.at; size = placement.size }
@@ -26,20 +26,20 @@ placed_where other size = []
 
 -- the size of the record that an event puts in a new place, if it does
 abbrev pub placed_by : Buffer → Event → List ℕ
-placed_by b (Arrives sequence chunk_id chunk) =
-    placed_where (arrival_of b sequence chunk_id) (sequence_in b.sequences sequence).size
-placed_by b (ArrivesInPart sequence chunk_id chunk) =
-    placed_where (partial_arrival_of b sequence chunk_id (length chunk.fragments)) (sequence_in b.sequences sequence).size
-placed_by b (Committed image patches) =
-    placed_where (image_arrival_of b image) (sequence_in b.sequences image.sequence).size
-placed_by b event = []
+placed_by buffer (Arrives sequence chunk_id chunk) =
+    placed_where (arrival_of buffer sequence chunk_id) (sequence_in buffer.sequences sequence).size
+placed_by buffer (ArrivesInPart sequence chunk_id chunk) =
+    placed_where (partial_arrival_of buffer sequence chunk_id (length chunk.fragments)) (sequence_in buffer.sequences sequence).size
+placed_by buffer (Committed image patches) =
+    placed_where (image_arrival_of buffer image) (sequence_in buffer.sequences image.sequence).size
+placed_by buffer event = []
 
 -- the sizes of all records that a history puts in new places, in their order
 abbrev pub placed_sizes : Buffer → List Event → List ℕ
-placed_sizes b [] = []
-placed_sizes b (event ∷ events) =
-    (if is_known b.sequences (event_sequence event) then placed_by b event else [])
-    ++ placed_sizes (buffer_after b event) events
+placed_sizes buffer [] = []
+placed_sizes buffer (event ∷ events) =
+    (if is_known buffer.sequences (event_sequence event) then placed_by buffer event else [])
+    ++ placed_sizes (buffer_after buffer event) events
 
 abbrev pub LiveAreUnmet : Type 0
 LiveAreUnmet = (room : ℕ) (policy : FullPolicy) (sequences : List Sequence) (events : List Event)

@@ -101,29 +101,31 @@ count_of test links = count_by (λ link. test (turn_of link)) links
 
 -- the sequence once a read has passed these links
 abbrev pub sequence_after : List Link → Sequence → Sequence
-sequence_after links s = record s {
-  cursor = cursor_after s.cursor links;
-  missing = missing_after s.missing links;
-  delivered = raised s.delivered (count_of delivers links);
-  dropped = raised s.dropped (count_of (counts_under Dropped) links);
-  lost = raised s.lost (count_of (counts_under Lost) links);
-  cut = raised s.cut (count_of (counts_under Cut) links);
+sequence_after links state = record state {
+  cursor = cursor_after state.cursor links;
+  missing = missing_after state.missing links;
+  delivered = raised state.delivered (count_of delivers links);
+  dropped = raised state.dropped (count_of (counts_under Dropped) links);
+  lost = raised state.lost (count_of (counts_under Lost) links);
+  cut = raised state.cut (count_of (counts_under Cut) links);
 }
 
 -- the first delivery of a sequence is marked, and one before which something was passed
 abbrev pub is_marked : Sequence → Bool
-is_marked s = s.missing || (s.delivered == 0)
+is_marked state = state.missing || (state.delivered == 0)
 
 -- what a read of a sequence with a limit delivers, and the buffer after it
 abbrev pub delivered_by : Buffer → ℕ → ℕ → List Delivery
-delivered_by b sequence limit =
-    let s = sequence_in b.sequences sequence in
-    delivered_of (is_marked s) (passed_by limit (row_from_cursor b s))
+delivered_by buffer sequence limit =
+    let state = sequence_in buffer.sequences sequence in
+    delivered_of (is_marked state) (passed_by limit (row_from_cursor buffer state))
 
 abbrev pub with_read : Buffer → ℕ → ℕ → Buffer
-with_read b sequence limit = record b {
+with_read buffer sequence limit = record buffer {
   sequences =
-      changed_at sequence (sequence_after (passed_by limit (row_from_cursor b (sequence_in b.sequences sequence)))) b.sequences;
+      changed_at sequence
+      (sequence_after (passed_by limit (row_from_cursor buffer (sequence_in buffer.sequences sequence))))
+      buffer.sequences;
 }
 
 -- Where a read ends
@@ -155,11 +157,11 @@ read_end limit links = end_before (left_by limit links)
 
 -- The same one link at a time, as a reader goes on: the sequence once one thing was passed, up to a place.
 abbrev pub advanced : Cursor → Turn → Sequence → Sequence
-advanced to turn s = record s {
+advanced to turn state = record state {
   cursor = to;
   missing = not (delivers turn);
-  delivered = raised s.delivered (one_if (delivers turn));
-  dropped = raised s.dropped (one_if (counts_under Dropped turn));
-  lost = raised s.lost (one_if (counts_under Lost turn));
-  cut = raised s.cut (one_if (counts_under Cut turn));
+  delivered = raised state.delivered (one_if (delivers turn));
+  dropped = raised state.dropped (one_if (counts_under Dropped turn));
+  lost = raised state.lost (one_if (counts_under Lost turn));
+  cut = raised state.cut (one_if (counts_under Cut turn));
 }

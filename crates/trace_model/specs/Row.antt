@@ -145,19 +145,20 @@ slot_from None false = Never
 
 -- what there is of a chunk of the sequence
 abbrev pub slot_of : Buffer → Sequence → ℕ → Slot
-slot_of b s chunk_id = slot_from (live_at b s.number chunk_id) (has_arrived s chunk_id || is_among chunk_id s.final)
+slot_of buffer state chunk_id =
+    slot_from (live_at buffer state.number chunk_id) (has_arrived state chunk_id || is_among chunk_id state.final)
 
 -- of so many chunks from this one on
 abbrev pub slots_of : Buffer → Sequence → ℕ → ℕ → List Slot
-slots_of b s chunk_id zero = []
-slots_of b s chunk_id (suc count) = slot_of b s chunk_id ∷ slots_of b s (suc chunk_id) count
+slots_of buffer state chunk_id zero = []
+slots_of buffer state chunk_id (suc count) = slot_of buffer state chunk_id ∷ slots_of buffer state (suc chunk_id) count
 
 -- one above the last chunk that the row can show
 abbrev pub horizon : Sequence → ℕ
-horizon s = if s.closed then end_of s else suc (base_of s)
+horizon state = if state.closed then end_of state else suc (base_of state)
 
 -- the row of a sequence from its cursor to its stop place
 abbrev pub row_from_cursor : Buffer → Sequence → List Link
-row_from_cursor b s =
-    row_of s.closed s.cursor.chunk_id s.cursor.passed
-    (slots_of b s s.cursor.chunk_id (horizon s - s.cursor.chunk_id))
+row_from_cursor buffer state =
+    row_of state.closed state.cursor.chunk_id state.cursor.passed
+    (slots_of buffer state state.cursor.chunk_id (horizon state - state.cursor.chunk_id))

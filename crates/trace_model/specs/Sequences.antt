@@ -53,7 +53,7 @@ abbrev pub is_among : ℕ → List ℕ → Bool
 is_among n numbers = list_any (λ m. m == n) numbers
 
 abbrev pub has_arrived : Sequence → ℕ → Bool
-has_arrived s chunk_id = is_among chunk_id s.arrived
+has_arrived state chunk_id = is_among chunk_id state.arrived
 
 -- the least number from n on that isn't among these, of so many that are tried
 abbrev pub first_absent : ℕ → ℕ → List ℕ → ℕ
@@ -62,7 +62,7 @@ first_absent (suc tries) n numbers = if is_among n numbers then first_absent tri
 
 -- the least id that hasn't arrived complete
 abbrev pub base_of : Sequence → ℕ
-base_of s = first_absent (length s.arrived) 0 s.arrived
+base_of state = first_absent (length state.arrived) 0 state.arrived
 
 -- one above the greatest number, or 0
 abbrev pub above_all : List ℕ → ℕ
@@ -71,29 +71,29 @@ above_all (n ∷ numbers) = max (suc n) (above_all numbers)
 
 -- one above the last id of which a closed sequence ever had anything
 abbrev pub end_of : Sequence → ℕ
-end_of s = max (above_all s.arrived) (above_all s.final)
+end_of state = max (above_all state.arrived) (above_all state.final)
 
 -- of so many fragments of an id, those that the cursor hasn't passed
 abbrev pub unread_of : Sequence → ℕ → ℕ → ℕ
-unread_of s chunk_id count =
-    if nat_lt chunk_id s.cursor.chunk_id then 0
-    else if chunk_id == s.cursor.chunk_id then count - s.cursor.passed
+unread_of state chunk_id count =
+    if nat_lt chunk_id state.cursor.chunk_id then 0
+    else if chunk_id == state.cursor.chunk_id then count - state.cursor.passed
     else count
 
 -- how many packets begin in the fragments of the chunk that the cursor hasn't passed
 abbrev pub unread_starts : Sequence → ℕ → Chunk → ℕ
-unread_starts s chunk_id chunk =
-    unread_of s chunk_id (length chunk.fragments)
-    - one_if (chunk.continues && (unread_of s chunk_id (length chunk.fragments) == length chunk.fragments))
+unread_starts state chunk_id chunk =
+    unread_of state chunk_id (length chunk.fragments)
+    - one_if (chunk.continues && (unread_of state chunk_id (length chunk.fragments) == length chunk.fragments))
 
 -- the sequence with this number among those of a buffer
 abbrev pub sequence_in : List Sequence → ℕ → Sequence
 sequence_in [] number = fresh number 0
-sequence_in (s ∷ others) number = if s.number == number then s else sequence_in others number
+sequence_in (state ∷ others) number = if state.number == number then state else sequence_in others number
 
 abbrev pub is_known : List Sequence → ℕ → Bool
-is_known sequences number = list_any (λ s. s.number == number) sequences
+is_known sequences number = list_any (λ state. state.number == number) sequences
 
 -- the sequences once this one has changed
 abbrev pub changed_at : ℕ → (Sequence → Sequence) → List Sequence → List Sequence
-changed_at number change sequences = map (λ s. if s.number == number then change s else s) sequences
+changed_at number change sequences = map (λ state. if state.number == number then change state else state) sequences

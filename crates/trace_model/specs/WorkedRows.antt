@@ -30,13 +30,13 @@ pub record BufferCounts : Type 0 where
   pub padding : ℕ
 
 abbrev pub buffer_counts : Buffer → BufferCounts
-buffer_counts b = record {
-  placed = b.placed;
-  rewritten = b.rewritten;
-  overwritten = b.overwritten;
-  discarded = b.discarded;
-  unpatched = b.unpatched;
-  padding = b.padding;
+buffer_counts buffer = record {
+  placed = buffer.placed;
+  rewritten = buffer.rewritten;
+  overwritten = buffer.overwritten;
+  discarded = buffer.discarded;
+  unpatched = buffer.unpatched;
+  padding = buffer.padding;
 }
 
 abbrev pub only_placed : ℕ → BufferCounts
@@ -63,14 +63,14 @@ abbrev pub ended : List Event
 ended = Closed 2 ∷ Closed 3 ∷ Read 2 no_limit ∷ Read 3 no_limit ∷ []
 
 -- the history writes these bytes, and leaves the buffer with these counts
-pub record IsPlayed (b : Buffer) (events : List Event) (trace : List ℕ) (counts : BufferCounts) : Type 0 where
-  pub trace_is : trace_of (records_after (b ∷ []) events) ≡ trace
-  pub counts_are : buffer_counts (state_after b events) ≡ counts
+pub record IsPlayed (buffer : Buffer) (events : List Event) (trace : List ℕ) (counts : BufferCounts) : Type 0 where
+  pub trace_is : trace_of (records_after (buffer ∷ []) events) ≡ trace
+  pub counts_are : buffer_counts (state_after buffer events) ≡ counts
 
 -- the report's line of the sequence
 abbrev pub IsReported : Buffer → List Event → ℕ → List Call → PacketCounts → Type 0
-IsReported b events sequence calls counts =
-    counts_of b.policy calls (sequence_in (state_after b events).sequences sequence) ≡ counts
+IsReported buffer events sequence calls counts =
+    counts_of buffer.policy calls (sequence_in (state_after buffer events).sequences sequence) ≡ counts
 
 -- One writer's packets whole: how they are cut, the trace and the report.
 pub record IsWorked (payload : ℕ) (calls : List Call) (pages : List Page) (trace : List ℕ) (counts : PacketCounts) : Type 0 where
@@ -232,8 +232,8 @@ awaiting_events = arrived 0 patched_pages ++ (Read 2 no_limit ∷ Read 2 no_limi
 
 -- where a read of sequence 2 ends behind these events
 abbrev pub end_behind : Buffer → List Event → ℕ → ReadEnd
-end_behind b events limit =
-    read_end limit (row_from_cursor (state_after b events) (sequence_in (state_after b events).sequences 2))
+end_behind buffer events limit =
+    read_end limit (row_from_cursor (state_after buffer events) (sequence_in (state_after buffer events).sequences 2))
 
 pub record AwaitsPatch : Type 0 where
   pub played : IsPlayed (ring_of 64 284) awaiting_events
