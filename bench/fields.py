@@ -1,0 +1,51 @@
+#!/usr/bin/env python3
+"""How many bytes of fields are read in a second, on one core.
+
+    bench/fields.py            builds crates/fields_speed where that is needed, and times it on three kinds of lines
+
+Each input has about 60 MB. The best of five runs counts, by the processor time of the whole program, so that other work
+on the machine matters little.
+"""
+import os
+import resource
+import subprocess
+import sys
+
+TOP = os.path.dirname(os.path.dirname(os.path.abspath(__file__)))
+CRATE = os.path.join(TOP, 'crates', 'fields_speed')
+PROGRAM = os.path.join(CRATE, 'out', 'fields_speed')
+SIZE = 60_000_000
+RUNS = 5
+
+LINES = {
+    'events': b'8:1234567890 900{1:"scheduling" 2:42}\n',
+    'numbers': b'8:1 11:300 12:18446744073709551615 1000:7\n',
+    'texts': b'900{1:"' + b'a text of some length, ' * 20 + b'" 2:x\'' + b'00ff' * 50 + b'\'}\n',
+}
+
+
+def processor_time():
+    used = resource.getrusage(resource.RUSAGE_CHILDREN)
+    return used.ru_utime + used.ru_stime
+
+
+def best_time(text):
+    best = float('inf')
+    for _ in range(RUNS):
+        before = processor_time()
+        answer = subprocess.run([PROGRAM], input=text, capture_output=True, check=True).stdout
+        best = min(best, processor_time() - before)
+    return best, answer.decode().strip()
+
+
+def main():
+    with open(os.path.join(CRATE, 'stdin'), 'rb') as lines:
+        subprocess.run(['rt', 'run'], cwd=CRATE, stdin=lines, check=True, capture_output=True)
+    for name, line in LINES.items():
+        text = line * (SIZE // len(line))
+        seconds, answer = best_time(text)
+        print(f'{name:8} {len(text) / seconds / 1e6:7.0f} MB/s  {answer}')
+
+
+if __name__ == '__main__':
+    sys.exit(main())
