@@ -51,8 +51,6 @@ reads_kept bytes (next ∷ others) at rest h =
 reads_marked : (bytes : List ℕ) (others : List (List ℕ)) (at : ℕ) → length (laid true (bytes ∷ others) []) < drop_size
     → ReadsFrom at (laid true (bytes ∷ others) []) (fragments_from (at + 4) true (bytes ∷ others))
 reads_marked bytes [] at h = inl (record {
-  size = drop_mark;
-  is_size = record { whole = (omega arith, (omega arith, (omega arith, omega arith))); most = omega arith; value = refl };
   cut = append-nil (drop_mark ++ bytes);
   offset = refl;
   dropped = refl;

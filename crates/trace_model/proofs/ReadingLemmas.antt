@@ -1,13 +1,14 @@
 -- Reading fragments step by step, and what a payload reads as.
 use Rattle.std.proofs.Common.{◌≡◌, ◌∙◌, ℕ, zero, suc, ◌+◌, ◌-◌, ◌*◌, ◌%◌, ◌<◌, ◌≤◌, Bool, true, false, List, [], ◌∷◌, ◌++◌, length, take, drop, Option, Some, None, refl, sym, ap, subst, arith, length-append, length-take, append_assoc, inl, inr}
-use Rattle.std.specs.Prelude.{cond, ◌⊎◌, nat_le}
+use Rattle.std.proofs.lemmas.List.Elements.{All-head, All-tail, All-take}
+use Rattle.std.specs.Prelude.{All, cond, ◌⊎◌, nat_le}
 use Rattle.std.proofs.lemmas.Bool.{cases_lt, cases_eq, lt-ltb, le-ltb, le-leb, leb-true, eq-eqb, ne_eqb}
 use Rattle.std.proofs.lemmas.Option.{none-some, same_Some}
 use Rattle.std.proofs.lemmas.List.{take-append-drop, drop-drop}
 use Rattle.std.proofs.Math.Seq.{drop-append_seam}
 use Rattle.wire_varint.specs.Reading.{joined, IsWhole}
 use Rattle.trace_model.specs.Images.{Fragment}
-use Rattle.trace_model.specs.Fragments.{drop_size, ReadsOne, ReadsDropped}
+use Rattle.trace_model.specs.Fragments.{drop_mark, drop_size, ReadsOne, ReadsDropped}
 use Rattle.trace_model.specs.Reading.{Size, longer_size, size_of, fragment_of, place_behind}
 
 -- Sizes
@@ -129,21 +130,34 @@ read_kept last at bytes fragment rest reads =
 
 pub read_dropped : (at : ℕ) (bytes : List ℕ) (fragment : Fragment) → ReadsDropped at bytes fragment → fragment_of true at bytes (size_of 4 bytes) ≡ Some fragment
 read_dropped at bytes fragment reads =
-    let w : ℕ = length reads.size in
-    ap (fragment_of true at bytes)
-    (ap (size_of 4) reads.cut ∙ size_complete reads.size 4 fragment.bytes reads.is_size.whole reads.is_size.most
-    ∙ ap (λ (m : ℕ). Some (record { value = m; width = w })) reads.is_size.value)
-    ∙ ap (λ (xs : List ℕ). Some (record { bytes = xs; dropped = true; offset = at + w })) (ap (drop w) reads.cut ∙ drop-front reads.size fragment.bytes)
-    ∙ ap (λ (d : Bool). Some (record { bytes = fragment.bytes; dropped = d; offset = at + w })) (sym reads.dropped)
+    ap (λ (xs : List ℕ). fragment_of true at xs (size_of 4 xs)) reads.cut
+    ∙ ap (λ (d : Bool). Some (record { bytes = fragment.bytes; dropped = d; offset = at + 4 })) (sym reads.dropped)
     ∙ ap (λ (o : ℕ). Some (record { bytes = fragment.bytes; dropped = fragment.dropped; offset = o })) (sym reads.offset)
+
+-- in bytes the drop mark's size has one form
+marked_size : (size : List ℕ) → IsWhole size → length size ≤ 4 → All (λ byte. byte < 256) size → joined size ≡ drop_size → size ≡ drop_mark
+marked_size [] h k bytes e = absurd h
+marked_size (a ∷ []) h k bytes e = absurd (omega (arith, e, mod_below a))
+marked_size (a ∷ b ∷ []) h k bytes e = absurd (omega (arith, e, mod_below a, mod_below b))
+marked_size (a ∷ b ∷ c ∷ []) h k bytes e = absurd (omega (arith, e, mod_below a, mod_below b, mod_below c))
+marked_size (a ∷ b ∷ c ∷ d ∷ []) h k bytes e =
+    let rest = All-tail (λ (n : ℕ). n < 256) a (b ∷ c ∷ d ∷ []) bytes in
+    let more = All-tail (λ (n : ℕ). n < 256) b (c ∷ d ∷ []) rest in
+    let first : a ≡ 255 = omega (arith, e, h.0, mod_below a, All-head (λ (n : ℕ). n < 256) a (b ∷ c ∷ d ∷ []) bytes) in
+    let second : b ≡ 255 = omega (arith, e, h.1.0, mod_below a, mod_below b, All-head (λ (n : ℕ). n < 256) b (c ∷ d ∷ []) rest) in
+    let third : c ≡ 255 = omega (arith, e, h.1.1.0, mod_below a, mod_below b, mod_below c, All-head (λ (n : ℕ). n < 256) c (d ∷ []) more) in
+    let last : d ≡ 127 = omega (arith, e, h.1.1.1, mod_below a, mod_below b, mod_below c) in
+    ap (λ (n : ℕ). n ∷ b ∷ c ∷ d ∷ []) first ∙ ap (λ (n : ℕ). 255 ∷ n ∷ c ∷ d ∷ []) second
+    ∙ ap (λ (n : ℕ). 255 ∷ 255 ∷ n ∷ d ∷ []) third ∙ ap (λ (n : ℕ). 255 ∷ 255 ∷ 255 ∷ n ∷ []) last
+marked_size (a ∷ b ∷ c ∷ d ∷ x ∷ xs) h k bytes e = absurd (omega (arith, k))
 
 -- what is read stands in front
 abbrev pub StandsFirst : Bool → ℕ → List ℕ → Fragment → Type 0
 StandsFirst last at bytes fragment =
     ((last ≡ true) × ReadsDropped at bytes fragment) ⊎ ReadsOne at bytes fragment (drop (place_behind fragment - at) bytes)
 
-pub read_sound : (last : Bool) (at : ℕ) (bytes : List ℕ) (fragment : Fragment) → fragment_of last at bytes (size_of 4 bytes) ≡ Some fragment → StandsFirst last at bytes fragment
-read_sound last at bytes fragment e = by_size (size_of 4 bytes) refl e
+pub read_sound : (last : Bool) (at : ℕ) (bytes : List ℕ) (fragment : Fragment) → All (λ byte. byte < 256) bytes → fragment_of last at bytes (size_of 4 bytes) ≡ Some fragment → StandsFirst last at bytes fragment
+read_sound last at bytes fragment below e = by_size (size_of 4 bytes) refl e
   where
     dropped_first : (size : Size) → HasSize 4 bytes size → size.value ≡ drop_size → (b : Bool) → last ≡ b
         → cond b (Some (record { bytes = drop size.width bytes; dropped = true; offset = at + size.width })) None ≡ Some fragment → StandsFirst last at bytes fragment
@@ -151,13 +165,18 @@ read_sound last at bytes fragment e = by_size (size_of 4 bytes) refl e
     dropped_first size has v true f g =
         let read : Fragment = record { bytes = drop size.width bytes; dropped = true; offset = at + size.width } in
         let same : read ≡ fragment = same_Some read fragment g in
+        let front_is : has.front ≡ take (length has.front) bytes = sym (ap (take (length has.front)) has.cut ∙ take-front has.front has.rest) in
+        let front_bytes : All (λ byte. byte < 256) has.front =
+        subst (λ (xs : List ℕ). All (λ byte. byte < 256) xs) (sym front_is) (All-take (λ byte. byte < 256) (length has.front) bytes below) in
+        let mark : has.front ≡ drop_mark = marked_size has.front has.whole has.few front_bytes (has.value ∙ v) in
+        let width : size.width ≡ 4 = sym has.width ∙ ap length mark in
         inl (
           f,
           subst (λ (r : Fragment). ReadsDropped at bytes r) same (record {
-            size = has.front;
-            is_size = record { whole = has.whole; most = has.few; value = has.value ∙ v };
-            cut = has.cut ∙ ap (λ (xs : List ℕ). has.front ++ xs) (sym (drop-front has.front has.rest) ∙ ap (drop (length has.front)) (sym has.cut) ∙ ap (λ (n : ℕ). drop n bytes) has.width);
-            offset = ap (λ (n : ℕ). at + n) (sym has.width);
+            cut = has.cut
+                ∙ ap (λ (xs : List ℕ). has.front ++ xs) (sym (drop-front has.front has.rest) ∙ ap (drop (length has.front)) (sym has.cut) ∙ ap (λ (n : ℕ). drop n bytes) has.width)
+                ∙ ap (λ (xs : List ℕ). xs ++ drop size.width bytes) mark;
+            offset = ap (λ (n : ℕ). at + n) width;
             dropped = refl;
           }),
         )

@@ -1,6 +1,7 @@
 -- The fragments that are read of a payload are those that it reads as.
-use Rattle.std.proofs.Common.{◌≡◌, ◌∙◌, ℕ, zero, suc, ◌-◌, Bool, true, false, List, [], ◌∷◌, ◌++◌, length, drop, Option, Some, None, refl, ap, subst, arith, length-append, inl, inr}
-use Rattle.std.specs.Prelude.{◌==◌}
+use Rattle.std.proofs.Common.{◌≡◌, ◌∙◌, ℕ, zero, suc, ◌-◌, ◌<◌, Bool, true, false, List, [], ◌∷◌, ◌++◌, length, drop, Option, Some, None, refl, ap, subst, arith, length-append, inl, inr}
+use Rattle.std.proofs.lemmas.List.Elements.{All-drop}
+use Rattle.std.specs.Prelude.{All, ◌==◌}
 use Rattle.std.proofs.lemmas.Bool.{eqb-true, false≢true}
 use Rattle.trace_model.specs.Images.{Fragment}
 use Rattle.trace_model.specs.Fragments.{ReadsOne, ReadsFrom}
@@ -50,8 +51,8 @@ first_read left at bytes fragment [] h k = absurd k.0
 first_read left at bytes fragment (next ∷ others) (inl h) k = absurd (omega (arith, eqb-true (suc left) 0 h.0))
 first_read left at bytes fragment (next ∷ others) (inr h) k = ((drop (place_behind fragment - at) bytes, h, k.0), ap suc k.1)
 
-sound_from : (left number at : ℕ) (bytes : List ℕ) (fragments : List Fragment) → reading_from (suc left) number at bytes ≡ Fragments fragments → IsSound left at bytes fragments
-sound_from zero number at bytes fragments e = by_fragment (fragment_of true at bytes (size_of 4 bytes)) refl e
+sound_from : (left number at : ℕ) (bytes : List ℕ) (fragments : List Fragment) → All (λ byte. byte < 256) bytes → reading_from (suc left) number at bytes ≡ Fragments fragments → IsSound left at bytes fragments
+sound_from zero number at bytes fragments below e = by_fragment (fragment_of true at bytes (size_of 4 bytes)) refl e
   where
     only : (fragment : Fragment) → StandsFirst true at bytes fragment → IsSound zero at bytes (fragment ∷ [])
     only fragment (inl h) = (inl h.1, refl)
@@ -60,33 +61,33 @@ sound_from zero number at bytes fragments e = by_fragment (fragment_of true at b
     by_fragment : (o : Option Fragment) → fragment_of true at bytes (size_of 4 bytes) ≡ o → read_on number (λ f. Fragments []) o ≡ Fragments fragments → IsSound zero at bytes fragments
     by_fragment None f g = absurd (unread number fragments g)
     by_fragment (Some fragment) f g =
-        subst (λ (fs : List Fragment). IsSound zero at bytes fs) (ap fragments_in g) (only fragment (read_sound true at bytes fragment f))
-sound_from (suc left) number at bytes fragments e = by_fragment (fragment_of (suc left == 0) at bytes (size_of 4 bytes)) refl e (sound_from left)
+        subst (λ (fs : List Fragment). IsSound zero at bytes fs) (ap fragments_in g) (only fragment (read_sound true at bytes fragment below f))
+sound_from (suc left) number at bytes fragments below e = by_fragment (fragment_of (suc left == 0) at bytes (size_of 4 bytes)) refl e (sound_from left)
   where
     by_rest : (fragment : Fragment) → StandsFirst (suc left == 0) at bytes fragment → (r : Reading)
         → reading_from (suc left) (suc number) (place_behind fragment) (drop (place_behind fragment - at) bytes) ≡ r → behind fragment r ≡ Fragments fragments
-        → ((n a : ℕ) (bs : List ℕ) (fs : List Fragment) → reading_from (suc left) n a bs ≡ Fragments fs → IsSound left a bs fs) → IsSound (suc left) at bytes fragments
+        → ((n a : ℕ) (bs : List ℕ) (fs : List Fragment) → All (λ byte. byte < 256) bs → reading_from (suc left) n a bs ≡ Fragments fs → IsSound left a bs fs) → IsSound (suc left) at bytes fragments
     by_rest fragment h (Unreadable n) f g rest = absurd (unread n fragments g)
     by_rest fragment h (Fragments others) f g rest =
         subst (λ (fs : List Fragment). IsSound (suc left) at bytes fs) (ap fragments_in g)
-        (first_read left at bytes fragment others h (rest (suc number) (place_behind fragment) (drop (place_behind fragment - at) bytes) others f))
+        (first_read left at bytes fragment others h (rest (suc number) (place_behind fragment) (drop (place_behind fragment - at) bytes) others (All-drop (λ byte. byte < 256) (place_behind fragment - at) bytes below) f))
 
     by_fragment : (o : Option Fragment) → fragment_of (suc left == 0) at bytes (size_of 4 bytes) ≡ o
         → read_on number (λ f. reading_from (suc left) (suc number) (place_behind f) (drop (place_behind f - at) bytes)) o ≡ Fragments fragments
-        → ((n a : ℕ) (bs : List ℕ) (fs : List Fragment) → reading_from (suc left) n a bs ≡ Fragments fs → IsSound left a bs fs) → IsSound (suc left) at bytes fragments
+        → ((n a : ℕ) (bs : List ℕ) (fs : List Fragment) → All (λ byte. byte < 256) bs → reading_from (suc left) n a bs ≡ Fragments fs → IsSound left a bs fs) → IsSound (suc left) at bytes fragments
     by_fragment None f g rest = absurd (unread number fragments g)
     by_fragment (Some fragment) f g rest =
-        by_rest fragment (read_sound (suc left == 0) at bytes fragment f)
+        by_rest fragment (read_sound (suc left == 0) at bytes fragment below f)
         (reading_from (suc left) (suc number) (place_behind fragment) (drop (place_behind fragment - at) bytes)) refl g rest
 
 complete_of : (payload : List ℕ) (fragments : List Fragment) → ReadsFrom 0 payload fragments → reading_of (length fragments) payload ≡ Fragments fragments
 complete_of payload [] h = absurd h
 complete_of payload (fragment ∷ others) h = complete_from (fragment ∷ others) 0 0 payload h
 
-sound_of : (count : ℕ) (payload : List ℕ) (fragments : List Fragment) → reading_of count payload ≡ Fragments fragments
+sound_of : (count : ℕ) (payload : List ℕ) (fragments : List Fragment) → All (λ byte. byte < 256) payload → reading_of count payload ≡ Fragments fragments
     → ReadsFrom 0 payload fragments × (length fragments ≡ count)
-sound_of zero payload fragments e = absurd (unread 0 fragments e)
-sound_of (suc more) payload fragments e = sound_from more 0 0 payload fragments e
+sound_of zero payload fragments below e = absurd (unread 0 fragments e)
+sound_of (suc more) payload fragments below e = sound_from more 0 0 payload fragments below e
 
 pub reading_is_exact : ReadingIsExact
 reading_is_exact = record { sound = sound_of; complete = complete_of }

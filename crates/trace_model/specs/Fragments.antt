@@ -28,13 +28,10 @@ pub record ReadsOne (at : ℕ) (bytes : List ℕ) (fragment : Fragment) (rest : 
   pub kept : fragment.dropped ≡ false
   pub unmarked : length fragment.bytes < drop_size
 
--- The bytes from the place `at` on are a fragment whose size is the drop mark's, which has one form in bytes; its bytes are
--- all that follows.
+-- The bytes from the place `at` on are a fragment with the drop mark, whose bytes are all that follows.
 pub record ReadsDropped (at : ℕ) (bytes : List ℕ) (fragment : Fragment) : Type 0 where
-  pub size : List ℕ
-  pub is_size : IsSize size drop_size
-  pub cut : bytes ≡ size ++ fragment.bytes
-  pub offset : fragment.offset ≡ at + length size
+  pub cut : bytes ≡ drop_mark ++ fragment.bytes
+  pub offset : fragment.offset ≡ at + 4
   pub dropped : fragment.dropped ≡ true
 
 -- The bytes from the place `at` on read as these fragments; only the last one may have the drop mark. As none they
