@@ -1,15 +1,16 @@
 //! A tree of fields that was read: its nodes one after another, each with its text.
-ghost use Rattle.std.specs.Prelude.{◌≡◌, ℕ, ◌≤◌, ◌<◌, List, length, map, Some, slice_get};
+ghost use Rattle.std.specs.Prelude.{◌≡◌, ℕ, ◌≤◌, ◌<◌, List, [], length, map, Some, slice_get};
 ghost use Rattle.std.specs.Option.{option_map};
 ghost use Rattle.field_tree.specs.Judged.{nodes_len};
 ghost use Rattle.field_tree.specs.Ranges.{shown, IsWhole};
 
 use crate::node::{FieldNode, Node};
+use std::alloc::Global;
 use std::marker::Model;
 use trace_base::limits::MAX_PACKET_LEN;
 
 /// A well-nested list of nodes, each with the text of one repetition, which is empty for nodes
-/// other than `Bytes`. It has no way to be made but by `parse_fields`.
+/// other than `Bytes`. It is made by `parse_fields` alone, or without nodes by `empty`.
 #[derive(Drop)]
 pub struct FieldTree {
     nodes: Vec<Node>,
@@ -40,6 +41,13 @@ impl FieldTree {
             bytes,
             encoded,
         }
+    }
+
+    /// The tree without nodes, which no text spells: that of a packet without fields.
+    pub fn empty(alloc: Global) -> Self
+        ensures { result ≡ [] }
+    {
+        FieldTree::from_parts(Vec::new(alloc), Vec::new(alloc), 0)
     }
 
     /// How many nodes there are.
