@@ -1,0 +1,36 @@
+-- The form of a line by its first words and what stands behind them.
+use Rattle.std.proofs.Common.{◌≡◌, ℕ, Some, None, List, ◌∷◌, refl, sym, subst}
+use Rattle.scenario_text.specs.Pieces.{pieces, pieces_behind}
+use Rattle.scenario_text.specs.Forms.{form_of_words, long_form, more_words, one_word, two_words, three_words, four_words}
+use Rattle.scenario_text.proofs.PieceLemmas.{has_piece}
+
+pub first_word : (word : List ℕ) → form_of_words (word ∷ pieces_behind 32 None) ≡ one_word word
+unfolding form_of_words pieces_behind
+first_word word = refl
+
+pub second_word : (word second : List ℕ) → form_of_words (word ∷ second ∷ pieces_behind 32 None) ≡ two_words word second
+unfolding form_of_words pieces_behind
+second_word word second = refl
+
+pub several_words : (word second behind : List ℕ)
+    → form_of_words (word ∷ second ∷ pieces_behind 32 (Some behind)) ≡ long_form word second (pieces 32 behind)
+unfolding form_of_words pieces_behind
+several_words word second behind =
+    let has = has_piece 32 behind in
+    subst (λ (words : List (List ℕ)). form_of_words (word ∷ second ∷ words) ≡ long_form word second words) (sym has.are) refl
+
+pub third_word : (word second third : List ℕ) → more_words word second (third ∷ pieces_behind 32 None) ≡ three_words word second third
+unfolding more_words pieces_behind
+third_word word second third = refl
+
+pub fourth_word : (word second third fourth : List ℕ)
+    → more_words word second (third ∷ fourth ∷ pieces_behind 32 None) ≡ four_words word second third fourth
+unfolding more_words pieces_behind
+fourth_word word second third fourth = refl
+
+pub fifth_word : (word second third fourth behind : List ℕ)
+    → more_words word second (third ∷ fourth ∷ pieces_behind 32 (Some behind)) ≡ None
+unfolding more_words pieces_behind
+fifth_word word second third fourth behind =
+    let has = has_piece 32 behind in
+    subst (λ (words : List (List ℕ)). more_words word second (third ∷ fourth ∷ words) ≡ None) (sym has.are) refl

@@ -1,0 +1,181 @@
+-- What a line is known for once no reason of the front holds.
+use Rattle.std.proofs.Common.{◌≡◌, ℕ, ◌-◌, ◌%◌, ◌^◌, ◌<◌, ◌≤◌, nat_eq, nat_le, Bool, true, false, cond, not, ◌&&◌, List, ◌∷◌, length, Option, Some, None, is_none, slice_get, refl, arith}
+use Rattle.std.proofs.lemmas.Grind.{common_steps}
+use Rattle.std.proofs.lemmas.Option.{slice_get_within}
+use Rattle.trace_base.specs.declared.limits.TheConstants.{MAX_BUFFERS, MAX_BUFFER_KB, MAX_PAGES, MAX_PAGE_SIZE, PAGE_SIZE_UNIT, MAX_PRODUCERS, MAX_WRITERS, MIN_BUFFER_KB}
+use Rattle.trace_base.specs.declared.policy.FullPolicy.{FullPolicy}
+use Rattle.trace_base.specs.declared.policy.WriterPolicy.{WriterPolicy}
+use Rattle.scenario_text.specs.declared.numeral.Numeral.{Numeral}
+use Rattle.scenario_text.specs.declared.numeral.Numeral.TheVariants.{Fits, TooLarge}
+use Rattle.scenario_text.specs.declared.form.Form.{Form}
+use Rattle.scenario_text.specs.declared.form.Form.TheVariants.{Buffer, Producer, Writer, OfWriter, OfProducer, Read}
+use Rattle.scenario_text.specs.declared.form.WriterStep.{WriterStep}
+use Rattle.scenario_text.specs.declared.form.ProducerStep.{ProducerStep}
+use Rattle.scenario_text.specs.declared.reason.Reason.{Reason}
+use Rattle.scenario_text.specs.Items.{item}
+use Rattle.scenario_text.specs.Ranges.{value, is_within, is_page_size, is_chunk_count}
+use Rattle.scenario_text.specs.State.{State}
+use Rattle.scenario_text.specs.Sound.{is_cut}
+use Rattle.scenario_text.specs.Reasons.{first, when, front_reasons, is_out_of_range, is_producer_in_range, is_late, is_too_many, lacks_producer, lacks_buffer, lacks_writer}
+use Rattle.scenario_text.proofs.SoundLemmas.{both}
+
+none_when : (test : Bool) (reason : Reason) (more : List (Option Reason)) → first (when test reason ∷ more) ≡ None
+    → (test ≡ false) × (first more ≡ None)
+none_when true reason more none = cc
+none_when false reason more none = (refl, none)
+
+-- each test of the front is false
+pub record IsPassed (state : State) (form : Form) : Type 0 where
+  pub in_range : is_out_of_range form ≡ false
+  pub room : is_too_many state form ≡ false
+  pub producer : lacks_producer state form ≡ false
+  pub buffer : lacks_buffer state form ≡ false
+  pub writer : lacks_writer state form ≡ false
+
+pub passed : (state : State) (form : Form) → first (front_reasons state form) ≡ None → IsPassed state form
+unfolding front_reasons
+passed state form none =
+    let one = none_when (is_out_of_range form) _ _ none in
+    let two = none_when (is_late state form) _ _ one.1 in
+    let three = none_when (is_too_many state form) _ _ two.1 in
+    let four = none_when (lacks_producer state form) _ _ three.1 in
+    let five = none_when (lacks_buffer state form) _ _ four.1 in
+    let six = none_when (lacks_writer state form) _ _ five.1 in
+    record { in_range = one.0; room = three.0; producer = four.0; buffer = five.0; writer = six.0 }
+
+not_false : (b : Bool) → not b ≡ false → b ≡ true
+not_false true h = refl
+not_false false h = cc
+
+within_most : (low high : ℕ) (number : Numeral) → is_within low high number ≡ true → value number ≤ high
+unfolding is_within value
+within_most low high (Fits n) h = let parts = both (nat_le low n) (nat_le n high) h in grind (arith, common_steps, parts.1)
+within_most low high TooLarge h = cc
+
+-- ---- set-up lines
+
+pub kb_small : (state : State) (kb : Numeral) (policy : FullPolicy) → first (front_reasons state (Buffer kb policy)) ≡ None
+    → value kb < 2 ^ 32
+unfolding is_out_of_range
+kb_small state kb policy none =
+    let most = within_most MIN_BUFFER_KB MAX_BUFFER_KB kb (not_false _ (passed state (Buffer kb policy) none).in_range) in
+    omega arith
+
+pub room_for_buffer : (state : State) (kb : Numeral) (policy : FullPolicy) → first (front_reasons state (Buffer kb policy)) ≡ None
+    → length state.buffers < MAX_BUFFERS
+unfolding is_too_many
+room_for_buffer state kb policy none = grind (arith, common_steps, (passed state (Buffer kb policy) none).room)
+
+record IsProducer (pages page_size chunks : Numeral) : Type 0 where
+  pages_small : value pages < 2 ^ 8
+  size_small : value page_size < 2 ^ 32
+  chunks_small : value chunks < 2 ^ 8
+  size_is : is_page_size (value page_size) ≡ true
+  count_is : is_chunk_count (value chunks) ≡ true
+
+size_bound : (n : ℕ) → is_page_size n ≡ true → n < 2 ^ 32
+unfolding is_page_size
+size_bound n h =
+    let parts = both (nat_eq (n % PAGE_SIZE_UNIT) 0 && nat_le PAGE_SIZE_UNIT n) (nat_le n MAX_PAGE_SIZE) h in
+    grind (arith, common_steps, parts.1)
+
+count_bound : (n : ℕ) → is_chunk_count n ≡ true → n < 2 ^ 8
+unfolding is_chunk_count
+count_bound n h = grind (arith, common_steps, h)
+
+producer_known : (pages page_size chunks : Numeral) → is_producer_in_range pages page_size chunks ≡ true → IsProducer pages page_size chunks
+unfolding is_producer_in_range value
+producer_known pages (Fits page_size) (Fits chunks) h =
+    let parts = both (is_within 1 MAX_PAGES pages && is_page_size page_size) (is_chunk_count chunks) h in
+    let sizes = both (is_within 1 MAX_PAGES pages) (is_page_size page_size) parts.0 in
+    let most = within_most 1 MAX_PAGES pages sizes.0 in
+    record {
+      pages_small = omega arith;
+      size_small = size_bound page_size sizes.1;
+      chunks_small = count_bound chunks parts.1;
+      size_is = sizes.1;
+      count_is = parts.1;
+    }
+producer_known pages TooLarge chunks h = cc
+producer_known pages (Fits page_size) TooLarge h = cc
+
+of_producer_line : (state : State) (pages page_size chunks : Numeral) → first (front_reasons state (Producer pages page_size chunks)) ≡ None
+    → IsProducer pages page_size chunks
+unfolding is_out_of_range
+of_producer_line state pages page_size chunks none =
+    producer_known pages page_size chunks (not_false _ (passed state (Producer pages page_size chunks) none).in_range)
+
+pub pages_small : (state : State) (pages page_size chunks : Numeral) → first (front_reasons state (Producer pages page_size chunks)) ≡ None
+    → value pages < 2 ^ 8
+pages_small state pages page_size chunks none = (of_producer_line state pages page_size chunks none).pages_small
+
+pub size_small : (state : State) (pages page_size chunks : Numeral) → first (front_reasons state (Producer pages page_size chunks)) ≡ None
+    → value page_size < 2 ^ 32
+size_small state pages page_size chunks none = (of_producer_line state pages page_size chunks none).size_small
+
+pub chunks_small : (state : State) (pages page_size chunks : Numeral) → first (front_reasons state (Producer pages page_size chunks)) ≡ None
+    → value chunks < 2 ^ 8
+chunks_small state pages page_size chunks none = (of_producer_line state pages page_size chunks none).chunks_small
+
+pub room_for_producer : (state : State) (pages page_size chunks : Numeral) → first (front_reasons state (Producer pages page_size chunks)) ≡ None
+    → length state.producers < MAX_PRODUCERS
+unfolding is_too_many
+room_for_producer state pages page_size chunks none =
+    grind (arith, common_steps, (passed state (Producer pages page_size chunks) none).room)
+
+pub producer_cut : (state : State) (pages page_size chunks : Numeral) → first (front_reasons state (Producer pages page_size chunks)) ≡ None
+    → is_cut (record { pages = value pages; page_size = value page_size; chunks = value chunks }) ≡ true
+unfolding is_cut
+producer_cut state pages page_size chunks none =
+    let known = of_producer_line state pages page_size chunks none in
+    rw (known.size_is, known.count_is) refl
+
+pub room_for_writer : (state : State) (producer buffer : Numeral) (policy : WriterPolicy)
+    → first (front_reasons state (Writer producer buffer policy)) ≡ None → length state.writers < MAX_WRITERS
+unfolding is_too_many
+room_for_writer state producer buffer policy none =
+    grind (arith, common_steps, (passed state (Writer producer buffer policy) none).room)
+
+-- ---- references
+
+item_inside_at : {X : Type 0} (is : Bool) (things : List X) (n : ℕ) (found : Option X) → nat_eq n 0 ≡ is
+    → cond is None (slice_get things (n - 1)) ≡ found → is_none found ≡ false → n ≤ length things
+item_inside_at true things n None zero_is is some = cc
+item_inside_at true things n (Some x) zero_is is some = cc
+item_inside_at false things n None zero_is is some = cc
+item_inside_at false things n (Some x) zero_is is some =
+    let inside = slice_get_within things (n - 1) x is in
+    omega arith
+
+-- what a number names is one of the things
+pub item_inside : {X : Type 0} (things : List X) (number : Numeral) → is_none (item things number) ≡ false → value number ≤ length things
+unfolding item value
+item_inside things (Fits n) some = item_inside_at (nat_eq n 0) things n _ refl refl some
+item_inside things TooLarge some = cc
+
+pub writer_named : (state : State) (writer : Numeral) (step : WriterStep) → first (front_reasons state (OfWriter writer step)) ≡ None
+    → value writer ≤ length state.writers
+unfolding lacks_writer
+writer_named state writer step none = item_inside state.writers writer (passed state (OfWriter writer step) none).writer
+
+pub producer_named : (state : State) (producer : Numeral) (step : ProducerStep) → first (front_reasons state (OfProducer producer step)) ≡ None
+    → value producer ≤ length state.producers
+unfolding lacks_producer
+producer_named state producer step none = item_inside state.producers producer (passed state (OfProducer producer step) none).producer
+
+pub producer_of_writer : (state : State) (producer buffer : Numeral) (policy : WriterPolicy)
+    → first (front_reasons state (Writer producer buffer policy)) ≡ None → value producer ≤ length state.producers
+unfolding lacks_producer
+producer_of_writer state producer buffer policy none =
+    item_inside state.producers producer (passed state (Writer producer buffer policy) none).producer
+
+pub buffer_of_writer : (state : State) (producer buffer : Numeral) (policy : WriterPolicy)
+    → first (front_reasons state (Writer producer buffer policy)) ≡ None → value buffer ≤ length state.buffers
+unfolding lacks_buffer
+buffer_of_writer state producer buffer policy none =
+    item_inside state.buffers buffer (passed state (Writer producer buffer policy) none).buffer
+
+pub buffer_named : (state : State) (buffer : Numeral) (limit : Option Numeral) → first (front_reasons state (Read buffer limit)) ≡ None
+    → value buffer ≤ length state.buffers
+unfolding lacks_buffer
+buffer_named state buffer limit none = item_inside state.buffers buffer (passed state (Read buffer limit) none).buffer

@@ -1,0 +1,11 @@
+pub mod NumeralLemmas
+pub mod PieceLemmas
+pub mod FormLemmas
+pub mod SoundLemmas
+pub mod FieldLemmas
+pub mod ItemLemmas
+pub mod FrontLemmas
+pub mod WriteLemmas
+pub mod PlayLemmas
+pub mod LineLemmas
+pub mod ReadLemmas

@@ -1,0 +1,15 @@
+pub mod Pieces
+pub mod Numerals
+pub mod Forms
+pub mod Items
+pub mod Ranges
+pub mod State
+pub mod Reasons
+pub mod Sound
+pub mod Effects
+pub mod Grammar
+pub mod Scenario
+pub mod Answers
+pub mod Additions
+pub mod Texts
+pub mod View

@@ -1,0 +1,117 @@
+//! What a line gives a packet: the nodes of its FIELDS, and how many bytes they are.
+ghost use Rattle.std.specs.Prelude.{◌≡◌, ◌+◌, ◌^◌, ◌<◌, ◌≤◌, length, true};
+ghost use Rattle.wire_varint.specs.Varint.{tag};
+ghost use Rattle.field_tree.specs.Answers.{outcome};
+ghost use Rattle.scenario_text.specs.Pieces.{fields_part};
+ghost use Rattle.scenario_text.specs.Ranges.{is_within, value};
+ghost use Rattle.scenario_text.specs.declared.form.WriterStep.TheVariants.{Nest};
+ghost use Rattle.scenario_text.specs.Reasons.{before_fields, given_by, nested, step_len};
+ghost use Rattle.scenario_text.specs.Answers.{fault_reason, GivesNodes, FaultFits};
+ghost use Rattle.scenario_text.specs.Additions.{GivesAddition};
+
+use crate::form::WriterStep;
+use crate::line_fault::LineFault;
+use crate::numeral::Numeral;
+use crate::pieces::fields_part;
+use crate::reason::Reason;
+use field_tree::{FieldError, FieldFault, FieldTree, parse_fields};
+use std::alloc::Global;
+use trace_base::limits::{MAX_FIELD, MAX_INPUT, MAX_NESTING};
+use trace_base::reserved::is_reserved;
+use wire_varint::put_tag;
+
+/// A fault of FIELDS that begin behind so many bytes of their line.
+#[tactic(auto, unfolding(crate::specs::Answers::fault_reason))]
+fn reason(before: u32, fault: FieldFault) -> Reason
+    requires { FaultFits before fault }
+    ensures { result ≡ fault_reason before fault }
+{
+    match fault {
+        FieldFault::BadField { column } => Reason::BadField {
+            column: before + column,
+        },
+        FieldFault::Reserved { field } => Reason::ReservedField { field },
+        FieldFault::TooDeep => Reason::TooDeep,
+        FieldFault::PacketTooLong => Reason::PacketTooLong,
+    }
+}
+
+#[tactic(auto, using(crate::proofs::FieldLemmas::fault_fits, crate::proofs::FieldLemmas::reason_from))]
+/// The nodes of a line's FIELDS, where so many messages are open.
+fn read_fields(alloc: Global, line: &[u8], depth: u8) -> Result<FieldTree, LineFault>
+    requires line { length line.now ≤ MAX_INPUT }
+    requires depth { depth ≤ MAX_NESTING }
+    ensures { GivesNodes (before_fields line.now) result (outcome depth (fields_part line.now)) }
+{
+    let fields = fields_part(line);
+    let before = (line.len() - fields.len()) as u32;
+    match parse_fields(alloc, fields, depth) {
+        Ok(tree) => Ok(tree),
+        Err(FieldError::OutOfMemory) => Err(LineFault::OutOfMemory),
+        Err(FieldError::Fault(fault)) => Err(LineFault::Refused(reason(before, fault))),
+    }
+}
+
+/// What a line gives its packet: nodes, and how many bytes their encoding is.
+#[derive(Drop)]
+pub struct Addition {
+    pub fields: FieldTree,
+    pub len: u32,
+}
+
+/// A nested message that begins where so many are open, in a line with so many bytes before its
+/// FIELD.
+#[tactic(auto, unfolding(crate::specs::Reasons::nested, crate::specs::Reasons::step_len, crate::specs::Answers::reason_given, crate::specs::Answers::fault_reason, crate::specs::Ranges::is_within, crate::specs::Ranges::value))]
+fn nested(alloc: Global, before: u32, depth: u8, field: Numeral) -> Result<Addition, LineFault>
+    requires { before + 1 < 2 ^ 32 }
+    ensures { GivesAddition before (Nest field) result (nested depth field) }
+{
+    let Numeral::Fits(number) = field else {
+        return Err(LineFault::Refused(Reason::BadField { column: before + 1 }));
+    };
+    if number < 1 || u64::from(MAX_FIELD) < number {
+        return Err(LineFault::Refused(Reason::BadField { column: before + 1 }));
+    }
+    let number = number as u32;
+    if depth == 0 && is_reserved(number) {
+        return Err(LineFault::Refused(Reason::ReservedField { field: number }));
+    }
+    if MAX_NESTING <= depth {
+        return Err(LineFault::Refused(Reason::TooDeep));
+    }
+    let mut tag = [0u8; 5];
+    let len = put_tag(number, 2, &mut tag) as u32 + 4;
+    Ok(Addition {
+        fields: FieldTree::empty(alloc),
+        len,
+    })
+}
+
+/// What a line gives its packet, where so many messages are open.
+#[tactic(auto, unfolding(crate::specs::Reasons::given_by, crate::specs::Reasons::step_len))]
+pub fn read_addition(
+    alloc: Global,
+    line: &[u8],
+    depth: u8,
+    step: WriterStep,
+) -> Result<Addition, LineFault>
+    requires line { length line.now ≤ MAX_INPUT }
+    requires depth { depth ≤ MAX_NESTING }
+    ensures { GivesAddition (before_fields line.now) step result (given_by depth line.now step) }
+{
+    match step {
+        WriterStep::Packet { has_fields: true } | WriterStep::Add => {
+            let fields = read_fields(alloc, line, depth)?;
+            let len = fields.enc_len();
+            Ok(Addition { fields, len })
+        }
+        WriterStep::Nest { field } => {
+            let before = (line.len() - fields_part(line).len()) as u32;
+            nested(alloc, before, depth, field)
+        }
+        _ => Ok(Addition {
+            fields: FieldTree::empty(alloc),
+            len: 0,
+        }),
+    }
+}

@@ -1,0 +1,71 @@
+//! The forms of a line, by its words alone.
+
+use crate::numeral::Numeral;
+use trace_base::policy::{FullPolicy, WriterPolicy};
+
+/// A line up to its FIELDS, before anything is known of what its numbers name.
+#[derive(Clone, Copy, Debug, PartialEq, Eq)]
+pub enum Form {
+    /// `buffer KB ring`, `buffer KB discard`
+    Buffer {
+        kb: Numeral,
+        policy: FullPolicy,
+    },
+    /// `producer PAGES PAGE_SIZE CHUNKS`
+    Producer {
+        pages: Numeral,
+        page_size: Numeral,
+        chunks: Numeral,
+    },
+    /// `writer PRODUCER BUFFER drop`, `writer PRODUCER BUFFER stall`
+    Writer {
+        producer: Numeral,
+        buffer: Numeral,
+        policy: WriterPolicy,
+    },
+    OfWriter {
+        writer: Numeral,
+        step: WriterStep,
+    },
+    OfProducer {
+        producer: Numeral,
+        step: ProducerStep,
+    },
+    /// `r B`, `r B N`
+    Read {
+        buffer: Numeral,
+        limit: Option<Numeral>,
+    },
+    /// `q`
+    Request,
+}
+
+/// What a line has its writer do.
+#[derive(Clone, Copy, Debug, PartialEq, Eq)]
+pub enum WriterStep {
+    /// `p W`, `p W FIELDS`
+    Packet { has_fields: bool },
+    /// `b W`
+    Begin,
+    /// `a W FIELDS`
+    Add,
+    /// `n W FIELD`
+    Nest { field: Numeral },
+    /// `u W`
+    Unnest,
+    /// `e W`
+    End,
+    /// `f W`
+    Flush,
+}
+
+/// What a line has the service do with a producer.
+#[derive(Clone, Copy, Debug, PartialEq, Eq)]
+pub enum ProducerStep {
+    /// `c P`
+    Collect,
+    /// `s P`
+    Scrape,
+    /// `x P`
+    Close,
+}

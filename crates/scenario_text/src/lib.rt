@@ -1,0 +1,28 @@
+//! The grammar of a scenario: `read_scenario` reads a text into set-up lines and played lines, or
+//! answers its first faulty line with the first reason that holds there.
+//! A layer above may rely on a text being accepted exactly where the grammar gives a scenario, on
+//! the lines being what the grammar gives, and on a refusal being the first one, printed exactly.
+#![tactic(auto)]
+
+mod effects;
+mod fields;
+mod form;
+mod items;
+mod line_fault;
+mod lines;
+mod number;
+mod numeral;
+mod open_packet;
+mod pieces;
+mod playing;
+mod printing;
+mod reader;
+mod reading;
+mod reason;
+mod refusals;
+mod scenario;
+
+pub use lines::read_scenario;
+pub use printing::refusal_line;
+pub use reason::{Reason, ScenarioFault};
+pub use scenario::{BufferLine, LineKind, NumberedLine, ProducerLine, Scenario};

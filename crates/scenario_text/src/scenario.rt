@@ -1,0 +1,54 @@
+//! What a scenario says: its set-up lines, and the lines that are played.
+
+use field_tree::FieldTree;
+use trace_base::policy::{FullPolicy, WriterSpec};
+
+/// `buffer KB ring`, `buffer KB discard`: a buffer of KB times 1,024 bytes.
+#[derive(Clone, Copy, Debug, PartialEq, Eq)]
+pub struct BufferLine {
+    pub kb: u32,
+    pub policy: FullPolicy,
+}
+
+/// `producer PAGES PAGE_SIZE CHUNKS`, with the size in bytes and the chunks of one page.
+#[derive(Clone, Copy, Debug, PartialEq, Eq)]
+pub struct ProducerLine {
+    pub pages: u8,
+    pub page_size: u32,
+    pub chunks: u8,
+}
+
+/// What a line has done. Writers, producers and buffers count from 1.
+#[derive(Drop)]
+pub enum LineKind {
+    /// A whole packet. One without FIELDS has an empty tree.
+    Packet { writer: u16, fields: FieldTree },
+    Begin { writer: u16 },
+    Add { writer: u16, fields: FieldTree },
+    Nest { writer: u16, field: u32 },
+    Unnest { writer: u16 },
+    End { writer: u16 },
+    Flush { writer: u16 },
+    Collect { producer: u16 },
+    Scrape { producer: u16 },
+    Close { producer: u16 },
+    /// Without a number the limit is 2^64 - 1.
+    Read { buffer: u8, limit: u64 },
+    Request,
+}
+
+/// A played line and its place in the text, counted from 1.
+#[derive(Drop)]
+pub struct NumberedLine {
+    pub line: u32,
+    pub what: LineKind,
+}
+
+/// A scenario. Its parts are in the order of their lines.
+#[derive(Drop)]
+pub struct Scenario {
+    pub buffers: Vec<BufferLine>,
+    pub producers: Vec<ProducerLine>,
+    pub writers: Vec<WriterSpec>,
+    pub lines: Vec<NumberedLine>,
+}
