@@ -21,6 +21,8 @@ mod reading;
 mod reason;
 mod refusals;
 mod scenario;
+#[cfg(test)]
+mod tests;
 
 pub use lines::read_scenario;
 pub use printing::refusal_line;
