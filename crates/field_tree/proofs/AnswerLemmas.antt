@@ -13,13 +13,14 @@ use Rattle.field_tree.specs.declared.fault.FieldFault.TheVariants.{BadField, Res
 use Rattle.field_tree.specs.declared.fault.FieldError.{FieldError}
 use Rattle.field_tree.specs.declared.fault.FieldError.TheVariants.{OutOfMemory, Fault}
 use Rattle.field_tree.specs.declared.tree.FieldTree.{FieldTree}
-use Rattle.field_tree.specs.Nodes.{Shown, nodes_of}
+use Rattle.field_tree.specs.Nodes.{Shown, nodes_of, IsFit}
 use Rattle.field_tree.specs.Grammar.{IsTextOf, IsFaultAt, Spells}
 use Rattle.field_tree.specs.Ranges.{shown, IsRange, IsWhole}
 use Rattle.field_tree.specs.Refusals.{first_reserved, reserved_fault, when, or_else, refusal_by, refusal_of}
 use Rattle.field_tree.specs.Judged.{node_len_at, node_len, nodes_len, placed_len, kind_of, deepest, reserved_from, nodes_refusal, placed_refusal}
 use Rattle.field_tree.specs.Machine.{nodes_or_column}
 use Rattle.field_tree.specs.Answers.{IsRefused, Means, unless, judged, outcome, Parses, Gives}
+use Rattle.field_tree.proofs.FitLemmas.{spelled_fit, fit_shown}
 use Rattle.field_tree.proofs.Faults.{one_fault, fault_no_text}
 use Rattle.field_tree.proofs.Outcomes.{Says, outcome_says, read_as}
 use Rattle.field_tree.proofs.NodeLaws.{refusal_tree, one_tree_of_nodes}
@@ -47,9 +48,21 @@ refusal_shown depth bytes ns all =
     ap (λ (ks : List FieldNode). refusal_by depth (reserved_from 0 ks) (deepest 0 0 ks) (nodes_len (map (shown bytes) ns))) (kinds_shown bytes ns)
     ∙ ap (λ (n : ℕ). refusal_by depth (reserved_from 0 (map kind_of ns)) (deepest 0 0 (map kind_of ns)) n) (len_shown bytes ns all)
 
-pub whole_parts : (bytes : List ℕ) (ns : List Node) (encoded : ℕ) → AllByRecursion (IsRange bytes) ns → encoded ≡ sum_by placed_len ns → encoded ≤ MAX_PACKET_LEN
-    → IsWhole bytes ns encoded
-whole_parts bytes ns encoded all is most = record { ranges = all; encoded_is = is ∙ sym (len_shown bytes ns all); most = most }
+read_fit : (nodes : List Shown) (text : List ℕ) (r : Result (List Shown) ℕ) → Says text r → r ≡ Ok nodes → AllByRecursion (λ n. IsFit n.0) nodes
+read_fit nodes text (Ok read) says is =
+    let same : read ≡ nodes = cc in
+    let P : List Shown → Type 0 = λ ns. AllByRecursion (λ n. IsFit n.0) ns in
+    subst P (sym says.nodes_are ∙ same) (spelled_fit says.fields false text says.text_of.spelled)
+read_fit nodes text (Err column) says is = absurd (cc)
+
+pub whole_parts : (text bytes : List ℕ) (ns : List Node) (encoded : ℕ) → nodes_or_column text ≡ Ok (map (shown bytes) ns)
+    → AllByRecursion (IsRange bytes) ns → encoded ≡ sum_by placed_len ns → encoded ≤ MAX_PACKET_LEN → IsWhole bytes ns encoded
+whole_parts text bytes ns encoded read all is most = record {
+  ranges = all;
+  fit = fit_shown bytes ns (read_fit (map (shown bytes) ns) text (nodes_or_column text) (outcome_says text) read);
+  encoded_is = is ∙ sym (len_shown bytes ns all);
+  most = most;
+}
 
 -- ---- what is given
 

@@ -3,6 +3,7 @@ pub mod AnswerLemmas
 pub mod Completes
 pub mod Cuts
 pub mod Faults
+pub mod FitLemmas
 pub mod JudgedLemmas
 pub mod LoopLemmas
 pub mod Messages

@@ -2,8 +2,8 @@
 use Rattle.std.proofs.Common.{◌≡◌, ◌≢◌, ℕ, zero, suc, ◌^◌, ◌<◌, Bool, true, false, List, [], ◌∷◌, ◌++◌, refl, sym, ap, ◌∙◌, append_assoc}
 use Rattle.trace_model.specs.Encoding.{Fields, NoFields, NumberField, BytesField, NestedField}
 use Rattle.field_tree.specs.declared.node.FieldNode.TheVariants.{Number, Bytes, Begin, End}
-use Rattle.field_tree.specs.Nodes.{Shown, nodes_of}
-use Rattle.field_tree.specs.Grammar.{IsField, number, BytesSpelling, IsSpelling}
+use Rattle.field_tree.specs.Nodes.{Shown, nodes_of, IsField}
+use Rattle.field_tree.specs.Grammar.{number, BytesSpelling, IsSpelling}
 
 -- the text ends so many open messages, each behind some more of its fields, and these are the nodes
 abbrev pub Closes : ℕ → List Shown → List ℕ → Type 0

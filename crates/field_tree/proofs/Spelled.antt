@@ -8,8 +8,8 @@ use Rattle.field_tree.specs.declared.node.FieldNode.TheVariants.{Number, Bytes, 
 use Rattle.field_tree.specs.declared.mode.Mode.TheVariants.{Start, Field, Value, Zero, Digits, Text, Quoted, Star, Times, Tick, Pairs, Packed, After}
 use Rattle.field_tree.specs.declared.mode.Action.{Action}
 use Rattle.field_tree.specs.declared.mode.Action.TheVariants.{Refuse, Close}
-use Rattle.field_tree.specs.Nodes.{Shown, nodes_of}
-use Rattle.field_tree.specs.Grammar.{IsField, IsTextByte, IsByte, number, pairs, BytesSpelling, Quoted as AsQuoted, Repeated, InPairs, IsSpelling, Spells}
+use Rattle.field_tree.specs.Nodes.{Shown, nodes_of, IsField}
+use Rattle.field_tree.specs.Grammar.{IsTextByte, IsByte, number, pairs, BytesSpelling, Quoted as AsQuoted, Repeated, InPairs, IsSpelling, Spells}
 use Rattle.field_tree.specs.Machine.{Reading, act, settled, moved, applied, next, run, ended, finish, beginning}
 use Rattle.field_tree.proofs.TestLemmas.{number_digit}
 use Rattle.field_tree.proofs.Runs.{place, run_joins, run_next, run_last, field_runs, value_runs, times_runs, text_step, pair_runs}

@@ -8,8 +8,8 @@ use Rattle.field_tree.specs.declared.mode.Mode.{Mode}
 use Rattle.field_tree.specs.declared.mode.Mode.TheVariants.{Start, Field, Value, Zero, Digits, Text, Quoted, Star, Times, Tick, Pairs, Half, Packed, After}
 use Rattle.field_tree.specs.declared.mode.Action.{Action}
 use Rattle.field_tree.specs.declared.mode.Action.TheVariants.{Refuse, Go, Keep, Open, Close}
-use Rattle.field_tree.specs.Nodes.{Shown}
-use Rattle.field_tree.specs.Grammar.{IsField, IsTextByte, IsByte, number, hex_digit, pairs}
+use Rattle.field_tree.specs.Nodes.{Shown, IsField}
+use Rattle.field_tree.specs.Grammar.{IsTextByte, IsByte, number, hex_digit, pairs}
 use Rattle.field_tree.specs.Machine.{is_first_digit, is_text_byte, grown, hex_value, go_on, act}
 use Rattle.field_tree.proofs.TestLemmas.{first_digit_range, text_byte, by_grown, by_hex, number_digit, number_more, pairs-push}
 use Rattle.field_tree.proofs.Messages.{InMessage, AField, closes_here, spaced, nested_before}

@@ -4,13 +4,9 @@
 use Rattle.std.specs.Prelude.{◌≡◌, ◌≢◌, ℕ, ◌+◌, ◌-◌, ◌/◌, ◌%◌, ◌^◌, ◌<◌, ◌≤◌, List, [], ◌∷◌, ◌++◌, length, Bool, true, false, nat_lt, nat_le, ◌&&◌, take, drop, if◌then◌else◌}
 use Rattle.std.specs.List.{AllByRecursion}
 use Rattle.std.specs.Fmt.{decimal}
-use Rattle.trace_base.specs.declared.limits.TheConstants.{MAX_FIELD, MAX_PACKET_LEN}
-use Rattle.field_tree.specs.Nodes.{Shown, nodes_of}
+use Rattle.trace_base.specs.declared.limits.TheConstants.{MAX_PACKET_LEN}
+use Rattle.field_tree.specs.Nodes.{Shown, nodes_of, IsField}
 use Rattle.trace_model.specs.Encoding.{Fields, NoFields, NumberField, BytesField, NestedField}
-
--- a field number of protobuf
-abbrev pub IsField : ℕ → Type 0
-IsField n = (1 ≤ n) × (n ≤ MAX_FIELD)
 
 -- a byte of a quoted text: 0x20 to 0x7E without '"' and '\'
 abbrev pub IsTextByte : ℕ → Type 0

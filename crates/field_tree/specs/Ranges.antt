@@ -3,7 +3,7 @@ use Rattle.std.specs.Prelude.{◌≡◌, map, ℕ, ◌+◌, ◌≤◌, List, tak
 use Rattle.std.specs.List.{AllByRecursion}
 use Rattle.field_tree.specs.declared.node.Node.{Node}
 use Rattle.trace_base.specs.declared.limits.TheConstants.{MAX_PACKET_LEN}
-use Rattle.field_tree.specs.Nodes.{Shown}
+use Rattle.field_tree.specs.Nodes.{Shown, IsFit}
 use Rattle.field_tree.specs.Judged.{nodes_len}
 
 -- a node, and the bytes of its range
@@ -18,8 +18,9 @@ pub record IsKept (bytes : List ℕ) (ns : List Node) (start : ℕ) : Type 0 whe
   pub ranges : AllByRecursion (IsRange bytes) ns
   pub place : start ≤ length bytes
 
--- all ranges lie within the bytes, and the nodes' encoding has this length
+-- all ranges lie within the bytes, all numbers within theirs, and the nodes' encoding has this length
 pub record IsWhole (bytes : List ℕ) (ns : List Node) (encoded : ℕ) : Type 0 where
   pub ranges : AllByRecursion (IsRange bytes) ns
+  pub fit : AllByRecursion (λ n. IsFit n.node) ns
   pub encoded_is : encoded ≡ nodes_len (map (shown bytes) ns)
   pub most : encoded ≤ MAX_PACKET_LEN

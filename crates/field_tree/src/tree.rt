@@ -2,6 +2,7 @@
 ghost use Rattle.std.specs.Prelude.{◌≡◌, ℕ, ◌≤◌, ◌<◌, List, [], length, map, Some, slice_get};
 ghost use Rattle.std.specs.Option.{option_map};
 ghost use Rattle.field_tree.specs.Judged.{nodes_len};
+ghost use Rattle.field_tree.specs.Nodes.{IsFit};
 ghost use Rattle.field_tree.specs.Ranges.{shown, IsWhole};
 
 use crate::node::{FieldNode, Node};
@@ -66,9 +67,11 @@ impl FieldTree {
         self.encoded
     }
 
+    #[tactic(auto, using(crate::proofs::FitLemmas::fit_at))]
     pub fn node(&self, i: usize) -> FieldNode
         requires { i < length self.now }
-        ensures { option_map (λ n. n.0) (slice_get self.now i) ≡ Some result }
+        ensures node { option_map (λ n. n.0) (slice_get self.now i) ≡ Some result }
+        ensures fit { IsFit result }
     {
         self.nodes[i].node
     }
