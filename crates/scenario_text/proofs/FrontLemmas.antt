@@ -16,7 +16,7 @@ use Rattle.scenario_text.specs.Items.{item}
 use Rattle.scenario_text.specs.Ranges.{value, is_within, is_page_size, is_chunk_count}
 use Rattle.scenario_text.specs.State.{State}
 use Rattle.scenario_text.specs.Sound.{is_cut}
-use Rattle.scenario_text.specs.Reasons.{first, when, front_reasons, is_out_of_range, is_producer_in_range, is_late, is_too_many, lacks_producer, lacks_buffer, lacks_writer}
+use Rattle.scenario_text.specs.Reasons.{first, when, front_reasons, is_out_of_range, is_producer_in_range, is_late, is_too_many, lacks_producer, lacks_buffer, lacks_writer, has_larger_chunks}
 use Rattle.scenario_text.proofs.SoundLemmas.{both}
 
 none_when : (test : Bool) (reason : Reason) (more : List (Option Reason)) → first (when test reason ∷ more) ≡ None
@@ -31,6 +31,7 @@ pub record IsPassed (state : State) (form : Form) : Type 0 where
   pub producer : lacks_producer state form ≡ false
   pub buffer : lacks_buffer state form ≡ false
   pub writer : lacks_writer state form ≡ false
+  pub larger : has_larger_chunks state form ≡ false
 
 pub passed : (state : State) (form : Form) → first (front_reasons state form) ≡ None → IsPassed state form
 unfolding front_reasons
@@ -41,13 +42,19 @@ passed state form none =
     let four = none_when (lacks_producer state form) _ _ three.1 in
     let five = none_when (lacks_buffer state form) _ _ four.1 in
     let six = none_when (lacks_writer state form) _ _ five.1 in
-    record { in_range = one.0; room = three.0; producer = four.0; buffer = five.0; writer = six.0 }
+    let seven = none_when (has_larger_chunks state form) _ _ six.1 in
+    record { in_range = one.0; room = three.0; producer = four.0; buffer = five.0; writer = six.0; larger = seven.0 }
 
-not_false : (b : Bool) → not b ≡ false → b ≡ true
+pub not_false : (b : Bool) → not b ≡ false → b ≡ true
 not_false true h = refl
 not_false false h = cc
 
-within_most : (low high : ℕ) (number : Numeral) → is_within low high number ≡ true → value number ≤ high
+pub within_least : (low high : ℕ) (number : Numeral) → is_within low high number ≡ true → low ≤ value number
+unfolding is_within value
+within_least low high (Fits n) h = let parts = both (nat_le low n) (nat_le n high) h in grind (arith, common_steps, parts.0)
+within_least low high TooLarge h = cc
+
+pub within_most : (low high : ℕ) (number : Numeral) → is_within low high number ≡ true → value number ≤ high
 unfolding is_within value
 within_most low high (Fits n) h = let parts = both (nat_le low n) (nat_le n high) h in grind (arith, common_steps, parts.1)
 within_most low high TooLarge h = cc
@@ -66,12 +73,14 @@ pub room_for_buffer : (state : State) (kb : Numeral) (policy : FullPolicy) → f
 unfolding is_too_many
 room_for_buffer state kb policy none = grind (arith, common_steps, (passed state (Buffer kb policy) none).room)
 
-record IsProducer (pages page_size chunks : Numeral) : Type 0 where
-  pages_small : value pages < 2 ^ 8
-  size_small : value page_size < 2 ^ 32
-  chunks_small : value chunks < 2 ^ 8
-  size_is : is_page_size (value page_size) ≡ true
-  count_is : is_chunk_count (value chunks) ≡ true
+pub record IsKnown (pages page_size chunks : Numeral) : Type 0 where
+  pub pages_some : 1 ≤ value pages
+  pub pages_few : value pages ≤ MAX_PAGES
+  pub pages_small : value pages < 2 ^ 8
+  pub size_small : value page_size < 2 ^ 32
+  pub chunks_small : value chunks < 2 ^ 8
+  pub size_is : is_page_size (value page_size) ≡ true
+  pub count_is : is_chunk_count (value chunks) ≡ true
 
 size_bound : (n : ℕ) → is_page_size n ≡ true → n < 2 ^ 32
 unfolding is_page_size
@@ -83,13 +92,15 @@ count_bound : (n : ℕ) → is_chunk_count n ≡ true → n < 2 ^ 8
 unfolding is_chunk_count
 count_bound n h = grind (arith, common_steps, h)
 
-producer_known : (pages page_size chunks : Numeral) → is_producer_in_range pages page_size chunks ≡ true → IsProducer pages page_size chunks
+producer_known : (pages page_size chunks : Numeral) → is_producer_in_range pages page_size chunks ≡ true → IsKnown pages page_size chunks
 unfolding is_producer_in_range value
 producer_known pages (Fits page_size) (Fits chunks) h =
     let parts = both (is_within 1 MAX_PAGES pages && is_page_size page_size) (is_chunk_count chunks) h in
     let sizes = both (is_within 1 MAX_PAGES pages) (is_page_size page_size) parts.0 in
     let most = within_most 1 MAX_PAGES pages sizes.0 in
     record {
+      pages_some = within_least 1 MAX_PAGES pages sizes.0;
+      pages_few = most;
       pages_small = omega arith;
       size_small = size_bound page_size sizes.1;
       chunks_small = count_bound chunks parts.1;
@@ -99,8 +110,8 @@ producer_known pages (Fits page_size) (Fits chunks) h =
 producer_known pages TooLarge chunks h = cc
 producer_known pages (Fits page_size) TooLarge h = cc
 
-of_producer_line : (state : State) (pages page_size chunks : Numeral) → first (front_reasons state (Producer pages page_size chunks)) ≡ None
-    → IsProducer pages page_size chunks
+pub of_producer_line : (state : State) (pages page_size chunks : Numeral) → first (front_reasons state (Producer pages page_size chunks)) ≡ None
+    → IsKnown pages page_size chunks
 unfolding is_out_of_range
 of_producer_line state pages page_size chunks none =
     producer_known pages page_size chunks (not_false _ (passed state (Producer pages page_size chunks) none).in_range)

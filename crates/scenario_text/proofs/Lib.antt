@@ -9,3 +9,4 @@ pub mod WriteLemmas
 pub mod PlayLemmas
 pub mod LineLemmas
 pub mod ReadLemmas
+pub mod LimitLemmas

@@ -9,6 +9,7 @@ pub mod Sound
 pub mod Effects
 pub mod Grammar
 pub mod Scenario
+pub mod Limits
 pub mod Answers
 pub mod Additions
 pub mod Texts

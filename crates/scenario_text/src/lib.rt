@@ -8,6 +8,7 @@ mod effects;
 mod fields;
 mod form;
 mod items;
+mod laws;
 mod line_fault;
 mod lines;
 mod number;
@@ -24,6 +25,7 @@ mod scenario;
 #[cfg(test)]
 mod tests;
 
+pub use laws::scenarios_are_set_up;
 pub use lines::read_scenario;
 pub use printing::refusal_line;
 pub use reason::{Reason, ScenarioFault};

@@ -1,0 +1,7 @@
+//! What holds of every scenario, as functions that do nothing and ensure it.
+ghost use Rattle.scenario_text.specs.Limits.{ScenariosAreSetUp};
+
+#[tactic(auto, using(crate::proofs::LimitLemmas::scenario_is_set_up))]
+pub fn scenarios_are_set_up()
+    ensures { ScenariosAreSetUp }
+{}
