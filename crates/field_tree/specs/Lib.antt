@@ -6,4 +6,5 @@ pub mod Machine
 pub mod Nodes
 pub mod Ranges
 pub mod Refusals
+pub mod Trees
 pub mod Views

@@ -10,3 +10,4 @@ pub mod PlayLemmas
 pub mod LineLemmas
 pub mod ReadLemmas
 pub mod LimitLemmas
+pub mod TreeLemmas

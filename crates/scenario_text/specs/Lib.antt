@@ -13,4 +13,5 @@ pub mod Limits
 pub mod Answers
 pub mod Additions
 pub mod Texts
+pub mod Trees
 pub mod View

@@ -1,7 +1,13 @@
 //! What holds of every scenario, as functions that do nothing and ensure it.
 ghost use Rattle.scenario_text.specs.Limits.{ScenariosAreSetUp};
+ghost use Rattle.scenario_text.specs.Trees.{ScenariosGiveTrees};
 
 #[tactic(auto, using(crate::proofs::LimitLemmas::scenario_is_set_up))]
 pub fn scenarios_are_set_up()
     ensures { ScenariosAreSetUp }
+{}
+
+#[tactic(auto, using(crate::proofs::TreeLemmas::scenario_gives_trees))]
+pub fn scenarios_give_trees()
+    ensures { ScenariosGiveTrees }
 {}

@@ -25,7 +25,7 @@ mod scenario;
 #[cfg(test)]
 mod tests;
 
-pub use laws::scenarios_are_set_up;
+pub use laws::{scenarios_are_set_up, scenarios_give_trees};
 pub use lines::read_scenario;
 pub use printing::refusal_line;
 pub use reason::{Reason, ScenarioFault};
