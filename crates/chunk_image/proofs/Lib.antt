@@ -1,4 +1,3 @@
-pub mod FragmentLemmas
 pub mod NextLemmas
 pub mod ReadableLemmas
 pub mod ReadingLemmas

@@ -45,6 +45,7 @@ impl<'a> Image<'a> {
         ensures every { (fragments : List model.Fragment) → ReadsAs self.now.payload.now fragments
             → length fragments ≡ self.now.count → IsOkAnd result (λ found. found ≡ fragments) }
 
+        // Err carries the first fragment that can't be read.
         ensures first { IfErr result (λ fault. IsFirstUnread self.now.count self.now.payload.now (unread_number fault)) }
     {
         let fragments = FragmentIter::new(self.payload, self.count);

@@ -12,7 +12,7 @@ pub const MAX_SIZE_WIDTH: usize = 4;
 
 /// The size of a fragment whose rest its writer couldn't write. It has all that follows in the
 /// payload.
-pub const DROP_SIZE: usize = 0x0FFF_FFFF;
+pub const DROP_SIZE: u32 = 0x0FFF_FFFF;
 
 /// A part of a packet.
 #[derive(Clone, Copy, Debug, PartialEq, Eq)]
@@ -44,7 +44,7 @@ fn read_size(bytes: &[u8]) -> Option<(usize, usize)>
 
 /// The fragment in front of `bytes`, which stand from the place `at` on in a payload. The drop mark
 /// is read only where it is the `last` one.
-pub fn read_fragment(bytes: &[u8], at: u32, last: bool) -> Option<Fragment<'_>>
+pub(crate) fn read_fragment(bytes: &[u8], at: u32, last: bool) -> Option<Fragment<'_>>
     requires { at + length bytes.now ≤ MAX_INPUT }
     ensures value { option_map fragment_value result ≡ fragment_of last at bytes.now (size_of MAX_SIZE_WIDTH bytes.now) }
     ensures within { IfSome result (λ fragment. (at < fragment.offset)
@@ -53,7 +53,7 @@ pub fn read_fragment(bytes: &[u8], at: u32, last: bool) -> Option<Fragment<'_>>
     let (size, width) = read_size(bytes)?;
     let content = &bytes[width..];
     let offset = at + width as u32;
-    if size == DROP_SIZE {
+    if size == DROP_SIZE as usize {
         return if last {
             Some(Fragment {
                 bytes: content,

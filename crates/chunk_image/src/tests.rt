@@ -1,5 +1,6 @@
 //! Payloads by hand, most of them as no writer leaves them.
-ghost use Rattle.std.specs.Prelude.{◌≡◌, ℕ, ◌≤◌, List, length, OnOk, Ok, map, IsOkAnd};
+ghost use Rattle.std.specs.Prelude.{◌≡◌, ◌≤◌, List, length};
+ghost use Rattle.std.specs.List.{list_any};
 ghost use Rattle.trace_model.specs.Images as model;
 ghost use Rattle.trace_model.specs.Fragments.{ReadsAs};
 
@@ -175,6 +176,25 @@ fn image(count: u16, payload: &[u8]) -> Image<'_>
     }
 }
 
+/// A caller's loop, which learns which fragments come.
+fn has_mark(image: &Image<'_>) -> bool
+    requires { length image.now.payload.now ≤ MAX_INPUT }
+    ensures { (fragments : List model.Fragment) → ReadsAs image.now.payload.now fragments
+        → length fragments ≡ image.now.count → result ≡ list_any (λ fragment. fragment.dropped) fragments }
+{
+    match image.fragments() {
+        Ok(fragments) => {
+            for fragment in fragments {
+                if fragment.dropped {
+                    return true;
+                }
+            }
+            false
+        }
+        Err(_) => false,
+    }
+}
+
 #[test]
 fn payloads_read_as_their_fragments(rt: HostRuntime) -> Result<(), Fail> {
     for row in &ROWS {
@@ -191,6 +211,7 @@ fn payloads_read_as_their_fragments(rt: HostRuntime) -> Result<(), Fail> {
             Err(fault) => assert_eq!(rt; row.wanted.err(), Some(fault), "{}", row.name),
         }
     }
+    assert!(rt; has_mark(&image(1, b"\xFF\xFF\xFF\x7F")));
     let most = image(1023, &[0; 1023]).fragments()?;
     assert_eq!(rt; most.count(), 1023);
     Ok(())

@@ -1,6 +1,5 @@
-use Rattle.std.proofs.Common.{◌≡◌, ℕ, max, ◌<◌, ◌≤◌, length, ap, sym, ◌∙◌, arith}
+use Rattle.std.proofs.Common.{ap, sym, ◌∙◌, arith}
 use Rattle.trace_model.specs.Reading.{Fragments, Unreadable}
-use Rattle.chunk_image.specs.Readable.{readable_from}
 use Rattle.chunk_image.proofs.ReadingLemmas.{reading_part, reading_all, every_read, none_read}
 use Rattle.chunk_image.proofs.image.Image.fragments.Goals as goal
 
@@ -20,4 +19,5 @@ returns-clause-reading c =
 
 pub returns-clause-every : goal.returns-clause-every
 returns-clause-every c fragments reads long =
-    c.new-fragments.ensures.fragments ∙ every_read c.args.self.now.count c.args.self.now.payload.now fragments reads long
+    c.new-fragments.ensures.fragments
+    ∙ every_read c.args.self.now.count c.args.self.now.payload.now fragments (omega arith) reads long
