@@ -1,0 +1,4 @@
+pub mod ByteLemmas
+pub mod LevelLemmas
+pub mod NodeLemmas
+pub mod TreeLemmas
