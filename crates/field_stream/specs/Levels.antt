@@ -1,4 +1,5 @@
--- The bytes of the messages that are open after some nodes, as the account of a writer's calls has them.
+-- The bytes of the messages that are open after some nodes, as the account of a writer's calls has them: each message has
+-- a level, and the length of a nested one is put in front of its bytes once it has ended.
 use Rattle.std.specs.Prelude.{ℕ, List, [], ◌∷◌}
 use Rattle.trace_model.specs.Encoding.{number_field, bytes_field, nested_tag}
 use Rattle.trace_model.specs.Packets.{written, closed_levels}

@@ -9,21 +9,21 @@ use Rattle.field_tree.specs.Nodes.{IsField, Shown}
 use Rattle.field_tree.specs.Judged.{nodes_len}
 use Rattle.field_stream.specs.Levels.{levels_after}
 
--- the node has a field number of protobuf, and where it begins a message fewer than MAX_NESTING are open
+-- The node may come where so many messages are open: it has a field number of protobuf, and no message is nested too deep.
 abbrev pub MayCome : ℕ → FieldNode → Type 0
 MayCome depth (Number field value) = IsField field
 MayCome depth (Bytes field times) = IsField field
 MayCome depth (Begin field) = IsField field × (depth < MAX_NESTING)
 MayCome depth End = ⊤
 
--- how many messages are open behind it
+-- how many messages are open behind the node
 abbrev pub depth_behind : ℕ → FieldNode → ℕ
 depth_behind depth (Number field value) = depth
 depth_behind depth (Bytes field times) = depth
 depth_behind depth (Begin field) = suc depth
 depth_behind depth End = depth - 1
 
--- so do all these nodes, where so many messages are open before them
+-- each of these nodes may come where it stands, where so many messages are open before the first one
 abbrev pub MayFollow : ℕ → List Shown → Type 0
 MayFollow depth [] = ⊤
 MayFollow depth (node ∷ nodes) = MayCome depth node.0 × MayFollow (depth_behind depth node.0) nodes
