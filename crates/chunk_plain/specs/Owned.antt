@@ -1,0 +1,69 @@
+-- Ownership in a world: who has each chunk, between any two steps. It is said as facts on one writer and one chunk, on one writer, and on one
+-- chunk. Since each status names one writer and one id, that exactly one seat has a chunk is then true by the form.
+use Rattle.std.specs.Prelude.{◌≡◌, ℕ, ◌+◌, ◌<◌, ◌≤◌, ◌==◌, Bool, true, false, Option, Some, None, List, [], ◌∷◌, length, if◌then◌else◌}
+use Rattle.chunk_plain.specs.Views.{At, Ask, Head, Content, Held, Completed, Stamp, WriterView, Taken, taken_of}
+use Rattle.chunk_plain.specs.World.{World, Status, Unclaimed, Claimed, Stamped, Writing, Ready, Reading, status, writer}
+
+-- how often the number stands in the list
+abbrev pub times : ℕ → List ℕ → ℕ
+times x [] = 0
+times x (y ∷ ys) = if y == x then times x ys + 1 else times x ys
+
+-- how often a writer's view has a chunk of this status as claimed
+abbrev pub claims_of : ℕ → Status → ℕ
+claims_of place (Claimed other) = if other == place then 1 else 0
+claims_of place _ = 0
+
+-- how often the service's view has a chunk of this status as being read
+abbrev pub reads_of : Status → ℕ
+reads_of (Reading place id content) = 1
+reads_of _ = 0
+
+-- One writer and one chunk: the writer's view has the chunk in just the way that its status says. So many chunks of this writer are taken.
+pub record Owns (count place : ℕ) (view : WriterView) (chunk : ℕ) (is : Status) : Type 0 where
+  -- claimed, once
+  pub claimed : times chunk view.claimed ≡ claims_of place is
+  pub stamp_is : (id : ℕ) → view.stamped ≡ Some (record { chunk = chunk; id = id }) → is ≡ Stamped place id
+  pub stamped_is : (id : ℕ) → is ≡ Stamped place id → view.stamped ≡ Some (record { chunk = chunk; id = id })
+  -- held, under one id and with one header
+  pub held_is : (id : ℕ) (head : Head) → At view.begun id (Held chunk head) → is ≡ Writing place id head
+  pub writing_is : (id : ℕ) (head : Head) → is ≡ Writing place id head → At view.begun id (Held chunk head)
+  -- completed and not taken: the chunk has this content
+  pub completed_is : (id : ℕ) (content : Content) → At view.begun id (Completed chunk content) → count ≤ id → is ≡ Ready place id content
+  pub ready_is : (id : ℕ) (content : Content) → is ≡ Ready place id content → At view.begun id (Completed chunk content) × (count ≤ id)
+  -- taken, and still read
+  pub reading_is : (id : ℕ) (content : Content) → is ≡ Reading place id content → At view.begun id (Completed chunk content) × (id < count)
+
+abbrev pub stamps_in : Option Stamp → ℕ
+stamps_in None = 0
+stamps_in (Some _) = 1
+
+-- how many of the claims won
+abbrev pub wins_in : List Ask → ℕ
+wins_in [] = 0
+wins_in (ask ∷ asks) = if ask.won then wins_in asks + 1 else wins_in asks
+
+-- One writer: its ids are those that it began, and the service took the first ones of them.
+pub record Counts (taken : Taken) (place : ℕ) (view : WriterView) : Type 0 where
+  -- each claim that it won is a chunk that it has claimed or an id that it began
+  pub wins : wins_in view.asked ≡ length view.claimed + stamps_in view.stamped + length view.begun
+  pub next : (stamp : Stamp) → view.stamped ≡ Some stamp → stamp.id ≡ length view.begun
+  -- a completed chunk's image has its id and the writer's sequence
+  pub named : (id chunk : ℕ) (content : Content) → At view.begun id (Completed chunk content) → (content.image.chunk_id ≡ id) × (content.image.sequence ≡ place + 2)
+  pub completed : (id : ℕ) → id < taken.count → (chunk : ℕ) × (content : Content) × At view.begun id (Completed chunk content)
+  -- the contents that the service has are those that the writer completed
+  pub learnt : (id : ℕ) (content : Content) → At taken.contents id content → (chunk : ℕ) × At view.begun id (Completed chunk content)
+  pub level : length taken.contents ≤ taken.count
+
+-- some writer's claim won the chunk
+abbrev pub Won : World → ℕ → Type 0
+Won world chunk = (place i : ℕ) × (ask : Ask) × At (writer world place).asked i ask × (ask.won ≡ true) × (ask.chunk ≡ chunk)
+
+pub record IsOwned (world : World) : Type 0 where
+  pub owns : (place chunk : ℕ) → Owns (taken_of world.service place).count place (writer world place) chunk (status world chunk)
+  pub counts : (place : ℕ) → Counts (taken_of world.service place) place (writer world place)
+  pub reads : (chunk : ℕ) → times chunk world.service.reading ≡ reads_of (status world chunk)
+  -- a chunk that somebody has was won, and so was one that somebody claimed in vain
+  pub claimed_won : (chunk : ℕ) → (status world chunk ≡ Unclaimed → ⊥) → Won world chunk
+  pub asked_won : (place i : ℕ) (ask : Ask) → At (writer world place).asked i ask → Won world ask.chunk
+  pub all_taken : length world.service.taken ≡ length world.writers

@@ -1,0 +1,49 @@
+-- The set-up of a table. Chunks are numbered over all producers, by producer, page and place, and pages by producer and page.
+use Rattle.std.specs.Prelude.{◌≡◌, ℕ, zero, suc, ◌+◌, ◌*◌, ◌-◌, ◌<◌, ◌≤◌, List, [], ◌∷◌, ◌++◌, length, slice_index_or}
+use Rattle.trace_base.specs.declared.limits.TheConstants.{MAX_CHUNKS_PER_PAGE}
+use Rattle.trace_base.specs.declared.policy.WriterPolicy.TheVariants.{Drops}
+use Rattle.trace_base.specs.declared.policy.WriterSpec.{WriterSpec}
+use Rattle.page_geometry.specs.Sizes.{layout_number, payload_size}
+use Rattle.page_geometry.specs.declared.geometry.Geometry.{Geometry}
+use Rattle.chunk_plain.specs.declared.setup.ProducerSpec.{ProducerSpec}
+use Rattle.chunk_plain.specs.declared.setup.Spot.{Spot}
+use Rattle.chunk_plain.specs.declared.setup.ChunkRange.{ChunkRange}
+
+pub record Setup : Type 0 where
+  -- how many pages there are
+  pub pages : ℕ
+  -- by chunk
+  pub spots : List Spot
+  -- by producer
+  pub ranges : List ChunkRange
+  pub writers : List WriterSpec
+
+abbrev pub no_spot : Spot
+no_spot = record { page = 0; place = 0; chunks = 0; layout = 0; payload_size = 0 }
+
+abbrev pub spot : Setup → ℕ → Spot
+spot setup chunk = slice_index_or setup.spots chunk no_spot
+
+-- the chunks of a producer with this number, counted from 1
+abbrev pub range_of : Setup → ℕ → ChunkRange
+range_of setup producer = slice_index_or setup.ranges (producer - 1) (record { first = 0; count = 0 })
+
+-- the producer of the writer at this place
+abbrev pub producer_of : Setup → ℕ → ℕ
+producer_of setup place = (slice_index_or setup.writers place (record { producer = 0; buffer = 0; policy = Drops })).producer
+
+-- the chunk is one of the producer's
+pub record IsChunkOf (setup : Setup) (producer chunk : ℕ) : Type 0 where
+  pub least : (range_of setup producer).first ≤ chunk
+  pub below : chunk < (range_of setup producer).first + (range_of setup producer).count
+
+-- each chunk has a place of its own in a page, and the chunks of a page know the same of it
+pub record IsLaid (setup : Setup) : Type 0 where
+  pub page : (chunk : ℕ) → chunk < length setup.spots → (spot setup chunk).page < setup.pages
+  pub place : (chunk : ℕ) → chunk < length setup.spots → (spot setup chunk).place < (spot setup chunk).chunks
+  pub chunks : (chunk : ℕ) → chunk < length setup.spots → (spot setup chunk).chunks ≤ MAX_CHUNKS_PER_PAGE
+  pub layout : (chunk : ℕ) → chunk < length setup.spots → (spot setup chunk).layout < 8
+  pub apart : (chunk other : ℕ) → chunk < length setup.spots → other < length setup.spots
+      → (spot setup chunk).page ≡ (spot setup other).page → (spot setup chunk).place ≡ (spot setup other).place → chunk ≡ other
+  pub alike : (chunk other : ℕ) → chunk < length setup.spots → other < length setup.spots → (spot setup chunk).page ≡ (spot setup other).page
+      → ((spot setup chunk).chunks ≡ (spot setup other).chunks) × ((spot setup chunk).layout ≡ (spot setup other).layout)

@@ -1,0 +1,99 @@
+-- What each step does to the view of the seat that makes it, and to the world: one row of the writers, and one chunk.
+use Rattle.std.specs.Prelude.{ℕ, ◌+◌, ◌==◌, Bool, true, false, Option, Some, None, List, [], ◌∷◌, ◌++◌, map, length, slice_set, slice_index_or, if◌then◌else◌}
+use Rattle.trace_model.specs.Calls.{Call}
+use Rattle.chunk_plain.specs.Views.{Ask, Head, Content, Held, Completed, WriterView, Taken, Look, Noted, Commit, Committed, ServiceView, taken_of}
+use Rattle.chunk_plain.specs.World.{World, Status, Unclaimed, Claimed, Stamped, Writing, Ready, Reading, writer}
+
+-- the list without the first element that is this one
+abbrev pub without : ℕ → List ℕ → List ℕ
+without x [] = []
+without x (y ∷ ys) = if y == x then ys else y ∷ without x ys
+
+-- A writer's view
+
+abbrev pub asks : WriterView → Ask → WriterView
+asks view ask = record view { asked = view.asked ++ ask ∷ [] }
+
+-- a claim that found this page word; where it won, the writer has the chunk
+abbrev pub claims : WriterView → ℕ → ℕ → Bool → WriterView
+claims view chunk found true =
+    record view { asked = view.asked ++ record { chunk = chunk; found = found; won = true; calls = length view.calls } ∷ []; claimed = view.claimed ++ chunk ∷ [] }
+claims view chunk found false =
+    record view { asked = view.asked ++ record { chunk = chunk; found = found; won = false; calls = length view.calls } ∷ [] }
+
+-- the header of a claimed chunk is stored, with the writer's next id
+abbrev pub stamps : WriterView → ℕ → WriterView
+stamps view chunk =
+    record view { claimed = without chunk view.claimed; stamped = Some (record { chunk = chunk; id = length view.begun }) }
+
+abbrev pub no_head : Head
+no_head = record { count = 0; flags = 0 }
+
+-- the chunk whose header was stored is begun
+abbrev pub begins : WriterView → ℕ → WriterView
+begins view chunk = record view { stamped = None; begun = view.begun ++ Held chunk no_head ∷ [] }
+
+-- the header of a held chunk is stored anew
+abbrev pub restamps : WriterView → ℕ → ℕ → Head → WriterView
+restamps view chunk id head = record view { begun = slice_set view.begun id (Held chunk head) }
+
+abbrev pub completes : WriterView → ℕ → ℕ → Content → WriterView
+completes view chunk id content = record view { begun = slice_set view.begun id (Completed chunk content) }
+
+abbrev pub notes_call : WriterView → Call → WriterView
+notes_call view call = record view { calls = view.calls ++ call ∷ [] }
+
+-- The service's view
+
+-- how many chunks of each writer were taken
+abbrev pub taken_counts : ServiceView → List ℕ
+taken_counts service = map (λ (taken : Taken). taken.count) service.taken
+
+abbrev pub looks_at : ServiceView → ℕ → ℕ → ℕ → ServiceView
+looks_at service chunk word header =
+    record service { looks = service.looks ++ record { chunk = chunk; word = word; header = header; taken = taken_counts service } ∷ [] }
+
+-- the next chunk of this writer is taken: the service reads it
+abbrev pub takes_in : ServiceView → ℕ → ℕ → ServiceView
+takes_in service place chunk = record service {
+  taken = slice_set service.taken place (record (taken_of service place) { count = (taken_of service place).count + 1 });
+  reading = service.reading ++ chunk ∷ [];
+}
+
+-- the content of the chunk that was taken last of this writer
+abbrev pub learns : ServiceView → ℕ → Content → ServiceView
+learns service place content = record service {
+  taken = slice_set service.taken place (record (taken_of service place) { contents = (taken_of service place).contents ++ content ∷ [] });
+}
+
+abbrev pub lets_go : ServiceView → ℕ → ServiceView
+lets_go service chunk = record service { reading = without chunk service.reading }
+
+abbrev pub notes : ServiceView → Noted → ServiceView
+notes service event = record service { events = service.events ++ event ∷ [] }
+
+abbrev pub notes_commit : ServiceView → Committed → ServiceView
+notes_commit service committed = record service {
+  events = service.events ++ Commit (length service.commits) ∷ [];
+  commits = service.commits ++ committed ∷ [];
+}
+
+-- The world
+
+-- one writer's view changes, and one chunk
+abbrev pub moved : World → ℕ → WriterView → ℕ → Status → World
+moved world place view chunk to =
+    record world { chunks = slice_set world.chunks chunk to; writers = slice_set world.writers place view }
+
+-- the service's view changes, and one chunk
+abbrev pub served : World → ServiceView → ℕ → Status → World
+served world service chunk to =
+    record world { chunks = slice_set world.chunks chunk to; service = service }
+
+-- one writer's view changes alone
+abbrev pub noted : World → ℕ → WriterView → World
+noted world place view = record world { writers = slice_set world.writers place view }
+
+-- the service's view changes alone
+abbrev pub serviced : World → ServiceView → World
+serviced world service = record world { service = service }

@@ -1,0 +1,6 @@
+//! The table of chunks.
+#![tactic(auto)]
+
+mod laws;
+mod setup;
+mod worlds;
