@@ -1,12 +1,12 @@
 -- A step of a writer that changes the entry of a chunk that it holds: its header is stored anew, or it is completed.
-use Rattle.std.proofs.Common.{◌≡◌, ◌≢◌, ℕ, ◌+◌, ◌<◌, ◌≤◌, ◌⊎◌, inl, inr, Option, Some, None, List, [], ◌∷◌, ◌++◌, length, set, get_or, subst, sym, refl, ap, ◌∙◌, arith, rules, ⊎_elim, length-set, lt_of_not-le}
+use Rattle.std.proofs.Common.{◌≡◌, ◌≢◌, ℕ, ◌+◌, ◌<◌, ◌≤◌, inl, List, length, set, subst, sym, refl, ap, ◌∙◌, arith, ⊎_elim, length-set, lt_of_not-le}
 use native.Mathlib.Decide.{dec_le, ℕ_discrete}
 use mathlib.Core.Logic.{dite}
 use Rattle.atomic_table.proofs.Lists.{at_set, set_here, set_else}
-use Rattle.chunk_plain.specs.Views.{At, Ask, Head, Content, Begun, Held, Completed, WriterView, Taken, newcomer, taken_of}
-use Rattle.chunk_plain.specs.World.{World, Status, Unclaimed, Claimed, Stamped, Writing, Ready, Reading, status, writer}
+use Rattle.chunk_plain.specs.Views.{At, Head, Content, Begun, Held, Completed, taken_of}
+use Rattle.chunk_plain.specs.World.{World, Status, Writing, Ready, status, writer}
 use Rattle.chunk_plain.specs.Steps.{restamps, completes, moved}
-use Rattle.chunk_plain.specs.Owned.{times, claims_of, reads_of, Owns, Counts, Won, IsOwned}
+use Rattle.chunk_plain.specs.Owned.{claims_of, reads_of, IsOwned}
 use Rattle.chunk_plain.proofs.Lists.{at_inside, at_one}
 use Rattle.chunk_plain.proofs.Owned.{Foreign, writer_step, won_stays}
 
@@ -84,7 +84,9 @@ entry_owned world place chunk id head entry o inside_w inside_c at same_chunk na
       reading_is = λ i content e. absurd (subst IsEntered e (entered place id entry));
     }
     (λ other differs p. record {
-      claimed = p.claimed; stamp_is = p.stamp_is; stamped_is = p.stamped_is;
+      claimed = p.claimed;
+      stamp_is = p.stamp_is;
+      stamped_is = p.stamped_is;
       held_is = λ i h e. ⊎_elim
           (λ (new : (i ≡ id) × (entry ≡ Held other h)). absurd (differs (sym (ap chunk_of new.1) ∙ same_chunk)))
           (λ (old : (i ≢ id) × At v.begun i (Held other h)). p.held_is i h old.1)
@@ -105,7 +107,7 @@ entry_owned world place chunk id head entry o inside_w inside_c at same_chunk na
       next = λ stamp e. q.next stamp e ∙ sym (length-set v.begun id entry);
       named = λ i d content e. ⊎_elim
           (λ (new : (i ≡ id) × (entry ≡ Completed d content)). subst (λ (j : ℕ). (content.image.chunk_id ≡ j) × (content.image.sequence ≡ place + 2)) (sym new.0)
-              (named content (new.1 ∙ ap (λ (c : ℕ). Completed c content) (sym (ap chunk_of new.1) ∙ same_chunk))))
+          (named content (new.1 ∙ ap (λ (c : ℕ). Completed c content) (sym (ap chunk_of new.1) ∙ same_chunk))))
           (λ (old : (i ≢ id) × At v.begun i (Completed d content)). q.named i d content old.1)
           (at_set v.begun id i entry (Completed d content) e);
       completed = λ i below. let r = q.completed i below in (r.0, r.1, done i r.0 r.1 r.2);

@@ -1,5 +1,11 @@
 pub mod EntrySteps
+pub mod Kept
+pub mod KeptService
+pub mod KeptWriter
+pub mod Known
+pub mod LayingLemmas
 pub mod Lists
+pub mod MadeLemmas
 pub mod Owned
 pub mod PageSteps
 pub mod ServiceSteps

@@ -1,11 +1,10 @@
 -- Lists in which one element changes: tables of facts on writers and chunks, and lists of chunks.
-use Rattle.std.proofs.Common.{◌≡◌, ◌≢◌, ℕ, ◌+◌, ◌-◌, ◌<◌, ◌≤◌, ◌⊎◌, inl, inr, ◌==◌, Bool, true, false, cond, zero, suc, List, [], ◌∷◌, ◌++◌, length, set, get_or, subst, sym, refl, ap, ◌∙◌, arith, rules, count_by, eqb, eq-eqb, ne_eqb, ⊎_elim}
+use Rattle.std.proofs.Common.{◌≡◌, ◌≢◌, ℕ, ◌+◌, ◌<◌, ◌⊎◌, inl, inr, zero, suc, List, [], ◌∷◌, ◌++◌, length, set, get_or, subst, sym, refl, ap, ◌∙◌, arith, ⊎_elim}
 use Rattle.std.proofs.lemmas.List.{get_or-set_same, get_or-set_other}
-use Rattle.std.proofs.lemmas.Grind.{common_steps}
 use Rattle.std.proofs.lemmas.Bool.Decides.{nat_tests}
 use native.Mathlib.Decide.{ℕ_discrete}
 use mathlib.Core.Logic.{dite}
-use mathlib.Core.Option.{some, some-injective, some-ne-none}
+use mathlib.Core.Option.{some-injective, some-ne-none}
 use Rattle.chunk_plain.specs.Views.{At}
 use Rattle.chunk_plain.specs.Owned.{times}
 use Rattle.chunk_plain.specs.Steps.{without}
@@ -33,9 +32,9 @@ matrix R xs ys da db w c a b inside_w inside_c all cell row column u d =
     da
     inside_w
     (λ is_w. changed (λ y. R u a d y) ys c d b db inside_c (λ is_c. subst (λ i. R i a d b) (sym is_w) (subst (λ j. R w a j b) (sym is_c) cell))
-        (λ not_c. subst (λ i. R i a d (get_or ys d db)) (sym is_w) (row d not_c (all w d))))
+    (λ not_c. subst (λ i. R i a d (get_or ys d db)) (sym is_w) (row d not_c (all w d))))
     (λ not_w. changed (λ y. R u (get_or xs u da) d y) ys c d b db inside_c (λ is_c. subst (λ j. R u (get_or xs u da) j b) (sym is_c) (column u not_w (all u c)))
-        (λ _. all u d))
+    (λ _. all u d))
 
 pub times-append : (x y : ℕ) (ys : List ℕ) → times x (ys ++ y ∷ []) ≡ times x ys + times x (y ∷ [])
 times-append x y [] = grind (arith, nat_tests)

@@ -1,10 +1,10 @@
 -- A world that is owned stays owned where one writer's view and one chunk change, and where the service's view and one chunk do.
-use Rattle.std.proofs.Common.{◌≡◌, ◌≢◌, ℕ, ◌+◌, ◌<◌, ◌≤◌, ◌⊎◌, inl, inr, ◌==◌, Bool, true, false, cond, Option, Some, None, List, [], ◌∷◌, ◌++◌, length, set, get_or, subst, sym, refl, ap, ◌∙◌, arith, rules, ⊎_elim, length-set}
-use Rattle.std.proofs.lemmas.List.{get_or-set_same, get_or-set_other}
+use Rattle.std.proofs.Common.{◌≡◌, ◌≢◌, ℕ, ◌<◌, ◌⊎◌, inl, inr, List, [], length, get_or, subst, sym, refl, ap, ◌∙◌, arith, ⊎_elim, length-set}
+use Rattle.std.proofs.lemmas.List.{get_or-set_other}
 use Rattle.std.proofs.lemmas.Bool.Decides.{nat_tests}
 use native.Mathlib.Decide.{ℕ_discrete}
 use mathlib.Core.Logic.{dite}
-use Rattle.chunk_plain.specs.Views.{At, Ask, Head, Content, Held, Completed, Stamp, WriterView, ServiceView, Taken, newcomer, taken_of}
+use Rattle.chunk_plain.specs.Views.{At, Ask, WriterView, ServiceView, Taken, newcomer, taken_of}
 use Rattle.chunk_plain.specs.World.{World, Status, Unclaimed, Claimed, Stamped, Writing, Ready, Reading, status, writer}
 use Rattle.chunk_plain.specs.Steps.{moved, served, noted, serviced}
 use Rattle.chunk_plain.specs.Owned.{times, claims_of, reads_of, Owns, Counts, Won, IsOwned}
@@ -60,16 +60,22 @@ foreign_stays count place view chunk was is before after o =
 pub won_stays : (world : World) (place chunk about : ℕ) (view : WriterView) (is : Status) → place < length world.writers
     → ((i : ℕ) (ask : Ask) → At (writer world place).asked i ask → At view.asked i ask)
     → Won world about → Won (moved world place view chunk is) about
-won_stays world place chunk about view is inside grows won =
-    (won.0, won.1, won.2, changed (λ (v : WriterView). At v.asked won.1 won.2) world.writers place won.0 view newcomer inside
-        (λ same. grows won.1 won.2 (subst (λ u. At (writer world u).asked won.1 won.2) same won.3))
-        (λ _. won.3), won.4, won.5)
+won_stays world place chunk about view is inside grows won = (
+  won.0,
+  won.1,
+  won.2,
+  changed (λ (v : WriterView). At v.asked won.1 won.2) world.writers place won.0 view newcomer inside
+      (λ same. grows won.1 won.2 (subst (λ u. At (writer world u).asked won.1 won.2) same won.3))
+      (λ _. won.3),
+  won.4,
+  won.5,
+)
 
 -- the step of a writer
 pub writer_step : (world : World) (place chunk : ℕ) (view : WriterView) (is : Status) → IsOwned world → place < length world.writers → chunk < length world.chunks
     → Owns (taken_of world.service place).count place view chunk is
     → ((other : ℕ) → other ≢ chunk → Owns (taken_of world.service place).count place (writer world place) other (status world other)
-        → Owns (taken_of world.service place).count place view other (status world other))
+    → Owns (taken_of world.service place).count place view other (status world other))
     → ((other : ℕ) → other ≢ place → Foreign other (status world chunk)) → ((other : ℕ) → other ≢ place → Foreign other is)
     → reads_of is ≡ reads_of (status world chunk)
     → Counts (taken_of world.service place) place view
@@ -105,7 +111,7 @@ writer_step world place chunk view is o inside_w inside_c cell row was_mine is_m
           dite (ℕ_discrete d chunk)
           (λ same. subst (Won (moved world place view chunk is)) (sym same) won)
           (λ differs. won_stays world place chunk d view is inside_w grows
-              (o.claimed_won d (λ free. claimed (get_or-set_other world.chunks chunk d is Unclaimed differs ∙ free))));
+          (o.claimed_won d (λ free. claimed (get_or-set_other world.chunks chunk d is Unclaimed differs ∙ free))));
       asked_won = λ u i ask at.
           ⊎_elim
           (λ (old : (w : ℕ) × (j : ℕ) × At (writer world w).asked j ask). won_stays world place chunk ask.chunk view is inside_w grows (o.asked_won old.0 old.1 ask old.2))
@@ -123,7 +129,7 @@ writer_step world place chunk view is o inside_w inside_c cell row was_mine is_m
 -- a step by which a writer has as many chunks as before
 pub noted_owned : (world : World) (place : ℕ) (view : WriterView) → IsOwned world → place < length world.writers
     → ((chunk : ℕ) → Owns (taken_of world.service place).count place (writer world place) chunk (status world chunk)
-        → Owns (taken_of world.service place).count place view chunk (status world chunk))
+    → Owns (taken_of world.service place).count place view chunk (status world chunk))
     → Counts (taken_of world.service place) place view
     → ((i : ℕ) (ask : Ask) → At (writer world place).asked i ask → At view.asked i ask)
     → ((i : ℕ) (ask : Ask) → At view.asked i ask → At (writer world place).asked i ask ⊎ Won world ask.chunk)

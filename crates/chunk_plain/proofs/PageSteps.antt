@@ -1,12 +1,10 @@
 -- What each kind of step makes of a page word, for the chunk that it is about.
-use Rattle.std.proofs.Common.{◌≡◌, ◌≢◌, ℕ, ◌+◌, ◌*◌, ◌^◌, ◌<◌, ◌≤◌, ◌⊎◌, inl, inr, List, bit_and, bit_or, subst, sym, refl, ap, ◌∙◌, arith, rules, ⊎_elim}
-use Rattle.std.specs.Int.{bit_at}
-use Rattle.page_geometry.specs.declared.chunk_state.ChunkState.{ChunkState}
+use Rattle.std.proofs.Common.{◌≡◌, ◌≢◌, ℕ, ◌+◌, ◌*◌, ◌<◌, ◌≤◌, ◌⊎◌, inl, inr, subst, sym, ◌∙◌, arith, ⊎_elim}
 use Rattle.page_geometry.specs.PageBits.{HasState, HasLayout, SetsState, Claims, Releases}
 use Rattle.chunk_plain.specs.declared.setup.Spot.{Spot}
 use Rattle.chunk_plain.specs.Setup.{Setup}
-use Rattle.chunk_plain.specs.World.{World, Status, Unclaimed, Claimed}
-use Rattle.chunk_plain.specs.Shows.{state_of, claim_of, NeverAsked, IsSpare, ShowsLayout, ShowsPage}
+use Rattle.chunk_plain.specs.World.{World, Status, Unclaimed}
+use Rattle.chunk_plain.specs.Shows.{state_of, claim_of, NeverAsked, IsSpare, ShowsPage}
 
 -- the layout bits and the spare bits of a page lie outside the state bits and the claim bit of each of its chunks
 spare_apart : (chunks place bit : ℕ) → place < chunks → chunks ≤ 14 → IsSpare chunks bit → (bit ≢ 2 * place) × (bit ≢ 2 * place + 1) × (bit ≢ 32 + place)

@@ -1,10 +1,9 @@
 -- Each step of the service keeps a world owned.
-use Rattle.std.proofs.Common.{◌≡◌, ◌≢◌, ℕ, ◌+◌, ◌<◌, ◌≤◌, ◌⊎◌, inl, inr, List, [], ◌∷◌, ◌++◌, length, set, get_or, subst, sym, refl, ap, ◌∙◌, arith, rules, ⊎_elim, length-set, length-append}
-use Rattle.std.proofs.lemmas.List.{get_or-set_same, get_or-set_other}
+use Rattle.std.proofs.Common.{◌≡◌, ℕ, ◌+◌, ◌<◌, ◌≤◌, [], ◌∷◌, ◌++◌, length, subst, sym, refl, ap, ◌∙◌, arith, ⊎_elim, length-set, length-append}
 use native.Mathlib.Decide.{ℕ_discrete}
 use mathlib.Core.Logic.{dite}
-use Rattle.chunk_plain.specs.Views.{At, Head, Content, Begun, Held, Completed, WriterView, ServiceView, Taken, none_taken, taken_of}
-use Rattle.chunk_plain.specs.World.{World, Status, Unclaimed, Claimed, Stamped, Writing, Ready, Reading, status, writer}
+use Rattle.chunk_plain.specs.Views.{At, Content, Begun, Held, Completed, WriterView, Taken, none_taken, taken_of}
+use Rattle.chunk_plain.specs.World.{World, Status, Unclaimed, Ready, Reading, status, writer}
 use Rattle.chunk_plain.specs.Steps.{takes_in, learns, lets_go, served, serviced, without}
 use Rattle.chunk_plain.specs.Owned.{times, claims_of, reads_of, Owns, Counts, IsOwned}
 use Rattle.chunk_plain.proofs.Lists.{changed, matrix, times-here, times-other, times-without_same, times-without_other, at_more, at_one}
@@ -26,38 +25,47 @@ takes_owned world place chunk content o inside_w inside_c was =
     let at : At v.begun count (Completed chunk content) = (w.ready_is count content was).0 in
     service_step world (takes_in s place chunk) chunk is o inside_c
     (matrix (λ u (x : Taken) d t. Owns x.count u (writer world u) d t) s.taken world.chunks none_taken Unclaimed place chunk more is inside_t inside_c o.owns
-        record {
-          claimed = w.claimed ∙ ap (claims_of place) was;
-          stamp_is = λ id e. let before = w.stamp_is id e in absurd cc;
-          stamped_is = λ id e. absurd cc;
-          held_is = λ id head e. let before = w.held_is id head e in absurd cc;
-          writing_is = λ id head e. absurd cc;
-          completed_is = λ id other e above. absurd (let below : count ≤ id = omega arith in let before = w.completed_is id other e below in let same : count ≡ id = cc in omega arith);
-          ready_is = λ id other e. absurd cc;
-          reading_is = λ id other e. let same : count ≡ id = cc in let entry : content ≡ other = cc in
-              (subst (λ (m : Content). At v.begun id (Completed chunk m)) entry (subst (λ (i : ℕ). At v.begun i (Completed chunk content)) same at), omega arith);
-        }
-        (λ other differs p. record {
-          claimed = p.claimed; stamp_is = p.stamp_is; stamped_is = p.stamped_is; held_is = p.held_is; writing_is = p.writing_is;
-          completed_is = λ id m e above. p.completed_is id m e (omega arith);
-          ready_is = λ id m e. let r = p.ready_is id m e in
-              (r.0, dite (ℕ_discrete id count)
-                  (λ same. absurd (differs (sym (ap completed_chunk (at_one v.begun (Completed chunk content) (Completed other m) count at (subst (λ (i : ℕ). At v.begun i (Completed other m)) same r.0))))))
-                  (λ apart. let least = r.1 in omega arith));
-          reading_is = λ id m e. let r = p.reading_is id m e in (r.0, (let below = r.1 in omega arith));
-        })
-        (λ other differs p. foreign_stays (taken_of s other).count other (writer world other) chunk (status world chunk) is (subst (Foreign other) (sym was) (λ e. differs (sym e))) (λ e. differs (sym e)) p))
+    record {
+      claimed = w.claimed ∙ ap (claims_of place) was;
+      stamp_is = λ id e. let before = w.stamp_is id e in absurd cc;
+      stamped_is = λ id e. absurd cc;
+      held_is = λ id head e. let before = w.held_is id head e in absurd cc;
+      writing_is = λ id head e. absurd cc;
+      completed_is = λ id other e above. absurd (let below : count ≤ id = omega arith in let before = w.completed_is id other e below in let same : count ≡ id = cc in omega arith);
+      ready_is = λ id other e. absurd cc;
+      reading_is = λ id other e. let same : count ≡ id = cc in let entry : content ≡ other = cc in
+          (subst (λ (m : Content). At v.begun id (Completed chunk m)) entry (subst (λ (i : ℕ). At v.begun i (Completed chunk content)) same at), omega arith);
+    }
+    (λ other differs p. record {
+      claimed = p.claimed;
+      stamp_is = p.stamp_is;
+      stamped_is = p.stamped_is;
+      held_is = p.held_is;
+      writing_is = p.writing_is;
+      completed_is = λ id m e above. p.completed_is id m e (omega arith);
+      ready_is = λ id m e. let r = p.ready_is id m e in (
+        r.0,
+        dite (ℕ_discrete id count)
+            (λ same. absurd (differs (sym (ap completed_chunk (at_one v.begun (Completed chunk content) (Completed other m) count at (subst (λ (i : ℕ). At v.begun i (Completed other m)) same r.0))))))
+            (λ apart. let least = r.1 in omega arith),
+      );
+      reading_is = λ id m e. let r = p.reading_is id m e in (r.0, (let below = r.1 in omega arith));
+    })
+    (λ other differs p. foreign_stays (taken_of s other).count other (writer world other) chunk (status world chunk) is (subst (Foreign other) (sym was) (λ e. differs (sym e))) (λ e. differs (sym e)) p))
     (λ other. changed (λ (x : Taken). Counts x other (writer world other)) s.taken place other more none_taken inside_t
-        (λ same. subst (λ (u : ℕ). Counts more u (writer world u)) (sym same)
-            record {
-              wins = q.wins; next = q.next; named = q.named; learnt = q.learnt;
-              completed = λ id below. dite (ℕ_discrete id count) (λ is_last. (chunk, content, subst (λ (i : ℕ). At v.begun i (Completed chunk content)) (sym is_last) at)) (λ apart. q.completed id (omega arith));
-              level = let level = q.level in omega arith;
-            })
-        (λ _. o.counts other))
+    (λ same. subst (λ (u : ℕ). Counts more u (writer world u)) (sym same)
+    record {
+      wins = q.wins;
+      next = q.next;
+      named = q.named;
+      learnt = q.learnt;
+      completed = λ id below. dite (ℕ_discrete id count) (λ is_last. (chunk, content, subst (λ (i : ℕ). At v.begun i (Completed chunk content)) (sym is_last) at)) (λ apart. q.completed id (omega arith));
+      level = let level = q.level in omega arith;
+    })
+    (λ _. o.counts other))
     (λ other. changed (λ t. times other (s.reading ++ chunk ∷ []) ≡ reads_of t) world.chunks chunk other is Unclaimed inside_c
-        (λ same. subst (λ (d : ℕ). times d (s.reading ++ chunk ∷ []) ≡ 1) (sym same) (times-here chunk s.reading ∙ ap (λ n. n + 1) (o.reads chunk ∙ ap reads_of was)))
-        (λ differs. times-other other chunk s.reading differs ∙ o.reads other))
+    (λ same. subst (λ (d : ℕ). times d (s.reading ++ chunk ∷ []) ≡ 1) (sym same) (times-here chunk s.reading ∙ ap (λ n. n + 1) (o.reads chunk ∙ ap reads_of was)))
+    (λ differs. times-other other chunk s.reading differs ∙ o.reads other))
     (λ free. absurd cc)
     (length-set s.taken place more)
 
@@ -76,14 +84,17 @@ learns_owned world place chunk content o inside_w room at =
           (λ _. o.owns u d);
       counts = λ u. changed (λ (x : Taken). Counts x u (writer world u)) s.taken place u more none_taken inside_t
           (λ same. subst (λ (k : ℕ). Counts more k (writer world k)) (sym same)
-              record {
-                wins = q.wins; next = q.next; named = q.named; completed = q.completed;
-                learnt = λ id m e. ⊎_elim
-                    (λ old. q.learnt id m old)
-                    (λ (new : (id ≡ length taken.contents) × (content ≡ m)). (chunk, subst (λ (c : Content). At v.begun id (Completed chunk c)) new.1 (subst (λ (i : ℕ). At v.begun i (Completed chunk content)) (sym new.0) at)))
-                    (at_more taken.contents content m id e);
-                level = omega (arith, length-append taken.contents (content ∷ []));
-              })
+          record {
+            wins = q.wins;
+            next = q.next;
+            named = q.named;
+            completed = q.completed;
+            learnt = λ id m e. ⊎_elim
+                (λ old. q.learnt id m old)
+                (λ (new : (id ≡ length taken.contents) × (content ≡ m)). (chunk, subst (λ (c : Content). At v.begun id (Completed chunk c)) new.1 (subst (λ (i : ℕ). At v.begun i (Completed chunk content)) (sym new.0) at)))
+                (at_more taken.contents content m id e);
+            level = omega (arith, length-append taken.contents (content ∷ []));
+          })
           (λ _. o.counts u);
       reads = o.reads;
       claimed_won = o.claimed_won;
@@ -113,11 +124,11 @@ lets_go_owned world chunk place id content o inside was =
     let once : times chunk s.reading ≡ 1 = o.reads chunk ∙ ap reads_of was in
     service_step world (lets_go s chunk) chunk Unclaimed o inside
     (λ u d. changed (λ t. Owns (taken_of s u).count u (writer world u) d t) world.chunks chunk d Unclaimed Unclaimed inside
-        (λ same. subst (λ (c : ℕ). Owns (taken_of s u).count u (writer world u) c Unclaimed) (sym same) (emptied (taken_of s u).count u (writer world u) chunk (status world chunk) place id content was (o.owns u chunk)))
-        (λ _. o.owns u d))
+    (λ same. subst (λ (c : ℕ). Owns (taken_of s u).count u (writer world u) c Unclaimed) (sym same) (emptied (taken_of s u).count u (writer world u) chunk (status world chunk) place id content was (o.owns u chunk)))
+    (λ _. o.owns u d))
     o.counts
     (λ d. changed (λ t. times d (without chunk s.reading) ≡ reads_of t) world.chunks chunk d Unclaimed Unclaimed inside
-        (λ same. subst (λ (c : ℕ). times c (without chunk s.reading) ≡ 0) (sym same) (let less = times-without_same chunk s.reading (omega arith) in omega (arith, less, once)))
-        (λ differs. times-without_other d chunk s.reading differs ∙ o.reads d))
+    (λ same. subst (λ (c : ℕ). times c (without chunk s.reading) ≡ 0) (sym same) (let less = times-without_same chunk s.reading (omega arith) in omega (arith, less, once)))
+    (λ differs. times-without_other d chunk s.reading differs ∙ o.reads d))
     (λ free. absurd cc)
     refl

@@ -1,16 +1,13 @@
 -- Each step of a writer keeps a world owned.
-use Rattle.std.proofs.Common.{◌≡◌, ◌≢◌, ℕ, ◌+◌, ◌<◌, ◌≤◌, ◌⊎◌, inl, inr, ◌==◌, Bool, true, false, cond, Option, Some, None, List, [], ◌∷◌, ◌++◌, length, set, get_or, subst, sym, refl, ap, ◌∙◌, arith, rules, ⊎_elim, length-set, length-append}
-use Rattle.std.proofs.lemmas.List.{get_or-set_same, get_or-set_other, set-get_or}
-use Rattle.std.proofs.lemmas.Bool.Decides.{nat_tests}
-use native.Mathlib.Decide.{ℕ_discrete}
-use mathlib.Core.Logic.{dite}
-use Rattle.atomic_table.proofs.Lists.{at_set, set_here, set_else, at_longer, at_last}
+use Rattle.std.proofs.Common.{◌≡◌, ℕ, ◌+◌, ◌<◌, inl, inr, Bool, true, false, cond, Option, Some, None, List, [], ◌∷◌, ◌++◌, length, subst, sym, refl, ap, ◌∙◌, arith, ⊎_elim, length-append}
+use Rattle.std.proofs.lemmas.List.{get_or-set_same}
+use Rattle.atomic_table.proofs.Lists.{at_longer, at_last}
 use Rattle.trace_model.specs.Calls.{Call}
-use Rattle.chunk_plain.specs.Views.{At, Ask, Head, Content, Begun, Held, Completed, Stamp, WriterView, Taken, newcomer, taken_of}
-use Rattle.chunk_plain.specs.World.{World, Status, Unclaimed, Claimed, Stamped, Writing, Ready, Reading, status, writer}
-use Rattle.chunk_plain.specs.Steps.{without, claims, stamps, begins, restamps, completes, no_head, notes_call, moved, noted}
-use Rattle.chunk_plain.specs.Owned.{times, claims_of, reads_of, stamps_in, wins_in, Owns, Counts, Won, IsOwned}
-use Rattle.chunk_plain.proofs.Lists.{changed, times-here, times-other, times-without_same, times-without_other, length-without, at_more, at_inside, at_one}
+use Rattle.chunk_plain.specs.Views.{At, Ask, Begun, Held, Completed, Stamp, WriterView, newcomer}
+use Rattle.chunk_plain.specs.World.{World, Status, Unclaimed, Claimed, Stamped, Writing, status, writer}
+use Rattle.chunk_plain.specs.Steps.{claims, stamps, begins, no_head, notes_call, moved, noted}
+use Rattle.chunk_plain.specs.Owned.{times, claims_of, reads_of, stamps_in, wins_in, Won, IsOwned}
+use Rattle.chunk_plain.proofs.Lists.{times-here, times-other, times-without_same, times-without_other, length-without, at_more}
 use Rattle.chunk_plain.proofs.Owned.{Foreign, claims_of-mine, claimed_status, writer_step, noted_owned, won_stays}
 
 -- a stamp's chunk and id, where there is one
@@ -119,7 +116,11 @@ stamps_owned world place chunk o inside_w inside_c mine unstamped =
       claimed = times-without_other other chunk v.claimed differs ∙ p.claimed;
       stamp_is = λ id e. absurd (differs (sym (ap (chunk_in chunk) e)));
       stamped_is = λ id e. let before : v.stamped ≡ Some (record { chunk = other; id = id }) = p.stamped_is id e in absurd cc;
-      held_is = p.held_is; writing_is = p.writing_is; completed_is = p.completed_is; ready_is = p.ready_is; reading_is = p.reading_is;
+      held_is = p.held_is;
+      writing_is = p.writing_is;
+      completed_is = p.completed_is;
+      ready_is = p.ready_is;
+      reading_is = p.reading_is;
     })
     (λ other differs. subst (Foreign other) (sym was) (λ e. differs (sym e)))
     (λ other differs e. differs (sym e))
@@ -127,7 +128,10 @@ stamps_owned world place chunk o inside_w inside_c mine unstamped =
     record {
       wins = let less = length-without chunk v.claimed mine in let none : stamps_in v.stamped ≡ 0 = ap stamps_in unstamped in omega (arith, less, none, q.wins);
       next = λ stamp e. sym (ap (id_in n) e);
-      named = q.named; completed = q.completed; learnt = q.learnt; level = q.level;
+      named = q.named;
+      completed = q.completed;
+      learnt = q.learnt;
+      level = q.level;
     }
     (λ i ask at. at)
     (λ i ask at. inl at)

@@ -3,4 +3,8 @@ pub mod Setup
 pub mod Shows
 pub mod Steps
 pub mod Views
+pub mod Words
 pub mod World
+pub mod Laying
+pub mod Plain
+pub mod Made

@@ -1,6 +1,6 @@
 -- Ownership in a world: who has each chunk, between any two steps. It is said as facts on one writer and one chunk, on one writer, and on one
 -- chunk. Since each status names one writer and one id, that exactly one seat has a chunk is then true by the form.
-use Rattle.std.specs.Prelude.{◌≡◌, ℕ, ◌+◌, ◌<◌, ◌≤◌, ◌==◌, Bool, true, false, Option, Some, None, List, [], ◌∷◌, length, if◌then◌else◌}
+use Rattle.std.specs.Prelude.{◌≡◌, ℕ, ◌+◌, ◌<◌, ◌≤◌, ◌==◌, true, Option, Some, None, List, [], ◌∷◌, length, if◌then◌else◌}
 use Rattle.chunk_plain.specs.Views.{At, Ask, Head, Content, Held, Completed, Stamp, WriterView, Taken, taken_of}
 use Rattle.chunk_plain.specs.World.{World, Status, Unclaimed, Claimed, Stamped, Writing, Ready, Reading, status, writer}
 

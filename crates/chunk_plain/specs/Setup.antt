@@ -1,11 +1,8 @@
 -- The set-up of a table. Chunks are numbered over all producers, by producer, page and place, and pages by producer and page.
-use Rattle.std.specs.Prelude.{◌≡◌, ℕ, zero, suc, ◌+◌, ◌*◌, ◌-◌, ◌<◌, ◌≤◌, List, [], ◌∷◌, ◌++◌, length, slice_index_or}
+use Rattle.std.specs.Prelude.{◌≡◌, ℕ, ◌+◌, ◌-◌, ◌<◌, ◌≤◌, List, length, slice_index_or}
 use Rattle.trace_base.specs.declared.limits.TheConstants.{MAX_CHUNKS_PER_PAGE}
 use Rattle.trace_base.specs.declared.policy.WriterPolicy.TheVariants.{Drops}
 use Rattle.trace_base.specs.declared.policy.WriterSpec.{WriterSpec}
-use Rattle.page_geometry.specs.Sizes.{layout_number, payload_size}
-use Rattle.page_geometry.specs.declared.geometry.Geometry.{Geometry}
-use Rattle.chunk_plain.specs.declared.setup.ProducerSpec.{ProducerSpec}
 use Rattle.chunk_plain.specs.declared.setup.Spot.{Spot}
 use Rattle.chunk_plain.specs.declared.setup.ChunkRange.{ChunkRange}
 
@@ -47,3 +44,5 @@ pub record IsLaid (setup : Setup) : Type 0 where
       → (spot setup chunk).page ≡ (spot setup other).page → (spot setup chunk).place ≡ (spot setup other).place → chunk ≡ other
   pub alike : (chunk other : ℕ) → chunk < length setup.spots → other < length setup.spots → (spot setup chunk).page ≡ (spot setup other).page
       → ((spot setup chunk).chunks ≡ (spot setup other).chunks) × ((spot setup chunk).layout ≡ (spot setup other).layout)
+  -- the chunks of each producer are there
+  pub ranges : (producer : ℕ) → (range_of setup producer).first + (range_of setup producer).count ≤ length setup.spots

@@ -1,5 +1,5 @@
 -- What the words and the bodies of a table show of its world. Of each page there is a word, and behind these of each chunk a header word.
-use Rattle.std.specs.Prelude.{◌≡◌, ℕ, ◌+◌, ◌*◌, ◌^◌, ◌<◌, ◌≤◌, ◌⊎◌, Option, Some, None, List, [], length, map, vec_len, slice_index, slice_index_or}
+use Rattle.std.specs.Prelude.{◌≡◌, ℕ, ◌+◌, ◌*◌, ◌^◌, ◌<◌, ◌≤◌, ◌⊎◌, Option, Some, None, List, length, map, vec_len, slice_index, slice_index_or}
 use Rattle.std.specs.Int.{bit_at}
 use Rattle.page_geometry.specs.declared.page_word.TheConstants.{CLAIM_BIT, LAYOUT_BIT}
 use Rattle.page_geometry.specs.declared.chunk_state.ChunkState.{ChunkState}
@@ -74,10 +74,9 @@ content_of place id head body = record {
   target = body.target;
 }
 
--- the body of a chunk that nobody writes: it has its payload's size, and no patches
+-- the body of a chunk that nobody has begun: it has its payload's size
 pub record IsFreeBody (size : ℕ) (body : CommitBody) : Type 0 where
   pub whole : vec_len body.payload ≡ size
-  pub empty : body.patches.items ≡ []
 
 -- the body of a complete chunk
 pub record IsBodyOf (size place id : ℕ) (content : Content) (body : CommitBody) : Type 0 where

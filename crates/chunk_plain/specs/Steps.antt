@@ -1,8 +1,8 @@
 -- What each step does to the view of the seat that makes it, and to the world: one row of the writers, and one chunk.
-use Rattle.std.specs.Prelude.{ℕ, ◌+◌, ◌==◌, Bool, true, false, Option, Some, None, List, [], ◌∷◌, ◌++◌, map, length, slice_set, slice_index_or, if◌then◌else◌}
+use Rattle.std.specs.Prelude.{ℕ, ◌+◌, ◌==◌, Bool, true, false, Some, None, List, [], ◌∷◌, ◌++◌, map, length, slice_set, if◌then◌else◌}
 use Rattle.trace_model.specs.Calls.{Call}
-use Rattle.chunk_plain.specs.Views.{Ask, Head, Content, Held, Completed, WriterView, Taken, Look, Noted, Commit, Committed, ServiceView, taken_of}
-use Rattle.chunk_plain.specs.World.{World, Status, Unclaimed, Claimed, Stamped, Writing, Ready, Reading, writer}
+use Rattle.chunk_plain.specs.Views.{Ask, Head, Content, Held, Completed, WriterView, Taken, Noted, Commit, Committed, ServiceView, taken_of}
+use Rattle.chunk_plain.specs.World.{World, Status}
 
 -- the list without the first element that is this one
 abbrev pub without : ℕ → List ℕ → List ℕ

@@ -1,6 +1,6 @@
 -- What each seat of a table of chunks knows: its view. A view is a history of what the seat did, with what it still holds. No value of it exists
 -- when the program runs. Writers are told apart by their place in the list that the table was made with, counted from 0.
-use Rattle.std.specs.Prelude.{◌≡◌, ℕ, Bool, Option, None, List, [], ◌∷◌, slice_index_or}
+use Rattle.std.specs.Prelude.{◌≡◌, ℕ, Bool, Option, None, List, [], slice_index_or}
 use mathlib.Core.Option.{some}
 use lib.ListN.{get_elem?}
 use Rattle.trace_model.specs.Calls.{Call}
