@@ -46,7 +46,7 @@ serviced_kept setup words bodies world service kept taken reading =
 -- ---- take
 
 -- a chunk whose state is complete is ready
-ready_status : (is : Status) (word place : ℕ) → HasState word place (state_of is) → HasState word place state.Complete → (k : ℕ) × (id : ℕ) × (content : Content) × (is ≡ Ready k id content)
+pub ready_status : (is : Status) (word place : ℕ) → HasState word place (state_of is) → HasState word place state.Complete → (k : ℕ) × (id : ℕ) × (content : Content) × (is ≡ Ready k id content)
 ready_status Unclaimed word place has complete = absurd (let low = has.low in let low' = complete.low in omega arith)
 ready_status (Claimed k) word place has complete = absurd (let low = has.low in let low' = complete.low in omega arith)
 ready_status (Stamped k i) word place has complete = absurd (let low = has.low in let low' = complete.low in omega arith)

@@ -7,6 +7,7 @@ pub mod LayingLemmas
 pub mod Lists
 pub mod MadeLemmas
 pub mod Owned
+pub mod OwnershipLemmas
 pub mod PageSteps
 pub mod ServiceSteps
 pub mod Shown

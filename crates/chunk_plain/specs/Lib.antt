@@ -1,10 +1,12 @@
 pub mod Owned
+pub mod Ownership
 pub mod Setup
 pub mod Shows
 pub mod Steps
 pub mod Views
 pub mod Words
 pub mod World
+pub mod Laws
 pub mod Laying
 pub mod Plain
 pub mod Made

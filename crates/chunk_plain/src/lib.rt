@@ -6,7 +6,7 @@
 #![tactic(auto)]
 
 mod bodies;
-mod laws;
+pub mod laws;
 mod layout;
 mod notes;
 mod plain;
