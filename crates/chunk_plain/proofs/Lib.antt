@@ -1,4 +1,5 @@
 pub mod EntrySteps
+pub mod Holding
 pub mod Kept
 pub mod KeptService
 pub mod KeptWriter

@@ -49,7 +49,7 @@ seats_more count seats o =
 -- ---- the first world
 
 -- a list of one element, wherever it is read
-all_same : {A B : Type 0} (d : B) (xs : List A) (i : ℕ) → get_or (map (λ (_ : A). d) xs) i d ≡ d
+pub all_same : {A B : Type 0} (d : B) (xs : List A) (i : ℕ) → get_or (map (λ (_ : A). d) xs) i d ≡ d
 all_same d [] i = refl
 all_same d (x ∷ xs) zero = refl
 all_same d (x ∷ xs) (suc i) = all_same d xs i

@@ -1,16 +1,15 @@
 -- What a table of one thread keeps is ownership in its eight parts.
-use Rattle.std.proofs.Common.{◌≡◌, ◌≢◌, ℕ, ◌+◌, ◌*◌, ◌<◌, ◌≤◌, ◌⊎◌, inl, inr, Option, Some, None, List, length, subst, sym, refl, ap, ◌∙◌, arith, ⊎_elim}
-use Rattle.std.specs.Int.{bit_at}
+use Rattle.std.proofs.Common.{◌≡◌, ℕ, ◌<◌, ◌⊎◌, inl, inr, Option, Some, List, length, subst, sym, refl, ap, ◌∙◌, arith, ⊎_elim}
 use Rattle.page_geometry.specs.PageBits.{HasState}
 use Rattle.page_geometry.specs.declared.chunk_state.ChunkState.TheVariants as state
 use Rattle.commit_body.specs.declared.body.CommitBody.{CommitBody}
 use Rattle.chunk_plain.specs.Setup.{Setup, spot}
-use Rattle.chunk_plain.specs.Views.{At, Ask, Head, Content, Held, Completed, Stamp, taken_of}
-use Rattle.chunk_plain.specs.World.{World, Status, Unclaimed, Claimed, Stamped, Writing, Ready, Reading, status, writer}
+use Rattle.chunk_plain.specs.Views.{Head, Content}
+use Rattle.chunk_plain.specs.World.{World, Status, Unclaimed, Claimed, Stamped, Writing, Ready, Reading, status}
 use Rattle.chunk_plain.specs.Owned.{times, claims_of, reads_of, IsOwned}
-use Rattle.chunk_plain.specs.Shows.{state_of, claim_of, ShowsPage, ShowsHeader, ShowsBody, IsHeader, IsBodyOf, head_of, page_word, header_word, body_at}
+use Rattle.chunk_plain.specs.Shows.{state_of, claim_of, ShowsHeader, ShowsBody, IsBodyOf, page_word, header_word, body_at}
 use Rattle.chunk_plain.specs.Plain.{IsKept}
-use Rattle.chunk_plain.specs.Ownership.{Claims, Holds, Completes, Reads, IsNobodys, IsClaimedByOne, IsHeldByOne, IsWhole, IsReadOnce, Ownership}
+use Rattle.chunk_plain.specs.Ownership.{Claims, IsNobodys, IsClaimedByOne, Ownership}
 use Rattle.chunk_plain.proofs.Owned.{claimed_status, claims_of-mine}
 use Rattle.chunk_plain.proofs.Kept.{claim_bit_free}
 use Rattle.chunk_plain.proofs.KeptService.{ready_status}
@@ -89,7 +88,9 @@ ownership setup words bodies world kept =
       written = λ chunk inside has.
           let is = writing_status (status world chunk) (page_word setup words chunk) (spot setup chunk).place (shown.page chunk inside).state has in let same = is.3 in
           record {
-            place = is.0; id = is.1; head = is.2;
+            place = is.0;
+            id = is.1;
+            head = is.2;
             holds = (owned.owns is.0 chunk).writing_is is.1 is.2 same;
             only = λ other i h at. let e : status world chunk ≡ Writing other i h = (owned.owns other chunk).held_is i h at in let both : Writing is.0 is.1 is.2 ≡ Writing other i h = sym same ∙ e in (cc, cc);
             stored = subst (λ t. ShowsHeader (header_word setup words chunk) t) same (shown.header chunk inside);
@@ -99,10 +100,15 @@ ownership setup words bodies world kept =
           let at = (owned.owns is.0 chunk).ready_is is.1 is.2 same in
           let body : (b : CommitBody) × (body_at bodies chunk ≡ Some b) × IsBodyOf (spot setup chunk).payload_size is.0 is.1 is.2 b = subst (λ t. ShowsBody (spot setup chunk).payload_size t (body_at bodies chunk)) same (shown.body chunk inside) in
           record {
-            place = is.0; id = is.1; content = is.2; body = body.0;
-            completes = at.0; untaken = at.1;
+            place = is.0;
+            id = is.1;
+            content = is.2;
+            body = body.0;
+            completes = at.0;
+            untaken = at.1;
             stored = subst (λ t. ShowsHeader (header_word setup words chunk) t) same (shown.header chunk inside);
-            kept = body.1; body_is = body.2.content_is;
+            kept = body.1;
+            body_is = body.2.content_is;
           };
       read = λ chunk inside has.
           let is = reading_status (status world chunk) (page_word setup words chunk) (spot setup chunk).place (shown.page chunk inside).state has in let same = is.3 in
@@ -111,8 +117,11 @@ ownership setup words bodies world kept =
             once = owned.reads chunk ∙ ap reads_of same;
             unclaimed = λ place claims. ⊎_elim (λ e. absurd cc) (λ e. let f = e.1 in absurd cc) (claims_status world place chunk owned claims);
             unheld = λ place id head holds. let e = (owned.owns place chunk).held_is id head holds in absurd cc;
-            place = is.0; id = is.1; content = is.2;
-            completes = at.0; taken = at.1;
+            place = is.0;
+            id = is.1;
+            content = is.2;
+            completes = at.0;
+            taken = at.1;
             stored = subst (λ t. ShowsHeader (header_word setup words chunk) t) same (shown.header chunk inside);
           };
       layout = λ chunk inside. (shown.page chunk inside).layout;

@@ -4,7 +4,7 @@ use Rattle.commit_body.specs.declared.body.CommitBody.{CommitBody}
 use Rattle.trace_model.specs.Calls.{Call}
 use Rattle.chunk_plain.specs.Setup.{Setup}
 use Rattle.chunk_plain.specs.Views.{At, Head, Content, Held, Completed, ServiceView, taken_of}
-use Rattle.chunk_plain.specs.World.{World, Status, Unclaimed, Claimed, Stamped, Writing, Ready, Reading, status, writer}
+use Rattle.chunk_plain.specs.World.{World, Unclaimed, Claimed, Stamped, Writing, Ready, Reading, status, writer}
 use Rattle.chunk_plain.specs.Steps.{claims, stamps, begins, restamps, completes, no_head, notes_call, takes_in, learns, lets_go, moved, served, noted, serviced}
 use Rattle.chunk_plain.specs.Owned.{times, IsOwned}
 use Rattle.chunk_plain.specs.Plain.{IsKept}

@@ -5,11 +5,9 @@ ghost use Rattle.chunk_plain.specs.Laws.{StepsKeep, KeptIsOwnership};
 /// Each step of a writer or the service keeps a world owned.
 pub fn steps_keep_ownership()
     ensures { StepsKeep }
-{
-}
+{}
 
 /// What the table of one thread keeps between two calls is ownership in its eight parts.
 pub fn kept_is_ownership()
     ensures { KeptIsOwnership }
-{
-}
+{}

@@ -13,6 +13,8 @@ mod plain;
 mod plain_seats;
 mod setup;
 mod step;
+#[cfg(test)]
+mod tests;
 mod tokens;
 mod words;
 mod worlds;

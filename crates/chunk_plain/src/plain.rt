@@ -263,11 +263,11 @@ impl Words for PlainTable {
         let Taken {
             chunk,
             header: _,
-            body,
+            body: emptied,
         } = taken;
         let world = &self.world;
         make_step(&world.shared, &mut self.seat, &Step::Release { chunk });
-        put_body(&mut self.bodies, chunk, body);
+        put_body(&mut self.bodies, chunk, emptied);
         let spot = self.layout.spot(chunk);
         let page = spot.page as usize;
         let found = self.words[page];
