@@ -1,15 +1,14 @@
 -- What the lines of a scenario give their packets are trees.
-use Rattle.std.proofs.Common.{◌≡◌, ℕ, zero, suc, ◌+◌, ◌≤◌, ◌<◌, length, Bool, true, false, cond, nat_lt, nat_le, nat_eq, not, ◌&&◌, Option, Some, None, Result, Ok, Err, List, [], ◌∷◌, ◌++◌, refl, subst, sym, ap, arith, ◌∙◌, lit≤}
-use Rattle.std.specs.List.{AllByRecursion}
+use Rattle.std.proofs.Common.{◌≡◌, ℕ, ◌+◌, ◌≤◌, Bool, true, false, cond, nat_lt, Option, Some, None, Result, Ok, Err, List, [], ◌∷◌, ◌++◌, refl, subst, sym, arith, lit≤}
 use Rattle.std.proofs.lemmas.Grind.{common_steps}
-use Rattle.trace_model.specs.Encoding.{Fields, NoFields, NumberField, BytesField, NestedField, encoding_of, encoding_len, depth_of}
+use Rattle.trace_model.specs.Encoding.{Fields, NoFields, NumberField, BytesField, NestedField, encoding_len, depth_of}
 use Rattle.trace_model.proofs.EncodingLemmas.{encoding_as_long}
 use Rattle.field_tree.specs.declared.fault.FieldFault.{FieldFault}
 use Rattle.field_tree.specs.declared.fault.FieldFault.TheVariants as faults
 use Rattle.field_tree.specs.Nodes.{Shown, nodes_of}
 use Rattle.field_tree.specs.Refusals as refusals
 use Rattle.field_tree.specs.Refusals.{reserved_fault, first_reserved, or_else, when}
-use Rattle.field_tree.specs.Answers.{Means, IsTaken, outcome}
+use Rattle.field_tree.specs.Answers.{Means, outcome}
 use Rattle.field_tree.proofs.AnswerLemmas.{outcome_means}
 use Rattle.trace_base.specs.declared.limits.TheConstants.{MAX_NESTING, MAX_PACKET_LEN}
 use Rattle.scenario_text.specs.declared.numeral.Numeral.{Numeral}
@@ -25,11 +24,9 @@ use Rattle.scenario_text.specs.State.{State, beginning, packet_of}
 use Rattle.scenario_text.specs.State as state_words
 use Rattle.scenario_text.specs.Reasons.{given, given_by, refusal_of}
 use Rattle.scenario_text.specs.Effects.{writer_kind, producer_kind, nodes_given, with_line, with_packet, with_bytes, with_closed, served, written, moved}
-use Rattle.scenario_text.specs.declared.scenario.LineKind.{LineKind}
 use Rattle.scenario_text.specs.declared.scenario.NumberedLine.{NumberedLine}
 use Rattle.scenario_text.specs.declared.scenario.Scenario.{Scenario}
 use Rattle.scenario_text.specs.declared.reason.Reason.{Reason}
-use Rattle.scenario_text.specs.declared.reason.ScenarioFault.{ScenarioFault}
 use Rattle.scenario_text.specs.Forms.{form_of}
 use Rattle.scenario_text.specs.Grammar.{unless, after_form, says_nothing, after_line, first_left, unless_left, at_end, and_then, after_lines, state_after}
 use Rattle.scenario_text.specs.Scenario.{Parts, parts_of, parts_said, said, scenario_of, IsScenario}
@@ -66,7 +63,7 @@ taken_tree : (depth : ℕ) (fields : Fields) → HasFieldNumbers fields → refu
 unfolding refusals.refusal_of
 taken_tree depth fields numbers is =
     let reserved = neither (reserved_fault depth (first_reserved fields))
-        (or_else (when (nat_lt MAX_NESTING (depth + depth_of fields)) faults.TooDeep) (when (nat_lt MAX_PACKET_LEN (encoding_len fields)) faults.PacketTooLong)) is in
+    (or_else (when (nat_lt MAX_NESTING (depth + depth_of fields)) faults.TooDeep) (when (nat_lt MAX_PACKET_LEN (encoding_len fields)) faults.PacketTooLong)) is in
     let deep = neither (when (nat_lt MAX_NESTING (depth + depth_of fields)) faults.TooDeep) (when (nat_lt MAX_PACKET_LEN (encoding_len fields)) faults.PacketTooLong) reserved.1 in
     let shallow : depth + depth_of fields ≤ MAX_NESTING = within MAX_NESTING (depth + depth_of fields) (no_fault _ _ deep.0) in
     let short : encoding_len fields ≤ MAX_PACKET_LEN = within MAX_PACKET_LEN (encoding_len fields) (no_fault _ _ deep.1) in
