@@ -1,5 +1,5 @@
 -- Which trees of fields can be written.
-use Rattle.std.specs.Prelude.{◌≡◌, ℕ, ◌≤◌, List, ⊤}
+use Rattle.std.specs.Prelude.{◌≡◌, ◌≤◌, List, ⊤}
 use Rattle.trace_base.specs.declared.limits.TheConstants.{MAX_NESTING, MAX_PACKET_LEN}
 use Rattle.trace_model.specs.Encoding.{Fields, NoFields, NumberField, BytesField, NestedField, depth_of}
 use Rattle.field_tree.specs.Nodes.{IsField}

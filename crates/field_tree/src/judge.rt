@@ -13,10 +13,14 @@ use trace_base::reserved::is_reserved;
 use wire_varint::put_varint;
 
 /// The length of a number as a varint.
+#[tactic(auto, unfolding(wire_varint::specs::Varint::varint, wire_varint::specs::Varint::groups))]
 fn varint_len(value: u64) -> u64
     ensures len { result ≡ length (varint value) }
     ensures few { result ≤ 10 }
 {
+    if value < 128 {
+        return 1;
+    }
     let mut bytes = [0; 10];
     put_varint(value, &mut bytes) as u64
 }

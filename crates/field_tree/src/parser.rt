@@ -10,6 +10,12 @@ use crate::node::{FieldNode, Node};
 use std::alloc::{AllocError, Global};
 use trace_base::limits::MAX_INPUT;
 
+/// Room for as many nodes as most packets have is taken at once, and so is room for their texts
+/// with the first byte of one.
+const FIRST_NODES: usize = 8;
+
+const FIRST_BYTES: usize = 64;
+
 /// Where the reading stands: the nodes so far, and the bytes of all texts, one behind another. The
 /// text that is being read begins at `start`.
 #[derive(Drop)]
@@ -35,19 +41,32 @@ fn ends_field(byte: u8) -> bool
     byte == b' ' || byte == b'}'
 }
 
+/// Takes room for some bytes where there is none yet.
+fn make_room(bytes: &mut Vec<u8>) -> Result<(), AllocError>
+    ensures { OnOk result (bytes.new.items ≡ bytes.old.items) }
+{
+    if bytes.is_empty() {
+        bytes.reserve(FIRST_BYTES)?;
+    }
+    Ok(())
+}
+
 impl Parser {
+    /// The beginning of a text of this length. Each node but one of a nested message takes four
+    /// bytes of text at least.
     #[tactic(auto, unfolding(crate::specs::Machine::beginning))]
-    fn new(alloc: Global) -> Self
-        ensures reading { reading result ≡ beginning }
-        ensures kept { Keeps result }
+    fn new(alloc: Global, len: usize) -> Result<Self, AllocError>
+        requires { len ≤ MAX_INPUT }
+        ensures reading { IfOk result (λ parser. reading parser ≡ beginning) }
+        ensures kept { IfOk result (λ parser. Keeps parser) }
     {
-        Parser {
-            nodes: Vec::new(alloc),
+        Ok(Parser {
+            nodes: Vec::with_capacity(alloc, (len / 4 + 1).min(FIRST_NODES))?,
             bytes: Vec::new(alloc),
             start: 0,
             depth: 0,
             mode: Mode::Start { opened: false },
-        }
+        })
     }
 
     /// Adds a node whose text is the one that was being read.
@@ -74,6 +93,7 @@ impl Parser {
         ensures pushed { OnOk result (reading self.new ≡ with_byte byte (reading self.old)) }
         ensures kept { OnOk result (Keeps self.new) }
     {
+        make_room(&mut self.bytes)?;
         self.bytes.push(byte)?;
         Ok(())
     }
@@ -180,7 +200,9 @@ pub(crate) fn read(alloc: Global, text: &[u8]) -> Result<Parsed, FieldError>
     requires { length text.now ≤ MAX_INPUT }
     ensures { GivesNodes result (nodes_or_column text.now) }
 {
-    let mut parser = Parser::new(alloc);
+    let Ok(mut parser) = Parser::new(alloc, text.len()) else {
+        return Err(FieldError::OutOfMemory);
+    };
     for (at, byte) in text.iter().enumerate() {
         let mode = parser.mode;
         match parser.step(*byte) {
