@@ -17,6 +17,7 @@ pub mod ReadPlaceLemmas
 pub mod ReadingLemmas
 pub mod ReadsAsLemmas
 pub mod RecordLemmas
+pub mod RoundLemmas
 pub mod RowPlaceLemmas
 pub mod SequenceLemmas
 pub mod TallyLemmas

@@ -31,6 +31,7 @@ pub mod Sent
 pub mod Sequences
 pub mod Tells
 pub mod TellsLaws
+pub mod WorkedRounds
 pub mod WorkedRows
 pub mod WorkedWriters
 pub mod Written

@@ -8,6 +8,7 @@ ghost use Rattle.trace_model.specs.PlaceLaws.{LiveAreUnmet};
 ghost use Rattle.trace_model.specs.ReadingLaws.{PagesReadAsWritten, ReadingIsExact};
 ghost use Rattle.trace_model.specs.RowLaws.{RowsContinue, RowsRise};
 ghost use Rattle.trace_model.specs.TellsLaws.{TellsByPlaces};
+ghost use Rattle.trace_model.specs.WorkedRounds.{WorkedRounds};
 ghost use Rattle.trace_model.specs.WorkedRows.{WorkedRows};
 
 /// The length of an encoding is the sum of the lengths of its parts.
@@ -49,6 +50,12 @@ pub fn calls_give_encodings()
 /// and the report.
 pub fn worked_rows()
     ensures { WorkedRows }
+{}
+
+/// So they do for two writers who share one chunk or wait for each other, and for a chunk with as
+/// many fragments as it may have.
+pub fn worked_rounds()
+    ensures { WorkedRounds }
 {}
 
 /// Each packet is delivered once or absent under one cause: whatever a history does whose arrivals

@@ -8,5 +8,6 @@ mod laws;
 pub use laws::{
     all_records_tell, calls_give_encodings, counts_are_outcomes, encodings_are_as_long,
     live_are_unmet, packets_are_fronted, packets_have_one_outcome, pages_read_as_written,
-    reading_is_exact, rows_continue, rows_fade, rows_rise, tells_by_places, worked_rows,
+    reading_is_exact, rows_continue, rows_fade, rows_rise, tells_by_places, worked_rounds,
+    worked_rows,
 };
