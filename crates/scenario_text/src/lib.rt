@@ -2,23 +2,24 @@
 //! answers its first faulty line with the first reason that holds there.
 //! A layer above may rely on a text being accepted exactly where the grammar gives a scenario, on
 //! the lines being what the grammar gives, and on a refusal being the first one, printed exactly.
+//! Who asks something of a line that the scenario doesn't keep reads it by the public modules.
 #![tactic(auto)]
 
 mod effects;
 mod fields;
-mod form;
+pub mod form;
 mod items;
 mod laws;
 mod line_fault;
-mod lines;
+pub mod lines;
 mod number;
-mod numeral;
+pub mod numeral;
 mod open_packet;
-mod pieces;
+pub mod pieces;
 mod playing;
 mod printing;
 mod reader;
-mod reading;
+pub mod reading;
 mod reason;
 mod refusals;
 mod scenario;

@@ -17,7 +17,7 @@ use trace_base::policy::WriterSpec;
 
 /// Whether a line is empty or begins with '#'.
 #[tactic(auto, unfolding(crate::specs::Grammar::says_nothing))]
-fn says_nothing(line: &[u8]) -> bool
+pub fn says_nothing(line: &[u8]) -> bool
     ensures { result ≡ says_nothing line.now }
 {
     match line {
