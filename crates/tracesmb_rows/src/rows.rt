@@ -9,12 +9,26 @@ struct Row {
     text: &'static [u8],
 }
 
-static ROWS: [Row; 4] = [
+static ROWS: [Row; 9] = [
     // One packet of one number field.
     Row {
         input: b"buffer 64 ring\nproducer 1 4096 14\nwriter 1 1 drop\np 1 8:5\n",
         status: 0,
         trace: b"\x0A\x07\x40\x05\x50\x02\xD0\x02\x01",
+        text: b"",
+    },
+    // A nested message with a text and a number; its length has four bytes.
+    Row {
+        input: b"buffer 64 ring\nproducer 1 4096 14\nwriter 1 1 drop\np 1 900{1:\"hi\" 2:7}\n",
+        status: 0,
+        trace: b"\x0A\x11\xA2\x38\x86\x80\x80\x00\x0A\x02hi\x10\x07\x50\x02\xD0\x02\x01",
+        text: b"",
+    },
+    // Nothing.
+    Row {
+        input: b"",
+        status: 0,
+        trace: b"",
         text: b"",
     },
     // A packet without fields.
@@ -31,9 +45,30 @@ static ROWS: [Row; 4] = [
         trace: b"\x0A\x0B\x40\x01\xA0\x38\xAC\x02\x50\x02\xD0\x02\x01\x0A\x08\xF8\xFF\xFF\xFF\x0F\x00\x50\x02\x0A\x0D\x08\xFF\xFF\xFF\xFF\xFF\xFF\xFF\xFF\xFF\x01\x50\x02",
         text: b"",
     },
+    // Texts that repeat, bytes, an empty text, a message in a message; a reserved number is one at the top level alone.
+    Row {
+        input: b"buffer 64 ring\nproducer 1 4096 14\nwriter 1 1 drop\np 1 1:\"ab\"*3 2:x'00ff' 4:\"\"\np 1 8{9{10:1} 11{}} 12:0\n",
+        status: 0,
+        trace: b"\x0A\x13\x0A\x06ababab\x12\x02\x00\xFF\x22\x00\x50\x02\xD0\x02\x01\x0A\x15\x42\x8C\x80\x80\x00\x4A\x82\x80\x80\x00\x50\x01\x5A\x80\x80\x80\x00\x60\x00\x50\x02",
+        text: b"",
+    },
+    // Lines that say nothing, before the set-up, in it and behind it.
+    Row {
+        input: b"# a scenario\n\nbuffer 64 ring\n#\nproducer 1 4096 14\n\nwriter 1 1 drop\n# a packet\np 1 8:5\n\n",
+        status: 0,
+        trace: b"\x0A\x07\x40\x05\x50\x02\xD0\x02\x01",
+        text: b"",
+    },
     // No packet.
     Row {
         input: b"buffer 65536 ring\nproducer 1 4096 7\nwriter 1 1 drop\n",
+        status: 0,
+        trace: b"",
+        text: b"",
+    },
+    // A set-up that stops early.
+    Row {
+        input: b"producer 1 4096 14\n",
         status: 0,
         trace: b"",
         text: b"",
@@ -51,75 +86,99 @@ fn plays_rows(rt: HostRuntime) -> Result<(), Fail> {
     Ok(())
 }
 
-/// Inputs that aren't built, and what stands between `line ` and `: not built`.
-static NOT_BUILT: [(&[u8], &[u8]); 24] = [
-    (b"", b"1"),
-    (b"\n", b"1"),
-    (b"buffer 64 ring", b"1"),
-    (b"buffer 3 ring\n", b"1"),
-    (b"buffer 65537 ring\n", b"1"),
-    (b"buffer 064 ring\n", b"1"),
-    (b"buffer 64 discard\n", b"1"),
-    (b"buffer 64 ring x\n", b"1"),
-    (b"buffer 64 ring\n", b"2"),
-    (b"buffer 64 ring\nproducer 0 4096 14\n", b"2"),
-    (b"buffer 64 ring\nproducer 65 4096 14\n", b"2"),
-    (b"buffer 64 ring\nproducer 1 8192 14\n", b"2"),
-    (b"buffer 64 ring\nproducer 1 4096 3\n", b"2"),
-    (b"buffer 64 ring\nproducer 1 4096 14\n", b"3"),
-    (
-        b"buffer 64 ring\nproducer 1 4096 14\nwriter 1 1 stall\n",
-        b"3",
-    ),
-    (
-        b"buffer 64 ring\nproducer 1 4096 14\nwriter 1 1 drop\nq\n",
-        b"4",
-    ),
-    (
-        b"buffer 64 ring\nproducer 1 4096 14\nwriter 1 1 drop\np 1",
-        b"4",
-    ),
-    (
-        b"buffer 64 ring\nproducer 1 4096 14\nwriter 1 1 drop\np 1 \n",
-        b"4",
-    ),
-    (
-        b"buffer 64 ring\nproducer 1 4096 14\nwriter 1 1 drop\np 2 8:1\n",
-        b"4",
-    ),
-    (
-        b"buffer 64 ring\nproducer 1 4096 14\nwriter 1 1 drop\np 1 8:1\np 1 8:1  9:1\n",
-        b"5",
-    ),
+/// Inputs that are refused, and the line that says why.
+static REFUSALS: [(&[u8], &[u8]); 23] = [
+    // By the grammar.
+    (b"buffer 4 ring", b"line 1: unfinished line\n"),
     (
         b"buffer 64 ring\nproducer 1 4096 14\nwriter 1 1 drop\np 1 10:5\n",
-        b"4",
+        b"line 4: reserved field 10\n",
     ),
     (
-        b"buffer 64 ring\nproducer 1 4096 14\nwriter 1 1 drop\np 1 536870912:5\n",
-        b"4",
+        b"buffer 64 ring\nproducer 1 4096 14\nwriter 1 1 drop\np 1 8:1  9:1\n",
+        b"line 4: bad field at column 9\n",
     ),
     (
-        b"buffer 64 ring\nproducer 1 4096 14\nwriter 1 1 drop\np 1 8:18446744073709551616\n",
-        b"4",
+        b"buffer 64 ring\nbuffer 3 ring\n",
+        b"line 2: number out of range\n",
+    ),
+    (b"buffer 64 ring\nplay\n", b"line 2: bad line\n"),
+    // The grammar comes first, wherever its fault stands.
+    (
+        b"buffer 64 discard\nq\nbuffer 64 ring\n",
+        b"line 3: late set-up\n",
+    ),
+    // A set-up line that isn't built.
+    (b"buffer 64 discard\n", b"line 1: not built\n"),
+    (
+        b"buffer 64 ring\n# a second one\nbuffer 64 ring\n",
+        b"line 3: not built\n",
+    ),
+    (b"producer 1 8192 14\n", b"line 1: not built\n"),
+    (
+        b"producer 1 4096 14\nproducer 1 4096 14\n",
+        b"line 2: not built\n",
     ),
     (
-        b"buffer 64 ring\nproducer 1 4096 14\nwriter 1 1 drop\np 1 8:\n",
-        b"4",
+        b"buffer 64 ring\nproducer 1 4096 14\nwriter 1 1 stall\n",
+        b"line 3: not built\n",
     ),
+    (
+        b"buffer 64 ring\nproducer 1 4096 14\nwriter 1 1 drop\nwriter 1 1 drop\np 1\n",
+        b"line 4: not built\n",
+    ),
+    // A line that does anything else than write a whole packet.
+    (
+        b"buffer 64 ring\nproducer 1 4096 14\nwriter 1 1 drop\np 1\nb 1\ne 1\n",
+        b"line 5: not built\n",
+    ),
+    (
+        b"buffer 64 ring\nproducer 1 4096 14\nwriter 1 1 drop\nf 1\n",
+        b"line 4: not built\n",
+    ),
+    (b"producer 1 4096 14\nc 1\n", b"line 2: not built\n"),
+    (b"producer 1 4096 14\n\ns 1\n", b"line 3: not built\n"),
+    (b"producer 1 4096 14\nx 1\n", b"line 2: not built\n"),
+    (b"buffer 64 ring\nr 1\n", b"line 2: not built\n"),
+    (b"buffer 64 ring\nr 1 5\n", b"line 2: not built\n"),
+    (b"q\n", b"line 1: not built\n"),
+    // Packets that take more than 272 bytes, each with its four bytes of size.
+    (
+        b"buffer 64 ring\nproducer 1 4096 14\nwriter 1 1 drop\np 1 1:\"x\"*266\n",
+        b"line 4: not built\n",
+    ),
+    (
+        b"buffer 64 ring\nproducer 1 4096 14\nwriter 1 1 drop\np 1 1:\"x\"*265\n\np 1\n",
+        b"line 6: not built\n",
+    ),
+    // The first of two.
+    (b"producer 1 8192 14\nq\n", b"line 1: not built\n"),
 ];
 
 #[test]
-fn refuses_what_is_not_built(rt: HostRuntime) -> Result<(), Fail> {
-    for (input, line) in &NOT_BUILT {
+fn refuses_what_is_not_played(rt: HostRuntime) -> Result<(), Fail> {
+    for (number, (input, line)) in REFUSALS.iter().enumerate() {
         let played = play(&rt, &["replay"], input)?;
-        let mut text = Vec::from_slice(rt.alloc(), b"line ")?;
-        text.extend_from_slice(line)?;
-        text.extend_from_slice(b": not built\n")?;
-        assert_eq!(rt; played.status, 3);
-        assert_eq!(rt; played.text.taken(), text.as_slice());
-        assert_eq!(rt; played.trace.taken(), b"".as_slice());
+        assert_eq!(rt; played.text.taken(), *line, "row {number}");
+        assert_eq!(rt; played.status, 3, "row {number}");
+        assert_eq!(rt; played.trace.taken(), b"".as_slice(), "row {number}");
     }
+    Ok(())
+}
+
+// One packet takes the 272 bytes that packets share, to the last.
+#[test]
+fn plays_as_many_bytes_as_packets_share(rt: HostRuntime) -> Result<(), Fail> {
+    let played = play(
+        &rt,
+        &["replay"],
+        b"buffer 64 ring\nproducer 1 4096 14\nwriter 1 1 drop\np 1 1:\"x\"*265\n",
+    )?;
+    let mut trace = Vec::from_slice(rt.alloc(), b"\x0A\x91\x02\x0A\x89\x02")?;
+    trace.extend_from_slice(&[b'x'; 265])?;
+    trace.extend_from_slice(b"\x50\x02\xD0\x02\x01")?;
+    assert_eq!(rt; played.status, 0);
+    assert_eq!(rt; played.trace.taken(), trace.as_slice());
     Ok(())
 }
 

@@ -1,17 +1,26 @@
--- The lone writer's trace is faithful and complete.
-use Rattle.std.proofs.Common.{◌≡◌, ℕ, zero, suc, ◌<◌, ◌≤◌, Bool, true, false, length, Option, Some, Ok, IfSome, List, [], ◌∷◌, All, refl, subst, sym, ap, ◌∙◌, lit<, lit≤}
+-- The lone writer's trace is faithful and complete, and the packets are those of the scenario.
+use Rattle.std.proofs.Common.{◌≡◌, ℕ, zero, suc, ◌+◌, ◌<◌, ◌≤◌, if◌then◌else◌, Bool, true, false, nat_le, length, Option, Some, None, Ok, IfSome, List, [], ◌∷◌, All, refl, subst, sym, ap, ◌∙◌, lit<, lit≤}
 use Rattle.std.specs.Prelude.{slice_get}
 use Rattle.std.proofs.lemmas.List.Elements.{All-cons, All-nil}
-use Rattle.byte_io.specs.Bytes.{Intake, after_told}
+use Rattle.std.specs.Option.{option_map}
+use Rattle.byte_io.specs.Bytes.{Intake, after_told, TakesPart}
 use Rattle.byte_io.proofs.Told.{told_has}
 use Rattle.trace_model.specs.Delivery.{Delivered, records_of, sequence_of, IsFaithful, IsComplete}
 use Rattle.trace_model.specs.Record.{record_of}
 use Rattle.trace_model.specs.Tells.{Tells}
 use Rattle.trace_model.specs.Laws.{all_records}
 use Rattle.trace_model.proofs.TellsLemmas.{all_tell}
-use Rattle.tracesmb_top.specs.Script.{script_of}
+use Rattle.scenario_text.specs.declared.scenario.LineKind.{LineKind}
+use Rattle.scenario_text.specs.declared.scenario.LineKind.TheVariants.{Packet}
+use Rattle.scenario_text.specs.declared.scenario.NumberedLine.{NumberedLine}
+use Rattle.scenario_text.specs.Scenario.{Parts, scenario_of}
+use Rattle.scenario_text.specs.Trees.{GivesTree, GiveTrees}
+use Rattle.tracesmb_top.specs.Built.{packet_nodes, packet_len, behind_packet, unbuilt_line, or_played, first_unbuilt}
+use Rattle.tracesmb_top.specs.Played.{Emits, EmitAll, IsPlayed, packet_by, packets_of}
+use Rattle.tracesmb_top.specs.Refusals.{not_built_line, refusal_by, refusal_of}
 use Rattle.tracesmb_top.specs.Trace.{lone_delivery, lone_trace}
-use Rattle.tracesmb_top.specs.Answers.{Delivers}
+use Rattle.tracesmb_top.specs.Answers.{Delivers, DeliversPart}
+use Rattle.tracesmb_top.proofs.PacketLemmas.{packet_as}
 
 records_are : (first : Bool) (packets : List (List ℕ)) → records_of 2 (lone_delivery first packets) ≡ all_records 2 first packets
 records_are first [] = refl
@@ -48,12 +57,64 @@ is_complete packets = λ writer others is.
     one_writer (λ (w : ℕ) (ps : List (List ℕ)). length (records_of (sequence_of w) (lone_delivery true packets)) ≡ length ps) packets others writer is
     (ap (λ (records : List (List ℕ)). length records) (records_are true packets) ∙ as_many true packets)
 
-delivers : (script : List ℕ) (packets : List (List ℕ)) (old new : Intake) → script_of script ≡ Ok packets
-    → new ≡ after_told old (lone_trace true packets) → Delivers script old new
+-- ---- the packets of the lines are those that their writer emits
+
+emits_by : (taken number : ℕ) (what : LineKind) (lines : List NumberedLine) → behind_packet taken number (packet_len what) (λ more. unbuilt_line more lines) ≡ None
+    → GivesTree what → Emits what (packet_by what)
+unfolding packet_nodes packet_len behind_packet packet_by
+emits_by taken number (Packet writer nodes) lines built tree = record { fields = tree.tree; nodes_are = tree.nodes_are; packet_is = packet_as nodes tree.tree tree.nodes_are }
+emits_by taken number other lines built tree = cc
+
+others_by : (fits : Bool) (taken number : ℕ) (lines : List NumberedLine) → (if fits then unbuilt_line taken lines else Some number) ≡ None → unbuilt_line taken lines ≡ None
+others_by true taken number lines built = built
+others_by false taken number lines built = cc
+
+-- the lines behind one that is built are built, behind its packet
+others_built : (taken number : ℕ) (len : Option ℕ) (lines : List NumberedLine) → behind_packet taken number len (λ more. unbuilt_line more lines) ≡ None
+    → (more : ℕ) × (unbuilt_line more lines ≡ None)
+unfolding behind_packet
+others_built taken number (Some len) lines built = (taken + (4 + len), others_by (nat_le (taken + (4 + len)) 272) (taken + (4 + len)) number lines built)
+others_built taken number None lines built = cc
+
+pub emit_all : (taken : ℕ) (lines : List NumberedLine) → unbuilt_line taken lines ≡ None → GiveTrees lines → EmitAll lines (packets_of lines)
+unfolding unbuilt_line
+emit_all taken [] built trees = tt
+emit_all taken (line ∷ lines) built trees =
+    let others = others_built taken line.line (packet_len line.what) lines built in
+    (emits_by taken line.line line.what lines built trees.0, emit_all others.0 lines others.1 trees.1)
+
+-- ---- what a text that is built has its writer emit
+
+setup_first : (setup played : Option ℕ) → or_played setup played ≡ None → played ≡ None
+unfolding or_played
+setup_first None played is = is
+setup_first (Some line) played is = cc
+
+-- so no played line is unbuilt
+pub played_built : (text : List ℕ) (lines : List NumberedLine) → first_unbuilt text lines ≡ None → unbuilt_line 0 lines ≡ None
+unfolding first_unbuilt
+played_built text lines is = setup_first _ (unbuilt_line 0 lines) is
+
+none_said : (unbuilt : Option ℕ) → option_map not_built_line unbuilt ≡ None → unbuilt ≡ None
+none_said None none = refl
+none_said (Some line) none = cc
+
+all_built : (text : List ℕ) (parts : Parts) → scenario_of text ≡ Ok parts → refusal_of text ≡ None → first_unbuilt text parts.lines ≡ None
+unfolding refusal_of refusal_by
+all_built text parts is none = none_said (first_unbuilt text parts.lines) (rw is at none)
+
+is_played : (text : List ℕ) (parts : Parts) → scenario_of text ≡ Ok parts → refusal_of text ≡ None → GiveTrees parts.lines
+    → IsPlayed text (packets_of parts.lines)
+is_played text parts is none trees =
+    let built = all_built text parts is none in
+    record { parts = parts; scenario_is = is; built = built; emitted = emit_all 0 parts.lines (played_built text parts.lines built) trees }
+
+delivers : (text : List ℕ) (packets : List (List ℕ)) (old new : Intake) → IsPlayed text packets
+    → new ≡ after_told old (lone_trace true packets) → Delivers text old new
 unfolding lone_trace
-delivers script packets old new is taken = record {
+delivers text packets old new played taken = record {
   packets = packets;
-  script_is = is;
+  played = played;
   delivered = lone_delivery true packets;
   faithful = is_faithful packets;
   none_missing = is_complete packets;
@@ -61,9 +122,23 @@ delivers script packets old new is taken = record {
   taken = taken;
 }
 
--- the same of a source that told the script
-pub delivers_told : (left : Option (List ℕ)) (script : List ℕ) (packets : List (List ℕ)) (old new : Intake)
-    → IfSome left (λ told. script ≡ told) → script_of script ≡ Ok packets → new ≡ after_told old (lone_trace true packets)
-    → IfSome left (λ told. Delivers told old new)
-delivers_told left script packets old new same is taken =
-    told_has (λ (told : List ℕ). Delivers told old new) script left same (delivers script packets old new is taken)
+delivers_part : (text : List ℕ) (packets : List (List ℕ)) (old new : Intake) → IsPlayed text packets
+    → TakesPart old new (lone_trace true packets) → DeliversPart text old new
+unfolding lone_trace
+delivers_part text packets old new played part = record { packets = packets; played = played; part = part }
+
+-- ---- the same of a source that told the text
+
+pub delivers_told : (left : Option (List ℕ)) (text : List ℕ) (parts : Parts) (old new : Intake) → IfSome left (λ told. text ≡ told)
+    → scenario_of text ≡ Ok parts → refusal_of text ≡ None → GiveTrees parts.lines
+    → new ≡ after_told old (lone_trace true (packets_of parts.lines)) → IfSome left (λ told. Delivers told old new)
+delivers_told left text parts old new same is none trees taken =
+    told_has (λ (told : List ℕ). Delivers told old new) text left same
+    (delivers text (packets_of parts.lines) old new (is_played text parts is none trees) taken)
+
+pub delivers_part_told : (left : Option (List ℕ)) (text : List ℕ) (parts : Parts) (old new : Intake) → IfSome left (λ told. text ≡ told)
+    → scenario_of text ≡ Ok parts → refusal_of text ≡ None → GiveTrees parts.lines
+    → TakesPart old new (lone_trace true (packets_of parts.lines)) → IfSome left (λ told. DeliversPart told old new)
+delivers_part_told left text parts old new same is none trees part =
+    told_has (λ (told : List ℕ). DeliversPart told old new) text left same
+    (delivers_part text (packets_of parts.lines) old new (is_played text parts is none trees) part)

@@ -1,7 +1,4 @@
-pub mod NumberLaws
-pub mod PieceLemmas
-pub mod SetupLemmas
+pub mod BuiltLemmas
 pub mod PacketLemmas
-pub mod ScriptLemmas
 pub mod TraceLemmas
 pub mod DeliverLemmas

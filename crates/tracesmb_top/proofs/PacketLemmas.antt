@@ -1,39 +1,18 @@
--- Words that spell no field.
-use Rattle.std.proofs.Common.{◌≡◌, ℕ, Option, Some, None, List, [], ◌∷◌, ◌++◌, refl, subst, sym, ap, append_assoc, append-nil}
-use Rattle.tracesmb_top.specs.Pieces.{pieces, pieces_behind}
-use Rattle.tracesmb_top.specs.Script.{field_bytes, fields_of, both}
-use Rattle.tracesmb_top.proofs.PieceLemmas.{has_piece}
+-- The packet that was written into a chunk.
+use Rattle.std.proofs.Common.{◌≡◌, ℕ, ◌+◌, ◌≤◌, length, List, [], ◌∷◌, slice_range, ap, arith, ◌∙◌}
+use Rattle.std.proofs.lemmas.Grind.{common_steps}
+use Rattle.trace_model.specs.Encoding.{Fields, encoding_of}
+use Rattle.trace_model.specs.Images.{with_bytes}
+use Rattle.field_tree.specs.Nodes.{Shown, nodes_of}
+use Rattle.field_stream.specs.Levels.{levels_after}
+use Rattle.field_stream.proofs.LevelLemmas.{tree_gives}
+use Rattle.tracesmb_top.specs.Played.{innermost, packet_of}
 
-pub no_field_more : (name value : List ℕ) (separator : ℕ) (more : List ℕ) → field_bytes (name ∷ value ∷ pieces separator more) ≡ None
-unfolding field_bytes
-no_field_more name value separator more =
-    let has = has_piece separator more in
-    subst (λ (all : List (List ℕ)). field_bytes (name ∷ value ∷ all) ≡ None) (sym has.are) refl
+-- nodes one after another give the encoding of their tree
+pub packet_as : (nodes : List Shown) (tree : Fields) → nodes ≡ nodes_of tree → packet_of nodes ≡ encoding_of tree
+unfolding packet_of innermost
+packet_as nodes tree is = ap (λ (ns : List Shown). innermost (levels_after ([] ∷ []) ns)) is ∙ ap innermost (tree_gives tree [] [])
 
-pub both_nothing : (x : Option (List ℕ)) → both (Some []) x ≡ x
-unfolding both
-both_nothing None = refl
-both_nothing (Some bytes) = refl
-
-both_again : (done added : List ℕ) (x : Option (List ℕ)) → both (Some done) (both (Some added) x) ≡ both (Some (done ++ added)) x
-unfolding both
-both_again done added None = refl
-both_again done added (Some bytes) = ap Some (sym (append_assoc done added bytes))
-
--- the last word's field
-pub fields_last : (done added word : List ℕ) (separator : ℕ) → field_bytes (pieces 58 word) ≡ Some added
-    → both (Some done) (fields_of (word ∷ pieces_behind separator None)) ≡ Some (done ++ added)
-unfolding both fields_of pieces_behind
-fields_last done added word separator is = rw is (ap Some (ap (λ bytes. done ++ bytes) (append-nil added)))
-
--- a word's field before others
-pub fields_more : (done added word behind : List ℕ) (separator : ℕ) → field_bytes (pieces 58 word) ≡ Some added
-    → both (Some done) (fields_of (word ∷ pieces_behind separator (Some behind))) ≡ both (Some (done ++ added)) (fields_of (pieces separator behind))
-unfolding fields_of pieces_behind
-fields_more done added word behind separator is = rw is (both_again done added (fields_of (pieces separator behind)))
-
--- a word that spells no field
-pub fields_none : (done word : List ℕ) (words : List (List ℕ)) → field_bytes (pieces 58 word) ≡ None
-    → both (Some done) (fields_of (word ∷ words)) ≡ None
-unfolding both fields_of
-fields_none done word words is = rw is refl
+-- what was put into a list stands there
+pub put_stands : (old : List ℕ) (at : ℕ) (bytes : List ℕ) → at + length bytes ≤ length old → slice_range (with_bytes old at bytes) at (at + length bytes) ≡ bytes
+put_stands old at bytes within = grind (arith, common_steps, within)

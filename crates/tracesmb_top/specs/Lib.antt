@@ -1,8 +1,6 @@
-pub mod Pieces
-pub mod Numbers
 pub mod Answers
-pub mod Gives
-pub mod GivesScript
-pub mod Script
+pub mod Built
+pub mod Played
+pub mod Refusals
 pub mod Trace
 pub mod Words

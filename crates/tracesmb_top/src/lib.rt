@@ -1,13 +1,13 @@
 //! The top call: words of a command, an input, a sink for the trace and one for text, and a status.
+//! Its clauses are the program's promises: the delivery theorem for status 0, the cause of each
+//! other status, and what the trace and the text hold afterwards.
 #![tactic(auto)]
 
+mod built;
 mod deliver;
-mod number;
-mod packet_line;
-mod pieces;
+mod packet;
+mod reading;
 mod say;
-mod script;
-mod setup;
 mod top;
 mod words;
 

@@ -1,13 +1,14 @@
 //! The lines that the top call writes on its text.
 ghost use Rattle.std.specs.Prelude.{◌≡◌, ◌++◌};
-ghost use Rattle.tracesmb_top.specs.Answers.{Says, usage_line, memory_line, read_line, write_line, long_line, not_built_line};
+ghost use Rattle.tracesmb_top.specs.Answers.{Says, usage_line, memory_line, read_line, write_line, long_line};
+ghost use Rattle.tracesmb_top.specs.Refusals as refusals;
 
 use arrayvec::ArrayVec;
 use byte_io::put::{WriteFault, put_all};
 use byte_io::traits::Sink;
 
 /// Writes a line. A fault in writing it changes nothing else: it shows in the sink's count alone.
-fn say<O: Sink>(text: &mut O, line: &[u8])
+pub fn say<O: Sink>(text: &mut O, line: &[u8])
     ensures { Says (O.taken text.old) (O.taken text.new) (O.faults text.old) (O.faults text.new) line.now }
 {
     match put_all(text, line) {
@@ -54,10 +55,10 @@ pub fn say_too_long<O: Sink>(text: &mut O)
     say(text, b"input too long\n")
 }
 
-/// `line L: not built`.
-#[tactic(auto, unfolding(crate::specs::Answers::not_built_line))]
-fn not_built(line: u32) -> ArrayVec<u8, 32>
-    ensures { result.items ≡ not_built_line line }
+/// `line L: not built`, with its line feed.
+#[tactic(auto, unfolding(crate::specs::Refusals::not_built_line))]
+pub fn not_built_line(line: u32) -> ArrayVec<u8, 64>
+    ensures { result.items ≡ refusals.not_built_line line }
 {
     let mut digits = itoa::Buffer::new();
     let mut bytes = ArrayVec::new();
@@ -65,10 +66,4 @@ fn not_built(line: u32) -> ArrayVec<u8, 32>
     let _ = bytes.try_extend_from_slice(digits.format(line).as_bytes());
     let _ = bytes.try_extend_from_slice(b": not built\n");
     bytes
-}
-
-pub fn say_not_built<O: Sink>(text: &mut O, line: u32)
-    ensures { Says (O.taken text.old) (O.taken text.new) (O.faults text.old) (O.faults text.new) (not_built_line line) }
-{
-    say(text, &not_built(line))
 }

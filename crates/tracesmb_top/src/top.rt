@@ -1,17 +1,16 @@
 //! The top call.
-ghost use Rattle.std.specs.Prelude.{◌≡◌, ◌≢◌, ℕ, ◌<◌, ◌≤◌, ◌⊎◌, ◌↔◌, List, [], length, map, Ok, Err, IsOk, IfSome, IfOk, true};
+ghost use Rattle.std.specs.Prelude.{◌≡◌, ◌≢◌, ℕ, ◌<◌, ◌≤◌, ◌⊎◌, ◌↔◌, List, [], length, map, Some, None, IfSome};
 ghost use Rattle.std.specs.String.{string_bytes};
-ghost use Rattle.byte_io.specs.Bytes.{Faulted, NoFault, TakesPart};
+ghost use Rattle.byte_io.specs.Bytes.{Faulted, NoFault};
 ghost use Rattle.tracesmb_top.specs.Words.{HasWrittenForm};
-ghost use Rattle.tracesmb_top.specs.Script.{script_of};
-ghost use Rattle.tracesmb_top.specs.Trace.{lone_trace};
-ghost use Rattle.tracesmb_top.specs.Answers.{Delivers, Says, usage_line, memory_line, read_line, write_line, long_line, not_built_line};
+ghost use Rattle.tracesmb_top.specs.Refusals.{refusal_of};
+ghost use Rattle.tracesmb_top.specs.Answers.{Delivers, DeliversPart, Says, usage_line, memory_line, read_line, write_line, long_line};
 
 use crate::deliver::{DeliverFault, deliver};
+use crate::reading::{ReadingFault, read_built};
 use crate::say::{
-    say_not_built, say_out_of_memory, say_read_fault, say_too_long, say_usage, say_write_fault,
+    say, say_out_of_memory, say_read_fault, say_too_long, say_usage, say_write_fault,
 };
-use crate::script::{ScriptFault, read_script};
 use crate::words::is_replay;
 use byte_io::fill::{FillFault, fill_all};
 use byte_io::traits::{Gate, Sink, Source};
@@ -27,11 +26,10 @@ use trace_base::limits::MAX_INPUT;
 /// | 0 | the trace is written | nothing |
 /// | 1 | memory ran out, before anything was written | `out of memory` |
 /// | 2 | the words have no written form | the usage |
-/// | 3 | the input has a line that isn't built | `line L: not built` |
+/// | 3 | the input is no scenario, at its first fault; or it has a line that isn't built | `line L: REASON`, `line L: not built` |
 /// | 4 | the input failed | `read fault` |
 /// | 5 | the trace failed; it holds a front part of what it would have | `write fault` |
 /// | 7 | the input has more than 67,108,864 bytes | `input too long` |
-
 pub fn trace_top<R: Threads + Wait + Sync, S: Source, T: Sink + Send, O: Sink, G: Gate + Sync>(
     _rt: &R,
     alloc: Global,
@@ -44,7 +42,7 @@ pub fn trace_top<R: Threads + Wait + Sync, S: Source, T: Sink + Send, O: Sink, G
     ensures known { (result ≤ 5) ⊎ (result ≡ 7) }
 
     // Status 0: the input was read whole, its packets are delivered, and nothing failed.
-    ensures delivers { result ≡ 0 → IfSome (S.left input.old) (λ script. Delivers script (T.taken trace.old) (T.taken trace.new)) }
+    ensures delivers { result ≡ 0 → IfSome (S.left input.old) (λ told. Delivers told (T.taken trace.old) (T.taken trace.new)) }
     ensures read { (result ≡ 0) ⊎ (result ≡ 3) → IfSome (S.left input.new) (λ left. left ≡ []) }
     ensures quiet { result ≡ 0 → O.taken text.new ≡ O.taken text.old }
     ensures steady_input { result ≡ 0 → S.faults input.new ≡ S.faults input.old }
@@ -59,12 +57,12 @@ pub fn trace_top<R: Threads + Wait + Sync, S: Source, T: Sink + Send, O: Sink, G
     ensures unread { result ≡ 2 → S.left input.new ≡ S.left input.old }
     ensures says_usage { result ≡ 2 → Says (O.taken text.old) (O.taken text.new) (O.faults text.old) (O.faults text.new) usage_line }
 
-    // Status 3: the first line that isn't built.
-    ensures refused { result ≡ 3 → (line : ℕ)
-        × IfSome (S.left input.old) (λ script. script_of script ≡ Err line)
-        × Says (O.taken text.old) (O.taken text.new) (O.faults text.old) (O.faults text.new) (not_built_line line) }
+    // Status 3: the first fault of the scenario by its grammar, with its reason, or else the first line that isn't built.
+    ensures refused { result ≡ 3 → (given line : List ℕ) × (refusal_of given ≡ Some line)
+        × IfSome (S.left input.old) (λ told. given ≡ told)
+        × Says (O.taken text.old) (O.taken text.new) (O.faults text.old) (O.faults text.new) line }
     ensures refuses { HasWrittenForm (map string_bytes words.now) → NoFault (S.faults input.old) (S.faults input.new)
-        → IfSome (S.left input.old) (λ script. length script ≤ MAX_INPUT → (line : ℕ) → script_of script ≡ Err line → (result ≡ 3) ⊎ (result ≡ 1)) }
+        → IfSome (S.left input.old) (λ told. length told ≤ MAX_INPUT → (line : List ℕ) → refusal_of told ≡ Some line → (result ≡ 3) ⊎ (result ≡ 1)) }
 
     // Status 4: only where the input's faults rose, and always where they rose.
     ensures read_fault { result ≡ 4 → Faulted (S.faults input.old) (S.faults input.new) }
@@ -74,15 +72,13 @@ pub fn trace_top<R: Threads + Wait + Sync, S: Source, T: Sink + Send, O: Sink, G
     // Status 5: only where the trace's faults rose, and always where they rose. It holds a front part then.
     ensures write_fault { result ≡ 5 → Faulted (T.faults trace.old) (T.faults trace.new) }
     ensures trace_fault { T.faults trace.old < T.faults trace.new → result ≡ 5 }
-    ensures part { result ≡ 5 → IfSome (S.left input.old) (λ script.
-        (packets : List (List ℕ)) × (script_of script ≡ Ok packets)
-        × TakesPart (T.taken trace.old) (T.taken trace.new) (lone_trace true packets)) }
+    ensures part { result ≡ 5 → IfSome (S.left input.old) (λ told. DeliversPart told (T.taken trace.old) (T.taken trace.new)) }
     ensures says_write { result ≡ 5 → Says (O.taken text.old) (O.taken text.new) (O.faults text.old) (O.faults text.new) write_line }
 
     // Status 7: exactly where more bytes came than an input may have.
-    ensures too_long { result ≡ 7 → IfSome (S.left input.old) (λ script. MAX_INPUT < length script) }
+    ensures too_long { result ≡ 7 → IfSome (S.left input.old) (λ told. MAX_INPUT < length told) }
     ensures long { HasWrittenForm (map string_bytes words.now) → NoFault (S.faults input.old) (S.faults input.new)
-        → IfSome (S.left input.old) (λ script. MAX_INPUT < length script → (result ≡ 7) ⊎ (result ≡ 1)) }
+        → IfSome (S.left input.old) (λ told. MAX_INPUT < length told → (result ≡ 7) ⊎ (result ≡ 1)) }
     ensures says_long { result ≡ 7 → Says (O.taken text.old) (O.taken text.new) (O.faults text.old) (O.faults text.new) long_line }
 
     // The trace is as it was, but under 0 and 5; no count falls; and what can be done is done.
@@ -92,7 +88,7 @@ pub fn trace_top<R: Threads + Wait + Sync, S: Source, T: Sink + Send, O: Sink, G
     ensures later_text { O.faults text.old ≤ O.faults text.new }
     ensures complete { HasWrittenForm (map string_bytes words.now)
         → NoFault (S.faults input.old) (S.faults input.new) → NoFault (T.faults trace.old) (T.faults trace.new)
-        → IfSome (S.left input.old) (λ script. length script ≤ MAX_INPUT → IsOk (script_of script) → (result ≡ 0) ⊎ (result ≡ 1)) }
+        → IfSome (S.left input.old) (λ told. length told ≤ MAX_INPUT → refusal_of told ≡ None → (result ≡ 0) ⊎ (result ≡ 1)) }
 {
     if !is_replay(words) {
         say_usage(text);
@@ -111,16 +107,16 @@ pub fn trace_top<R: Threads + Wait + Sync, S: Source, T: Sink + Send, O: Sink, G
             say_too_long(text);
             7
         }
-        Ok(script) => match read_script(alloc, &script) {
-            Err(ScriptFault::OutOfMemory) => {
+        Ok(told) => match read_built(alloc, &told) {
+            Err(ReadingFault::OutOfMemory) => {
                 say_out_of_memory(text);
                 1
             }
-            Err(ScriptFault::NotBuilt { line }) => {
-                say_not_built(text, line);
+            Err(ReadingFault::Refused { line }) => {
+                say(text, &line);
                 3
             }
-            Ok(packets) => match deliver(alloc, trace, &packets) {
+            Ok(scenario) => match deliver(alloc, trace, &scenario.lines) {
                 Ok(()) => 0,
                 Err(DeliverFault::OutOfMemory) => {
                     say_out_of_memory(text);
