@@ -1,9 +1,13 @@
 //! The table of one thread.
-ghost use Rattle.std.specs.Prelude.{◌≡◌, ℕ, ◌+◌, ◌-◌, ◌<◌, ◌≤◌, All, Some, None, length, vec_len, IfOk};
+ghost use Rattle.std.specs.Prelude.{◌≡◌, ℕ, ◌+◌, ◌-◌, ◌<◌, ◌≤◌, All, Option, Some, None, length, vec_len, IfOk};
+ghost use Rattle.std.proofs.Common.{ap, sym, subst, unwrap_or, ◌∙◌};
+ghost use Rattle.std.proofs.Math.Logic.{∥∥₁_map, ∥∥₁_elim};
+ghost use Rattle.std.proofs.Math.Nat.{ℕ_set};
 ghost use Rattle.trace_base.specs.declared.limits.TheConstants.{MAX_PRODUCERS, MAX_WRITERS, MAX_PAGES};
 ghost use Rattle.chunk_plain.specs.Setup.{Setup, IsLaid, range_of};
 ghost use Rattle.chunk_plain.specs.Laying.{setup_of};
-ghost use Rattle.chunk_plain.specs.World.{writer};
+ghost use Rattle.chunk_plain.specs.World.{World, writer, nowhere};
+ghost use Rattle.chunk_plain.specs.Owned.{IsOwned};
 ghost use Rattle.chunk_plain.specs.Plain.{first_world, IsKept};
 ghost use Rattle.chunk_plain.specs.Made.{HasSeats};
 
@@ -114,6 +118,16 @@ impl Words for PlainTable {
     ghost told = { λ table. Some table.seat.me.0 };
 
     ghost takes_reads = { λ _ _. Unit {0} };
+
+    ghost told_view = { λ table seat world told sits. ap (λ (known : Option World). writer (unwrap_or known nowhere) seat.place) told };
+
+    ghost told_service_view = { λ table seat world told serves. ap (λ (known : Option World). (unwrap_or known nowhere).service) told };
+
+    ghost told_writers = { λ table world told. ap (λ (known : Option World). length (unwrap_or known nowhere).writers) (sym told) ∙ ∥∥₁_elim table.kept (ℕ_set _ _) (λ kept. kept.writers) };
+
+    ghost told_chunks = { λ table world told. ap (λ (known : Option World). length (unwrap_or known nowhere).chunks) (sym told) ∙ ∥∥₁_elim table.kept (ℕ_set _ _) (λ kept. kept.shown.chunk_count) };
+
+    ghost told_owned = { λ table world told. subst (λ (known : Option World). ∥ IsOwned (unwrap_or known nowhere) ∥₁) told (∥∥₁_map table.kept (λ kept. kept.owned)) };
 
     fn claim_try(&mut self, seat: &mut PlainWriter, chunk: u32) -> Option<Claimed> {
         let spot = self.layout.spot(chunk);

@@ -7,7 +7,7 @@ ghost use Rattle.chunk_plain.specs.Setup.{Setup, spot, producer_of, IsChunkOf};
 ghost use Rattle.chunk_plain.specs.Views.{WriterView, ServiceView, taken_of};
 ghost use Rattle.chunk_plain.specs.World.{World, Status, Unclaimed, Claimed as ClaimedBy, Writing, Ready, Reading, status, writer};
 ghost use Rattle.chunk_plain.specs.Steps.{stamps, begins, restamps, completes, notes_call, looks_at, lets_go, notes, notes_commit, no_head, moved, served, noted, serviced};
-ghost use Rattle.chunk_plain.specs.Owned.{times};
+ghost use Rattle.chunk_plain.specs.Owned.{times, IsOwned};
 ghost use Rattle.chunk_plain.specs.Shows.{ShowsPage, ShowsHeader};
 ghost use Rattle.chunk_plain.specs.Words.{IsWriterStep, IsServiceStep, TriesClaim, HasClaimed, head_at, IsHolding, IsBegun, MayFollow, completed_content, taken_content, TakesChunk, FindsOther, call_of, event_of, IsReadEvent, committed_of};
 
@@ -163,4 +163,17 @@ pub trait Words {
         ensures view { service_view self.new seat.new ≡ notes_commit (service_view self.old seat.old) (committed_of header payload.now patches.now) }
         ensures step { IsServiceStep setup sits view serves self.old self.new seat.new }
         ensures told { (world : World) → told self.old ≡ Some world → told self.new ≡ Some (serviced world (service_view self.new seat.new)) };
+
+    // a seat's view is its part of the world that the table tells
+    ghost told_view: { (table : Self) (seat : Self.Writer) (world : World) → told table ≡ Some world → sits table seat → view table seat ≡ writer world (place seat) };
+
+    ghost told_service_view: { (table : Self) (seat : Self.Service) (world : World) → told table ≡ Some world → serves table seat → service_view table seat ≡ world.service };
+
+    // it has each writer and each chunk of the table
+    ghost told_writers: { (table : Self) (world : World) → told table ≡ Some world → length world.writers ≡ length (setup table).writers };
+
+    ghost told_chunks: { (table : Self) (world : World) → told table ≡ Some world → length world.chunks ≡ length (setup table).spots };
+
+    // it is owned
+    ghost told_owned: { (table : Self) (world : World) → told table ≡ Some world → ∥ IsOwned world ∥₁ };
 }
