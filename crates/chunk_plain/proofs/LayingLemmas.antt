@@ -3,9 +3,13 @@ use Rattle.std.proofs.Common.{◌≡◌, ℕ, zero, suc, ◌+◌, ◌-◌, ◌*�
 use Rattle.std.proofs.Math.Logic.{∥∥₁_elim}
 use Rattle.std.specs.Coded.{le_prop}
 use Rattle.std.proofs.lemmas.List.{get_or_append_left}
+use Rattle.std.proofs.lemmas.List.Elements.{All-head, All-tail}
+use Rattle.std.proofs.lemmas.Nat.{mul-le}
+use Rattle.std.specs.List.{All}
 use Rattle.std.proofs.Math.Seq.{get_or-append_seam}
 use native.Mathlib.Decide.{dec_le}
 use mathlib.Core.Logic.{dite}
+use Rattle.trace_base.specs.declared.limits.TheConstants.{MAX_PRODUCERS, MAX_PAGES}
 use Rattle.trace_base.specs.declared.policy.WriterSpec.{WriterSpec}
 use Rattle.page_geometry.specs.Sizes.{IsChunkCount, layout_number}
 use Rattle.page_geometry.specs.declared.geometry.Geometry.{Geometry}
@@ -162,6 +166,15 @@ length-pages_spots page geometry (suc n) =
     let more : suc n * geometry.chunks ≡ n * geometry.chunks + geometry.chunks = omega arith in
     length-append (pages_spots page geometry n) (page_spots (page + n) geometry geometry.chunks) ∙ omega (arith, tail, one, more)
 
+-- a producer has at most 64 pages of 14 chunks
+pub few_spots : (page : ℕ) (producers : List ProducerSpec) → All (λ producer. producer.pages ≤ MAX_PAGES) producers → length (spots_of page producers) ≤ 896 * length producers
+few_spots page [] few = omega arith
+few_spots page (producer ∷ producers) few =
+    let many : length (pages_spots page producer.geometry producer.pages) ≡ chunks_in producer = length-pages_spots page producer.geometry producer.pages in
+    let most : chunks_in producer ≤ 896 = mul-le producer.pages producer.geometry.chunks 64 14 (All-head (λ (p : ProducerSpec). p.pages ≤ MAX_PAGES) producer producers few) (geometry_most producer.geometry) in
+    let tail = few_spots (page + producer.pages) producers (All-tail (λ (p : ProducerSpec). p.pages ≤ MAX_PAGES) producer producers few) in
+    omega (arith, many, most, tail, length-append (pages_spots page producer.geometry producer.pages) (spots_of (page + producer.pages) producers))
+
 -- each producer's chunks are there
 ranges_inside : (first page : ℕ) (producers : List ProducerSpec) (i : ℕ)
     → (get_or (ranges_of first producers) i (record { first = 0; count = 0 })).first + (get_or (ranges_of first producers) i (record { first = 0; count = 0 })).count ≤ first + length (spots_of page producers)
@@ -174,10 +187,12 @@ ranges_inside first page (producer ∷ producers) (suc i) =
     let tail = ranges_inside (first + chunks_in producer) (page + producer.pages) producers i in
     omega (arith, many, tail, length-append (pages_spots page producer.geometry producer.pages) (spots_of (page + producer.pages) producers))
 
-pub setup_laid : (producers : List ProducerSpec) (writers : List WriterSpec) → IsLaid (setup_of producers writers)
-setup_laid producers writers =
+pub setup_laid : (producers : List ProducerSpec) (writers : List WriterSpec) → length producers ≤ MAX_PRODUCERS → All (λ producer. producer.pages ≤ MAX_PAGES) producers → IsLaid (setup_of producers writers)
+setup_laid producers writers some pages =
     let o = subst (λ p. LaidUpTo (spots_of 0 producers) p 0 0 0) (zero-add (pages_in producers)) (lay_all [] 0 0 0 producers (nothing_laid 0)) in
+    let most = few_spots 0 producers pages in
     record {
+      few = omega arith;
       page = λ c below. ⊎_elim (λ less. less) (λ (same : ((get_or (spots_of 0 producers) c no_spot).page ≡ pages_in producers) × ((get_or (spots_of 0 producers) c no_spot).place < 0) × ((get_or (spots_of 0 producers) c no_spot).chunks ≡ 0) × ((get_or (spots_of 0 producers) c no_spot).layout ≡ 0)). absurd (let less = same.1 in omega arith)) (o.before c below);
       place = o.inside;
       chunks = o.most;

@@ -1,5 +1,5 @@
 -- The set-up of a table. Chunks are numbered over all producers, by producer, page and place, and pages by producer and page.
-use Rattle.std.specs.Prelude.{◌≡◌, ℕ, ◌+◌, ◌-◌, ◌<◌, ◌≤◌, List, length, slice_index_or}
+use Rattle.std.specs.Prelude.{◌≡◌, ℕ, ◌+◌, ◌-◌, ◌^◌, ◌<◌, ◌≤◌, List, length, slice_index_or}
 use Rattle.trace_base.specs.declared.limits.TheConstants.{MAX_CHUNKS_PER_PAGE}
 use Rattle.trace_base.specs.declared.policy.WriterPolicy.TheVariants.{Drops}
 use Rattle.trace_base.specs.declared.policy.WriterSpec.{WriterSpec}
@@ -36,6 +36,8 @@ pub record IsChunkOf (setup : Setup) (producer chunk : ℕ) : Type 0 where
 
 -- each chunk has a place of its own in a page, and the chunks of a page know the same of it
 pub record IsLaid (setup : Setup) : Type 0 where
+  -- a chunk's number fits 32 bits
+  pub few : length setup.spots < 2 ^ 32
   pub page : (chunk : ℕ) → chunk < length setup.spots → (spot setup chunk).page < setup.pages
   pub place : (chunk : ℕ) → chunk < length setup.spots → (spot setup chunk).place < (spot setup chunk).chunks
   pub chunks : (chunk : ℕ) → chunk < length setup.spots → (spot setup chunk).chunks ≤ MAX_CHUNKS_PER_PAGE

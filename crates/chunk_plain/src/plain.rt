@@ -119,6 +119,8 @@ impl Words for PlainTable {
 
     ghost takes_reads = { λ _ _. Unit {0} };
 
+    ghost laid = { λ table. table.laid };
+
     ghost told_view = { λ table seat world told sits. ap (λ (known : Option World). writer (unwrap_or known nowhere) seat.place) told };
 
     ghost told_service_view = { λ table seat world told serves. ap (λ (known : Option World). (unwrap_or known nowhere).service) told };

@@ -3,7 +3,7 @@ ghost use Rattle.std.specs.Prelude.{◌≡◌, ℕ, ◌+◌, ◌-◌, ◌^◌, �
 ghost use Rattle.page_geometry.specs.declared.chunk_header.TheConstants.{MAX_FLAGS};
 ghost use Rattle.page_geometry.specs.Header.{packed};
 ghost use Rattle.trace_base.specs.declared.limits.TheConstants.{MAX_FRAGMENTS};
-ghost use Rattle.chunk_plain.specs.Setup.{Setup, spot, producer_of, IsChunkOf};
+ghost use Rattle.chunk_plain.specs.Setup.{Setup, spot, producer_of, IsChunkOf, IsLaid};
 ghost use Rattle.chunk_plain.specs.Views.{WriterView, ServiceView, taken_of};
 ghost use Rattle.chunk_plain.specs.World.{World, Status, Unclaimed, Claimed as ClaimedBy, Writing, Ready, Reading, status, writer};
 ghost use Rattle.chunk_plain.specs.Steps.{stamps, begins, restamps, completes, notes_call, looks_at, lets_go, notes, notes_commit, no_head, moved, served, noted, serviced};
@@ -163,6 +163,8 @@ pub trait Words {
         ensures view { service_view self.new seat.new ≡ notes_commit (service_view self.old seat.old) (committed_of header payload.now patches.now) }
         ensures step { IsServiceStep setup sits view serves self.old self.new seat.new }
         ensures told { (world : World) → told self.old ≡ Some world → told self.new ≡ Some (serviced world (service_view self.new seat.new)) };
+
+    ghost laid: { (table : Self) → IsLaid (setup table) };
 
     // a seat's view is its part of the world that the table tells
     ghost told_view: { (table : Self) (seat : Self.Writer) (world : World) → told table ≡ Some world → sits table seat → view table seat ≡ writer world (place seat) };

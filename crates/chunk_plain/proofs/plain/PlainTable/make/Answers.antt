@@ -7,7 +7,7 @@ use Rattle.chunk_plain.proofs.MadeLemmas.{first_kept}
 use Rattle.chunk_plain.proofs.plain.PlainTable.make.Goals as goal
 
 pub invariant_of-table-clause-laid : goal.invariant_of-table-clause-laid
-invariant_of-table-clause-laid c = subst IsLaid (sym c.in_ok-layout.ensures) (setup_laid c.args.producers.now c.args.writers.now)
+invariant_of-table-clause-laid c = subst IsLaid (sym c.in_ok-layout.ensures) (setup_laid c.args.producers.now c.args.writers.now c.requires.producers c.requires.pages)
 
 pub invariant_of-table-clause-kept : goal.invariant_of-table-clause-kept
 invariant_of-table-clause-kept c =
