@@ -10,6 +10,7 @@ pub mod MadeLemmas
 pub mod Owned
 pub mod OwnershipLemmas
 pub mod PageSteps
+pub mod SeatSteps
 pub mod ServiceSteps
 pub mod Shown
 pub mod WriterSteps

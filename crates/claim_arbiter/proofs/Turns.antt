@@ -1,0 +1,108 @@
+-- A writer's claims in turn: one more that is lost, and the one that wins.
+use Rattle.std.proofs.Common.{◌≡◌, ℕ, ◌+◌, ◌-◌, ◌<◌, ◌≤◌, true, false, None, Some, List, [], ◌∷◌, ◌++◌, length, get_or, set, subst, sym, refl, ap, ◌∙◌, arith, append-nil, append_assoc, length-append, below_more}
+use Rattle.std.specs.Int.{bit_at}
+use Rattle.std.proofs.lemmas.List.{get_or_append_left, set-set, set-get_or}
+use Rattle.std.proofs.lemmas.Bool.Decides.{nat_tests}
+use Rattle.std.proofs.Math.Seq.{get_or-append_seam}
+use native.Mathlib.Decide.{ℕ_discrete}
+use mathlib.Core.Logic.{dite}
+use Rattle.chunk_plain.specs.Setup.{Setup, spot}
+use Rattle.chunk_plain.specs.Views.{Ask, Held, WriterView, newcomer}
+use Rattle.chunk_plain.specs.World.{World, Status, Unclaimed, status, writer}
+use Rattle.chunk_plain.specs.Steps.{claims, stamps, begins, without, moved, noted}
+use Rattle.chunk_plain.specs.Owned.{times}
+use Rattle.chunk_plain.specs.Words.{TriesClaim}
+use Rattle.claim_arbiter.specs.Claiming.{lost_asks, AllClaimed, AsksInVain, ClaimsInTurn, NoneFree}
+
+lost_more : (calls first chunk found : ℕ) (words : List ℕ) → first + length words ≡ chunk
+    → lost_asks calls first (words ++ found ∷ []) ≡ lost_asks calls first words ++ record { chunk = chunk; found = found; won = false; calls = calls } ∷ []
+lost_more calls first chunk found [] is = ap (λ c. record { chunk = c; found = found; won = false; calls = calls } ∷ []) (let same : first ≡ chunk = omega arith in same)
+lost_more calls first chunk found (word ∷ words) is = ap (λ l. record { chunk = first; found = word; won = false; calls = calls } ∷ l) (lost_more calls (first + 1) chunk found words (omega arith))
+
+claimed_more : (setup : Setup) (first chunk found : ℕ) (words : List ℕ) → first + length words ≡ chunk
+    → AllClaimed setup first words → bit_at found (32 + (spot setup chunk).place) ≡ 1 → AllClaimed setup first (words ++ found ∷ [])
+claimed_more setup first chunk found words is all here = λ k below.
+    let count : length (words ++ found ∷ []) ≡ length words + 1 = length-append words (found ∷ []) in
+    below_more
+    (λ i. bit_at (get_or (words ++ found ∷ []) i 0) (32 + (spot setup (first + i)).place) ≡ 1)
+    (length words)
+    (λ i low. subst (λ w. bit_at w (32 + (spot setup (first + i)).place) ≡ 1) (sym (get_or_append_left words (found ∷ []) 0 i low)) (all i low))
+    (subst (λ w. bit_at w (32 + (spot setup (first + length words)).place) ≡ 1) (sym (get_or-append_seam words found [] 0))
+    (subst (λ c. bit_at found (32 + (spot setup c).place) ≡ 1) (sym is) here))
+    k
+    (omega arith)
+
+-- nothing was asked for yet
+pub vain_none : (setup : Setup) (first : ℕ) (view : WriterView) → AsksInVain setup first 0 view view
+vain_none setup first view = record {
+  words = [];
+  count_is = refl;
+  claimed = λ k below. absurd (omega arith);
+  view = ap (λ l. record view { asked = l }) (sym (append-nil view.asked));
+}
+
+-- one more claim is lost
+pub vain_more : (setup : Setup) (first count chunk : ℕ) (old mid new : WriterView) → first + count ≡ chunk
+    → AsksInVain setup first count old mid → TriesClaim setup chunk false mid new → AsksInVain setup first (count + 1) old new
+vain_more setup first count chunk old mid new is vain lost =
+    let at : first + length vain.words ≡ chunk = let many = vain.count_is in omega arith in
+    let ask : Ask = record { chunk = chunk; found = lost.found; won = false; calls = length old.calls } in
+    record {
+      words = vain.words ++ lost.found ∷ [];
+      count_is = length-append vain.words (lost.found ∷ []) ∙ ap (λ n. n + 1) vain.count_is;
+      claimed = claimed_more setup first chunk lost.found vain.words at vain.claimed lost.bit;
+      view = lost.view ∙ (ap (λ v. claims v chunk lost.found false) vain.view
+          ∙ ap (λ l. record old { asked = l }) (append_assoc old.asked (lost_asks (length old.calls) first vain.words) (ask ∷ [])
+          ∙ ap (λ l. old.asked ++ l) (sym (lost_more (length old.calls) first chunk lost.found vain.words at))));
+    }
+
+without_last : (x : ℕ) (ys : List ℕ) → times x ys ≡ 0 → without x (ys ++ x ∷ []) ≡ ys
+without_last x [] none = grind (arith, nat_tests)
+without_last x (y ∷ ys) none =
+    dite (ℕ_discrete y x)
+    (λ same. absurd (grind (arith, nat_tests)))
+    (λ differs. let less : times x ys ≡ 0 = grind (arith, nat_tests) in let tail : without x (ys ++ x ∷ []) ≡ ys = without_last x ys less in grind (arith, nat_tests, tail))
+
+-- the next claim wins, and the chunk is begun
+pub turn_won : (setup : Setup) (first count most chunk : ℕ) (old mid won new : WriterView) → first + count ≡ chunk → count < most
+    → AsksInVain setup first count old mid → TriesClaim setup chunk true mid won → new ≡ begins (stamps won chunk) chunk
+    → ClaimsInTurn setup first most chunk old new
+turn_won setup first count most chunk old mid won new is inside vain wins begun =
+    let at : first + length vain.words ≡ chunk = let many = vain.count_is in omega arith in
+    let view = begun ∙ ap (λ v. begins (stamps v chunk) chunk) (wins.view ∙ ap (λ v. claims v chunk wins.found true) vain.view) in
+    record {
+      least = omega arith;
+      below = omega arith;
+      words = vain.words;
+      count_is = at;
+      claimed = vain.claimed;
+      found = wins.found;
+      free = wins.bit;
+      view = view;
+      claimed_stays = λ none. ap (λ (v : WriterView). v.claimed) view ∙ without_last chunk old.claimed none;
+    }
+
+-- ---- what is told
+
+pub noted_again : (world : World) (place other : ℕ) (u v : WriterView) → other ≡ place → noted (noted world place u) other v ≡ noted world place v
+noted_again world place other u v is = ap (λ p. noted (noted world place u) p v) is ∙ ap (λ l. record world { writers = l }) (set-set world.writers place u v)
+
+pub moved_again : (world : World) (place other last chunk c : ℕ) (u v w : WriterView) (s t : Status) → other ≡ place → last ≡ place → c ≡ chunk
+    → moved (moved (noted world place u) other v chunk s) last w c t ≡ moved world place w chunk t
+moved_again world place other last chunk c u v w s t other_is last_is chunk_is =
+    ap (λ p. moved (moved (noted world place u) p v chunk s) last w c t) other_is
+    ∙ (ap (λ p. moved (moved (noted world place u) place v chunk s) p w c t) last_is
+    ∙ (ap (λ d. moved (moved (noted world place u) place v chunk s) place w d t) chunk_is
+    ∙ (ap (λ l. record world { chunks = l; writers = set (set (set world.writers place u) place v) place w }) (set-set world.chunks chunk s t)
+    ∙ ap (λ l. record world { chunks = set world.chunks chunk t; writers = l }) (set-set (set world.writers place u) place v w ∙ set-set world.writers place u w))))
+
+-- nothing was asked for yet, so the world is as it was
+pub noted_same : (world : World) (place : ℕ) (view : WriterView) → view ≡ writer world place → Some world ≡ Some (noted world place view)
+noted_same world place view is =
+    ap (λ l. Some (record world { writers = l })) (sym (set-get_or world.writers place newcomer)) ∙ ap (λ v. Some (noted world place v)) (sym is)
+
+pub none_free : (world : World) (first chunk : ℕ) → NoneFree world first chunk → (status world chunk ≡ Unclaimed → ⊥) → NoneFree world first (chunk + 1)
+none_free world first chunk before here = λ c least below free.
+    dite (ℕ_discrete c chunk)
+    (λ same. here (subst (λ i. status world i ≡ Unclaimed) same free))
+    (λ differs. before c least (omega arith) free)
