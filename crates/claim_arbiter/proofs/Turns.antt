@@ -1,5 +1,5 @@
 -- A writer's claims in turn: one more that is lost, and the one that wins.
-use Rattle.std.proofs.Common.{◌≡◌, ℕ, ◌+◌, ◌-◌, ◌<◌, ◌≤◌, true, false, None, Some, List, [], ◌∷◌, ◌++◌, length, get_or, set, subst, sym, refl, ap, ◌∙◌, arith, append-nil, append_assoc, length-append, below_more}
+use Rattle.std.proofs.Common.{◌≡◌, ℕ, ◌+◌, ◌<◌, true, false, Option, Some, List, [], ◌∷◌, ◌++◌, length, get_or, set, subst, sym, refl, ap, ◌∙◌, arith, append-nil, append_assoc, length-append, below_more}
 use Rattle.std.specs.Int.{bit_at}
 use Rattle.std.proofs.lemmas.List.{get_or_append_left, set-set, set-get_or}
 use Rattle.std.proofs.lemmas.Bool.Decides.{nat_tests}
@@ -7,9 +7,9 @@ use Rattle.std.proofs.Math.Seq.{get_or-append_seam}
 use native.Mathlib.Decide.{ℕ_discrete}
 use mathlib.Core.Logic.{dite}
 use Rattle.chunk_plain.specs.Setup.{Setup, spot}
-use Rattle.chunk_plain.specs.Views.{Ask, Held, WriterView, newcomer}
-use Rattle.chunk_plain.specs.World.{World, Status, Unclaimed, status, writer}
-use Rattle.chunk_plain.specs.Steps.{claims, stamps, begins, without, moved, noted}
+use Rattle.chunk_plain.specs.Views.{Ask, WriterView, newcomer}
+use Rattle.chunk_plain.specs.World.{World, Unclaimed, Claimed, Writing, status, writer}
+use Rattle.chunk_plain.specs.Steps.{claims, stamps, begins, without, no_head, moved, noted}
 use Rattle.chunk_plain.specs.Owned.{times}
 use Rattle.chunk_plain.specs.Words.{TriesClaim}
 use Rattle.claim_arbiter.specs.Claiming.{lost_asks, AllClaimed, AsksInVain, ClaimsInTurn, NoneFree}
@@ -82,19 +82,28 @@ turn_won setup first count most chunk old mid won new is inside vain wins begun 
       claimed_stays = λ none. ap (λ (v : WriterView). v.claimed) view ∙ without_last chunk old.claimed none;
     }
 
+-- no claim changes what the writer began
+pub begun_same : (setup : Setup) (first count chunk : ℕ) (old mid won : WriterView) → AsksInVain setup first count old mid → TriesClaim setup chunk true mid won → length won.begun ≡ length old.begun
+begun_same setup first count chunk old mid won vain wins =
+    ap (λ (v : WriterView). length v.begun) wins.view ∙ ap (λ (v : WriterView). length v.begun) vain.view
+
 -- ---- what is told
 
 pub noted_again : (world : World) (place other : ℕ) (u v : WriterView) → other ≡ place → noted (noted world place u) other v ≡ noted world place v
 noted_again world place other u v is = ap (λ p. noted (noted world place u) p v) is ∙ ap (λ l. record world { writers = l }) (set-set world.writers place u v)
 
-pub moved_again : (world : World) (place other last chunk c : ℕ) (u v w : WriterView) (s t : Status) → other ≡ place → last ≡ place → c ≡ chunk
-    → moved (moved (noted world place u) other v chunk s) last w c t ≡ moved world place w chunk t
-moved_again world place other last chunk c u v w s t other_is last_is chunk_is =
-    ap (λ p. moved (moved (noted world place u) p v chunk s) last w c t) other_is
-    ∙ (ap (λ p. moved (moved (noted world place u) place v chunk s) p w c t) last_is
-    ∙ (ap (λ d. moved (moved (noted world place u) place v chunk s) place w d t) chunk_is
-    ∙ (ap (λ l. record world { chunks = l; writers = set (set (set world.writers place u) place v) place w }) (set-set world.chunks chunk s t)
-    ∙ ap (λ l. record world { chunks = set world.chunks chunk t; writers = l }) (set-set (set world.writers place u) place v w ∙ set-set world.writers place u w))))
+-- the chunk was claimed and then begun, whatever the view was before
+pub told_begun : (told : Option World) (world : World) (place other last chunk c id : ℕ) (u v w : WriterView) → other ≡ place → last ≡ place → c ≡ chunk
+    → told ≡ Some (moved (moved (noted world place u) other v chunk (Claimed other)) last w c (Writing last id no_head))
+    → told ≡ Some (moved world place w chunk (Writing place id no_head))
+told_begun told world place other last chunk c id u v w other_is last_is chunk_is is =
+    let first = subst (λ p. told ≡ Some (moved (moved (noted world place u) p v chunk (Claimed p)) last w c (Writing last id no_head))) other_is is in
+    let second = subst (λ p. told ≡ Some (moved (moved (noted world place u) place v chunk (Claimed place)) p w c (Writing p id no_head))) last_is first in
+    let third = subst (λ d. told ≡ Some (moved (moved (noted world place u) place v chunk (Claimed place)) place w d (Writing place id no_head))) chunk_is second in
+    let chunks = set-set world.chunks chunk (Claimed place) (Writing place id no_head) in
+    let writers = set-set (set world.writers place u) place v w ∙ set-set world.writers place u w in
+    third ∙ (ap (λ l. Some (record world { chunks = l; writers = set (set (set world.writers place u) place v) place w })) chunks
+    ∙ ap (λ l. Some (record world { chunks = set world.chunks chunk (Writing place id no_head); writers = l })) writers)
 
 -- nothing was asked for yet, so the world is as it was
 pub noted_same : (world : World) (place : ℕ) (view : WriterView) → view ≡ writer world place → Some world ≡ Some (noted world place view)

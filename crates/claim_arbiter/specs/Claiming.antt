@@ -1,5 +1,5 @@
 -- What becomes of a view and a world where a writer asks for the chunks of a range, in rising order and once each, until a claim wins.
-use Rattle.std.specs.Prelude.{◌≡◌, ℕ, ◌+◌, ◌-◌, ◌<◌, ◌≤◌, true, false, None, List, [], ◌∷◌, ◌++◌, length, slice_index}
+use Rattle.std.specs.Prelude.{◌≡◌, ℕ, ◌+◌, ◌<◌, ◌≤◌, true, false, None, List, [], ◌∷◌, ◌++◌, length, slice_index}
 use Rattle.std.specs.Int.{bit_at}
 use Rattle.page_geometry.specs.declared.page_word.TheConstants.{CLAIM_BIT}
 use Rattle.chunk_plain.specs.declared.setup.ChunkRange.{ChunkRange}

@@ -1,7 +1,6 @@
-use Rattle.std.proofs.Common.{◌≡◌, ℕ, ◌+◌, ◌-◌, ◌<◌, ◌≤◌, ◌∙◌, true, false, Some, length, subst, sym, refl, ap, arith, rules}
-use Rattle.chunk_plain.specs.Views.{WriterView}
-use Rattle.chunk_plain.specs.World.{World, Unclaimed, Claimed, Writing, status}
-use Rattle.chunk_plain.specs.Steps.{claims, begins, stamps, no_head, moved, noted}
+use Rattle.std.proofs.Common.{◌≡◌, ◌+◌, ◌-◌, ◌∙◌, true, false, Some, subst, sym, refl, ap, arith}
+use Rattle.chunk_plain.specs.World.{Unclaimed, Claimed, Writing, status}
+use Rattle.chunk_plain.specs.Steps.{begins, stamps, no_head, moved, noted}
 use Rattle.chunk_plain.specs.Words.{HasClaimed, TriesClaim}
 use Rattle.chunk_plain.proofs.Holding.{claims_has, begins_holds}
 use Rattle.chunk_plain.proofs.SeatSteps.{stays, steps_follow}
@@ -17,7 +16,7 @@ loop-chunk-init g c =
     record {
       step = stays g.W.Words.setup g.W.Words.sits g.W.Words.place g.W.Words.view g.W.Words.serves g.W.Words.service_view table seat c.requires.seat;
       vain = subst (λ n. AsksInVain setup first n view view) zero_is (turns.vain_none setup first view);
-      counted = refl;
+      counted = refl {a = c.args.steps.now + first};
       told = λ world told. (
         (λ chunk least below free. absurd (omega arith)),
         told ∙ turns.noted_same world (g.W.Words.place seat) view (g.met.W.Words.told_view table seat world told c.requires.seat),
@@ -43,11 +42,12 @@ returns-in-Some-clause-won g c =
 
 pub returns-in-Some-clause-holding : goal.returns-in-Some-clause-holding
 returns-in-Some-clause-holding g c =
-    let i = c.loop-chunk.invariant in let wins = c.in-Some.ensures.won in
+    let i = c.loop-chunk.invariant in let mid = g.W.Words.view c.loop-chunk.table c.loop-chunk.seat in
     let won = g.W.Words.view c.claim_try.new.self c.claim_try.new.seat in
-    let same = ap (λ (v : WriterView). length v.begun) (wins.view ∙ ap (λ v. claims v c.loop-chunk.chunk wins.found true) i.vain.view) in
+    let wins = subst (λ s. TriesClaim s c.loop-chunk.chunk true mid won) i.step.setup_stays c.in-Some.ensures.won in
+    let same = turns.begun_same (g.W.Words.setup c.args.table.now) c.args.arbiter.now.first (c.loop-chunk.chunk - c.args.arbiter.now.first) c.loop-chunk.chunk (g.W.Words.view c.args.table.now c.args.seat.now) mid won i.vain wins in
     begins_holds won (g.W.Words.view c.begin.new.self c.begin.new.seat) c.in-Some.claimed.chunk c.args.id c.begin.result.chunk c.args.id
-    c.begin.ensures.view (c.requires.id ∙ sym same) c.begin.ensures.held.chunk_is refl
+    c.begin.ensures.view (c.requires.id ∙ sym same) c.begin.ensures.held.chunk_is (refl {a = c.args.id})
 
 pub returns-in-Some-clause-told_won : goal.returns-in-Some-clause-told_won
 returns-in-Some-clause-told_won g c = λ world told.
@@ -60,8 +60,7 @@ returns-in-Some-clause-told_won g c = λ world told.
     let begun = c.begin.ensures.told (moved (noted world place mid) other won chunk (Claimed other)) claimed.1 in
     let chunk_is = c.begin.ensures.held.chunk_is ∙ c.in-Some.ensures.chunk in
     let last_is = c.in-Some.ensures.step.place_stays ∙ i.step.place_stays in
-    let at = begun ∙ (ap (λ w. Some w) (turns.moved_again world place other last chunk c.in-Some.claimed.chunk mid won new (Claimed other) (Writing last c.args.id no_head) i.step.place_stays last_is c.in-Some.ensures.chunk)
-        ∙ ap (λ p. Some (moved world place new chunk (Writing p c.args.id no_head))) last_is) in
+    let at = turns.told_begun (g.W.Words.told c.begin.new.self) world place other last chunk c.in-Some.claimed.chunk c.args.id mid won new i.step.place_stays last_is c.in-Some.ensures.chunk begun in
     subst (λ d. NoneFree world first d × ∥ status world d ≡ Unclaimed ∥₁ × (g.W.Words.told c.begin.new.self ≡ Some (moved world place new d (Writing place c.args.id no_head)))) (sym chunk_is)
     (before.0, claimed.0, at)
 
@@ -75,13 +74,12 @@ loop-chunk-preserved g c =
     let count_is : chunk - first + 1 ≡ chunk + 1 - first = omega arith in
     record {
       step = steps_follow g.W.Words.setup g.W.Words.sits g.W.Words.place g.W.Words.view g.W.Words.serves g.W.Words.service_view
-      c.args.table.now c.args.seat.now c.loop-chunk.table c.loop-chunk.seat c.claim_try.new.self c.claim_try.new.seat i.step c.in_default.ensures.step;
+          c.args.table.now c.args.seat.now c.loop-chunk.table c.loop-chunk.seat c.claim_try.new.self c.claim_try.new.seat i.step c.in_default.ensures.step;
       vain = subst (λ n. AsksInVain setup first n old new) count_is (turns.vain_more setup first (chunk - first) chunk old mid new (omega arith) i.vain lost);
       counted = omega arith;
       told = λ world told.
           let before = i.told world told in
-          let after = c.in_default.ensures.told_lost (noted world place mid) before.1 in
-          (
+          let after = c.in_default.ensures.told_lost (noted world place mid) before.1 in (
             turns.none_free world first chunk before.0 after.0,
             after.1 ∙ ap (λ w. Some w) (turns.noted_again world place (g.W.Words.place c.loop-chunk.seat) mid new i.step.place_stays),
           );
