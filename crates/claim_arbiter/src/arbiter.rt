@@ -10,15 +10,14 @@ use chunk_plain::{Held, Words};
 use std::sync::ledger::Ledger;
 use trace_base::steps::Steps;
 
-/// The chunks of one producer.
+/// The chunks of one producer: so many, with the numbers from `first` on.
 #[derive(Clone, Copy, Debug, PartialEq, Eq)]
 pub struct Arbiter {
-    first: u32,
-    chunks: u32,
+    pub first: u32,
+    pub chunks: u32,
 }
 
 impl Arbiter {
-    /// For so many chunks, from this one on.
     pub fn new(first: u32, chunks: u32) -> Arbiter
         ensures first { result.first ≡ first }
         ensures chunks { result.chunks ≡ chunks }
