@@ -20,7 +20,7 @@ any_hole n [] = refl
 any_hole n (hole ∷ holes) = ap (λ found. (hole.chunk_id == n) || found) (any_hole n holes)
 
 -- marks change no chunk
-chunks_of-with_lasts : (open_ones : List ℕ) (patches : List model.Patch) → chunks_of (with_lasts open_ones patches) ≡ chunks_of patches
+pub chunks_of-with_lasts : (open_ones : List ℕ) (patches : List model.Patch) → chunks_of (with_lasts open_ones patches) ≡ chunks_of patches
 chunks_of-with_lasts open_ones [] = refl
 chunks_of-with_lasts open_ones (patch ∷ later) = ap (λ chunks. patch.chunk_id ∷ chunks) (chunks_of-with_lasts open_ones later)
 

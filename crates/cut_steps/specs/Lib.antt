@@ -1,0 +1,10 @@
+pub mod Between
+pub mod GivingUp
+pub mod GoesOn
+pub mod Growth
+pub mod Laws
+pub mod Pending
+pub mod Pieces
+pub mod RawChains
+pub mod RawCut
+pub mod Writing

@@ -1,0 +1,62 @@
+-- The pieces of a chain: their chunks follow one another, four bytes of a nested length stand in one of them, and all but
+-- the last are the last fragments of their pages.
+use Rattle.std.specs.Prelude.{◌≡◌, ℕ, suc, ◌+◌, ◌-◌, ◌<◌, ◌≤◌, ◌⊎◌, true, List, [], ◌∷◌, length, nat_lt, MatchBool, Some, slice_get, ⊤}
+use Rattle.trace_model.specs.Images.{Fragment}
+use Rattle.trace_model.specs.Pages.{Page, chunk_of}
+use Rattle.trace_model.specs.Row.{Piece, Chain}
+
+-- the chunks of the pieces follow one another, from this one on
+abbrev pub Follows : ℕ → List Piece → Type 0
+Follows chunk_id [] = ⊤
+Follows chunk_id (piece ∷ pieces) = (piece.at.chunk_id ≡ chunk_id) × Follows (suc chunk_id) pieces
+
+-- the four bytes at a place of a chain stand in one piece
+abbrev pub StandsIn : List Piece → ℕ → Type 0
+StandsIn [] at = ⊥
+StandsIn (piece ∷ pieces) at =
+    MatchBool (nat_lt at (length piece.fragment.bytes))
+    (at + 4 ≤ length piece.fragment.bytes)
+    (StandsIn pieces (at - length piece.fragment.bytes))
+
+abbrev pub AllStandIn : List Piece → List ℕ → Type 0
+AllStandIn pieces [] = ⊤
+AllStandIn pieces (at ∷ others) = StandsIn pieces at × AllStandIn pieces others
+
+-- the last of some fragments is this one
+abbrev pub EndsWith : List Fragment → Fragment → Type 0
+EndsWith [] last = ⊥
+EndsWith (fragment ∷ []) last = fragment ≡ last
+EndsWith (fragment ∷ next ∷ others) last = EndsWith (next ∷ others) last
+
+-- the piece is the last fragment of a page that runs on
+pub record RunsOnFrom (pages : List Page) (piece : Piece) : Type 0 where
+  pub page : Page
+  pub stands : slice_get pages piece.at.chunk_id ≡ Some page
+  pub runs_on : page.runs_on ≡ true
+  pub last : EndsWith (chunk_of page).fragments piece.fragment
+
+abbrev pub AllRunOn : List Page → List Piece → Type 0
+AllRunOn pages [] = ⊤
+AllRunOn pages (piece ∷ pieces) = RunsOnFrom pages piece × AllRunOn pages pieces
+
+-- Pieces of older packets
+
+-- the piece ends before a place: in an earlier chunk, or before it in the same one
+abbrev pub EndsBefore : ℕ → ℕ → Piece → Type 0
+EndsBefore chunk_id offset piece =
+    (piece.at.chunk_id < chunk_id)
+    ⊎ ((piece.at.chunk_id ≡ chunk_id) × (piece.fragment.offset + length piece.fragment.bytes ≤ offset))
+
+abbrev pub AllEndBefore : ℕ → ℕ → List Piece → Type 0
+AllEndBefore chunk_id offset [] = ⊤
+AllEndBefore chunk_id offset (piece ∷ pieces) = EndsBefore chunk_id offset piece × AllEndBefore chunk_id offset pieces
+
+abbrev pub ChainsEndBefore : ℕ → ℕ → List Chain → Type 0
+ChainsEndBefore chunk_id offset [] = ⊤
+ChainsEndBefore chunk_id offset (chain ∷ chains) =
+    AllEndBefore chunk_id offset chain.pieces × ChainsEndBefore chunk_id offset chains
+
+-- the first piece begins there
+abbrev pub BeginsAt : ℕ → ℕ → List Piece → Type 0
+BeginsAt chunk_id offset [] = ⊥
+BeginsAt chunk_id offset (piece ∷ pieces) = (piece.at.chunk_id ≡ chunk_id) × (piece.fragment.offset ≡ offset)
