@@ -1,5 +1,5 @@
 -- Steps of one writer's seat in a row are a step of it.
-use Rattle.std.proofs.Common.{◌≡◌, ℕ, sym, refl, ◌∙◌}
+use Rattle.std.proofs.Common.{ℕ, refl, ◌∙◌}
 use Rattle.chunk_plain.specs.Setup.{Setup}
 use Rattle.chunk_plain.specs.Views.{WriterView, ServiceView}
 use Rattle.chunk_plain.specs.Words.{IsWriterStep}
