@@ -1,6 +1,7 @@
 //! A writer's open holes, and the patches of holes that it closed.
 ghost use Rattle.std.specs.Prelude.{◌≡◌, ℕ, ◌+◌, ◌^◌, ◌<◌, ◌≤◌, List, [], ◌∷◌, ◌++◌, ◌==◌, length, map};
 ghost use Rattle.std.specs.List.{list_any};
+ghost use Rattle.trace_model.specs.Sequences.{is_among};
 ghost use Rattle.trace_model.specs.Sent.{is_last_patch, LastsAre};
 ghost use Rattle.commit_body.specs.Patches.{patch_value, hole_chunks, holes_outside, with_lasts};
 
@@ -98,6 +99,14 @@ impl PatchList {
         ensures most { result ≤ MAX_OPEN_HOLES }
     {
         self.holes.len()
+    }
+
+    /// Whether a hole of this chunk is open.
+    #[tactic(auto, using(crate::proofs::PatchLemmas::any_hole))]
+    pub fn is_open_in(&self, chunk_id: u32) -> bool
+        ensures { result ≡ is_among chunk_id (hole_chunks self.now.holes) }
+    {
+        has_hole(&self.holes, chunk_id)
     }
 
     /// Patches that were not sent.

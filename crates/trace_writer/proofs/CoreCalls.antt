@@ -1,0 +1,151 @@
+-- What a call leaves of the packet that is begun, by the view of the writer's seat.
+use Rattle.std.proofs.Common.{◌≡◌, ◌∙◌, ℕ, ◌+◌, ◌<◌, Bool, true, false, not, inl, inr, if◌then◌else◌, List, [], ◌∷◌, ◌++◌, length, refl, sym, ap, arith}
+use Rattle.std.proofs.lemmas.List.Sums.{fold-append}
+use Rattle.trace_model.specs.Calls.{Call, Begun, Number, Bytes, Nested, Ended, GivenUp, Finished, Flushed}
+use Rattle.trace_model.specs.Encoding.{number_field, bytes_field}
+use Rattle.trace_model.specs.Packets.{Packet, Account, account_of, noted, nothing_yet, on_newest, with_more, with_nested, with_nested_ended, given_up_packet, finished_packet, written, closed_levels, open_places, is_writing}
+use Rattle.chunk_plain.specs.Setup.{Setup}
+use Rattle.chunk_plain.specs.Views.{WriterView}
+use Rattle.trace_writer.specs.declared.route.Route.{Route}
+use Rattle.trace_writer.specs.Core.{in_packet, newest_depth, open_depth}
+use Rattle.trace_writer.specs.Outcomes.{Notes}
+use Rattle.trace_writer.proofs.Accounts.{account_one}
+
+-- whether a packet is begun, and how deep it is, by an account
+abbrev depth_in : List Packet → ℕ
+depth_in packets = if is_writing packets then newest_depth packets else 0
+
+account_two : (calls : List Call) (first second : Call) → account_of (calls ++ first ∷ second ∷ []) ≡ noted (noted (account_of calls) first) second
+account_two calls first second = fold-append noted nothing_yet calls (first ∷ second ∷ [])
+
+-- A change to the newest packet that neither finishes it nor opens or closes a message in it
+
+pub record KeepsOpen (change : Packet → Packet) : Type 0 where
+  pub finished : (packet : Packet) → (change packet).finished ≡ packet.finished
+  pub depth : (packet : Packet) → length (open_places (change packet).text.levels) ≡ length (open_places packet.text.levels)
+
+writing_changed : (change : Packet → Packet) (packets : List Packet) (flushed : Bool) → ((packet : Packet) → (change packet).finished ≡ packet.finished)
+    → is_writing (on_newest change (record { packets = packets; flushed = flushed })).packets ≡ is_writing packets
+writing_changed change [] flushed same = refl
+writing_changed change (packet ∷ older) flushed same = ap not (same packet)
+
+depth_changed : (change : Packet → Packet) (packets : List Packet) (flushed : Bool) → KeepsOpen change
+    → depth_in (on_newest change (record { packets = packets; flushed = flushed })).packets ≡ depth_in packets
+depth_changed change [] flushed keeps = refl
+depth_changed change (packet ∷ older) flushed keeps =
+    ap (λ (b : Bool). if not b then length (open_places (change packet).text.levels) else 0) (keeps.finished packet)
+    ∙ ap (λ (n : ℕ). if not packet.finished then n else 0) (keeps.depth packet)
+
+given_up_keeps : KeepsOpen given_up_packet
+given_up_keeps = record { finished = λ packet. refl; depth = λ packet. refl }
+
+pub more_keeps : (bytes : List ℕ) → KeepsOpen (with_more bytes)
+more_keeps bytes = record { finished = λ packet. refl; depth = λ packet. same packet.text.levels }
+  where
+    same : (levels : List (List ℕ)) → length (open_places (written bytes levels)) ≡ length (open_places levels)
+    same [] = refl
+    same (level ∷ []) = refl
+    same (level ∷ outer ∷ others) = refl
+
+-- Calls
+
+-- a packet is begun
+pub begun_in : (view new : WriterView) (kept : Bool) → new.calls ≡ view.calls ++ Begun kept ∷ [] → (in_packet new ≡ true) × (open_depth new ≡ 0)
+begun_in view new kept notes =
+    let account : account_of new.calls ≡ noted (account_of view.calls) (Begun kept) = ap account_of notes ∙ account_one view.calls (Begun kept) in
+    (ap (λ (a : Account). is_writing a.packets) account, ap (λ (a : Account). depth_in a.packets) account)
+
+-- a field call leaves it begun, whether it is given up or not
+pub goes_on : (setup : Setup) (route : Route) (view new : WriterView) (call : Call) (change : Packet → Packet)
+    → ((account : Account) → noted account call ≡ on_newest change account) → ((packet : Packet) → (change packet).finished ≡ packet.finished)
+    → Notes setup route call view new → in_packet view ≡ true → in_packet new ≡ true
+goes_on setup route view new call change is same notes writes =
+    let first : is_writing (noted (account_of view.calls) call).packets ≡ true =
+    ap (λ (a : Account). is_writing a.packets) (is (account_of view.calls)) ∙ writing_changed change (account_of view.calls).packets (account_of view.calls).flushed same ∙ writes in
+    elim notes.calls [
+      | inl e ↦ ap (λ (a : Account). is_writing a.packets) (ap account_of e ∙ account_one view.calls call) ∙ first
+      | inr e ↦
+          ap (λ (a : Account). is_writing a.packets) (ap account_of e.0 ∙ account_two view.calls call GivenUp)
+          ∙ writing_changed given_up_packet (noted (account_of view.calls) call).packets (noted (account_of view.calls) call).flushed (λ packet. refl)
+          ∙ first
+    ]
+
+-- and as deep, where it opens no message
+pub stays_deep : (setup : Setup) (route : Route) (view new : WriterView) (call : Call) (change : Packet → Packet)
+    → ((account : Account) → noted account call ≡ on_newest change account) → KeepsOpen change
+    → Notes setup route call view new → open_depth new ≡ open_depth view
+stays_deep setup route view new call change is keeps notes =
+    let first : depth_in (noted (account_of view.calls) call).packets ≡ open_depth view =
+    ap (λ (a : Account). depth_in a.packets) (is (account_of view.calls)) ∙ depth_changed change (account_of view.calls).packets (account_of view.calls).flushed keeps in
+    elim notes.calls [
+      | inl e ↦ ap (λ (a : Account). depth_in a.packets) (ap account_of e ∙ account_one view.calls call) ∙ first
+      | inr e ↦
+          ap (λ (a : Account). depth_in a.packets) (ap account_of e.0 ∙ account_two view.calls call GivenUp)
+          ∙ depth_changed given_up_packet (noted (account_of view.calls) call).packets (noted (account_of view.calls) call).flushed given_up_keeps
+          ∙ first
+    ]
+
+-- the innermost message ends
+ended_depth : (packets : List Packet) (flushed : Bool) → 0 < depth_in packets
+    → (is_writing (on_newest with_nested_ended (record { packets = packets; flushed = flushed })).packets ≡ true)
+    × (depth_in (on_newest with_nested_ended (record { packets = packets; flushed = flushed })).packets + 1 ≡ depth_in packets)
+ended_depth [] flushed deep = absurd (omega (arith, deep))
+ended_depth (packet ∷ older) flushed deep = by packet.finished refl
+  where
+    levels_end : (levels : List (List ℕ)) (closed : _) → 0 < length (open_places levels)
+        → length (open_places (closed_levels levels closed).levels) + 1 ≡ length (open_places levels)
+    levels_end [] closed some = absurd (omega (arith, some))
+    levels_end (level ∷ []) closed some = absurd (omega (arith, some))
+    levels_end (level ∷ outer ∷ []) closed some = refl
+    levels_end (level ∷ outer ∷ next ∷ others) closed some = omega arith
+
+    depth_of_one : (b : Bool) → packet.finished ≡ b → depth_in (packet ∷ older) ≡ (if not b then length (open_places packet.text.levels) else 0)
+    depth_of_one b e = ap (λ (x : Bool). if not x then length (open_places packet.text.levels) else 0) e
+
+    by : (b : Bool) → packet.finished ≡ b
+        → (is_writing (on_newest with_nested_ended (record { packets = packet ∷ older; flushed = flushed })).packets ≡ true)
+        × (depth_in (on_newest with_nested_ended (record { packets = packet ∷ older; flushed = flushed })).packets + 1 ≡ depth_in (packet ∷ older))
+    by true e = absurd (omega (arith, deep, depth_of_one true e))
+    by false e = (
+      ap not e,
+      ap (λ (x : Bool). (if not x then length (open_places (closed_levels packet.text.levels packet.text.closed).levels) else 0) + 1) e
+          ∙ levels_end packet.text.levels packet.text.closed (omega (arith, deep, depth_of_one false e))
+          ∙ sym (depth_of_one false e),
+    )
+
+pub ended_in : (view new : WriterView) → new.calls ≡ view.calls ++ Ended ∷ [] → 0 < open_depth view → (in_packet new ≡ true) × (open_depth new + 1 ≡ open_depth view)
+ended_in view new notes deep =
+    let account : account_of new.calls ≡ noted (account_of view.calls) Ended = ap account_of notes ∙ account_one view.calls Ended in
+    let after = ended_depth (account_of view.calls).packets (account_of view.calls).flushed deep in
+    (ap (λ (a : Account). is_writing a.packets) account ∙ after.0, ap (λ (a : Account). depth_in a.packets + 1) account ∙ after.1)
+
+-- the packet is finished
+finished_writing : (packets : List Packet) (flushed : Bool) → is_writing (on_newest finished_packet (record { packets = packets; flushed = flushed })).packets ≡ false
+finished_writing [] flushed = refl
+finished_writing (packet ∷ older) flushed = refl
+
+pub finished_out : (view new : WriterView) → new.calls ≡ view.calls ++ Finished ∷ [] → in_packet new ≡ false
+finished_out view new notes =
+    ap (λ (a : Account). is_writing a.packets) (ap account_of notes ∙ account_one view.calls Finished)
+    ∙ finished_writing (account_of view.calls).packets (account_of view.calls).flushed
+
+pub flushed_out : (view new : WriterView) → new.calls ≡ view.calls ++ Flushed ∷ [] → in_packet new ≡ in_packet view
+flushed_out view new notes = ap (λ (a : Account). is_writing a.packets) (ap account_of notes ∙ account_one view.calls Flushed)
+
+-- A number or a text
+pub number_in : (setup : Setup) (route : Route) (view new : WriterView) (field value : ℕ) → Notes setup route (Number field value) view new → in_packet view ≡ true
+    → (in_packet new ≡ true) × (open_depth new ≡ open_depth view)
+number_in setup route view new field value notes writes = (
+  goes_on setup route view new (Number field value) (with_more (number_field field value)) (λ account. refl) (λ packet. refl) notes writes,
+  stays_deep setup route view new (Number field value) (with_more (number_field field value)) (λ account. refl) (more_keeps (number_field field value)) notes,
+)
+
+pub bytes_in : (setup : Setup) (route : Route) (view new : WriterView) (field times : ℕ) (text : List ℕ) → Notes setup route (Bytes field text times) view new → in_packet view ≡ true
+    → (in_packet new ≡ true) × (open_depth new ≡ open_depth view)
+bytes_in setup route view new field times text notes writes = (
+  goes_on setup route view new (Bytes field text times) (with_more (bytes_field field text times)) (λ account. refl) (λ packet. refl) notes writes,
+  stays_deep setup route view new (Bytes field text times) (with_more (bytes_field field text times)) (λ account. refl) (more_keeps (bytes_field field text times)) notes,
+)
+
+pub nested_in : (setup : Setup) (route : Route) (view new : WriterView) (field : ℕ) → Notes setup route (Nested field) view new → in_packet view ≡ true → in_packet new ≡ true
+nested_in setup route view new field notes writes = goes_on setup route view new (Nested field) (with_nested field) (λ account. refl) (λ packet. refl) notes writes

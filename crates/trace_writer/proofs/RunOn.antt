@@ -1,0 +1,430 @@
+-- A packet runs on: the next chunk is begun, the held one is completed, and the packet's next fragment is started.
+use Rattle.std.proofs.Common.{◌≡◌, ◌∙◌, ℕ, ◌+◌, ◌-◌, ◌<◌, ◌≤◌, ◌||◌, Bool, true, false, List, [], ◌∷◌, ◌++◌, length, reverse, vec_len, refl, sym, ap, subst, arith, length-append, append_assoc, append-nil, inl, inr}
+use Rattle.std.specs.Prelude.{◌⊎◌, IsTrue}
+use Rattle.std.proofs.lemmas.Bool.{eq-eqb}
+use Rattle.wire_varint.specs.Varint.{redundant}
+use Rattle.trace_model.specs.Images.{Patch, with_bytes}
+use Rattle.trace_model.specs.Packets.{Packet, body_of}
+use Rattle.trace_model.specs.Pages.{Page, laid}
+use Rattle.trace_model.specs.Sequences.{is_among}
+use Rattle.trace_model.specs.Cut.{IsFull, left_behind, length_places}
+use Rattle.commit_body.specs.declared.hole.Hole.{Hole}
+use Rattle.commit_body.specs.Patches.{hole_chunks, with_lasts}
+use Rattle.commit_body.specs.Pending.{Pending}
+use Rattle.chunk_plain.specs.declared.setup.ChunkRange.{ChunkRange}
+use Rattle.chunk_plain.specs.declared.tokens.Held.{Held as HeldToken}
+use Rattle.chunk_plain.specs.Setup.{Setup, spot}
+use Rattle.chunk_plain.specs.Views.{Ask, Begun, Held, Completed, Head, Content, WriterView}
+use Rattle.chunk_plain.specs.Steps.{no_head, restamps, completes}
+use Rattle.chunk_plain.specs.Words.{IsHolding, MayFollow, head_at}
+use Rattle.claim_arbiter.specs.Claiming.{AsksInVain, ClaimsInTurn, lost_asks}
+use Rattle.cut_steps.specs.RawChains.{earlier_pieces, current_piece, offset_behind}
+use Rattle.cut_steps.specs.Writing.{IsWriting}
+use Rattle.cut_steps.proofs.StepLemmas.{all_end_well-more, is_among-right}
+use Rattle.cut_steps.proofs.RunningOn.{writing_run_on}
+use Rattle.trace_writer.specs.declared.chunk.HeldChunk.{HeldChunk}
+use Rattle.trace_writer.specs.declared.fragment.OpenFragment.{OpenFragment}
+use Rattle.trace_writer.specs.declared.route.Route.{Route}
+use Rattle.trace_writer.specs.Headers.{completed_chunk, flags_value, held_head}
+use Rattle.trace_writer.specs.Site.{Site, IsRoute, site_of}
+use Rattle.trace_writer.specs.States.{InFragment}
+use Rattle.trace_writer.specs.Flows.{AsksMore, RunsOn, LosesRest, CannotRunOn}
+use Rattle.trace_writer.proofs.Holes.{outside_most, among_reverse, lasts_reverse}
+use Rattle.trace_writer.proofs.Payloads.{written_moved, written_offset, written_ended, written_first, run_page, full_run}
+use Rattle.trace_writer.proofs.Seats.{shows_long, content_is, shows_one, completed_here, restamped_here, holds_here, head_here}
+
+-- Ids
+
+pub next_id : (site : Site) (packet : Packet) (older : List Packet) (view : WriterView) (pending : Pending) (fragment : OpenFragment)
+    → InFragment site packet older view pending fragment [] → fragment.held.id + 1 ≡ length view.begun
+next_id site packet older view pending fragment w =
+    let entry : Begun = Held fragment.held.chunk (held_head fragment.count fragment.continues) in
+    let many : length view.begun ≡ length w.completed + 1 = ap length w.begun ∙ length-append w.completed (entry ∷ []) in
+    omega (arith, many, shows_long site 0 w.completed w.pages w.shown, w.id)
+
+-- The view while the packet runs on
+
+-- the held chunk's patches and flags as it is completed
+abbrev pub run_content : Site → Pending → List ℕ → ℕ → ℕ → Bool → Content
+run_content site before payload id count continues =
+    completed_chunk site.place id count (flags_value continues true (is_among id (hole_chunks before.holes))) payload
+    (with_lasts (hole_chunks before.holes) before.unsent) site.buffer
+
+abbrev run_completion : ℕ → ℕ → Pending → WriterView → List ℕ → ℕ → ℕ → ℕ → Bool → WriterView
+run_completion place buffer before view payload chunk id count continues =
+    completes (restamps view chunk id (record { count = count; flags = flags_value continues true (is_among id (hole_chunks before.holes)) })) chunk id
+    (completed_chunk place id count (flags_value continues true (is_among id (hole_chunks before.holes))) payload (with_lasts (hole_chunks before.holes) before.unsent) buffer)
+
+-- the chunk as it ends is that of the fragment
+pub record Ends (fragment : OpenFragment) (ended : HeldChunk) : Type 0 where
+  pub chunk : ended.held.chunk ≡ fragment.held.chunk
+  pub id : ended.held.id ≡ fragment.held.id
+  pub count : ended.count ≡ fragment.count
+  pub continues : ended.continues ≡ fragment.continues
+  pub payload : ended.held.body.payload.items ≡ with_bytes fragment.held.body.payload.items fragment.start (redundant (fragment.at - fragment.start - 4))
+
+pub ends_as : (fragment : OpenFragment) (ended : HeldChunk) → ended.held ≡ record fragment.held { body = record fragment.held.body { payload = ended.held.body.payload } }
+    → ended.held.body.payload.items ≡ with_bytes fragment.held.body.payload.items fragment.start (redundant (fragment.at - fragment.start - 4))
+    → ended.count ≡ fragment.count → ended.continues ≡ fragment.continues → Ends fragment ended
+ends_as fragment ended held bytes count continues = record {
+  chunk = ap (λ (h : HeldToken). h.chunk) held;
+  id = ap (λ (h : HeldToken). h.id) held;
+  count = count;
+  continues = continues;
+  payload = bytes;
+}
+
+-- a further chunk is begun behind the held one
+pub claimed_behind : (setup : Setup) (first count chunk : ℕ) (old new : WriterView) (completed : List Begun) (entry : Begun) → ClaimsInTurn setup first count chunk old new
+    → old.begun ≡ completed ++ entry ∷ [] → new.begun ≡ completed ++ entry ∷ Held chunk no_head ∷ []
+claimed_behind setup first count chunk old new completed entry claims begun =
+    ap (λ (v : WriterView). v.begun) claims.view
+    ∙ ap (λ (xs : List Begun). xs ++ Held chunk no_head ∷ []) begun
+    ∙ append_assoc completed (entry ∷ []) (Held chunk no_head ∷ [])
+
+pub ended_holds : (setup : Setup) (first count chunk : ℕ) (site : Site) (packet : Packet) (older : List Packet) (old one : WriterView) (pending : Pending) (fragment : OpenFragment)
+    (ended : HeldChunk) → ClaimsInTurn setup first count chunk old one → InFragment site packet older old pending fragment [] → Ends fragment ended
+    → IsHolding one ended.held.chunk ended.held.id
+ended_holds setup first count chunk site packet older old one pending fragment ended claims w e =
+    let head : Head = held_head fragment.count fragment.continues in
+    let begun : one.begun ≡ w.completed ++ Held fragment.held.chunk head ∷ Held chunk no_head ∷ [] =
+    claimed_behind setup first count chunk old one w.completed (Held fragment.held.chunk head) claims w.begun in
+    subst (λ (c : ℕ). IsHolding one c ended.held.id) (sym e.chunk)
+    (holds_here one w.completed (Held chunk no_head ∷ []) fragment.held.chunk ended.held.id head begun
+    (e.id ∙ w.id ∙ sym (shows_long site 0 w.completed w.pages w.shown)))
+
+pub ended_head : (setup : Setup) (first count chunk : ℕ) (site : Site) (packet : Packet) (older : List Packet) (old one : WriterView) (pending : Pending) (fragment : OpenFragment)
+    (ended : HeldChunk) → ClaimsInTurn setup first count chunk old one → InFragment site packet older old pending fragment [] → Ends fragment ended
+    → head_at one ended.held.id ≡ held_head ended.count ended.continues
+ended_head setup first count chunk site packet older old one pending fragment ended claims w e =
+    let head : Head = held_head fragment.count fragment.continues in
+    let begun : one.begun ≡ w.completed ++ Held fragment.held.chunk head ∷ Held chunk no_head ∷ [] =
+    claimed_behind setup first count chunk old one w.completed (Held fragment.held.chunk head) claims w.begun in
+    head_here one w.completed (Held chunk no_head ∷ []) fragment.held.chunk ended.held.id head begun
+    (e.id ∙ w.id ∙ sym (shows_long site 0 w.completed w.pages w.shown))
+    ∙ ap (λ (n : ℕ). held_head n fragment.continues) (sym e.count)
+    ∙ ap (λ (c : Bool). held_head ended.count c) (sym e.continues)
+
+-- the held chunk is completed
+pub completed_before : (setup : Setup) (first count chunk place : ℕ) (site : Site) (old one two : WriterView) (before : Pending) (fragment : OpenFragment) (ended : HeldChunk)
+    (completed : List Begun) → ClaimsInTurn setup first count chunk old one → Ends fragment ended → place ≡ site.place
+    → two ≡ run_completion place site.buffer before one ended.held.body.payload.items ended.held.chunk ended.held.id ended.count ended.continues
+    → old.begun ≡ completed ++ Held fragment.held.chunk (held_head fragment.count fragment.continues) ∷ [] → fragment.held.id ≡ length completed
+    → two.begun ≡ (completed ++ Completed fragment.held.chunk (run_content site before ended.held.body.payload.items fragment.held.id fragment.count fragment.continues) ∷ []) ++ Held chunk no_head ∷ []
+completed_before setup first count chunk place site old one two before fragment ended completed claims e place_is view begun id =
+    let head : Head = held_head fragment.count fragment.continues in
+    let payload : List ℕ = ended.held.body.payload.items in
+    let buffer : ℕ = site.buffer in
+    let content : Content = run_content site before payload fragment.held.id fragment.count fragment.continues in
+    let is : two ≡ run_completion site.place buffer before one payload fragment.held.chunk fragment.held.id fragment.count fragment.continues =
+    view
+    ∙ ap (λ (p : ℕ). run_completion p buffer before one payload ended.held.chunk ended.held.id ended.count ended.continues) place_is
+    ∙ ap (λ (c : ℕ). run_completion site.place buffer before one payload c ended.held.id ended.count ended.continues) e.chunk
+    ∙ ap (λ (i : ℕ). run_completion site.place buffer before one payload fragment.held.chunk i ended.count ended.continues) e.id
+    ∙ ap (λ (n : ℕ). run_completion site.place buffer before one payload fragment.held.chunk fragment.held.id n ended.continues) e.count
+    ∙ ap (λ (c : Bool). run_completion site.place buffer before one payload fragment.held.chunk fragment.held.id fragment.count c) e.continues in
+    completed_here one two completed (Held chunk no_head ∷ []) fragment.held.chunk fragment.held.id head _ content
+    (claimed_behind setup first count chunk old one completed (Held fragment.held.chunk head) claims begun) id is
+    ∙ sym (append_assoc completed (Completed fragment.held.chunk content ∷ []) (Held chunk no_head ∷ []))
+
+-- The next chunk
+
+-- the chunk that is begun, behind the completed ones
+pub record Starts (site : Site) (fragment : OpenFragment) (token : HeldToken) (started : HeldChunk) : Type 0 where
+  pub held : started.held ≡ token
+  pub at : started.at ≡ 0
+  pub count : started.count ≡ 0
+  pub continues : started.continues ≡ true
+  pub id : token.id ≡ fragment.held.id + 1
+  pub whole : vec_len token.body.payload ≡ (spot site.setup token.chunk).payload_size
+
+pub started_holds : (site : Site) (two : WriterView) (fragment : OpenFragment) (token : HeldToken) (started : HeldChunk) (completed : List Begun) (entry : Begun)
+    → Starts site fragment token started → fragment.held.id ≡ length completed
+    → two.begun ≡ (completed ++ entry ∷ []) ++ Held token.chunk no_head ∷ [] → IsHolding two started.held.chunk started.held.id
+started_holds site two fragment token started completed entry s id begun =
+    let last : token.id ≡ length (completed ++ entry ∷ []) = s.id ∙ ap (λ (n : ℕ). n + 1) id ∙ sym (length-append completed (entry ∷ [])) in
+    subst (λ (t : HeldToken). IsHolding two t.chunk t.id) (sym s.held) (holds_here two (completed ++ entry ∷ []) [] token.chunk token.id no_head begun last)
+
+pub started_follows : (site : Site) (two : WriterView) (fragment : OpenFragment) (token : HeldToken) (started : HeldChunk) (completed : List Begun) (entry : Begun) (next : Head)
+    → Starts site fragment token started → fragment.held.id ≡ length completed
+    → two.begun ≡ (completed ++ entry ∷ []) ++ Held token.chunk no_head ∷ [] → MayFollow (head_at two started.held.id) next
+started_follows site two fragment token started completed entry next s id begun =
+    let last : token.id ≡ length (completed ++ entry ∷ []) = s.id ∙ ap (λ (n : ℕ). n + 1) id ∙ sym (length-append completed (entry ∷ [])) in
+    let head : head_at two started.held.id ≡ no_head =
+    ap (λ (t : HeldToken). head_at two t.id) s.held ∙ head_here two (completed ++ entry ∷ []) [] token.chunk token.id no_head begun last in
+    subst (λ (h : Head). MayFollow h next) (sym head) (record { count_grows = omega arith; front_stays = λ some. absurd (some refl) })
+
+-- The packet in the next chunk
+
+-- the held chunk is completed, and a fragment is started in the next one
+pub record GoesOnIn (site : Site) (old new : WriterView) (before after : Pending) (fragment next : OpenFragment) : Type 0 where
+  pub calls : new.calls ≡ old.calls
+  pub asked : AsksMore old new
+  pub none_left : after ≡ record before { unsent = [] }
+  pub payload : List ℕ
+  pub payload_is : payload ≡ with_bytes fragment.held.body.payload.items fragment.start (redundant (fragment.at - fragment.start - 4))
+  pub begun : (completed : List Begun) → old.begun ≡ completed ++ Held fragment.held.chunk (held_head fragment.count fragment.continues) ∷ [] → fragment.held.id ≡ length completed
+      → new.begun ≡ (completed ++ Completed fragment.held.chunk (run_content site before payload fragment.held.id fragment.count fragment.continues) ∷ [])
+      ++ Held next.held.chunk (held_head next.count next.continues) ∷ []
+  pub id : next.held.id ≡ fragment.held.id + 1
+  pub start : next.start ≡ 0
+  pub at : next.at ≡ 4
+  pub count : next.count ≡ 1
+  pub continues : next.continues ≡ true
+  pub whole : vec_len next.held.body.payload ≡ site.size
+  pub sized : (spot site.setup next.held.chunk).payload_size ≡ site.size
+
+in_next : (site : Site) (packet : Packet) (older : List Packet) (old new : WriterView) (before after : Pending) (fragment next : OpenFragment) (coming : List ℕ)
+    (w : InFragment site packet older old before fragment []) → 284 ≤ site.size
+    → (left_behind site.size (current_piece w.pages w.done w.now) ≡ 0)
+    ⊎ ((left_behind site.size (current_piece w.pages w.done w.now) < 4) × IsTrue (is_among (length (body_of packet)) (coming ++ length_places packet.text)))
+    → IsWriting site.size packet older w.pages fragment.continues w.done w.now before.unsent (reverse before.holes) coming
+    → GoesOnIn site old new before after fragment next → InFragment site packet older new after next coming
+in_next site packet older old new before after fragment next coming w least left writing e =
+    let items : List ℕ = fragment.held.body.payload.items in
+    let awaits : Bool = is_among fragment.held.id (hole_chunks before.holes) in
+    let patches : List Patch = with_lasts (hole_chunks before.holes) before.unsent in
+    let fragments : List (List ℕ) = w.done ++ w.now ∷ [] in
+    let page : Page = run_page fragment.continues awaits fragments w.written.rest patches in
+    let pages : List Page = w.pages ++ page ∷ [] in
+    let content : Content = run_content site before e.payload fragment.held.id fragment.count fragment.continues in
+    let long : length items ≡ site.size = let all = fragment.held.body.payload.ok.0 in omega (arith, w.whole, all) in
+    let few : fragment.count ≤ 1023 = fragment.few in
+    let full : IsFull site.size page =
+    full_run items fragment.start fragment.at fragment.count site.size w.done w.now fragment.continues awaits patches w.written long few in
+    let last_is : fragment.held.id ≡ 0 + length w.pages = omega (arith, w.id) in
+    let laid_is : e.payload ≡ laid false fragments w.written.rest =
+    e.payload_is ∙ written_ended items fragment.start fragment.at fragment.count w.done w.now w.written in
+    let runs : IsWriting site.size packet older pages true [] [] [] (reverse before.holes) coming =
+    writing_run_on site.size packet older w.pages page w.done w.now before.unsent (reverse before.holes) coming refl refl full
+    (sym (lasts_reverse before.holes before.unsent))
+    (ap (λ (i : ℕ). is_among i (hole_chunks before.holes)) w.id ∙ sym (among_reverse (length w.pages) before.holes))
+    left writing in
+    let next_long : 4 ≤ length next.held.body.payload.items = let all = next.held.body.payload.ok.0 in omega (arith, e.whole, all, least) in
+    let same_holes : length after.holes ≡ length before.holes = ap (λ (p : Pending). length p.holes) e.none_left in
+    let none : length after.unsent ≡ 0 = ap (λ (p : Pending). length p.unsent) e.none_left in
+    record {
+      pages = pages;
+      done = [];
+      now = [];
+      completed = w.completed ++ Completed fragment.held.chunk content ∷ [];
+      begun = e.begun w.completed w.begun (w.id ∙ sym (shows_long site 0 w.completed w.pages w.shown));
+      shown = shows_one site 0 fragment.held.id fragment.held.chunk w.completed w.pages content page w.shown last_is
+          (content_is site fragment.held.id fragment.count e.payload page (w.written.count_is ∙ sym (length-append w.done (w.now ∷ []))) laid_is);
+      id = e.id ∙ ap (λ (n : ℕ). n + 1) w.id ∙ sym (length-append w.pages (page ∷ []));
+      sized = e.sized;
+      whole = e.whole;
+      written = written_moved 0 next.start 4 next.at 1 next.count [] [] refl e.start e.at e.count (written_first next.held.body.payload.items next_long);
+      few = omega (arith, w.few, same_holes);
+      room = omega (arith, w.few, same_holes, none, outside_most next.held.id after.holes);
+      writing = subst (λ (p : Pending). IsWriting site.size packet older pages next.continues [] [] p.unsent (reverse p.holes) coming) (sym e.none_left)
+          (subst (λ (c : Bool). IsWriting site.size packet older pages c [] [] [] (reverse before.holes) coming) (sym e.continues) runs);
+    }
+
+-- a length may come anywhere
+writing_coming : (size : ℕ) (packet : Packet) (older : List Packet) (pages : List Page) (continues : Bool) (done : List (List ℕ)) (now : List ℕ)
+    (unsent : List Patch) (holes : List Hole) (coming : List ℕ)
+    → IsWriting size packet older pages continues done now unsent holes [] → IsWriting size packet older pages continues done now unsent holes coming
+writing_coming size packet older pages continues done now unsent holes coming w =
+    record {
+      kept = w.kept;
+      given_up = w.given_up;
+      finished = w.finished;
+      level = w.level;
+      outer = w.outer;
+      levels = w.levels;
+      first = w.first;
+      first_offset = w.first_offset;
+      begins_at = w.begins_at;
+      bytes = w.bytes;
+      earlier_run_on = w.earlier_run_on;
+      sends = w.sends;
+      holes_are = w.holes_are;
+      closed_in = w.closed_in;
+      ends = all_end_well-more (earlier_pieces pages continues done) size (length_places packet.text) (coming ++ length_places packet.text) 0
+          (λ n. is_among-right n coming (length_places packet.text)) w.ends;
+      four = w.four;
+      begins = w.begins;
+      older_chains = w.older_chains;
+      older_begin = w.older_begin;
+      older_end = w.older_end;
+      full = w.full;
+      flags = w.flags;
+      continues_is = w.continues_is;
+    }
+
+left_is : (site : Site) (packet : Packet) (older : List Packet) (view : WriterView) (pending : Pending) (fragment : OpenFragment)
+    (w : InFragment site packet older view pending fragment [])
+    → left_behind site.size (current_piece w.pages w.done w.now) ≡ site.size - fragment.at
+left_is site packet older view pending fragment w =
+    let begins : offset_behind 4 w.done ≡ fragment.start + 4 =
+    written_offset fragment.held.body.payload.items fragment.start fragment.at fragment.count w.done w.now w.written in
+    let ends : offset_behind 4 w.done + length w.now ≡ fragment.at = omega (arith, begins, w.written.at_is) in
+    ap (λ (n : ℕ). site.size - n) ends
+
+pub runs_on : (site : Site) (old new : WriterView) (before after : Pending) (fragment next : OpenFragment) → 284 ≤ site.size
+    → vec_len fragment.held.body.payload < fragment.at + 4 → GoesOnIn site old new before after fragment next → RunsOn site old new before after fragment next
+runs_on site old new before after fragment next least filled e = record {
+  calls = e.calls;
+  asked = e.asked;
+  holes = ap (λ (p : Pending). p.holes) e.none_left;
+  start = e.start;
+  at = e.at;
+  continues = e.continues;
+  id = e.id;
+  size = e.whole;
+  full = λ ends packet older w.
+      let none : left_behind site.size (current_piece w.pages w.done w.now) ≡ 0 = left_is site packet older old before fragment w ∙ omega (arith, ends) in
+      in_next site packet older old new before after fragment next [] w least (inl none) w.writing e;
+  length_next = λ packet older w.
+      let n : ℕ = length (body_of packet) in
+      let coming : List ℕ = n ∷ [] in
+      let few : left_behind site.size (current_piece w.pages w.done w.now) < 4 =
+      let left = left_is site packet older old before fragment w in let whole = w.whole in omega (arith, left, whole, filled) in
+      let comes : IsTrue (is_among n (coming ++ length_places packet.text)) = ap (λ (b : Bool). b || is_among n (length_places packet.text)) (eq-eqb n n refl) in
+      in_next site packet older old new before after fragment next coming w least (inr (few, comes))
+      (writing_coming site.size packet older w.pages fragment.continues w.done w.now before.unsent (reverse before.holes) coming w.writing) e;
+}
+
+-- the chunk that was claimed has the payload size of all of the writer's
+claimed_size : (setup : Setup) (place chunk : ℕ) (route : Route) (old new : WriterView) → IsRoute setup place route
+    → ClaimsInTurn setup route.arbiter.first route.arbiter.chunks chunk old new → (spot setup chunk).payload_size ≡ route.payload_size
+claimed_size setup place chunk route old new r claims =
+    r.sizes chunk (record {
+      least = subst (λ (range : ChunkRange). range.first ≤ chunk) (sym r.range) claims.least;
+      below = subst (λ (range : ChunkRange). chunk < range.first + range.count) (sym r.range) claims.below;
+    })
+
+-- the next fragment is that of the chunk that was started
+pub record StartsIn (started : HeldChunk) (next : OpenFragment) : Type 0 where
+  pub held : next.held ≡ started.held
+  pub start : next.start ≡ started.at
+  pub at : next.at ≡ started.at + 4
+  pub count : next.count ≡ started.count + 1
+  pub continues : next.continues ≡ started.continues
+
+-- the started chunk is held behind those that are completed, and has no fragment yet
+pub run_holds : (setup : Setup) (place now_place : ℕ) (route : Route) (packet : Packet) (older : List Packet) (old one two : WriterView) (before : Pending) (fragment : OpenFragment)
+    (ended started : HeldChunk) (token : HeldToken) → InFragment (site_of setup place route) packet older old before fragment []
+    → ClaimsInTurn setup route.arbiter.first route.arbiter.chunks token.chunk old one → Ends fragment ended → now_place ≡ place
+    → two ≡ run_completion now_place route.spec.buffer before one ended.held.body.payload.items ended.held.chunk ended.held.id ended.count ended.continues
+    → Starts (site_of setup place route) fragment token started → IsHolding two started.held.chunk started.held.id
+run_holds setup place now_place route packet older old one two before fragment ended started token w claims e place_is completes_is s =
+    let site : Site = site_of setup place route in
+    let id : fragment.held.id ≡ length w.completed = w.id ∙ sym (shows_long site 0 w.completed w.pages w.shown) in
+    started_holds site two fragment token started w.completed
+    (Completed fragment.held.chunk (run_content site before ended.held.body.payload.items fragment.held.id fragment.count fragment.continues)) s id
+    (completed_before setup route.arbiter.first route.arbiter.chunks token.chunk now_place site old one two before fragment ended w.completed claims e place_is completes_is w.begun id)
+
+pub run_follows : (setup : Setup) (place now_place : ℕ) (route : Route) (packet : Packet) (older : List Packet) (old one two : WriterView) (before : Pending) (fragment : OpenFragment)
+    (ended started : HeldChunk) (token : HeldToken) (next : Head) → InFragment (site_of setup place route) packet older old before fragment []
+    → ClaimsInTurn setup route.arbiter.first route.arbiter.chunks token.chunk old one → Ends fragment ended → now_place ≡ place
+    → two ≡ run_completion now_place route.spec.buffer before one ended.held.body.payload.items ended.held.chunk ended.held.id ended.count ended.continues
+    → Starts (site_of setup place route) fragment token started → MayFollow (head_at two started.held.id) next
+run_follows setup place now_place route packet older old one two before fragment ended started token next w claims e place_is completes_is s =
+    let site : Site = site_of setup place route in
+    let id : fragment.held.id ≡ length w.completed = w.id ∙ sym (shows_long site 0 w.completed w.pages w.shown) in
+    started_follows site two fragment token started w.completed
+    (Completed fragment.held.chunk (run_content site before ended.held.body.payload.items fragment.held.id fragment.count fragment.continues)) next s id
+    (completed_before setup route.arbiter.first route.arbiter.chunks token.chunk now_place site old one two before fragment ended w.completed claims e place_is completes_is w.begun id)
+
+pub goes_on_in : (setup : Setup) (place now_place : ℕ) (route : Route) (old one two new : WriterView) (before after : Pending) (fragment : OpenFragment)
+    (ended started : HeldChunk) (token : HeldToken) (next : OpenFragment) → IsRoute setup place route
+    → ClaimsInTurn setup route.arbiter.first route.arbiter.chunks token.chunk old one → Ends fragment ended → now_place ≡ place
+    → two ≡ run_completion now_place route.spec.buffer before one ended.held.body.payload.items ended.held.chunk ended.held.id ended.count ended.continues
+    → after ≡ record before { unsent = [] }
+    → Starts (site_of setup place route) fragment token started → StartsIn started next
+    → new ≡ restamps two started.held.chunk started.held.id (held_head (started.count + 1) started.continues)
+    → GoesOnIn (site_of setup place route) old new before after fragment next
+goes_on_in setup place now_place route old one two new before after fragment ended started token next r claims e place_is completes_is after_is s n view =
+    let site : Site = site_of setup place route in
+    let payload : List ℕ = ended.held.body.payload.items in
+    let head : Head = held_head (started.count + 1) started.continues in
+    let held : next.held ≡ token = n.held ∙ s.held in
+    let chunk_is : next.held.chunk ≡ token.chunk = ap (λ (t : HeldToken). t.chunk) held in
+    let stamped : new ≡ restamps two token.chunk token.id head = view ∙ ap (λ (t : HeldToken). restamps two t.chunk t.id head) s.held in
+    let size : (spot setup token.chunk).payload_size ≡ route.payload_size = claimed_size setup place token.chunk route old one r claims in
+    let lost : List Ask = lost_asks (length old.calls) route.arbiter.first claims.words in
+    let won : Ask = record { chunk = token.chunk; found = claims.found; won = true; calls = length old.calls } in
+    record {
+      calls = ap (λ (v : WriterView). v.calls) view ∙ ap (λ (v : WriterView). v.calls) completes_is ∙ ap (λ (v : WriterView). v.calls) claims.view;
+      asked = record {
+        more = lost ++ won ∷ [];
+        asked = ap (λ (v : WriterView). v.asked) view ∙ ap (λ (v : WriterView). v.asked) completes_is ∙ ap (λ (v : WriterView). v.asked) claims.view
+            ∙ append_assoc old.asked lost (won ∷ []);
+      };
+      none_left = after_is;
+      payload = payload;
+      payload_is = e.payload;
+      begun = λ completed begun id.
+          let content : Content = run_content site before payload fragment.held.id fragment.count fragment.continues in
+          let entry : Begun = Completed fragment.held.chunk content in
+          let last : token.id ≡ length (completed ++ entry ∷ []) = s.id ∙ ap (λ (m : ℕ). m + 1) id ∙ sym (length-append completed (entry ∷ [])) in
+          let behind : two.begun ≡ (completed ++ entry ∷ []) ++ Held token.chunk no_head ∷ [] =
+          completed_before setup route.arbiter.first route.arbiter.chunks token.chunk now_place site old one two before fragment ended completed claims e place_is completes_is begun id in
+          restamped_here two new (completed ++ entry ∷ []) [] token.chunk token.id no_head head behind last stamped
+          ∙ ap (λ (c : ℕ). (completed ++ entry ∷ []) ++ Held c head ∷ []) (sym chunk_is)
+          ∙ ap (λ (m : ℕ). (completed ++ entry ∷ []) ++ Held next.held.chunk (held_head m started.continues) ∷ []) (sym n.count)
+          ∙ ap (λ (c : Bool). (completed ++ entry ∷ []) ++ Held next.held.chunk (held_head next.count c) ∷ []) (sym n.continues);
+      id = ap (λ (t : HeldToken). t.id) held ∙ s.id;
+      start = n.start ∙ s.at;
+      at = n.at ∙ ap (λ (m : ℕ). m + 4) s.at;
+      count = n.count ∙ ap (λ (m : ℕ). m + 1) s.count;
+      continues = n.continues ∙ s.continues;
+      whole = ap (λ (t : HeldToken). vec_len t.body.payload) held ∙ s.whole ∙ size;
+      sized = ap (λ (c : ℕ). (spot setup c).payload_size) chunk_is ∙ size;
+    }
+
+-- No chunk was free
+
+in_view : (site : Site) (packet : Packet) (older : List Packet) (view other : WriterView) (pending : Pending) (fragment : OpenFragment) (coming : List ℕ)
+    → other.begun ≡ view.begun → InFragment site packet older view pending fragment coming → InFragment site packet older other pending fragment coming
+in_view site packet older view other pending fragment coming same w = record {
+  pages = w.pages;
+  done = w.done;
+  now = w.now;
+  completed = w.completed;
+  begun = same ∙ w.begun;
+  shown = w.shown;
+  id = w.id;
+  sized = w.sized;
+  whole = w.whole;
+  written = w.written;
+  few = w.few;
+  room = w.room;
+  writing = w.writing;
+}
+
+loses_from : (site other : Site) (old mid new : WriterView) (before after : Pending) (fragment : OpenFragment) → other ≡ site → mid.begun ≡ old.begun → mid.calls ≡ old.calls
+    → LosesRest other mid new before after fragment → LosesRest site old new before after fragment
+loses_from site other old mid new before after fragment site_is begun calls other_loses =
+    let loses : LosesRest site mid new before after fragment = subst (λ (s : Site). LosesRest s mid new before after fragment) site_is other_loses in
+    record {
+      calls = loses.calls ∙ calls;
+      full = λ ends packet older rest some w. loses.full ends packet older rest some (in_view site packet older old mid before fragment [] begun w);
+      full_nested = λ ends packet older rest w. loses.full_nested ends packet older rest (in_view site packet older old mid before fragment [] begun w);
+      length_next = λ packet older w. loses.length_next packet older (in_view site packet older old mid before fragment [] begun w);
+    }
+
+pub cannot_run_on : (setup now_setup : Setup) (place now_place : ℕ) (route : Route) (old mid new : WriterView) (before after : Pending) (fragment : OpenFragment)
+    → now_setup ≡ setup → now_place ≡ place → AsksInVain setup route.arbiter.first route.arbiter.chunks old mid → new.asked ≡ mid.asked
+    → LosesRest (site_of now_setup now_place route) mid new before after fragment → CannotRunOn (site_of setup place route) setup route old new before after fragment
+cannot_run_on setup now_setup place now_place route old mid new before after fragment setup_is place_is vain asked loses = record {
+  asked = record {
+    before = [];
+    words = vain.words;
+    count_is = vain.count_is;
+    claimed = vain.claimed;
+    asked = asked ∙ ap (λ (v : WriterView). v.asked) vain.view
+        ∙ ap (λ (asks : List Ask). asks ++ lost_asks (length old.calls) route.arbiter.first vain.words) (sym (append-nil old.asked));
+  };
+  loses = loses_from (site_of setup place route) (site_of now_setup now_place route) old mid new before after fragment
+      (ap (λ (x : Setup). site_of x now_place route) setup_is ∙ ap (λ (n : ℕ). site_of setup n route) place_is)
+      (ap (λ (v : WriterView). v.begun) vain.view) (ap (λ (v : WriterView). v.calls) vain.view) loses;
+}
+
+pub next_id_after : (setup : Setup) (first count : ℕ) (site : Site) (packet : Packet) (older : List Packet) (old mid new : WriterView) (pending : Pending) (fragment : OpenFragment)
+    → InFragment site packet older old pending fragment [] → AsksInVain setup first count old mid → length new.begun ≡ length mid.begun
+    → fragment.held.id + 1 ≡ length new.begun
+next_id_after setup first count site packet older old mid new pending fragment w vain same =
+    next_id site packet older old pending fragment w ∙ sym (same ∙ ap (λ (v : WriterView). length v.begun) vain.view)

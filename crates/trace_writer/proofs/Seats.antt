@@ -1,0 +1,86 @@
+-- The view of a writer whose chunk is held: its begun chunks as it is completed, and the pages that they show.
+use Rattle.std.proofs.Common.{◌≡◌, ◌∙◌, ℕ, suc, ◌+◌, Bool, List, [], ◌∷◌, ◌++◌, length, set, get_or, refl, sym, ap, subst, arith}
+use Rattle.std.proofs.lemmas.List.{set-set}
+use Rattle.std.proofs.Math.Seq.{get_or-append_seam, set-append_seam}
+use Rattle.trace_model.specs.Pages.{Page, laid, flags_of, image_of}
+use Rattle.chunk_plain.specs.Views.{At, Begun, Held, Completed, Head, Content, WriterView}
+use Rattle.chunk_plain.specs.Steps.{no_head, restamps, completes}
+use Rattle.chunk_plain.specs.Words.{head_in, head_at, IsHolding, MayFollow}
+use Rattle.trace_writer.specs.Headers.{completed_chunk, held_head}
+use Rattle.trace_writer.specs.Site.{Site}
+use Rattle.trace_writer.specs.Filled.{ShowsPages}
+
+at_seam : {A : Type 0} (xs : List A) (y : A) (ys : List A) → At (xs ++ y ∷ ys) (length xs) y
+at_seam [] y ys = refl
+at_seam (x ∷ xs) y ys = at_seam xs y ys
+
+-- A chunk that the writer holds
+
+pub head_here : (view : WriterView) (completed later : List Begun) (chunk id : ℕ) (head : Head) → view.begun ≡ completed ++ Held chunk head ∷ later
+    → id ≡ length completed → head_at view id ≡ head
+head_here view completed later chunk id head begun id_is =
+    ap (λ (xs : List Begun). head_in (get_or xs id (Held 0 no_head))) begun
+    ∙ ap (λ (i : ℕ). head_in (get_or (completed ++ Held chunk head ∷ later) i (Held 0 no_head))) id_is
+    ∙ ap head_in (get_or-append_seam completed (Held chunk head) later (Held 0 no_head))
+
+pub holds_here : (view : WriterView) (completed later : List Begun) (chunk id : ℕ) (head : Head) → view.begun ≡ completed ++ Held chunk head ∷ later
+    → id ≡ length completed → IsHolding view chunk id
+holds_here view completed later chunk id head begun id_is =
+    subst (λ (h : Head). At view.begun id (Held chunk h)) (sym (head_here view completed later chunk id head begun id_is))
+    (subst (λ (xs : List Begun). At xs id (Held chunk head)) (sym begun)
+    (subst (λ (i : ℕ). At (completed ++ Held chunk head ∷ later) i (Held chunk head)) (sym id_is) (at_seam completed (Held chunk head) later)))
+
+pub restamped_here : (view new : WriterView) (completed later : List Begun) (chunk id : ℕ) (head next : Head) → view.begun ≡ completed ++ Held chunk head ∷ later
+    → id ≡ length completed → new ≡ restamps view chunk id next → new.begun ≡ completed ++ Held chunk next ∷ later
+restamped_here view new completed later chunk id head next begun id_is is =
+    ap (λ (v : WriterView). v.begun) is
+    ∙ ap (λ (xs : List Begun). set xs id (Held chunk next)) begun
+    ∙ ap (λ (i : ℕ). set (completed ++ Held chunk head ∷ later) i (Held chunk next)) id_is
+    ∙ set-append_seam completed (Held chunk head) later (Held chunk next)
+
+pub completed_here : (view new : WriterView) (completed later : List Begun) (chunk id : ℕ) (head next : Head) (content : Content)
+    → view.begun ≡ completed ++ Held chunk head ∷ later → id ≡ length completed → new ≡ completes (restamps view chunk id next) chunk id content
+    → new.begun ≡ completed ++ Completed chunk content ∷ later
+completed_here view new completed later chunk id head next content begun id_is is =
+    ap (λ (v : WriterView). v.begun) is
+    ∙ set-set view.begun id (Held chunk next) (Completed chunk content)
+    ∙ ap (λ (xs : List Begun). set xs id (Completed chunk content)) begun
+    ∙ ap (λ (i : ℕ). set (completed ++ Held chunk head ∷ later) i (Completed chunk content)) id_is
+    ∙ set-append_seam completed (Held chunk head) later (Completed chunk content)
+
+-- one fragment more may be counted in the header
+pub follows_held : (head : Head) (count : ℕ) (continues : Bool) → head ≡ held_head count continues → MayFollow head (held_head (count + 1) continues)
+follows_held head count continues is =
+    subst (λ (h : Head). MayFollow h (held_head (count + 1) continues)) (sym is) (record { count_grows = omega arith; front_stays = λ some. refl })
+
+-- Pages
+
+pub shows_long : (site : Site) (id : ℕ) (begun : List Begun) (pages : List Page) → ShowsPages site id begun pages → length begun ≡ length pages
+shows_long site id [] [] shown = refl
+shows_long site id [] (page ∷ pages) shown = absurd shown
+shows_long site id (Held chunk head ∷ begun) pages shown = absurd shown
+shows_long site id (Completed chunk content ∷ begun) [] shown = absurd shown
+shows_long site id (Completed chunk content ∷ begun) (page ∷ pages) shown = ap suc (shows_long site (suc id) begun pages shown.1)
+
+-- what a chunk is completed with
+abbrev pub content_with : Site → ℕ → Page → Content
+content_with site id page = record { image = image_of (site.place + 2) id page; patches = page.patches; target = site.buffer }
+
+pub content_is : (site : Site) (id count : ℕ) (payload : List ℕ) (page : Page) → count ≡ length page.fragments
+    → payload ≡ laid page.dropped page.fragments page.rest
+    → completed_chunk site.place id count (flags_of page) payload page.patches site.buffer ≡ content_with site id page
+content_is site id count payload page count_is payload_is =
+    ap (λ (n : ℕ). completed_chunk site.place id n (flags_of page) payload page.patches site.buffer) count_is
+    ∙ ap (λ (bytes : List ℕ). completed_chunk site.place id (length page.fragments) (flags_of page) bytes page.patches site.buffer) payload_is
+
+pub shows_one : (site : Site) (id last chunk : ℕ) (begun : List Begun) (pages : List Page) (content : Content) (page : Page)
+    → ShowsPages site id begun pages → last ≡ id + length pages → content ≡ content_with site last page
+    → ShowsPages site id (begun ++ Completed chunk content ∷ []) (pages ++ page ∷ [])
+shows_one site id last chunk [] [] content page shown last_is is =
+    let same : last ≡ id = omega (arith, last_is) in
+    (subst (λ (i : ℕ). content ≡ content_with site i page) same is, tt)
+shows_one site id last chunk [] (other ∷ pages) content page shown last_is is = absurd shown
+shows_one site id last chunk (Held c head ∷ begun) pages content page shown last_is is = absurd shown
+shows_one site id last chunk (Completed c old ∷ begun) [] content page shown last_is is = absurd shown
+shows_one site id last chunk (Completed c old ∷ begun) (other ∷ pages) content page shown last_is is =
+    (shown.0, shows_one site (suc id) last chunk begun pages content page shown.1 (omega (arith, last_is)) is)

@@ -1,0 +1,52 @@
+use Rattle.std.proofs.Common.{◌<◌, Option, sym, subst}
+use Rattle.trace_model.specs.Packets.{account_of}
+use Rattle.trace_writer.specs.declared.packet.OpenPacket.{OpenPacket}
+use Rattle.trace_writer.specs.declared.state.Writer.{Writer}
+use Rattle.trace_writer.specs.Site.{site_of}
+use Rattle.trace_writer.specs.Agreement.{Agrees, depth_of}
+use Rattle.trace_writer.proofs.Closing.{Pops, pops_few, start_within, hole_within, agrees_ended, agrees_ended_dropping}
+use Rattle.trace_writer.proofs.Agreeing.{writing_agrees}
+use Rattle.trace_writer.proofs.field.end_message.Goals as goal
+use Rattle.trace_writer.proofs.field.end_message.Goals.{in-Writing, in-Dropping}
+
+pub end_nested-length-requires-clause-within : goal.end_nested-length-requires-clause-within
+end_nested-length-requires-clause-within g c =
+    start_within (account_of (g.W.Words.view c.args.table.now c.args.seat.now).calls).packets c.args.writer.now.packet c.in-Some.packet c.in-Some.is c.requires.agrees.packet
+
+pub close_hole-requires-clause-fits : goal.close_hole-requires-clause-fits
+close_hole-requires-clause-fits g c =
+    pops_few c.in-Some.packet c.end_nested-length.new.self c.end_nested-length.result
+    (record {
+      some = subst (λ (o : Option OpenPacket). 0 < depth_of o) c.in-Some.is c.requires.depth;
+      len = c.end_nested-length.ensures.len;
+      starts = c.end_nested-length.ensures.starts;
+    })
+
+pub close_hole-requires-clause-here : goal.close_hole-requires-clause-here
+close_hole-requires-clause-here g c = λ hole outer holes held.
+    let view = g.W.Words.view c.args.table.now c.args.seat.now in
+    let w = writing_agrees (g.W.Words.setup c.args.table.now) (g.W.Words.place c.args.seat.now) view c.args.writer.now c.in-Writing.fragment c.requires.agrees (sym c.in-Writing.ensures.taken) in
+    hole_within (site_of (g.W.Words.setup c.args.table.now) (g.W.Words.place c.args.seat.now) c.args.writer.now.route) w.packet w.older view c.args.writer.now.pending
+    c.in-Writing.fragment hole outer holes held w.inside
+
+pub returns-clause-agrees : goal.returns-clause-agrees
+returns-clause-agrees g c =
+    let setup = g.W.Words.setup c.args.table.now in let place = g.W.Words.place c.args.seat.now in
+    let view = g.W.Words.view c.args.table.now c.args.seat.now in let new = g.W.Words.view c.note_call.new.self c.note_call.new.seat in
+    let pops : Pops c.in-Some.packet c.end_nested-length.new.self c.end_nested-length.result = record {
+      some = subst (λ (o : Option OpenPacket). 0 < depth_of o) c.in-Some.is c.requires.depth;
+      len = c.end_nested-length.ensures.len;
+      starts = c.end_nested-length.ensures.starts;
+    } in
+    elim c.match-take_state.branch [
+      | in-Writing w ↦
+          subst (λ (one : Writer). Agrees setup place new one) (sym w.writer-is)
+          (agrees_ended setup place view new c.args.writer.now w.put_state.new.state w.in-Writing.fragment w.close_hole.new.self w.close_hole.new.pending
+          c.in-Some.packet c.end_nested-length.new.self c.end_nested-length.result c.requires.agrees (sym w.in-Writing.ensures.taken) w.put_state.ensures c.in-Some.is pops
+          w.close_hole.ensures c.note_call.ensures.view)
+      | in-Dropping w ↦
+          subst (λ (one : Writer). Agrees setup place new one) (sym w.writer-is)
+          (agrees_ended_dropping setup place view new c.args.writer.now w.put_state-in-Dropping.new.state w.in-Dropping.next_id
+          c.in-Some.packet c.end_nested-length.new.self c.end_nested-length.result c.requires.agrees (sym w.in-Dropping.ensures.taken) w.put_state-in-Dropping.ensures c.in-Some.is pops
+          c.note_call.ensures.view)
+    ]

@@ -1,0 +1,36 @@
+use Rattle.std.proofs.Common.{◌∙◌, false, true, None, sym, ap}
+use Rattle.chunk_plain.specs.declared.tokens.Held.{Held}
+use Rattle.trace_writer.specs.declared.state.State.{State}
+use Rattle.trace_writer.specs.declared.state.Writer.{Writer}
+use Rattle.trace_writer.proofs.Finishing.{finish_writing}
+use Rattle.trace_writer.proofs.Ending.{finish_lost}
+use Rattle.trace_writer.proofs.finish.finish.Goals.{in-Writing, in-Dropping}
+use Rattle.trace_writer.proofs.finish.finish.Goals as goal
+
+pub returns-clause-agrees : goal.returns-clause-agrees
+returns-clause-agrees g c = elim c.match-take_state.branch [
+  | in-Writing w ↦
+      finish_writing (g.W.Words.setup c.args.table.now) (g.W.Words.place c.args.seat.now) (g.W.Words.view c.args.table.now c.args.seat.now)
+      (g.W.Words.view c.note_call.new.self c.note_call.new.seat) c.args.writer.now _ w.in-Writing.fragment w.end.result
+      w.in-Writing.fragment.within w.in-Writing.fragment.few
+      (sym c.take_state.ensures.taken ∙ w.in-Writing.is) c.requires.begun c.requires.depth c.note_call.ensures.view
+      (record {
+        chunk_is = ap (λ (held : Held). held.chunk) w.end.ensures.held;
+        id = ap (λ (held : Held). held.id) w.end.ensures.held;
+        bytes = w.end.ensures.bytes;
+        len = w.end.ensures.len;
+        at = w.end.ensures.at;
+        count = w.end.ensures.count;
+        continues = w.end.ensures.continues;
+      })
+      (ap (λ (writer : Writer). record writer { packet = None }) w.writer-is
+      ∙ ap (λ (state : State). record c.args.writer.now { state = state; packet = None; follows_loss = false }) w.put_state.ensures)
+      c.requires.agrees
+  | in-Dropping w ↦
+      finish_lost (g.W.Words.setup c.args.table.now) (g.W.Words.place c.args.seat.now) (g.W.Words.view c.args.table.now c.args.seat.now)
+      (g.W.Words.view c.note_call.new.self c.note_call.new.seat) c.args.writer.now _ w.in-Dropping.next_id
+      (sym c.take_state.ensures.taken ∙ w.in-Dropping.is) c.note_call.ensures.view
+      (ap (λ (writer : Writer). record writer { packet = None }) w.writer-is
+      ∙ ap (λ (state : State). record c.args.writer.now { state = state; packet = None; follows_loss = true }) w.put_state-in-Dropping.ensures)
+      c.requires.agrees
+]

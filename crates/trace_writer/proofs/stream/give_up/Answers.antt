@@ -1,0 +1,48 @@
+use Rattle.std.proofs.Common.{ap, arith}
+use Rattle.commit_body.specs.Patches.{holes_outside}
+use Rattle.trace_writer.specs.Site.{site_of}
+use Rattle.trace_writer.proofs.GivenUp.{closes_none, closes_further, closes_within, ends_given_up, loses_rest, dropped_holds, dropped_head, dropped_size}
+use Rattle.trace_writer.proofs.stream.give_up.Goals as goal
+
+pub holes-init : goal.holes-init
+holes-init g c =
+    let i = c.requires.inside in
+    closes_none _ i.packet i.older _ c.args.pending.now c.args.fragment i.inside
+
+pub close_hole-requires-clause-room : goal.close_hole-requires-clause-room
+close_hole-requires-clause-room g c =
+    let i = c.holes.invariant in
+    omega (arith, i.room, ap (λ n. holes_outside n c.holes.pending.holes) i.same.id)
+
+pub close_hole-requires-clause-here : goal.close_hole-requires-clause-here
+close_hole-requires-clause-here g c =
+    let i = c.requires.inside in
+    closes_within _ i.packet i.older _ c.args.pending.now c.holes.pending c.args.fragment c.holes.fragment i.inside c.holes.invariant
+
+pub holes-preserved : goal.holes-preserved
+holes-preserved g c =
+    closes_further _ _ c.args.pending.now c.holes.pending c.close_hole.new.pending c.args.fragment c.holes.fragment c.close_hole.new.self c.close_hole.ensures c.holes.invariant
+
+pub complete-requires-clause-held : goal.complete-requires-clause-held
+complete-requires-clause-held g c =
+    let i = c.requires.inside in let e = c.end_dropped.ensures in
+    dropped_holds _ i.packet i.older _ c.args.pending.now c.holes.pending c.args.fragment c.holes.fragment c.end_dropped.result i.inside c.holes.invariant e.held
+
+pub complete-requires-clause-head : goal.complete-requires-clause-head
+complete-requires-clause-head g c =
+    let i = c.requires.inside in let e = c.end_dropped.ensures in
+    dropped_head _ i.packet i.older _ c.args.pending.now c.holes.pending c.args.fragment c.holes.fragment c.end_dropped.result i.inside c.holes.invariant e.held e.count e.continues
+
+pub complete-requires-clause-size : goal.complete-requires-clause-size
+complete-requires-clause-size g c =
+    let i = c.requires.inside in let e = c.end_dropped.ensures in
+    dropped_size _ i.packet i.older _ c.args.pending.now c.holes.pending c.args.fragment c.holes.fragment c.end_dropped.result i.inside c.holes.invariant e.held e.len
+
+pub returns-clause-loses : goal.returns-clause-loses
+returns-clause-loses g c =
+    let e = c.end_dropped.ensures in
+    let site = site_of (g.W.Words.setup c.args.table.now) (g.W.Words.place c.args.seat.now) c.args.route.now in
+    let old = g.W.Words.view c.args.table.now c.args.seat.now in let new = g.W.Words.view c.complete.new.table c.complete.new.seat in
+    loses_rest site old new c.args.pending.now c.complete.new.pending c.args.fragment c.requires.filled
+    (ends_given_up site old new c.args.pending.now c.holes.pending c.complete.new.pending c.args.fragment c.holes.fragment c.end_dropped.result
+    c.holes.invariant (omega arith) e.held e.bytes e.count e.continues c.complete.ensures.pending c.complete.ensures.view)

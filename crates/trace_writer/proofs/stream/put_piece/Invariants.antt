@@ -1,0 +1,16 @@
+use Rattle.std.proofs.Common.{◌+◌, ◌-◌, ◌*◌, length, vec_len}
+use Rattle.chunk_plain.specs.Words.{IsWriterStep}
+use Rattle.trace_writer.specs.Site.{site_of}
+use Rattle.trace_writer.proofs.Putting.{PutsSoFar}
+use Rattle.trace_writer.proofs.stream.put_piece.Given as goal
+
+abbrev pub invariant-chunks : goal.invariant-chunks
+invariant-chunks g l = record {
+  step : IsWriterStep g.W.Words.setup g.W.Words.sits g.W.Words.place g.W.Words.view g.W.Words.serves g.W.Words.service_view l.fn.table l.fn.seat l.table l.seat;
+  so_far : PutsSoFar (site_of (g.W.Words.setup l.fn.table) (g.W.Words.place l.fn.seat) l.route) (g.W.Words.view l.fn.table l.fn.seat)
+      (g.W.Words.view l.table l.seat) l.fn.pending l.pending l.fn.fragment l.fragment l.piece l.rest;
+}
+
+-- each turn writes a byte, but for one in a chunk that is full
+abbrev pub decreases-chunks : goal.decreases-chunks
+decreases-chunks g l = length l.rest * 2 + (1 - (vec_len l.fragment.held.body.payload - l.fragment.at))

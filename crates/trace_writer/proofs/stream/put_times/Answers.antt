@@ -1,0 +1,64 @@
+use Rattle.std.proofs.Common.{◌≡◌, ◌∙◌, ℕ, ap, subst, sym, arith}
+use Rattle.std.specs.List.{repeat}
+use Rattle.chunk_plain.specs.Setup.{Setup}
+use Rattle.chunk_plain.proofs.SeatSteps.{steps_follow}
+use Rattle.trace_writer.specs.Site.{Site, site_of}
+use Rattle.trace_writer.specs.Flows.{IsInPacket, PutsOn, GivesUpIn}
+use Rattle.trace_writer.proofs.Putting.{inside_behind, times_next, times_lost, times_ids}
+use Rattle.trace_writer.proofs.stream.put_times.Goals as goal
+
+pub put_piece-requires-clause-inside : goal.put_piece-requires-clause-inside
+put_piece-requires-clause-inside g c =
+    let setup = g.W.Words.setup c.args.table.now in let place = g.W.Words.place c.args.seat.now in let route = c.args.route.now in
+    let site = site_of setup place route in let step = c.loop-turn.invariant.step in
+    let site_is : site_of (g.W.Words.setup c.loop-turn.table) (g.W.Words.place c.loop-turn.seat) route ≡ site =
+    ap (λ (s : Setup). site_of s (g.W.Words.place c.loop-turn.seat) route) step.setup_stays ∙ ap (λ (n : ℕ). site_of setup n route) step.place_stays in
+    let mid = g.W.Words.view c.loop-turn.table c.loop-turn.seat in
+    subst (λ (s : Site). IsInPacket s mid c.loop-turn.pending c.loop-turn.fragment) (sym site_is)
+    (inside_behind site (g.W.Words.view c.args.table.now c.args.seat.now) mid c.args.pending.now c.loop-turn.pending c.args.fragment c.loop-turn.fragment
+    (repeat c.loop-turn._turn c.args.piece.now) c.loop-turn.invariant.puts c.requires.inside)
+
+pub put_piece-requires-clause-ids : goal.put_piece-requires-clause-ids
+put_piece-requires-clause-ids g c =
+    times_ids (site_of (g.W.Words.setup c.args.table.now) (g.W.Words.place c.args.seat.now) c.args.route.now)
+    (g.W.Words.view c.args.table.now c.args.seat.now) (g.W.Words.view c.loop-turn.table c.loop-turn.seat) c.args.pending.now c.loop-turn.pending
+    c.args.fragment c.loop-turn.fragment c.loop-turn._turn c.args.times c.args.piece.now c.loop-turn-test.true c.requires.ids c.loop-turn.invariant.puts
+
+pub returns-in-GivenUp-clause-flow : goal.returns-in-GivenUp-clause-flow
+returns-in-GivenUp-clause-flow g c =
+    let setup = g.W.Words.setup c.args.table.now in let place = g.W.Words.place c.args.seat.now in let route = c.args.route.now in
+    let site = site_of setup place route in let step = c.loop-turn.invariant.step in
+    let site_is : site_of (g.W.Words.setup c.loop-turn.table) (g.W.Words.place c.loop-turn.seat) route ≡ site =
+    ap (λ (s : Setup). site_of s (g.W.Words.place c.loop-turn.seat) route) step.setup_stays ∙ ap (λ (n : ℕ). site_of setup n route) step.place_stays in
+    let old = g.W.Words.view c.args.table.now c.args.seat.now in let mid = g.W.Words.view c.loop-turn.table c.loop-turn.seat in
+    let new = g.W.Words.view c.put_piece.new.table c.put_piece.new.seat in
+    let lost = c.in-GivenUp.ensures.flow in (
+      times_lost site setup route old mid new c.args.pending.now c.loop-turn.pending c.put_piece.new.pending c.args.fragment c.loop-turn.fragment
+          c.loop-turn._turn c.args.times c.args.piece.now c.loop-turn-test.true c.loop-turn.invariant.puts
+          (subst (λ (s : Site). GivesUpIn s setup route mid new c.loop-turn.pending c.put_piece.new.pending c.loop-turn.fragment c.args.piece.now) site_is
+          (subst (λ (s : Setup). GivesUpIn (site_of (g.W.Words.setup c.loop-turn.table) (g.W.Words.place c.loop-turn.seat) route) s route mid new c.loop-turn.pending c.put_piece.new.pending c.loop-turn.fragment c.args.piece.now)
+          step.setup_stays lost.0)),
+      lost.1,
+    )
+
+pub loop-turn-preserved : goal.loop-turn-preserved
+loop-turn-preserved g c =
+    let setup = g.W.Words.setup c.args.table.now in let place = g.W.Words.place c.args.seat.now in let route = c.args.route.now in
+    let site = site_of setup place route in let step = c.loop-turn.invariant.step in
+    let site_is : site_of (g.W.Words.setup c.loop-turn.table) (g.W.Words.place c.loop-turn.seat) route ≡ site =
+    ap (λ (s : Setup). site_of s (g.W.Words.place c.loop-turn.seat) route) step.setup_stays ∙ ap (λ (n : ℕ). site_of setup n route) step.place_stays in
+    let old = g.W.Words.view c.args.table.now c.args.seat.now in let mid = g.W.Words.view c.loop-turn.table c.loop-turn.seat in
+    let new = g.W.Words.view c.put_piece.new.table c.put_piece.new.seat in
+    record {
+      step = steps_follow g.W.Words.setup g.W.Words.sits g.W.Words.place g.W.Words.view g.W.Words.serves g.W.Words.service_view
+          c.args.table.now c.args.seat.now c.loop-turn.table c.loop-turn.seat c.put_piece.new.table c.put_piece.new.seat step c.in-Going.ensures.step;
+      puts = times_next site old mid new c.args.pending.now c.loop-turn.pending c.put_piece.new.pending c.args.fragment c.loop-turn.fragment c.in-Going.next
+          c.loop-turn._turn c.args.piece.now c.loop-turn.invariant.puts
+          (subst (λ (s : Site). PutsOn s mid new c.loop-turn.pending c.put_piece.new.pending c.loop-turn.fragment c.in-Going.next c.args.piece.now) site_is c.in-Going.ensures.flow);
+    }
+
+pub returns-clause-flow : goal.returns-clause-flow
+returns-clause-flow g c =
+    subst (λ (n : ℕ). PutsOn (site_of (g.W.Words.setup c.args.table.now) (g.W.Words.place c.args.seat.now) c.args.route.now)
+    (g.W.Words.view c.args.table.now c.args.seat.now) (g.W.Words.view c.loop-turn.table c.loop-turn.seat) c.args.pending.now c.loop-turn.pending
+    c.args.fragment c.loop-turn.fragment (repeat n c.args.piece.now)) (omega arith) c.loop-turn.invariant.puts

@@ -1,0 +1,13 @@
+pub mod Agreement
+pub mod Core
+pub mod Empty
+pub mod Filled
+pub mod Flows
+pub mod Fragment
+pub mod Headers
+pub mod Ids
+pub mod Outcomes
+pub mod Placing
+pub mod Refusals
+pub mod Site
+pub mod States

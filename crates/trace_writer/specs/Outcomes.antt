@@ -1,0 +1,76 @@
+-- What a call of a writer does to the view of its seat, and the cut that the writer's chunks are.
+use Rattle.std.specs.Prelude.{◌≡◌, ℕ, ◌+◌, ◌-◌, Bool, false, List, [], ◌∷◌, ◌++◌, ◌⊎◌}
+use Rattle.wire_varint.specs.Varint.{redundant}
+use Rattle.trace_model.specs.Calls.{Call, GivenUp}
+use Rattle.trace_model.specs.Images.{Image, Patch, with_bytes}
+use Rattle.trace_model.specs.Cut.{IsCut}
+use Rattle.commit_body.specs.Patches.{hole_chunks, with_lasts}
+use Rattle.commit_body.specs.Pending.{Pending}
+use Rattle.chunk_plain.specs.Setup.{Setup}
+use Rattle.chunk_plain.specs.Views.{Begun as BegunChunk, Held, Completed, WriterView}
+use Rattle.chunk_plain.specs.Steps.{notes_call}
+use Rattle.trace_writer.specs.declared.flow.Flow.{Flow}
+use Rattle.trace_writer.specs.declared.flow.Flow.TheVariants as flow
+use Rattle.trace_writer.specs.declared.fragment.OpenFragment.{OpenFragment}
+use Rattle.trace_writer.specs.declared.route.Route.{Route}
+use Rattle.trace_writer.specs.declared.state.State.{State}
+use Rattle.trace_writer.specs.declared.state.State.TheVariants.{Idle, Between, Writing, Dropping}
+use Rattle.trace_writer.specs.declared.state.Writer.{Writer}
+use Rattle.trace_writer.specs.Headers.{flags_value}
+use Rattle.trace_writer.specs.Flows.{AsksInVainLast}
+use Rattle.trace_writer.specs.Agreement.{Agrees}
+
+-- behind what was written for a call the call is noted, and that the packet was given up
+abbrev pub GoesBehind : Writer → Writer → WriterView → WriterView → Call → Flow → Type 0
+GoesBehind old new before after call (flow.Going fragment) = (new ≡ record old { state = Writing fragment }) × (after ≡ notes_call before call)
+GoesBehind old new before after call (flow.GivenUp next_id) =
+    (new ≡ record old { state = Dropping next_id }) × (after ≡ notes_call (notes_call before call) GivenUp)
+
+-- the call was noted, and the packet went on; or it was given up, since a claim found no chunk free
+pub record Notes (setup : Setup) (route : Route) (call : Call) (old new : WriterView) : Type 0 where
+  pub calls : (new.calls ≡ old.calls ++ call ∷ []) ⊎ ((new.calls ≡ old.calls ++ call ∷ GivenUp ∷ []) × AsksInVainLast setup route old new)
+
+-- The images of a writer
+
+-- what it completed
+abbrev pub completed_images : List BegunChunk → List Image
+completed_images [] = []
+completed_images (Held chunk head ∷ begun) = completed_images begun
+completed_images (Completed chunk content ∷ begun) = content.image ∷ completed_images begun
+
+abbrev pub completed_patches : List BegunChunk → List (List Patch)
+completed_patches [] = []
+completed_patches (Held chunk head ∷ begun) = completed_patches begun
+completed_patches (Completed chunk content ∷ begun) = content.patches ∷ completed_patches begun
+
+-- the held chunk so far, with the size of its last fragment put in
+abbrev pub held_image : ℕ → ℕ → ℕ → Bool → List ℕ → Image
+held_image place id count continues payload =
+    record { sequence = place + 2; chunk_id = id; count = count; flags = flags_value continues false false; payload = payload }
+
+abbrev pub fragment_payload : OpenFragment → List ℕ
+fragment_payload fragment = with_bytes fragment.held.body.payload.items fragment.start (redundant (fragment.at - fragment.start - 4))
+
+abbrev pub held_images : ℕ → State → List Image
+held_images place (Idle next_id) = []
+held_images place (Between chunk) = held_image place chunk.held.id chunk.count chunk.continues chunk.held.body.payload.items ∷ []
+held_images place (Writing fragment) = held_image place fragment.held.id fragment.count fragment.continues (fragment_payload fragment) ∷ []
+held_images place (Dropping next_id) = []
+
+-- the patches that weren't sent count as those of the held chunk
+abbrev pub held_patches : Pending → State → List (List Patch)
+held_patches pending (Idle next_id) = []
+held_patches pending (Between chunk) = with_lasts (hole_chunks pending.holes) pending.unsent ∷ []
+held_patches pending (Writing fragment) = with_lasts (hole_chunks pending.holes) pending.unsent ∷ []
+held_patches pending (Dropping next_id) = []
+
+abbrev pub images_so_far : ℕ → WriterView → Writer → List Image
+images_so_far place view writer = completed_images view.begun ++ held_images place writer.state
+
+abbrev pub patches_so_far : WriterView → Writer → List (List Patch)
+patches_so_far view writer = completed_patches view.begun ++ held_patches writer.pending writer.state
+
+-- A writer that agrees with its view has cut its packets into its chunks.
+abbrev pub AgreeingIsCut : Type 0
+AgreeingIsCut = (setup : Setup) (place : ℕ) (view : WriterView) (writer : Writer) → Agrees setup place view writer
+    → IsCut writer.route.payload_size (place + 2) view.calls (images_so_far place view writer) (patches_so_far view writer)

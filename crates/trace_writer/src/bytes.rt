@@ -1,0 +1,39 @@
+//! Bytes of a chunk's payload, by a cursor that is lent it.
+ghost use Rattle.std.specs.Prelude.{◌≡◌, ℕ, ◌+◌, ◌-◌, ◌<◌, ◌≤◌, length, min, take, nat_le, if◌then◌else◌};
+ghost use Rattle.trace_base.specs.declared.limits.TheConstants.{MAX_INPUT};
+ghost use Rattle.trace_model.specs.Packets.{open_length};
+ghost use Rattle.trace_model.specs.Images.{with_bytes};
+
+use proto_stream::ChunkCursor;
+
+/// Writes the first bytes of the piece at a place, as many as fit, and says how many.
+pub fn put_at(payload: &mut [u8], at: u32, piece: &[u8]) -> usize
+    requires within { at ≤ length payload.old }
+    requires small { length payload.old ≤ MAX_INPUT }
+    ensures count { result ≡ min (length piece.now) (length payload.old - at) }
+    ensures bytes { payload.new ≡ with_bytes payload.old at (take result piece.now) }
+{
+    let mut cursor = ChunkCursor::new(payload, at);
+    cursor.put(piece)
+}
+
+/// Sets aside the four bytes of a nested length at a place; false where they don't fit.
+pub fn put_hole_at(payload: &mut [u8], at: u32) -> bool
+    requires within { at ≤ length payload.old }
+    requires small { length payload.old ≤ MAX_INPUT }
+    ensures fits { result ≡ nat_le (at + 4) (length payload.old) }
+    ensures bytes { payload.new ≡ (if result then with_bytes payload.old at open_length else payload.old) }
+{
+    let mut cursor = ChunkCursor::new(payload, at);
+    cursor.put_hole().is_some()
+}
+
+/// Puts four bytes in place of those at a place.
+pub fn set_four_at(payload: &mut [u8], at: u32, four: [u8; 4])
+    requires within { at + 4 ≤ length payload.old }
+    requires small { length payload.old ≤ MAX_INPUT }
+    ensures { payload.new ≡ with_bytes payload.old at four }
+{
+    let mut cursor = ChunkCursor::new(payload, at + 4);
+    cursor.set_four(at, four);
+}

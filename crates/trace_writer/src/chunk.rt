@@ -1,0 +1,149 @@
+//! A held chunk behind its last fragment.
+ghost use Rattle.std.specs.Prelude.{◌≡◌, ◌≢◌, ℕ, ◌+◌, ◌-◌, ◌%◌, ◌<◌, ◌≤◌, Bool, false, ◌&&◌, nat_le, nat_lt, [], if◌then◌else◌, vec_len};
+ghost use Rattle.trace_base.specs.declared.limits.TheConstants.{MAX_FRAGMENTS};
+ghost use Rattle.trace_model.specs.Sequences.{is_among};
+ghost use Rattle.commit_body.specs.Patches.{hole_chunks, with_lasts};
+ghost use Rattle.chunk_plain.specs.Setup.{spot};
+ghost use Rattle.chunk_plain.specs.Steps.{restamps, completes};
+ghost use Rattle.chunk_plain.specs.Words.{IsWriterStep, IsHolding, MayFollow, head_at};
+ghost use Rattle.trace_writer.specs.Headers.{flags_value, held_head, completed_chunk};
+
+use crate::fragment::OpenFragment;
+use chunk_plain::{Held, Words};
+use commit_body::PatchList;
+use trace_base::limits::MAX_FRAGMENTS;
+
+/// A packet is begun in a held chunk where so many bytes are left: its size, a front mark and a tag
+/// fit.
+const ROOM_TO_BEGIN: u32 = 12;
+
+/// Flag 1 of a chunk header: the first fragment continues a packet of the chunk before.
+const CONTINUES: u8 = 1;
+
+/// Flag 2: the last fragment continues on the next chunk.
+const RUNS_ON: u8 = 2;
+
+/// Flag 4: patches for the chunk are to come.
+const AWAITS: u8 = 4;
+
+fn flag_where(set: bool, flag: u8) -> u8
+    ensures { result ≡ (if set then flag else 0) }
+{
+    if set { flag } else { 0 }
+}
+
+pub(crate) fn flags_of(continues: bool, runs_on: bool, awaits: bool) -> u8
+    ensures value { result ≡ flags_value continues runs_on awaits }
+    ensures few { result ≤ 7 }
+{
+    flag_where(continues, CONTINUES) + flag_where(runs_on, RUNS_ON) + flag_where(awaits, AWAITS)
+}
+
+/// A chunk that its writer holds, whose payload is filled up to a place by so many fragments.
+#[derive(Debug)]
+pub(crate) struct HeldChunk {
+    pub held: Held,
+    pub at: u32,
+    pub count: u16,
+    pub continues: bool,
+    ghost within: { at ≤ vec_len held.body.payload },
+    ghost small: { vec_len held.body.payload ≤ 65536 },
+    ghost few: { count ≤ 1023 },
+    ghost empty: { held.body.patches.items ≡ [] },
+    ghost id_fits: { held.id < 4294967295 },
+}
+
+impl HeldChunk {
+    /// A chunk that was just begun.
+    pub fn new(held: Held, continues: bool) -> HeldChunk
+        requires small { vec_len held.body.payload ≤ 65536 }
+        requires empty { held.body.patches.items ≡ [] }
+        requires id_fits { held.id < 4294967295 }
+        ensures held { result.held ≡ held }
+        ensures at { result.at ≡ 0 }
+        ensures count { result.count ≡ 0 }
+        ensures continues { result.continues ≡ continues }
+    {
+        HeldChunk {
+            held,
+            at: 0,
+            count: 0,
+            continues,
+        }
+    }
+
+    /// Whether a packet can begin in it.
+    pub fn has_room(&self) -> bool
+        ensures { result ≡ (nat_le (self.now.at + 12) (vec_len self.now.held.body.payload) && nat_lt self.now.count MAX_FRAGMENTS) }
+    {
+        let left = self.held.body.payload.len() - self.at as usize;
+        left >= ROOM_TO_BEGIN as usize && self.count < MAX_FRAGMENTS
+    }
+
+    /// Starts a fragment: the header counts it, and four bytes are set aside for its size.
+    pub fn start_fragment<W: Words>(self, table: &mut W, seat: &mut W::Writer) -> OpenFragment
+        requires seat { W.sits table.old seat.old }
+        requires held { IsHolding (W.view table.old seat.old) self.held.chunk self.held.id }
+        requires head { MayFollow (head_at (W.view table.old seat.old) self.held.id) (held_head (self.count + 1) self.continues) }
+        requires room { self.at + 4 ≤ vec_len self.held.body.payload }
+        requires few { self.count < MAX_FRAGMENTS }
+        ensures held { result.held ≡ self.held }
+        ensures start { result.start ≡ self.at }
+        ensures at { result.at ≡ self.at + 4 }
+        ensures count { result.count ≡ self.count + 1 }
+        ensures continues { result.continues ≡ self.continues }
+        ensures view { W.view table.new seat.new ≡ restamps (W.view table.old seat.old) self.held.chunk self.held.id (held_head (self.count + 1) self.continues) }
+        ensures step { IsWriterStep W.setup W.sits W.place W.view W.serves W.service_view table.old seat.old table.new seat.new }
+    {
+        let HeldChunk {
+            mut held,
+            at,
+            count,
+            continues,
+        } = self;
+        table.set_header(
+            seat,
+            &mut held,
+            count + 1,
+            flags_of(continues, false, false),
+        );
+        OpenFragment {
+            held,
+            start: at,
+            at: at + 4,
+            count: count + 1,
+            continues,
+        }
+    }
+
+    /// Completes the chunk, with the patches that are to be sent.
+    pub fn complete<W: Words>(
+        self,
+        table: &mut W,
+        seat: &mut W::Writer,
+        pending: &mut PatchList,
+        buffer: u8,
+        runs_on: bool,
+    )
+        requires seat { W.sits table.old seat.old }
+        requires held { IsHolding (W.view table.old seat.old) self.held.chunk self.held.id }
+        requires head { head_at (W.view table.old seat.old) self.held.id ≡ held_head self.count self.continues }
+        requires size { vec_len self.held.body.payload ≡ (spot (W.setup table.old) self.held.chunk).payload_size }
+        ensures pending { pending.new ≡ record pending.old { unsent = [] } }
+        ensures view { W.view table.new seat.new ≡ completes (restamps (W.view table.old seat.old) self.held.chunk self.held.id (record { count = self.count; flags = flags_value self.continues runs_on (runs_on && is_among self.held.id (hole_chunks pending.old.holes)) })) self.held.chunk self.held.id
+            (completed_chunk (W.place seat.old) self.held.id self.count (flags_value self.continues runs_on (runs_on && is_among self.held.id (hole_chunks pending.old.holes))) self.held.body.payload.items (with_lasts (hole_chunks pending.old.holes) pending.old.unsent) buffer) }
+        ensures step { IsWriterStep W.setup W.sits W.place W.view W.serves W.service_view table.old seat.old table.new seat.new }
+    {
+        let HeldChunk {
+            mut held,
+            at: _,
+            count,
+            continues,
+        } = self;
+        let awaits = runs_on && pending.is_open_in(held.id);
+        pending.drain_into(&mut held.body);
+        held.body.target = buffer;
+        table.set_header(seat, &mut held, count, flags_of(continues, runs_on, awaits));
+        table.complete(seat, held);
+    }
+}

@@ -1,0 +1,157 @@
+//! The fields of a packet that is begun, and its nested messages.
+ghost use Rattle.std.specs.Prelude.{◌≡◌, ℕ, ◌+◌, ◌*◌, ◌<◌, ◌≤◌, true, false, [], ◌∷◌, ◌++◌, List, length};
+ghost use Rattle.std.specs.List.{repeat};
+ghost use Rattle.trace_base.specs.declared.limits.TheConstants.{MAX_PACKET_LEN, MAX_OPEN_HOLES};
+ghost use Rattle.trace_model.specs.Calls as call;
+ghost use Rattle.trace_model.specs.Encoding.{nested_tag};
+ghost use Rattle.trace_model.specs.Packets.{Account, noted, on_newest, with_more};
+ghost use Rattle.chunk_plain.specs.Words.{IsWriterStep, call_of};
+ghost use Rattle.trace_writer.specs.Agreement.{Agrees, is_begun, len_of, depth_of};
+ghost use Rattle.trace_writer.specs.Empty.{is_empty};
+ghost use Rattle.trace_writer.specs.Outcomes.{Notes, GoesBehind};
+
+use crate::flow::Flow;
+use crate::state::{State, Writer, put_state, take_state};
+use crate::stream::{put_field, put_nested};
+use chunk_plain::{Words, WriterCall};
+use std::sync::ledger::Ledger;
+use trace_base::steps::Steps;
+
+/// Writes a field that the packet may have: what stands in front of its content, and its text so
+/// many times.
+pub(crate) fn write_field<W: Words, L: Ledger>(
+    writer: &mut Writer,
+    table: &mut W,
+    seat: &mut W::Writer,
+    head: &[u8],
+    text: &[u8],
+    times: u32,
+    call: WriterCall<'_>,
+    steps: &mut Steps<L>,
+)
+    requires seat { W.sits table.old seat.old }
+    requires agrees { Agrees (W.setup table.old) (W.place seat.old) (W.view table.old seat.old) writer.old }
+    requires begun { is_begun writer.old.packet ≡ true }
+    requires fits { len_of writer.old.packet + (length head.now + times * length text.now) ≤ MAX_PACKET_LEN }
+    requires call { (account : Account) → noted account (call_of call) ≡ on_newest (with_more (head.now ++ repeat times text.now)) account }
+    ensures agrees { Agrees (W.setup table.old) (W.place seat.old) (W.view table.new seat.new) writer.new }
+    ensures route { writer.new.route ≡ writer.old.route }
+    ensures notes { Notes (W.setup table.old) writer.old.route (call_of call.entry) (W.view table.old seat.old) (W.view table.new seat.new) }
+    ensures step { IsWriterStep W.setup W.sits W.place W.view W.serves W.service_view table.old seat.old table.new seat.new }
+{
+    let route = writer.route;
+    let Some(packet) = &mut writer.packet else {
+        unreachable!()
+    };
+    packet.add_field(head.len() as u64 + u64::from(times) * text.len() as u64);
+    match take_state(&mut writer.state) {
+        State::Writing(fragment) => {
+            let pending = &mut writer.pending;
+            let flow = put_field(
+                &route, table, seat, pending, fragment, head, text, times, steps,
+            );
+            go_on(writer, table, seat, flow, call);
+        }
+        State::Dropping { next_id } => {
+            put_state(&mut writer.state, State::Dropping { next_id });
+            table.note_call(seat, call);
+        }
+        State::Idle { next_id: _ } => unreachable!(),
+        State::Between(_chunk) => unreachable!(),
+    }
+}
+
+/// Begins a nested message that the packet may have, by its tag and a length that is set aside.
+pub(crate) fn write_nested<W: Words, L: Ledger>(
+    writer: &mut Writer,
+    table: &mut W,
+    seat: &mut W::Writer,
+    field: u32,
+    tag: &[u8],
+    steps: &mut Steps<L>,
+)
+    requires seat { W.sits table.old seat.old }
+    requires agrees { Agrees (W.setup table.old) (W.place seat.old) (W.view table.old seat.old) writer.old }
+    requires begun { is_begun writer.old.packet ≡ true }
+    requires tag { tag.now ≡ nested_tag field }
+    requires fits { len_of writer.old.packet + (length tag.now + 4) ≤ MAX_PACKET_LEN }
+    requires depth { depth_of writer.old.packet < MAX_OPEN_HOLES }
+    ensures agrees { Agrees (W.setup table.old) (W.place seat.old) (W.view table.new seat.new) writer.new }
+    ensures route { writer.new.route ≡ writer.old.route }
+    ensures notes { Notes (W.setup table.old) writer.old.route (call.Nested field) (W.view table.old seat.old) (W.view table.new seat.new) }
+    ensures step { IsWriterStep W.setup W.sits W.place W.view W.serves W.service_view table.old seat.old table.new seat.new }
+{
+    let route = writer.route;
+    let call = WriterCall::Nested { field };
+    let Some(packet) = &mut writer.packet else {
+        unreachable!()
+    };
+    packet.add_nested(tag.len() as u32);
+    match take_state(&mut writer.state) {
+        State::Writing(fragment) => {
+            let pending = &mut writer.pending;
+            let flow = put_nested(&route, table, seat, pending, fragment, tag, steps);
+            go_on(writer, table, seat, flow, call);
+        }
+        State::Dropping { next_id } => {
+            put_state(&mut writer.state, State::Dropping { next_id });
+            table.note_call(seat, call);
+        }
+        State::Idle { next_id: _ } => unreachable!(),
+        State::Between(_chunk) => unreachable!(),
+    }
+}
+
+/// Notes a call, and goes on behind what was written for it.
+fn go_on<W: Words>(
+    writer: &mut Writer,
+    table: &mut W,
+    seat: &mut W::Writer,
+    flow: Flow,
+    call: WriterCall<'_>,
+)
+    requires seat { W.sits table.old seat.old }
+    requires empty { is_empty writer.old.state ≡ true }
+    ensures goes { GoesBehind writer.old writer.new (W.view table.old seat.old) (W.view table.new seat.new) (call_of call.entry) flow }
+    ensures step { IsWriterStep W.setup W.sits W.place W.view W.serves W.service_view table.old seat.old table.new seat.new }
+{
+    table.note_call(seat, call);
+    match flow {
+        Flow::Going(fragment) => put_state(&mut writer.state, State::Writing(fragment)),
+        Flow::GivenUp { next_id } => {
+            put_state(&mut writer.state, State::Dropping { next_id });
+            table.note_call(seat, WriterCall::GivenUp);
+        }
+    }
+}
+
+/// Ends the innermost nested message, and puts its length in or keeps it as a patch.
+pub(crate) fn end_message<W: Words>(writer: &mut Writer, table: &mut W, seat: &mut W::Writer)
+    requires seat { W.sits table.old seat.old }
+    requires agrees { Agrees (W.setup table.old) (W.place seat.old) (W.view table.old seat.old) writer.old }
+    requires begun { is_begun writer.old.packet ≡ true }
+    requires depth { 0 < depth_of writer.old.packet }
+    ensures agrees { Agrees (W.setup table.old) (W.place seat.old) (W.view table.new seat.new) writer.new }
+    ensures route { writer.new.route ≡ writer.old.route }
+    ensures notes { (W.view table.new seat.new).calls ≡ (W.view table.old seat.old).calls ++ call.Ended ∷ [] }
+    ensures others { record (W.view table.new seat.new) { calls = (W.view table.old seat.old).calls } ≡ W.view table.old seat.old }
+    ensures step { IsWriterStep W.setup W.sits W.place W.view W.serves W.service_view table.old seat.old table.new seat.new }
+{
+    let Some(packet) = &mut writer.packet else {
+        unreachable!()
+    };
+    let length = packet.end_nested();
+    match take_state(&mut writer.state) {
+        State::Writing(fragment) => {
+            let mut fragment = fragment;
+            fragment.close_hole(&mut writer.pending, length);
+            put_state(&mut writer.state, State::Writing(fragment));
+        }
+        State::Dropping { next_id } => {
+            put_state(&mut writer.state, State::Dropping { next_id });
+        }
+        State::Idle { next_id: _ } => unreachable!(),
+        State::Between(_chunk) => unreachable!(),
+    }
+    table.note_call(seat, WriterCall::Ended);
+}

@@ -1,0 +1,133 @@
+//! A held chunk while a fragment is written into it.
+ghost use Rattle.std.specs.Prelude.{◌≡◌, ℕ, ◌+◌, ◌-◌, ◌^◌, ◌<◌, ◌≤◌, false, true, [], ◌∷◌, ◌++◌, List, min, take, length, nat_le, vec_len, if◌then◌else◌};
+ghost use Rattle.wire_varint.specs.Varint.{redundant};
+ghost use Rattle.trace_base.specs.declared.limits.TheConstants.{MAX_OPEN_HOLES};
+ghost use Rattle.trace_model.specs.Images.{with_bytes};
+ghost use Rattle.trace_model.specs.Packets.{open_length};
+ghost use Rattle.trace_model.specs.Fragments.{drop_mark};
+ghost use Rattle.commit_body.specs.declared.body.TheConstants.{MAX_PATCHES};
+ghost use Rattle.commit_body.specs.declared.closed.Closed.TheVariants.{Here, Later};
+ghost use Rattle.commit_body.specs.Patches.{holes_outside};
+
+use crate::bytes::{put_at, put_hole_at, set_four_at};
+use crate::chunk::HeldChunk;
+use chunk_plain::Held;
+use commit_body::{Closed, PatchList};
+use wire_varint::put_redundant;
+
+/// The size of a fragment whose rest isn't written.
+const DROP_MARK: [u8; 4] = [0xFF, 0xFF, 0xFF, 0x7F];
+
+/// A chunk that its writer holds, whose last fragment has its size at `start` and its bytes from
+/// behind that up to `at`.
+#[derive(Debug)]
+pub(crate) struct OpenFragment {
+    pub held: Held,
+    pub start: u32,
+    pub at: u32,
+    pub count: u16,
+    pub continues: bool,
+    ghost behind: { start + 4 ≤ at },
+    ghost within: { at ≤ vec_len held.body.payload },
+    ghost small: { vec_len held.body.payload ≤ 65536 },
+    ghost few: { count ≤ 1023 },
+    ghost empty: { held.body.patches.items ≡ [] },
+    ghost id_fits: { held.id < 4294967295 },
+}
+
+impl OpenFragment {
+    ghost use Rattle.commit_body.specs.Pending.{AddsHole, ClosesHole};
+    ghost use Rattle.trace_writer.specs.Fragment.{IsPutInto, AnswersClose};
+
+    /// Writes the first bytes of the piece, as many as fit, and says how many.
+    pub fn put(&mut self, piece: &[u8]) -> usize
+        ensures count { result ≡ min (length piece.now) (vec_len self.old.held.body.payload - self.old.at) }
+        ensures bytes { IsPutInto self.old self.new self.old.at (take result piece.now) }
+        ensures at { self.new.at ≡ self.old.at + result }
+    {
+        let count = put_at(&mut self.held.body.payload, self.at, piece);
+        self.at += count as u32;
+        count
+    }
+
+    /// Sets a nested length aside; false where it doesn't fit.
+    pub fn put_hole(&mut self, pending: &mut PatchList) -> bool
+        requires { length pending.old.holes < MAX_OPEN_HOLES }
+        ensures fits { result ≡ nat_le (self.old.at + 4) (vec_len self.old.held.body.payload) }
+        ensures unchanged { result ≡ false → self.new ≡ self.old }
+        ensures none_added { result ≡ false → pending.new ≡ pending.old }
+        ensures bytes { result ≡ true → IsPutInto self.old self.new self.old.at open_length }
+        ensures at { result ≡ true → self.new.at ≡ self.old.at + 4 }
+        ensures added { result ≡ true → AddsHole pending.old pending.new self.old.held.id self.old.at }
+    {
+        if self.held.body.payload.len() - (self.at as usize) < 4 {
+            return false;
+        }
+        put_hole_at(&mut self.held.body.payload, self.at);
+        pending.add_hole(self.held.id, self.at);
+        self.at += 4;
+        true
+    }
+
+    /// Closes the innermost hole with a length.
+    pub fn close_hole(&mut self, pending: &mut PatchList, value: u32)
+        requires some_open { 0 < length pending.old.holes }
+        requires fits { value < 2 ^ 28 }
+        requires room { length pending.old.unsent + holes_outside self.old.held.id pending.old.holes ≤ MAX_PATCHES }
+        requires here { (hole : _) (outer : _) → pending.old.holes ≡ outer ++ hole ∷ [] → hole.chunk_id ≡ self.old.held.id → hole.offset + 4 ≤ vec_len self.old.held.body.payload }
+        ensures { AnswersClose self.old self.new pending.old pending.new value }
+    {
+        if let Closed::Here { offset, bytes } = pending.close_hole(self.held.id, value) {
+            set_four_at(&mut self.held.body.payload, offset, bytes);
+        }
+    }
+
+    /// The fragment ends: its size is put in.
+    pub fn end(self) -> HeldChunk
+        ensures held { result.held ≡ record self.held { body = record self.held.body { payload = result.held.body.payload } } }
+        ensures bytes { result.held.body.payload.items ≡ with_bytes self.held.body.payload.items self.start (redundant (self.at - self.start - 4)) }
+        ensures len { vec_len result.held.body.payload ≡ vec_len self.held.body.payload }
+        ensures at { result.at ≡ self.at }
+        ensures count { result.count ≡ self.count }
+        ensures continues { result.continues ≡ self.continues }
+    {
+        let size = put_redundant(self.at - self.start - 4);
+        self.end_with(size)
+    }
+
+    /// The fragment ends with the drop mark for its size.
+    pub fn end_dropped(self) -> HeldChunk
+        ensures held { result.held ≡ record self.held { body = record self.held.body { payload = result.held.body.payload } } }
+        ensures bytes { result.held.body.payload.items ≡ with_bytes self.held.body.payload.items self.start drop_mark }
+        ensures len { vec_len result.held.body.payload ≡ vec_len self.held.body.payload }
+        ensures at { result.at ≡ self.at }
+        ensures count { result.count ≡ self.count }
+        ensures continues { result.continues ≡ self.continues }
+    {
+        self.end_with(DROP_MARK)
+    }
+
+    fn end_with(self, size: [u8; 4]) -> HeldChunk
+        ensures held { result.held ≡ record self.held { body = record self.held.body { payload = result.held.body.payload } } }
+        ensures bytes { result.held.body.payload.items ≡ with_bytes self.held.body.payload.items self.start size }
+        ensures len { vec_len result.held.body.payload ≡ vec_len self.held.body.payload }
+        ensures at { result.at ≡ self.at }
+        ensures count { result.count ≡ self.count }
+        ensures continues { result.continues ≡ self.continues }
+    {
+        let OpenFragment {
+            mut held,
+            start,
+            at,
+            count,
+            continues,
+        } = self;
+        set_four_at(&mut held.body.payload, start, size);
+        HeldChunk {
+            held,
+            at,
+            count,
+            continues,
+        }
+    }
+}

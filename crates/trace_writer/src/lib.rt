@@ -1,0 +1,27 @@
+//! Writers: the packets of one thread, streamed into the chunks of its producer.
+//! A layer above may rely on this: after any calls the writer's chunks are a cut of the packets that
+//! the calls say, each call joins the calls in the seat's view, a packet is dropped only where a
+//! claim was lost, and a refused call leaves the packet as it was. It works over any table of chunks,
+//! takes no memory, and writes each byte of a packet once.
+#![tactic(auto)]
+
+mod begin;
+mod bytes;
+mod chunk;
+mod fault;
+mod field;
+mod finish;
+mod flow;
+mod fragment;
+mod laws;
+mod packet;
+mod route;
+mod state;
+mod stream;
+#[cfg(test)]
+mod tests;
+mod writer;
+
+pub use fault::{Begun, CallFault};
+pub use laws::agreeing_is_cut;
+pub use writer::WriterCore;

@@ -1,0 +1,58 @@
+//! What a writer has between two calls.
+ghost use Rattle.std.specs.Prelude.{◌≡◌, true};
+ghost use Rattle.trace_writer.specs.Empty.{is_empty, empty};
+
+use crate::chunk::HeldChunk;
+use crate::fragment::OpenFragment;
+use crate::packet::OpenPacket;
+use crate::route::Route;
+use commit_body::PatchList;
+use std::mem;
+
+/// What a writer has of a chunk. Where it has none, the next one gets the id `next_id`.
+#[derive(Debug)]
+pub(crate) enum State {
+    /// Between two packets, without a chunk.
+    Idle { next_id: u32 },
+    /// Between two packets.
+    Between(HeldChunk),
+    Writing(OpenFragment),
+    /// The packet was dropped, at its begin or later.
+    Dropping { next_id: u32 },
+}
+
+/// A writer without its seat.
+#[derive(Debug)]
+pub(crate) struct Writer {
+    pub route: Route,
+    pub state: State,
+    /// The packet that is begun.
+    pub packet: Option<OpenPacket>,
+    pub pending: PatchList,
+    /// The packet before was dropped.
+    pub follows_loss: bool,
+    /// Packets that were begun, and those of them that were dropped at their begin.
+    pub begun: u64,
+    pub dropped: u64,
+}
+
+/// Takes the state out, and leaves one without a chunk.
+pub(crate) fn take_state(state: &mut State) -> State
+    ensures taken { result ≡ state.old }
+    ensures left { state.new ≡ empty }
+{
+    mem::replace(state, State::Idle { next_id: 0 })
+}
+
+/// Puts a state in the place of one without a chunk.
+pub(crate) fn put_state(state: &mut State, new: State)
+    requires { is_empty state.old ≡ true }
+    ensures { state.new ≡ new }
+{
+    match mem::replace(state, new) {
+        State::Idle { next_id: _ } => {}
+        State::Dropping { next_id: _ } => {}
+        State::Between(_chunk) => unreachable!(),
+        State::Writing(_fragment) => unreachable!(),
+    }
+}

@@ -1,0 +1,366 @@
+//! A writer with its seat: what its callers have.
+ghost use Rattle.std.specs.Prelude.{◌≡◌, ℕ, ◌+◌, ◌-◌, ◌*◌, ◌<◌, ◌≤◌, true, false, Some, None, [], ◌∷◌, ◌++◌, length, slice_get, IfOk, IfErr};
+ghost use Rattle.trace_base.specs.declared.limits.TheConstants.{MAX_FIELD, MAX_INPUT, MAX_OPEN_HOLES};
+ghost use Rattle.trace_writer.specs.Empty.{is_empty};
+ghost use Rattle.trace_base.specs.declared.policy.WriterPolicy.TheVariants.{Drops};
+ghost use Rattle.page_geometry.specs.Sizes.{payload_size};
+ghost use Rattle.trace_model.specs.Calls as call;
+ghost use Rattle.trace_model.specs.Encoding.{number_field, bytes_head};
+ghost use Rattle.trace_model.specs.Packets.{begun_count, dropped_at_begin};
+ghost use Rattle.chunk_plain.specs.Setup.{Setup, spot, range_of, producer_of, IsChunkOf};
+ghost use Rattle.chunk_plain.specs.Views.{WriterView};
+ghost use Rattle.chunk_plain.specs.Words.{IsWriterStep};
+ghost use Rattle.claim_arbiter.specs.Claiming.{range_in};
+ghost use Rattle.trace_writer.specs.Agreement.{is_begun, len_of, depth_of, counted};
+ghost use Rattle.trace_writer.specs.Outcomes.{Notes, completed_images};
+ghost use Rattle.trace_writer.specs.Placing.{BeginsPacket};
+ghost use Rattle.trace_writer.specs.Refusals.{field_refusal, nested_refusal};
+ghost use Rattle.trace_writer.specs.Site.{IsRoute};
+ghost use Rattle.trace_writer.specs.Core.{CoreAgrees, IsNew, in_packet, open_depth, field_fault, nested_fault, holds_chunk};
+
+use crate::begin::begin;
+use crate::fault::{Begun, CallFault};
+use crate::field::{end_message, write_field, write_nested};
+use crate::finish::{finish, flush};
+use crate::packet::OpenPacket;
+use crate::route::Route;
+use crate::state::{State, Writer};
+use chunk_plain::{Words, WriterCall};
+use claim_arbiter::Arbiter;
+use commit_body::PatchList;
+use page_geometry::Geometry;
+use proto_stream::{head_bytes, head_nested, head_number};
+use std::sync::ledger::Ledger;
+use trace_base::limits::MAX_PACKET_LEN;
+use trace_base::policy::WriterSpec;
+use trace_base::steps::Steps;
+
+/// A writer that drops packets where no chunk is free. It is made with its seat, and may hold a
+/// chunk, so it has to be ended by `into_seat`.
+#[derive(Debug)]
+pub struct WriterCore<S> {
+    seat: S,
+    pub(crate) writer: Writer,
+}
+
+impl<S> WriterCore<S> {
+    /// A writer for a seat with which nothing was begun or noted.
+    pub fn make(seat: S, spec: WriterSpec, arbiter: Arbiter, geometry: Geometry) -> WriterCore<S>
+        requires policy { spec.policy ≡ Drops }
+        ensures seat { result.seat ≡ seat }
+        ensures arbiter { result.writer.route.arbiter ≡ arbiter }
+        ensures none_held { holds_chunk result ≡ false }
+        ensures agrees { (setup : Setup) (place : ℕ) (view : WriterView) → slice_get setup.writers place ≡ Some spec
+            → range_of setup (producer_of setup place) ≡ range_in arbiter
+            → ((chunk : ℕ) → IsChunkOf setup (producer_of setup place) chunk → (spot setup chunk).payload_size ≡ payload_size geometry.page_size geometry.chunks)
+            → IsNew view → CoreAgrees setup place view result }
+    {
+        let payload_size = geometry.payload_size();
+        let writer = Writer {
+            route: Route {
+                spec,
+                arbiter,
+                payload_size,
+            },
+            state: State::Idle { next_id: 0 },
+            packet: None,
+            pending: PatchList::new(),
+            follows_loss: false,
+            begun: 0,
+            dropped: 0,
+        };
+        WriterCore { seat, writer }
+    }
+
+    /// Begins a packet. It claims only where the packet is to begin in a new chunk.
+    pub fn begin<W: Words<Writer = S>, L: Ledger>(
+        &mut self,
+        table: &mut W,
+        steps: &mut Steps<L>,
+    ) -> Begun
+        requires seat { W.sits table.old self.old.seat }
+        requires agrees { CoreAgrees (W.setup table.old) (W.place self.old.seat) (W.view table.old self.old.seat) self.old }
+        requires none_begun { in_packet (W.view table.old self.old.seat) ≡ false }
+        requires ids { length (W.view table.old self.old.seat).begun + 4096 ≤ 4294967295 }
+        ensures agrees { CoreAgrees (W.setup table.old) (W.place self.old.seat) (W.view table.new self.new.seat) self.new }
+        ensures begins { BeginsPacket (W.setup table.old) self.old.writer.route (W.view table.old self.old.seat) (W.view table.new self.new.seat) result }
+        ensures in_packet { in_packet (W.view table.new self.new.seat) ≡ true }
+        ensures depth { open_depth (W.view table.new self.new.seat) ≡ 0 }
+        ensures arbiter { self.new.writer.route.arbiter ≡ self.old.writer.route.arbiter }
+        ensures step { IsWriterStep W.setup W.sits W.place W.view W.serves W.service_view table.old self.old.seat table.new self.new.seat }
+        ensures few_steps { steps.new ≤ steps.old + self.old.writer.route.arbiter.chunks + 1 }
+    {
+        begin(&mut self.writer, table, &mut self.seat, steps)
+    }
+
+    /// Writes a number.
+    pub fn varint<W: Words<Writer = S>, L: Ledger>(
+        &mut self,
+        table: &mut W,
+        field: u32,
+        value: u64,
+        steps: &mut Steps<L>,
+    ) -> Result<(), CallFault>
+        requires seat { W.sits table.old self.old.seat }
+        requires agrees { CoreAgrees (W.setup table.old) (W.place self.old.seat) (W.view table.old self.old.seat) self.old }
+        requires begun { in_packet (W.view table.old self.old.seat) ≡ true }
+        requires least { 1 ≤ field }
+        requires most { field ≤ MAX_FIELD }
+        ensures agrees { CoreAgrees (W.setup table.old) (W.place self.old.seat) (W.view table.new self.new.seat) self.new }
+        ensures refused { IfErr result (λ fault. field_fault (W.view table.old self.old.seat) field (length (number_field field value)) ≡ Some fault) }
+        ensures unchanged { IfErr result (λ _. (self.new ≡ self.old) × (table.new ≡ table.old)) }
+        ensures accepted { IfOk result (λ _. field_fault (W.view table.old self.old.seat) field (length (number_field field value)) ≡ None) }
+        ensures notes { IfOk result (λ _. Notes (W.setup table.old) self.old.writer.route (call.Number field value) (W.view table.old self.old.seat) (W.view table.new self.new.seat)) }
+        ensures in_packet { in_packet (W.view table.new self.new.seat) ≡ true }
+        ensures depth { open_depth (W.view table.new self.new.seat) ≡ open_depth (W.view table.old self.old.seat) }
+        ensures arbiter { self.new.writer.route.arbiter ≡ self.old.writer.route.arbiter }
+        ensures step { IsWriterStep W.setup W.sits W.place W.view W.serves W.service_view table.old self.old.seat table.new self.new.seat }
+    {
+        let head = head_number(field, value);
+        check_field(&self.writer.packet, field, head.as_slice().len() as u64)?;
+        write_field(
+            &mut self.writer,
+            table,
+            &mut self.seat,
+            head.as_slice(),
+            &[],
+            0,
+            WriterCall::Number { field, value },
+            steps,
+        );
+        Ok(())
+    }
+
+    /// Writes a text, so many times over.
+    pub fn bytes<W: Words<Writer = S>, L: Ledger>(
+        &mut self,
+        table: &mut W,
+        field: u32,
+        value: &[u8],
+        times: u32,
+        steps: &mut Steps<L>,
+    ) -> Result<(), CallFault>
+        requires seat { W.sits table.old self.old.seat }
+        requires agrees { CoreAgrees (W.setup table.old) (W.place self.old.seat) (W.view table.old self.old.seat) self.old }
+        requires begun { in_packet (W.view table.old self.old.seat) ≡ true }
+        requires least { 1 ≤ field }
+        requires most { field ≤ MAX_FIELD }
+        requires text { length value.now ≤ MAX_INPUT }
+        ensures agrees { CoreAgrees (W.setup table.old) (W.place self.old.seat) (W.view table.new self.new.seat) self.new }
+        ensures refused { IfErr result (λ fault. field_fault (W.view table.old self.old.seat) field (length (bytes_head field (times * length value.now)) + times * length value.now) ≡ Some fault) }
+        ensures unchanged { IfErr result (λ _. (self.new ≡ self.old) × (table.new ≡ table.old)) }
+        ensures accepted { IfOk result (λ _. field_fault (W.view table.old self.old.seat) field (length (bytes_head field (times * length value.now)) + times * length value.now) ≡ None) }
+        ensures notes { IfOk result (λ _. Notes (W.setup table.old) self.old.writer.route (call.Bytes field value.now times) (W.view table.old self.old.seat) (W.view table.new self.new.seat)) }
+        ensures in_packet { in_packet (W.view table.new self.new.seat) ≡ true }
+        ensures depth { open_depth (W.view table.new self.new.seat) ≡ open_depth (W.view table.old self.old.seat) }
+        ensures arbiter { self.new.writer.route.arbiter ≡ self.old.writer.route.arbiter }
+        ensures step { IsWriterStep W.setup W.sits W.place W.view W.serves W.service_view table.old self.old.seat table.new self.new.seat }
+    {
+        let len = u64::from(times) * value.len() as u64;
+        // A longer one is refused, whatever stands before it.
+        let head = head_bytes(field, len.min(u64::from(MAX_PACKET_LEN)) as u32);
+        check_field(
+            &self.writer.packet,
+            field,
+            head.as_slice().len() as u64 + len,
+        )?;
+        write_field(
+            &mut self.writer,
+            table,
+            &mut self.seat,
+            head.as_slice(),
+            value,
+            times,
+            WriterCall::Bytes {
+                field,
+                value,
+                times,
+            },
+            steps,
+        );
+        Ok(())
+    }
+
+    /// Begins a nested message.
+    pub fn begin_nested<W: Words<Writer = S>, L: Ledger>(
+        &mut self,
+        table: &mut W,
+        field: u32,
+        steps: &mut Steps<L>,
+    ) -> Result<(), CallFault>
+        requires seat { W.sits table.old self.old.seat }
+        requires agrees { CoreAgrees (W.setup table.old) (W.place self.old.seat) (W.view table.old self.old.seat) self.old }
+        requires begun { in_packet (W.view table.old self.old.seat) ≡ true }
+        requires least { 1 ≤ field }
+        requires most { field ≤ MAX_FIELD }
+        ensures agrees { CoreAgrees (W.setup table.old) (W.place self.old.seat) (W.view table.new self.new.seat) self.new }
+        ensures refused { IfErr result (λ fault. nested_fault (W.view table.old self.old.seat) field ≡ Some fault) }
+        ensures unchanged { IfErr result (λ _. (self.new ≡ self.old) × (table.new ≡ table.old)) }
+        ensures accepted { IfOk result (λ _. nested_fault (W.view table.old self.old.seat) field ≡ None) }
+        ensures notes { IfOk result (λ _. Notes (W.setup table.old) self.old.writer.route (call.Nested field) (W.view table.old self.old.seat) (W.view table.new self.new.seat)) }
+        ensures in_packet { in_packet (W.view table.new self.new.seat) ≡ true }
+        ensures arbiter { self.new.writer.route.arbiter ≡ self.old.writer.route.arbiter }
+        ensures step { IsWriterStep W.setup W.sits W.place W.view W.serves W.service_view table.old self.old.seat table.new self.new.seat }
+    {
+        let head = head_nested(field);
+        let tag = head.as_slice();
+        check_nested(&self.writer.packet, field, tag.len() as u32)?;
+        write_nested(&mut self.writer, table, &mut self.seat, field, tag, steps);
+        Ok(())
+    }
+
+    /// Ends the innermost nested message.
+    pub fn end_nested<W: Words<Writer = S>>(&mut self, table: &mut W)
+        requires seat { W.sits table.old self.old.seat }
+        requires agrees { CoreAgrees (W.setup table.old) (W.place self.old.seat) (W.view table.old self.old.seat) self.old }
+        requires depth { 0 < open_depth (W.view table.old self.old.seat) }
+        ensures agrees { CoreAgrees (W.setup table.old) (W.place self.old.seat) (W.view table.new self.new.seat) self.new }
+        ensures notes { (W.view table.new self.new.seat).calls ≡ (W.view table.old self.old.seat).calls ++ call.Ended ∷ [] }
+        ensures others { record (W.view table.new self.new.seat) { calls = (W.view table.old self.old.seat).calls } ≡ (W.view table.old self.old.seat) }
+        ensures in_packet { in_packet (W.view table.new self.new.seat) ≡ true }
+        ensures depth_falls { open_depth (W.view table.new self.new.seat) + 1 ≡ open_depth (W.view table.old self.old.seat) }
+        ensures arbiter { self.new.writer.route.arbiter ≡ self.old.writer.route.arbiter }
+        ensures step { IsWriterStep W.setup W.sits W.place W.view W.serves W.service_view table.old self.old.seat table.new self.new.seat }
+    {
+        end_message(&mut self.writer, table, &mut self.seat);
+    }
+
+    /// Ends the packet.
+    pub fn finish<W: Words<Writer = S>>(&mut self, table: &mut W)
+        requires seat { W.sits table.old self.old.seat }
+        requires agrees { CoreAgrees (W.setup table.old) (W.place self.old.seat) (W.view table.old self.old.seat) self.old }
+        requires begun { in_packet (W.view table.old self.old.seat) ≡ true }
+        requires depth { open_depth (W.view table.old self.old.seat) ≡ 0 }
+        ensures agrees { CoreAgrees (W.setup table.old) (W.place self.old.seat) (W.view table.new self.new.seat) self.new }
+        ensures notes { (W.view table.new self.new.seat).calls ≡ (W.view table.old self.old.seat).calls ++ call.Finished ∷ [] }
+        ensures others { record (W.view table.new self.new.seat) { calls = (W.view table.old self.old.seat).calls } ≡ (W.view table.old self.old.seat) }
+        ensures in_packet { in_packet (W.view table.new self.new.seat) ≡ false }
+        ensures arbiter { self.new.writer.route.arbiter ≡ self.old.writer.route.arbiter }
+        ensures step { IsWriterStep W.setup W.sits W.place W.view W.serves W.service_view table.old self.old.seat table.new self.new.seat }
+    {
+        finish(&mut self.writer, table, &mut self.seat);
+    }
+
+    /// Completes the held chunk, where there is one.
+    pub fn flush<W: Words<Writer = S>>(&mut self, table: &mut W)
+        requires seat { W.sits table.old self.old.seat }
+        requires agrees { CoreAgrees (W.setup table.old) (W.place self.old.seat) (W.view table.old self.old.seat) self.old }
+        requires none_begun { in_packet (W.view table.old self.old.seat) ≡ false }
+        ensures agrees { CoreAgrees (W.setup table.old) (W.place self.old.seat) (W.view table.new self.new.seat) self.new }
+        ensures none_held { holds_chunk self.new ≡ false }
+        ensures notes { (W.view table.new self.new.seat).calls ≡ (W.view table.old self.old.seat).calls ++ call.Flushed ∷ [] }
+        ensures asked { (W.view table.new self.new.seat).asked ≡ (W.view table.old self.old.seat).asked }
+        ensures in_packet { in_packet (W.view table.new self.new.seat) ≡ false }
+        ensures arbiter { self.new.writer.route.arbiter ≡ self.old.writer.route.arbiter }
+        ensures step { IsWriterStep W.setup W.sits W.place W.view W.serves W.service_view table.old self.old.seat table.new self.new.seat }
+    {
+        flush(&mut self.writer, table, &mut self.seat);
+    }
+
+    /// Chunk ids that are left.
+    pub fn ids_left(&self) -> u64
+        ensures { (setup : Setup) (place : ℕ) (view : WriterView) → CoreAgrees setup place view self.now → result ≡ 4294967295 - length view.begun }
+    {
+        let next_id = match &self.writer.state {
+            State::Between(chunk) => chunk.held.id + 1,
+            State::Writing(fragment) => fragment.held.id + 1,
+            State::Idle { next_id } => *next_id,
+            State::Dropping { next_id } => *next_id,
+        };
+        u64::from(u32::MAX - next_id)
+    }
+
+    /// Packets that were begun.
+    pub fn begun(&self) -> u64
+        ensures { (setup : Setup) (place : ℕ) (view : WriterView) → CoreAgrees setup place view self.now → result ≡ counted (begun_count view.calls) }
+    {
+        self.writer.begun
+    }
+
+    /// Those of them that were dropped at their begin.
+    pub fn dropped_at_begin(&self) -> u64
+        ensures { (setup : Setup) (place : ℕ) (view : WriterView) → CoreAgrees setup place view self.now → result ≡ counted (dropped_at_begin view.calls) }
+    {
+        self.writer.dropped
+    }
+
+    /// Chunks that were completed.
+    pub fn completed(&self) -> u32
+        ensures { (setup : Setup) (place : ℕ) (view : WriterView) → CoreAgrees setup place view self.now → result ≡ length (completed_images view.begun) }
+    {
+        match &self.writer.state {
+            State::Between(chunk) => chunk.held.id,
+            State::Writing(fragment) => fragment.held.id,
+            State::Idle { next_id } => *next_id,
+            State::Dropping { next_id } => *next_id,
+        }
+    }
+
+    /// Open nested messages.
+    pub fn depth(&self) -> u8
+        ensures { (setup : Setup) (place : ℕ) (view : WriterView) → CoreAgrees setup place view self.now → result ≡ open_depth view }
+    {
+        match &self.writer.packet {
+            Some(packet) => packet.depth() as u8,
+            None => 0,
+        }
+    }
+
+    pub fn in_packet(&self) -> bool
+        ensures { (setup : Setup) (place : ℕ) (view : WriterView) → CoreAgrees setup place view self.now → result ≡ in_packet view }
+    {
+        self.writer.packet.is_some()
+    }
+
+    /// The seat, where no chunk is held.
+    pub fn into_seat(self) -> S
+        requires { holds_chunk self ≡ false }
+        ensures { result ≡ self.seat }
+    {
+        let WriterCore { seat, writer } = self;
+        let Writer {
+            route: _,
+            state,
+            packet: _,
+            pending: _,
+            follows_loss: _,
+            begun: _,
+            dropped: _,
+        } = writer;
+        drop_state(state);
+        seat
+    }
+}
+
+/// Lets go of a state without a chunk.
+fn drop_state(state: State)
+    requires { is_empty state ≡ true }
+{
+    match state {
+        State::Idle { next_id: _ } | State::Dropping { next_id: _ } => {}
+        State::Between(_chunk) => unreachable!(),
+        State::Writing(_fragment) => unreachable!(),
+    }
+}
+
+/// Whether a field of so many bytes may come next in the packet that is begun.
+fn check_field(packet: &Option<OpenPacket>, field: u32, more: u64) -> Result<(), CallFault>
+    requires { is_begun packet.now ≡ true }
+    ensures refused { IfErr result (λ fault. field_refusal (depth_of packet.now) (len_of packet.now) field more ≡ Some fault) }
+    ensures accepted { IfOk result (λ _. field_refusal (depth_of packet.now) (len_of packet.now) field more ≡ None) }
+{
+    let Some(packet) = packet else { unreachable!() };
+    packet.check_field(field, more)
+}
+
+/// Whether a nested message may, whose tag has so many bytes.
+fn check_nested(packet: &Option<OpenPacket>, field: u32, tag_len: u32) -> Result<(), CallFault>
+    requires begun { is_begun packet.now ≡ true }
+    requires tag { tag_len ≤ 10 }
+    ensures refused { IfErr result (λ fault. nested_refusal (depth_of packet.now) (len_of packet.now) field tag_len ≡ Some fault) }
+    ensures accepted { IfOk result (λ _. nested_refusal (depth_of packet.now) (len_of packet.now) field tag_len ≡ None) }
+    ensures shallow { IfOk result (λ _. depth_of packet.now < MAX_OPEN_HOLES) }
+{
+    let Some(packet) = packet else { unreachable!() };
+    packet.check_nested(field, tag_len)
+}
