@@ -1,0 +1,29 @@
+use Rattle.std.proofs.Common.{◌≡◌, ◌∙◌, ℕ, ◌<◌, Option, length, sym, ap, subst, unwrap_or, arith}
+use Rattle.chunk_plain.specs.Setup.{Setup, range_of}
+use Rattle.chunk_plain.specs.World.{World, writer, nowhere}
+use Rattle.chunk_plain.specs.declared.setup.ChunkRange.{ChunkRange}
+use Rattle.chunk_plain.specs.declared.plain_seats.PlainWriter.{PlainWriter}
+use Rattle.claim_arbiter.specs.Claiming.{range_in}
+use Rattle.trace_writer.specs.Core.{CoreAgrees}
+use Rattle.writer_speed.proofs.BeginningLemmas.{first_agrees}
+use Rattle.writer_speed.proofs.measure.Goals as goal
+
+pub write_all-requires-clause-ready : goal.write_all-requires-clause-ready
+write_all-requires-clause-ready g c =
+    let table = c.in-Ok-make.table in
+    let core = c.make-writer.result in
+    let setup : Setup = table.layout in
+    let setup_is = c.in-Ok-make.ensures.setup in
+    let world_is = ap (λ (o : Option World). unwrap_or o nowhere) c.in-Ok-make.ensures.told in
+    let found = c.chunks_of-first.ensures in
+    let first = c.new-arbiter.ensures.first ∙ ap (λ (pair : ℕ × ℕ). pair.0) found in
+    let chunks = c.new-arbiter.ensures.chunks ∙ ap (λ (pair : ℕ × ℕ). pair.1) found in
+    let range : range_of setup 1 ≡ range_in c.new-arbiter.result =
+    ap (λ (n : ℕ). let one : ChunkRange = record { first = n; count = (range_of setup 1).count } in one) (sym first)
+    ∙ ap (λ (n : ℕ). let one : ChunkRange = record { first = c.new-arbiter.result.first; count = n } in one) (sym chunks) in
+    let inside : 0 < length setup.writers = subst (λ (s : Setup). 0 < length s.writers) (sym setup_is) (omega arith) in
+    record {
+      seat = subst (λ (s : PlainWriter). s.place < length setup.writers) (sym c.make-writer.ensures.seat) inside;
+      agrees = subst (λ (s : PlainWriter). CoreAgrees setup s.place (writer table.seat.me.0 s.place) core) (sym c.make-writer.ensures.seat)
+          (first_agrees setup table.seat.me.0 c.in-Ok.geometry c.new-arbiter.result core setup_is world_is range c.make-writer.ensures.agrees);
+    }

@@ -1,0 +1,13 @@
+use Rattle.std.proofs.Common.{◌≡◌, true}
+use Rattle.trace_writer.specs.Core.{in_packet, open_depth}
+use Rattle.writer_speed.specs.Going.{GoesOn}
+use Rattle.writer_speed.proofs.packet.end_packet.Given as goal
+
+abbrev pub invariant-messages : goal.invariant-messages
+invariant-messages g l = record {
+  goes : GoesOn g.W.Words.setup g.W.Words.sits g.W.Words.place g.W.Words.view g.W.Words.serves g.W.Words.service_view l.initial.table l.initial.writer l.table l.writer;
+  inside : in_packet (g.W.Words.view l.table l.writer.seat) ≡ true;
+}
+
+abbrev pub decreases-messages : goal.decreases-messages
+decreases-messages g l = open_depth (g.W.Words.view l.table l.writer.seat)

@@ -1,0 +1,67 @@
+//! The collector of one writer's chunks. It counts what it took, and the next chunk has that id.
+ghost use Rattle.std.specs.Prelude.{◌+◌, ◌<◌, length};
+ghost use Rattle.chunk_plain.specs.Words.{IsServiceStep};
+ghost use Rattle.writer_speed.specs.Collecting.{IsCollecting};
+
+use chunk_plain::{ChunkRange, Words};
+
+/// Takes the chunk where it is the next one, and lets it go.
+fn try_one<W: Words>(
+    table: &mut W,
+    seat: &mut W::Service,
+    range: ChunkRange,
+    chunk: u32,
+    taken: u32,
+) -> u32
+    requires collects { IsCollecting W.setup W.serves W.service_view table.old seat.old range taken }
+    requires chunk { chunk < range.first + range.count }
+    ensures collects { IsCollecting W.setup W.serves W.service_view table.new seat.new range result }
+    ensures step { IsServiceStep W.setup W.sits W.view W.serves table.old table.new seat.new }
+{
+    let Some(more) = taken.checked_add(1) else {
+        return taken;
+    };
+    match table.take(seat, chunk, 1, taken) {
+        Err(_) => taken,
+        Ok(token) => {
+            table.release(seat, token);
+            more
+        }
+    }
+}
+
+/// Tries each chunk once, in rising order.
+fn try_each<W: Words>(table: &mut W, seat: &mut W::Service, range: ChunkRange, taken: u32) -> u32
+    requires collects { IsCollecting W.setup W.serves W.service_view table.old seat.old range taken }
+    ensures collects { IsCollecting W.setup W.serves W.service_view table.new seat.new range result }
+    ensures step { IsServiceStep W.setup W.sits W.view W.serves table.old table.new seat.new }
+{
+    let mut next = taken;
+    for chunk in range.first..range.first + range.count {
+        next = try_one(table, seat, range, chunk, next);
+    }
+    next
+}
+
+/// Takes so many, where they are complete. A chunk may have been begun behind one with a higher
+/// number.
+pub fn collect<W: Words>(
+    table: &mut W,
+    seat: &mut W::Service,
+    range: ChunkRange,
+    taken: u32,
+    completed: u32,
+) -> u32
+    requires collects { IsCollecting W.setup W.serves W.service_view table.old seat.old range taken }
+    ensures collects { IsCollecting W.setup W.serves W.service_view table.new seat.new range result }
+    ensures step { IsServiceStep W.setup W.sits W.view W.serves table.old table.new seat.new }
+{
+    let mut next = taken;
+    for _ in 0..range.count {
+        if next == completed {
+            break;
+        }
+        next = try_each(table, seat, range, next);
+    }
+    next
+}
