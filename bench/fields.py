@@ -9,15 +9,15 @@ without what as many lines of the same lengths take that are refused at their fi
 a call too, so that the speed of the reader alone lies between the two.
 """
 import os
-import resource
 import subprocess
 import sys
+
+from timing import best_time
 
 TOP = os.path.dirname(os.path.dirname(os.path.abspath(__file__)))
 CRATE = os.path.join(TOP, 'crates', 'fields_speed')
 PROGRAM = os.path.join(CRATE, 'out', 'fields_speed')
 SIZE = 60_000_000
-RUNS = 5
 
 LINES = {
     'shortest': b'8:1\n',
@@ -27,27 +27,13 @@ LINES = {
 }
 
 
-def processor_time():
-    used = resource.getrusage(resource.RUSAGE_CHILDREN)
-    return used.ru_utime + used.ru_stime
-
-
-def best_time(text):
-    best = float('inf')
-    for _ in range(RUNS):
-        before = processor_time()
-        answer = subprocess.run([PROGRAM], input=text, capture_output=True, check=True).stdout
-        best = min(best, processor_time() - before)
-    return best, answer.decode().strip()
-
-
 def main():
     with open(os.path.join(CRATE, 'stdin'), 'rb') as lines:
         subprocess.run(['rt', 'run'], cwd=CRATE, stdin=lines, check=True, capture_output=True)
     for name, line in LINES.items():
         lines = SIZE // len(line)
-        seconds, answer = best_time(line * lines)
-        cutting, _ = best_time((b'x' * (len(line) - 1) + b'\n') * lines)
+        seconds, answer = best_time(PROGRAM, line * lines)
+        cutting, _ = best_time(PROGRAM, (b'x' * (len(line) - 1) + b'\n') * lines)
         size = lines * len(line) / 1e6
         print(f'{name:8} {size / seconds:6.0f} MB/s, without cutting {size / (seconds - cutting):6.0f} MB/s  {answer}')
 

@@ -9,36 +9,22 @@ five runs counts, by processor time, so that other work on the machine matters l
 is taken off.
 """
 import os
-import resource
 import subprocess
 import sys
+
+from timing import best_time
 
 TOP = os.path.dirname(os.path.dirname(os.path.abspath(__file__)))
 CRATE = os.path.join(TOP, 'crates', 'writer_speed')
 PROGRAM = os.path.join(CRATE, 'out', 'writer_speed')
 PACKETS = 10_000_000
-RUNS = 5
-
-
-def processor_time():
-    used = resource.getrusage(resource.RUSAGE_CHILDREN)
-    return used.ru_utime + used.ru_stime
-
-
-def best_time(packets):
-    best = float('inf')
-    for _ in range(RUNS):
-        before = processor_time()
-        answer = subprocess.run([PROGRAM], input=b'%d\n' % packets, capture_output=True, check=True).stdout
-        best = min(best, processor_time() - before)
-    return best, answer.decode().strip()
 
 
 def main():
     with open(os.path.join(CRATE, 'stdin'), 'rb') as lines:
         subprocess.run(['rt', 'run'], cwd=CRATE, stdin=lines, check=True, capture_output=True)
-    start, _ = best_time(0)
-    seconds, answer = best_time(PACKETS)
+    start, _ = best_time(PROGRAM, b'0\n')
+    seconds, answer = best_time(PROGRAM, b'%d\n' % PACKETS)
     print(f'{(seconds - start) / PACKETS * 1e9:.0f} ns a packet  {answer}')
 
 
