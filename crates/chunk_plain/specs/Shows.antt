@@ -70,7 +70,7 @@ ShowsHeader word (Reading place id content) = IsHeader word place id (head_of co
 abbrev pub content_of : ℕ → ℕ → Head → CommitBody → Content
 content_of place id head body = record {
   image = record { sequence = place + 2; chunk_id = id; count = head.count; flags = head.flags; payload = body.payload.items };
-  patches = map patch_value body.patches.items;
+  patches = map patch_value body.patches.value.items;
   target = body.target;
 }
 

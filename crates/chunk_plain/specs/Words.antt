@@ -69,7 +69,7 @@ pub record IsBegun (setup : Setup) (chunk id : ℕ) (held : HeldToken) : Type 0 
   pub chunk_is : held.chunk ≡ chunk
   pub id_is : held.id ≡ id
   pub whole : vec_len held.body.payload ≡ (spot setup chunk).payload_size
-  pub empty : held.body.patches.items ≡ []
+  pub empty : held.body.patches.value.items ≡ []
 
 -- A header may be stored over another where the count doesn't fall, and, once it isn't 0, flag 1 stays.
 pub record MayFollow (old new : Head) : Type 0 where

@@ -48,7 +48,7 @@ fn free_body(alloc: Global, payload_size: u32) -> Result<CommitBody, AllocError>
 {
     Ok(CommitBody {
         payload: vec![in alloc; 0; payload_size as usize]?,
-        patches: ArrayVec::new(),
+        patches: Box::new(alloc, ArrayVec::new())?,
         target: 0,
     })
 }

@@ -23,6 +23,7 @@ pub struct Patch {
 #[derive(Debug, Drop)]
 pub struct CommitBody {
     pub payload: Vec<u8>,
-    pub patches: ArrayVec<Patch, MAX_PATCHES>,
+    /// Behind a box, so that a body is small to move: it has no patches most of the time.
+    pub patches: Box<ArrayVec<Patch, MAX_PATCHES>>,
     pub target: u8,
 }

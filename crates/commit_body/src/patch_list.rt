@@ -83,13 +83,13 @@ impl PatchList {
     #[tactic(auto, using(crate::proofs::PatchLemmas::with_lasts_are))]
     /// Moves the unsent patches to a body, which goes with the writer's next completed chunk.
     pub fn drain_into(&mut self, body: &mut CommitBody)
-        requires { body.old.patches.items ≡ [] }
-        ensures sent { map patch_value body.new.patches.items ≡ with_lasts (hole_chunks self.old.holes) self.old.unsent }
-        ensures lasts { LastsAre (hole_chunks self.old.holes) (map patch_value body.new.patches.items) }
+        requires { body.old.patches.value.items ≡ [] }
+        ensures sent { map patch_value body.new.patches.value.items ≡ with_lasts (hole_chunks self.old.holes) self.old.unsent }
+        ensures lasts { LastsAre (hole_chunks self.old.holes) (map patch_value body.new.patches.value.items) }
         ensures unsent { self.new ≡ record self.old { unsent = [] } }
         ensures others { body.new ≡ record body.old { patches = body.new.patches } }
     {
-        body.patches = marked(&self.unsent, &self.holes);
+        *body.patches = marked(&self.unsent, &self.holes);
         self.unsent.clear();
     }
 

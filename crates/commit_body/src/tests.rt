@@ -86,7 +86,7 @@ fn closed_holes_are_written_or_sent_once(rt: HostRuntime) -> Result<(), Fail> {
             Step::Drain(wanted) => {
                 let mut body = CommitBody {
                     payload: Vec::new(rt.alloc()),
-                    patches: ArrayVec::new(),
+                    patches: Box::new(rt.alloc(), ArrayVec::new())?,
                     target: 1,
                 };
                 list.drain_into(&mut body);

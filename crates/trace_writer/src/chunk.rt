@@ -49,7 +49,7 @@ pub(crate) struct HeldChunk {
     ghost within: { at ≤ vec_len held.body.payload },
     ghost small: { vec_len held.body.payload ≤ 65536 },
     ghost few: { count ≤ 1023 },
-    ghost empty: { held.body.patches.items ≡ [] },
+    ghost empty: { held.body.patches.value.items ≡ [] },
     ghost id_fits: { held.id < 4294967295 },
 }
 
@@ -57,7 +57,7 @@ impl HeldChunk {
     /// A chunk that was just begun.
     pub fn new(held: Held, continues: bool) -> HeldChunk
         requires small { vec_len held.body.payload ≤ 65536 }
-        requires empty { held.body.patches.items ≡ [] }
+        requires empty { held.body.patches.value.items ≡ [] }
         requires id_fits { held.id < 4294967295 }
         ensures held { result.held ≡ held }
         ensures at { result.at ≡ 0 }

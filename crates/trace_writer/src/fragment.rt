@@ -31,7 +31,7 @@ pub(crate) struct OpenFragment {
     ghost within: { at ≤ vec_len held.body.payload },
     ghost small: { vec_len held.body.payload ≤ 65536 },
     ghost few: { count ≤ 1023 },
-    ghost empty: { held.body.patches.items ≡ [] },
+    ghost empty: { held.body.patches.value.items ≡ [] },
     ghost id_fits: { held.id < 4294967295 },
 }
 
