@@ -12,6 +12,7 @@ pub mod Finishing
 pub mod GivenUp
 pub mod Holes
 pub mod Idling
+pub mod InPlace
 pub mod Measuring
 pub mod OneProducer
 pub mod Payloads

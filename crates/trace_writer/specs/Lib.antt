@@ -6,6 +6,7 @@ pub mod Flows
 pub mod Fragment
 pub mod Headers
 pub mod Ids
+pub mod InPlace
 pub mod Outcomes
 pub mod Placing
 pub mod Refusals

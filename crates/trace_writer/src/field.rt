@@ -11,6 +11,7 @@ ghost use Rattle.trace_writer.specs.Empty.{is_empty};
 ghost use Rattle.trace_writer.specs.Outcomes.{Notes, GoesBehind};
 
 use crate::flow::Flow;
+use crate::here::put_field_here;
 use crate::state::{State, Writer, put_state, take_state};
 use crate::stream::{put_field, put_nested};
 use chunk_plain::{Words, WriterCall};
@@ -20,6 +21,34 @@ use trace_base::steps::Steps;
 /// Writes a field that the packet may have: what stands in front of its content, and its text so
 /// many times.
 pub(crate) fn write_field<W: Words, L: Ledger>(
+    writer: &mut Writer,
+    table: &mut W,
+    seat: &mut W::Writer,
+    head: &[u8],
+    text: &[u8],
+    times: u32,
+    call: WriterCall<'_>,
+    steps: &mut Steps<L>,
+)
+    requires seat { W.sits table.old seat.old }
+    requires agrees { Agrees (W.setup table.old) (W.place seat.old) (W.view table.old seat.old) writer.old }
+    requires begun { is_begun writer.old.packet ≡ true }
+    requires fits { len_of writer.old.packet + (length head.now + times * length text.now) ≤ MAX_PACKET_LEN }
+    requires call { (account : Account) → noted account (call_of call) ≡ on_newest (with_more (head.now ++ repeat times text.now)) account }
+    ensures agrees { Agrees (W.setup table.old) (W.place seat.old) (W.view table.new seat.new) writer.new }
+    ensures route { writer.new.route ≡ writer.old.route }
+    ensures notes { Notes (W.setup table.old) writer.old.route (call_of call.entry) (W.view table.old seat.old) (W.view table.new seat.new) }
+    ensures step { IsWriterStep W.setup W.sits W.place W.view W.serves W.service_view table.old seat.old table.new seat.new }
+{
+    if put_field_here(writer, head, text, times) {
+        table.note_call(seat, call);
+    } else {
+        write_field_on(writer, table, seat, head, text, times, call, steps);
+    }
+}
+
+/// Writes a field over as many chunks as it takes.
+fn write_field_on<W: Words, L: Ledger>(
     writer: &mut Writer,
     table: &mut W,
     seat: &mut W::Writer,

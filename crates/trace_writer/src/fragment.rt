@@ -1,7 +1,8 @@
 //! A held chunk while a fragment is written into it.
-ghost use Rattle.std.specs.Prelude.{◌≡◌, ℕ, ◌+◌, ◌-◌, ◌^◌, ◌<◌, ◌≤◌, false, true, [], ◌∷◌, ◌++◌, List, min, take, length, nat_le, vec_len, if◌then◌else◌};
+ghost use Rattle.std.specs.Prelude.{◌≡◌, ℕ, ◌+◌, ◌-◌, ◌*◌, ◌^◌, ◌<◌, ◌≤◌, false, true, [], ◌∷◌, ◌++◌, List, min, take, length, nat_le, vec_len, if◌then◌else◌};
+ghost use Rattle.std.specs.List.{repeat};
 ghost use Rattle.wire_varint.specs.Varint.{redundant};
-ghost use Rattle.trace_base.specs.declared.limits.TheConstants.{MAX_OPEN_HOLES};
+ghost use Rattle.trace_base.specs.declared.limits.TheConstants.{MAX_PACKET_LEN, MAX_OPEN_HOLES};
 ghost use Rattle.trace_model.specs.Images.{with_bytes};
 ghost use Rattle.trace_model.specs.Packets.{open_length};
 ghost use Rattle.trace_model.specs.Fragments.{drop_mark};
@@ -48,6 +49,33 @@ impl OpenFragment {
         let count = put_at(&mut self.held.body.payload, self.at, piece);
         self.at += count as u32;
         count
+    }
+
+    /// Writes a head, and behind it a text so many times, where all of it fits; else nothing changes.
+    pub fn put_whole(&mut self, head: &[u8], text: &[u8], times: u32) -> bool
+        requires { length head.now + times * length text.now ≤ MAX_PACKET_LEN }
+        ensures unchanged { result ≡ false → self.new ≡ self.old }
+        ensures bytes { result ≡ true → IsPutInto self.old self.new self.old.at (head.now ++ repeat times text.now) }
+        ensures at { result ≡ true → self.new.at ≡ self.old.at + (length head.now + times * length text.now) }
+    {
+        let more = head.len() as u64 + u64::from(times) * text.len() as u64;
+        if more > (self.held.body.payload.len() - self.at as usize) as u64 {
+            return false;
+        }
+        self.put(head);
+        self.put_text(text, times);
+        true
+    }
+
+    /// Writes a text so many times, which fits.
+    fn put_text(&mut self, text: &[u8], times: u32)
+        requires { self.old.at + times * length text.now ≤ vec_len self.old.held.body.payload }
+        ensures bytes { IsPutInto self.old self.new self.old.at (repeat times text.now) }
+        ensures at { self.new.at ≡ self.old.at + times * length text.now }
+    {
+        for _turn in 0..times {
+            self.put(text);
+        }
     }
 
     /// Sets a nested length aside; false where it doesn't fit.

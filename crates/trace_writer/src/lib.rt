@@ -13,6 +13,7 @@ mod field;
 mod finish;
 mod flow;
 mod fragment;
+mod here;
 mod laws;
 mod packet;
 mod route;
