@@ -1,29 +1,36 @@
 -- What a call adds to the packet, put into the fragment that is written without moving it.
-use Rattle.std.proofs.Common.{◌≡◌, ◌∙◌, ℕ, zero, suc, ◌+◌, ◌-◌, ◌*◌, ◌<◌, ◌≤◌, min, List, [], ◌++◌, length, Option, take, drop, refl, sym, ap, subst, arith, append_assoc, append-nil, length-append, add-one}
+use Rattle.std.proofs.Common.{◌≡◌, ◌∙◌, ℕ, zero, suc, ◌+◌, ◌-◌, ◌*◌, ◌<◌, ◌≤◌, true, min, List, [], ◌++◌, length, Option, Some, None, take, drop, refl, sym, ap, subst, arith, append_assoc, append-nil, length-append, add-one}
 use Rattle.std.proofs.Math.Nat.{suc-mul, mul-le-mul_right}
 use Rattle.std.specs.Prelude.{vec_len}
 use Rattle.std.specs.List.{repeat}
 use Rattle.std.proofs.lemmas.Grind.{common_steps}
+use Rattle.std.proofs.lemmas.Bool.{true≢false}
 use Rattle.std.proofs.lemmas.List.{take-append-drop, length-take, take_all}
-use Rattle.trace_model.specs.Calls.{Call}
+use Rattle.trace_model.specs.Calls.{Call, Nested}
+use Rattle.trace_model.specs.Encoding.{nested_tag}
 use Rattle.trace_model.specs.Images.{with_bytes}
-use Rattle.trace_model.specs.Packets.{Account, account_of, noted, on_newest, with_more}
+use Rattle.trace_model.specs.Packets.{Packet, Account, account_of, noted, on_newest, with_more}
 use Rattle.trace_model.proofs.EncodingLemmas.{length-repeat}
 use Rattle.chunk_plain.specs.Setup.{Setup}
 use Rattle.chunk_plain.specs.Steps.{notes_call}
 use Rattle.chunk_plain.specs.Views.{WriterView}
+use Rattle.cut_steps.specs.Writing.{with_open}
 use Rattle.cut_steps.proofs.Places.{with_bytes_mid}
 use Rattle.trace_writer.specs.declared.fragment.OpenFragment.{OpenFragment}
 use Rattle.trace_writer.specs.declared.packet.OpenPacket.{OpenPacket}
+use Rattle.trace_writer.specs.declared.state.State.TheVariants.{Writing}
 use Rattle.trace_writer.specs.declared.state.Writer.{Writer}
 use Rattle.trace_writer.specs.Site.{Site, site_of}
 use Rattle.trace_writer.specs.Filled.{HasByte}
 use Rattle.trace_writer.specs.Fragment.{IsSameChunk, IsPutInto}
-use Rattle.trace_writer.specs.InPlace.{PutsField}
-use Rattle.trace_writer.specs.Agreement.{IsWritingInto, Agrees, len_of}
+use Rattle.trace_writer.specs.Flows.{SetsAside}
+use Rattle.trace_writer.specs.Ids.{HasIds}
+use Rattle.trace_writer.specs.InPlace.{PutsField, OpensMessage, PutsNested}
+use Rattle.trace_writer.specs.Agreement.{IsWritingInto, Agrees, is_begun, len_of, depth_of}
 use Rattle.trace_writer.proofs.Putting.{inside_more, ids_behind}
-use Rattle.trace_writer.proofs.Measuring.{measured_more}
-use Rattle.trace_writer.proofs.Agreeing.{IsOpen, open_newest, writing_agrees, agrees_writing, grows_more, inside_seen}
+use Rattle.trace_writer.proofs.SettingAside.{sets_here}
+use Rattle.trace_writer.proofs.Measuring.{measured_more, measured_nested}
+use Rattle.trace_writer.proofs.Agreeing.{IsOpen, open_newest, writing_agrees, agrees_writing, as_many_holes, grows_more, grows_nested, inside_seen}
 
 -- Bytes behind bytes
 
@@ -122,3 +129,35 @@ agrees_put setup place view new before after bytes call a puts fits noted_is new
     (inside_more site w.packet w.older view before.pending puts.fragment puts.next bytes puts.put puts.at w.inside))
     (byte_behind puts.fragment puts.next puts.fragment.at (length bytes) bytes puts.put puts.at w.byte) w.ids
     (λ further. ids_behind puts.fragment puts.next puts.fragment.at bytes (length bytes) further puts.put puts.at))
+
+-- there is room for one more hole where there is for one more message
+pub few_holes : (setup : Setup) (place : ℕ) (view : WriterView) (writer : Writer) (packet : Option OpenPacket) (fragment : OpenFragment) → writer.packet ≡ packet
+    → Agrees setup place view writer → writer.state ≡ Writing fragment → is_begun packet ≡ true → depth_of packet < 16 → length writer.pending.holes < 16
+few_holes setup place view writer None fragment is a was begun depth = absurd (true≢false (sym begun))
+few_holes setup place view writer (Some open_one) fragment is a was begun depth =
+    subst (λ (n : ℕ). n < 16) (sym (as_many_holes setup place view writer fragment open_one a was is)) depth
+
+-- a nested message was begun in it
+pub agrees_opened : (setup : Setup) (place : ℕ) (view new : WriterView) (before after : Writer) (field : ℕ) (tag : List ℕ) → Agrees setup place view before
+    → PutsNested before after tag → len_of before.packet + (length tag + 4) ≤ 1048576 → length before.pending.holes < 16 → tag ≡ nested_tag field
+    → new ≡ notes_call view (Nested field) → Agrees setup place new after
+agrees_opened setup place view new before after field tag a puts fits few tag_is new_is =
+    let site : Site = site_of setup place before.route in
+    let w : IsWritingInto site (account_of view.calls) view before.pending puts.fragment = writing_agrees setup place view before puts.fragment a puts.was in
+    let is : IsOpen view puts.open_one w.packet = open_newest setup place view before puts.open_one w.packet w.older a puts.packet_was w.packets in
+    let opens : OpensMessage puts.fragment puts.next before.pending after.pending tag = puts.opens in
+    let sets : SetsAside site view view before.pending after.pending opens.tagged puts.next =
+    sets_here site view before.pending after.pending opens.tagged puts.next opens.put_length opens.length_at opens.adds few in
+    subst (λ (one : Writer). Agrees setup place new one) (sym puts.new_is)
+    (agrees_writing setup place view new before puts.fragment puts.next after.pending puts.open_one puts.later w.packet w.older (length tag + 4)
+    (λ (packet : Packet). with_open (with_more tag packet)) (Nested field) a
+    puts.packet_was w.packets w.unflushed (grows_nested tag)
+    (measured_nested puts.open_one puts.later w.packet tag (length tag) refl puts.len puts.starts is.some is.measured)
+    (subst (λ (o : Option OpenPacket). len_of o + (length tag + 4) ≤ 1048576) puts.packet_was fits)
+    (λ account. ap (λ (t : List ℕ). on_newest (λ (packet : Packet). with_open (with_more t packet)) account) (sym tag_is))
+    (ap (λ (v : WriterView). v.calls) new_is)
+    (inside_seen site (with_open (with_more tag w.packet)) w.older view new after.pending puts.next [] (ap (λ (v : WriterView). v.begun) new_is)
+    (sets.keeps (with_more tag w.packet) w.older (inside_more site w.packet w.older view before.pending puts.fragment opens.tagged tag opens.put opens.at w.inside)))
+    sets.byte w.ids
+    (λ further h. sets.ids further (ids_behind puts.fragment opens.tagged puts.fragment.at tag (length tag) (4 + further) opens.put opens.at
+    (subst (λ (n : ℕ). HasIds puts.fragment n) (omega arith) h))))

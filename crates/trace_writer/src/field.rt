@@ -11,7 +11,7 @@ ghost use Rattle.trace_writer.specs.Empty.{is_empty};
 ghost use Rattle.trace_writer.specs.Outcomes.{Notes, GoesBehind};
 
 use crate::flow::Flow;
-use crate::here::put_field_here;
+use crate::here::{put_field_here, put_nested_here};
 use crate::state::{State, Writer, put_state, take_state};
 use crate::stream::{put_field, put_nested};
 use chunk_plain::{Words, WriterCall};
@@ -92,6 +92,33 @@ fn write_field_on<W: Words, L: Ledger>(
 
 /// Begins a nested message that the packet may have, by its tag and a length that is set aside.
 pub(crate) fn write_nested<W: Words, L: Ledger>(
+    writer: &mut Writer,
+    table: &mut W,
+    seat: &mut W::Writer,
+    field: u32,
+    tag: &[u8],
+    steps: &mut Steps<L>,
+)
+    requires seat { W.sits table.old seat.old }
+    requires agrees { Agrees (W.setup table.old) (W.place seat.old) (W.view table.old seat.old) writer.old }
+    requires begun { is_begun writer.old.packet ≡ true }
+    requires tag { tag.now ≡ nested_tag field }
+    requires fits { len_of writer.old.packet + (length tag.now + 4) ≤ MAX_PACKET_LEN }
+    requires depth { depth_of writer.old.packet < MAX_OPEN_HOLES }
+    ensures agrees { Agrees (W.setup table.old) (W.place seat.old) (W.view table.new seat.new) writer.new }
+    ensures route { writer.new.route ≡ writer.old.route }
+    ensures notes { Notes (W.setup table.old) writer.old.route (call.Nested field) (W.view table.old seat.old) (W.view table.new seat.new) }
+    ensures step { IsWriterStep W.setup W.sits W.place W.view W.serves W.service_view table.old seat.old table.new seat.new }
+{
+    if put_nested_here(writer, tag) {
+        table.note_call(seat, WriterCall::Nested { field });
+    } else {
+        write_nested_on(writer, table, seat, field, tag, steps);
+    }
+}
+
+/// Begins a nested message over as many chunks as its tag and its length take.
+fn write_nested_on<W: Words, L: Ledger>(
     writer: &mut Writer,
     table: &mut W,
     seat: &mut W::Writer,

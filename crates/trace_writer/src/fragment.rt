@@ -39,6 +39,7 @@ pub(crate) struct OpenFragment {
 impl OpenFragment {
     ghost use Rattle.commit_body.specs.Pending.{AddsHole, ClosesHole};
     ghost use Rattle.trace_writer.specs.Fragment.{IsPutInto, AnswersClose};
+    ghost use Rattle.trace_writer.specs.InPlace.{OpensMessage};
 
     /// Writes the first bytes of the piece, as many as fit, and says how many.
     pub fn put(&mut self, piece: &[u8]) -> usize
@@ -95,6 +96,21 @@ impl OpenFragment {
         pending.add_hole(self.held.id, self.at);
         self.at += 4;
         true
+    }
+
+    /// Writes a nested message's tag and sets its length aside, where both fit; else nothing changes.
+    pub fn put_message(&mut self, pending: &mut PatchList, tag: &[u8]) -> bool
+        requires few { length pending.old.holes < MAX_OPEN_HOLES }
+        requires small { length tag.now + 4 ≤ MAX_PACKET_LEN }
+        ensures unchanged { result ≡ false → self.new ≡ self.old }
+        ensures none_added { result ≡ false → pending.new ≡ pending.old }
+        ensures opens { result ≡ true → OpensMessage self.old self.new pending.old pending.new tag.now }
+    {
+        if tag.len() + 4 > self.held.body.payload.len() - self.at as usize {
+            return false;
+        }
+        self.put(tag);
+        self.put_hole(pending)
     }
 
     /// Closes the innermost hole with a length.

@@ -1,10 +1,12 @@
 //! What a call adds to the packet, where all of it fits into the fragment that is written: then the
 //! held chunk stays where it is.
-ghost use Rattle.std.specs.Prelude.{◌≡◌, ◌+◌, ◌*◌, ◌≤◌, ◌++◌, true, false, length};
+ghost use Rattle.std.specs.Prelude.{◌≡◌, ◌+◌, ◌*◌, ◌<◌, ◌≤◌, ◌++◌, true, false, length};
 ghost use Rattle.std.specs.List.{repeat};
-ghost use Rattle.trace_base.specs.declared.limits.TheConstants.{MAX_PACKET_LEN};
-ghost use Rattle.trace_writer.specs.Agreement.{is_begun, len_of};
-ghost use Rattle.trace_writer.specs.InPlace.{PutsField};
+ghost use Rattle.trace_base.specs.declared.limits.TheConstants.{MAX_PACKET_LEN, MAX_OPEN_HOLES};
+ghost use Rattle.trace_writer.specs.declared.fragment.OpenFragment.{OpenFragment};
+ghost use Rattle.trace_writer.specs.declared.state.State.TheVariants.{Writing};
+ghost use Rattle.trace_writer.specs.Agreement.{is_begun, len_of, depth_of};
+ghost use Rattle.trace_writer.specs.InPlace.{PutsField, PutsNested};
 
 use crate::state::{State, Writer};
 
@@ -25,5 +27,27 @@ pub(crate) fn put_field_here(writer: &mut Writer, head: &[u8], text: &[u8], time
         unreachable!()
     };
     packet.add_field(head.len() as u64 + u64::from(times) * text.len() as u64);
+    true
+}
+
+/// Begins a nested message where its tag and its length fit; else nothing changes.
+pub(crate) fn put_nested_here(writer: &mut Writer, tag: &[u8]) -> bool
+    requires begun { is_begun writer.old.packet ≡ true }
+    requires fits { len_of writer.old.packet + (length tag.now + 4) ≤ MAX_PACKET_LEN }
+    requires depth { depth_of writer.old.packet < MAX_OPEN_HOLES }
+    requires few { (fragment : OpenFragment) → writer.old.state ≡ Writing fragment → length writer.old.pending.holes < MAX_OPEN_HOLES }
+    ensures unchanged { result ≡ false → writer.new ≡ writer.old }
+    ensures puts { result ≡ true → PutsNested writer.old writer.new tag.now }
+{
+    let State::Writing(fragment) = &mut writer.state else {
+        return false;
+    };
+    if !fragment.put_message(&mut writer.pending, tag) {
+        return false;
+    }
+    let Some(packet) = &mut writer.packet else {
+        unreachable!()
+    };
+    packet.add_nested(tag.len() as u32);
     true
 }

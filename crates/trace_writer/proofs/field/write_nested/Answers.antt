@@ -1,51 +1,18 @@
-use Rattle.std.proofs.Common.{◌≡◌, ℕ, ◌+◌, ◌<◌, ◌≤◌, List, Option, Some, length, refl, sym, ap, subst}
-use Rattle.trace_model.specs.Calls as call
-use Rattle.trace_model.specs.Encoding.{nested_tag}
-use Rattle.trace_model.specs.Packets.{Packet, Account, noted, on_newest, with_more}
-use Rattle.cut_steps.specs.Writing.{with_open}
-use Rattle.trace_writer.specs.declared.packet.OpenPacket.{OpenPacket}
-use Rattle.trace_writer.specs.Agreement.{len_of, depth_of}
-use Rattle.trace_writer.proofs.Agreeing.{agrees_behind, agrees_dropping, notes_behind, as_many_holes, grows_nested}
-use Rattle.trace_writer.proofs.Measuring.{measured_nested}
+use Rattle.std.proofs.Common.{refl}
+use Rattle.trace_writer.proofs.InPlace.{few_holes, agrees_opened}
 use Rattle.trace_writer.proofs.field.write_nested.Goals as goal
 
-noted_tag : (field : ℕ) (tag : List ℕ) → tag ≡ nested_tag field → (account : Account)
-    → noted account (call.Nested field) ≡ on_newest (λ (packet : Packet). with_open (with_more tag packet)) account
-noted_tag field tag is account = ap (λ (t : List ℕ). on_newest (λ (packet : Packet). with_open (with_more t packet)) account) (sym is)
+pub put_nested_here-requires-clause-few : goal.put_nested_here-requires-clause-few
+put_nested_here-requires-clause-few g c = λ fragment was.
+    few_holes (g.W.Words.setup c.args.table.now) (g.W.Words.place c.args.seat.now) (g.W.Words.view c.args.table.now c.args.seat.now)
+    c.args.writer.now c.args.writer.now.packet fragment refl c.requires.agrees was c.requires.begun c.requires.depth
 
-pub put_nested-flow-requires-clause-few : goal.put_nested-flow-requires-clause-few
-put_nested-flow-requires-clause-few g c =
-    let many = as_many_holes (g.W.Words.setup c.args.table.now) (g.W.Words.place c.args.seat.now) (g.W.Words.view c.args.table.now c.args.seat.now)
-    c.args.writer.now c.in-Writing.fragment c.in-Some.packet c.requires.agrees (sym c.in-Writing.ensures.taken) c.in-Some.is in
-    subst (λ (n : ℕ). n < 16) (sym many) (subst (λ (o : Option OpenPacket). depth_of o < 16) c.in-Some.is c.requires.depth)
-
-pub returns-in-Writing-clause-agrees : goal.returns-in-Writing-clause-agrees
-returns-in-Writing-clause-agrees g c =
-    let tag = c.args.tag.now in
-    agrees_behind (g.W.Words.setup c.args.table.now) (g.W.Words.place c.args.seat.now) (g.W.Words.view c.args.table.now c.args.seat.now)
-    (g.W.Words.view c.put_nested-flow.new.table c.put_nested-flow.new.seat) (g.W.Words.view c.go_on.new.table c.go_on.new.seat)
-    c.args.writer.now c.go_on.new.writer c.take_state.new.state c.put_nested-flow.new.pending c.in-Writing.fragment c.in-Some.packet c.add_nested.new.self
-    (length tag + 4) (λ (packet : Packet). with_open (with_more tag packet)) (call.Nested c.args.field) c.put_nested-flow.result c.requires.agrees
-    (sym c.in-Writing.ensures.taken) c.in-Some.is (grows_nested tag)
-    (λ (packet : Packet) some m. measured_nested c.in-Some.packet c.add_nested.new.self packet tag (length tag) refl c.add_nested.ensures.len c.add_nested.ensures.starts some m)
-    (subst (λ (o : Option OpenPacket). len_of o + (length tag + 4) ≤ 1048576) c.in-Some.is c.requires.fits) (noted_tag c.args.field tag c.requires.tag) c.put_nested-flow.ensures.flow c.go_on.ensures.goes
-
-pub returns-in-Writing-clause-notes : goal.returns-in-Writing-clause-notes
-returns-in-Writing-clause-notes g c =
-    let tag = c.args.tag.now in
-    notes_behind (g.W.Words.setup c.args.table.now) (g.W.Words.place c.args.seat.now) (g.W.Words.view c.args.table.now c.args.seat.now)
-    (g.W.Words.view c.put_nested-flow.new.table c.put_nested-flow.new.seat) (g.W.Words.view c.go_on.new.table c.go_on.new.seat)
-    c.args.writer.now
-    (record c.args.writer.now { state = c.take_state.new.state; packet = Some c.add_nested.new.self; pending = c.put_nested-flow.new.pending })
-    c.go_on.new.writer c.put_nested-flow.new.pending c.in-Writing.fragment
-    (length tag + 4) (λ (packet : Packet). with_open (with_more tag packet)) (call.Nested c.args.field) c.put_nested-flow.result c.put_nested-flow.ensures.flow c.go_on.ensures.goes
-
-pub returns-in-Dropping-clause-agrees : goal.returns-in-Dropping-clause-agrees
-returns-in-Dropping-clause-agrees g c =
-    let tag = c.args.tag.now in
-    agrees_dropping (g.W.Words.setup c.args.table.now) (g.W.Words.place c.args.seat.now) (g.W.Words.view c.args.table.now c.args.seat.now)
-    (g.W.Words.view c.note_call.new.self c.note_call.new.seat) c.args.writer.now c.put_state.new.state c.in-Dropping.next_id c.in-Some.packet c.add_nested.new.self
-    (length tag + 4) (λ (packet : Packet). with_open (with_more tag packet)) (call.Nested c.args.field) c.requires.agrees (sym c.in-Dropping.ensures.taken)
-    c.put_state.ensures c.in-Some.is (grows_nested tag)
-    (λ (packet : Packet) some m. measured_nested c.in-Some.packet c.add_nested.new.self packet tag (length tag) refl c.add_nested.ensures.len c.add_nested.ensures.starts some m)
-    (noted_tag c.args.field tag c.requires.tag) c.note_call.ensures.view
+pub returns-then-put_nested_here-clause-agrees : goal.returns-then-put_nested_here-clause-agrees
+returns-then-put_nested_here-clause-agrees g c =
+    let setup = g.W.Words.setup c.args.table.now in let place = g.W.Words.place c.args.seat.now in
+    let view = g.W.Words.view c.args.table.now c.args.seat.now in
+    let puts = c.if-put_nested_here.ensures.puts refl in
+    agrees_opened setup place view (g.W.Words.view c.note_call.new.self c.note_call.new.seat) c.args.writer.now c.put_nested_here.new.writer
+    c.args.field c.args.tag.now c.requires.agrees puts c.requires.fits
+    (few_holes setup place view c.args.writer.now c.args.writer.now.packet puts.fragment refl c.requires.agrees puts.was c.requires.begun c.requires.depth)
+    c.requires.tag c.note_call.ensures.view
