@@ -197,15 +197,9 @@ pub(crate) fn end_message<W: Words>(writer: &mut Writer, table: &mut W, seat: &m
         unreachable!()
     };
     let length = packet.end_nested();
-    match take_state(&mut writer.state) {
-        State::Writing(fragment) => {
-            let mut fragment = fragment;
-            fragment.close_hole(&mut writer.pending, length);
-            put_state(&mut writer.state, State::Writing(fragment));
-        }
-        State::Dropping { next_id } => {
-            put_state(&mut writer.state, State::Dropping { next_id });
-        }
+    match &mut writer.state {
+        State::Writing(fragment) => fragment.close_hole(&mut writer.pending, length),
+        State::Dropping { next_id: _ } => {}
         State::Idle { next_id: _ } => unreachable!(),
         State::Between(_chunk) => unreachable!(),
     }

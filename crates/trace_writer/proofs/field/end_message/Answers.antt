@@ -1,4 +1,4 @@
-use Rattle.std.proofs.Common.{◌<◌, Option, sym, subst}
+use Rattle.std.proofs.Common.{◌<◌, Option, refl, sym, subst}
 use Rattle.trace_model.specs.Packets.{account_of}
 use Rattle.trace_writer.specs.declared.packet.OpenPacket.{OpenPacket}
 use Rattle.trace_writer.specs.declared.state.Writer.{Writer}
@@ -25,7 +25,7 @@ close_hole-requires-clause-fits g c =
 pub close_hole-requires-clause-here : goal.close_hole-requires-clause-here
 close_hole-requires-clause-here g c = λ hole outer holes held.
     let view = g.W.Words.view c.args.table.now c.args.seat.now in
-    let w = writing_agrees (g.W.Words.setup c.args.table.now) (g.W.Words.place c.args.seat.now) view c.args.writer.now c.in-Writing.fragment c.requires.agrees (sym c.in-Writing.ensures.taken) in
+    let w = writing_agrees (g.W.Words.setup c.args.table.now) (g.W.Words.place c.args.seat.now) view c.args.writer.now c.in-Writing.fragment c.requires.agrees c.in-Writing.is in
     hole_within (site_of (g.W.Words.setup c.args.table.now) (g.W.Words.place c.args.seat.now) c.args.writer.now.route) w.packet w.older view c.args.writer.now.pending
     c.in-Writing.fragment hole outer holes held w.inside
 
@@ -38,15 +38,15 @@ returns-clause-agrees g c =
       len = c.end_nested-length.ensures.len;
       starts = c.end_nested-length.ensures.starts;
     } in
-    elim c.match-take_state.branch [
+    elim c.match-writer-2.branch [
       | in-Writing w ↦
           subst (λ (one : Writer). Agrees setup place new one) (sym w.writer-is)
-          (agrees_ended setup place view new c.args.writer.now w.put_state.new.state w.in-Writing.fragment w.close_hole.new.self w.close_hole.new.pending
-          c.in-Some.packet c.end_nested-length.new.self c.end_nested-length.result c.requires.agrees (sym w.in-Writing.ensures.taken) w.put_state.ensures c.in-Some.is pops
+          (agrees_ended setup place view new c.args.writer.now _ w.in-Writing.fragment w.close_hole.new.self w.close_hole.new.pending
+          c.in-Some.packet c.end_nested-length.new.self c.end_nested-length.result c.requires.agrees w.in-Writing.is refl c.in-Some.is pops
           w.close_hole.ensures c.note_call.ensures.view)
       | in-Dropping w ↦
           subst (λ (one : Writer). Agrees setup place new one) (sym w.writer-is)
-          (agrees_ended_dropping setup place view new c.args.writer.now w.put_state-in-Dropping.new.state w.in-Dropping.next_id
-          c.in-Some.packet c.end_nested-length.new.self c.end_nested-length.result c.requires.agrees (sym w.in-Dropping.ensures.taken) w.put_state-in-Dropping.ensures c.in-Some.is pops
+          (agrees_ended_dropping setup place view new c.args.writer.now c.args.writer.now.state w.in-Dropping.next_id
+          c.in-Some.packet c.end_nested-length.new.self c.end_nested-length.result c.requires.agrees w.in-Dropping.is w.in-Dropping.is c.in-Some.is pops
           c.note_call.ensures.view)
     ]
