@@ -1,10 +1,14 @@
 -- What one byte or one node more makes of the nodes that are shown.
-use Rattle.std.proofs.Common.{◌≡◌, ℕ, ◌-◌, ◌≤◌, List, [], ◌∷◌, ◌++◌, length, map, take, drop, refl, ap, arith, ◌∙◌, length-append, length-drop}
+use Rattle.std.proofs.Common.{◌≡◌, ℕ, ◌-◌, ◌≤◌, Option, Some, sym, List, [], ◌∷◌, ◌++◌, length, map, take, drop, refl, ap, arith, ◌∙◌, length-append, length-drop}
 use Rattle.std.proofs.lemmas.List.{take-append-le, drop-append-le, drop_all, take_all, map-append}
 use Rattle.std.specs.List.{AllByRecursion}
 use Rattle.field_tree.specs.declared.node.Node.{Node}
 use Rattle.field_tree.specs.declared.node.FieldNode.{FieldNode}
+use Rattle.field_tree.specs.declared.mode.Mode.{Mode}
+use Rattle.field_tree.specs.Nodes.{Shown}
+use Rattle.field_tree.specs.Machine.{pending, settled, settled_as, ended, finish}
 use Rattle.field_tree.specs.Ranges.{shown, IsRange, IsKept}
+use Rattle.field_tree.specs.Views.{IsOnly}
 
 one_shown : (bytes more : List ℕ) (n : Node) → IsRange bytes n → shown (bytes ++ more) n ≡ shown bytes n
 one_shown bytes more n inside =
@@ -50,6 +54,22 @@ pub byte_open : (bytes : List ℕ) (ns : List Node) (start byte : ℕ) → IsKep
     → drop start (bytes ++ byte ∷ []) ≡ drop start bytes ++ byte ∷ []
 byte_open bytes ns start byte kept = drop-append-le start bytes (byte ∷ []) kept.place
 
+-- the node whose text is the last one
+last_shown : (bytes : List ℕ) (start : ℕ) (node : FieldNode)
+    → shown bytes (record { node = node; start = start; len = length bytes - start }) ≡ (node, drop start bytes)
+last_shown bytes start node =
+    let whole : take (length bytes - start) (drop start bytes) ≡ drop start bytes = take_all (length bytes - start) (drop start bytes) (omega (arith, length-drop start bytes)) in
+    ap (λ (text : List ℕ). (node, text)) whole
+
+-- the text may end behind it, where it is the only one
+pub only_ends : (bytes : List ℕ) (ns : List Node) (start depth : ℕ) (mode : Mode) (node : FieldNode) → IsKept bytes ns start
+    → ns ≡ [] → depth ≡ 0 → pending mode ≡ Some node
+    → IsOnly (record { node = node; start = start; len = length bytes - start }) (finish (record { nodes = map (shown bytes) ns; depth = depth; text = drop start bytes; mode = mode })) bytes
+only_ends bytes ns start depth mode node kept none outside ends =
+    let whole : finish (record { nodes = []; depth = 0; text = drop start bytes; mode = mode }) ≡ Some ((node, drop start bytes) ∷ []) =
+    unfold finish in unfold settled in ap (λ (o : Option FieldNode). ended (settled_as o (record { nodes = []; depth = 0; text = drop start bytes; mode = mode }))) ends in
+    (rw (none, outside) (whole ∙ ap (λ (one : Shown). Some (one ∷ [])) (sym (last_shown bytes start node))), omega (arith, kept.place))
+
 -- one node more
 pub node_kept : (bytes : List ℕ) (ns : List Node) (start : ℕ) (node : FieldNode) → IsKept bytes ns start
     → IsKept bytes (ns ++ record { node = node; start = start; len = length bytes - start } ∷ []) (length bytes)
@@ -62,9 +82,8 @@ pub node_shown : (bytes : List ℕ) (ns : List Node) (start : ℕ) (node : Field
     → map (shown bytes) (ns ++ record { node = node; start = start; len = length bytes - start } ∷ [])
     ≡ map (shown bytes) ns ++ (node, drop start bytes) ∷ []
 node_shown bytes ns start node kept =
-    let whole : take (length bytes - start) (drop start bytes) ≡ drop start bytes = take_all (length bytes - start) (drop start bytes) (omega (arith, length-drop start bytes)) in
     map-append (shown bytes) ns (record { node = node; start = start; len = length bytes - start } ∷ [])
-    ∙ ap (λ (text : List ℕ). map (shown bytes) ns ++ (node, text) ∷ []) whole
+    ∙ ap (λ (one : Shown). map (shown bytes) ns ++ one ∷ []) (last_shown bytes start node)
 
 pub node_open : (bytes : List ℕ) → drop (length bytes) bytes ≡ []
 node_open bytes = drop_all (length bytes) bytes (omega arith)

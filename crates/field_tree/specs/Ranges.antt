@@ -1,7 +1,9 @@
 -- How nodes share one list of bytes for their texts: each has a range of it.
-use Rattle.std.specs.Prelude.{◌≡◌, map, ℕ, ◌+◌, ◌≤◌, List, take, drop, length}
+use Rattle.std.specs.Prelude.{◌≡◌, map, ℕ, ◌+◌, ◌≤◌, List, [], ◌∷◌, take, drop, length}
 use Rattle.std.specs.List.{AllByRecursion}
 use Rattle.field_tree.specs.declared.node.Node.{Node}
+use Rattle.field_tree.specs.declared.node.NodeList.{NodeList}
+use Rattle.field_tree.specs.declared.node.NodeList.TheVariants.{One, Many}
 use Rattle.trace_base.specs.declared.limits.TheConstants.{MAX_PACKET_LEN}
 use Rattle.field_tree.specs.Nodes.{Shown, IsFit}
 use Rattle.field_tree.specs.Judged.{nodes_len}
@@ -9,6 +11,10 @@ use Rattle.field_tree.specs.Judged.{nodes_len}
 -- a node, and the bytes of its range
 abbrev pub shown : List ℕ → Node → Shown
 shown bytes n = (n.node, take n.len (drop n.start bytes))
+
+abbrev pub listed : NodeList → List Node
+listed (One n) = n ∷ []
+listed (Many ns) = ns.items
 
 abbrev pub IsRange : List ℕ → Node → Type 0
 IsRange bytes n = n.start + n.len ≤ length bytes

@@ -1,4 +1,7 @@
 //! The nodes of a tree of fields.
+ghost use Rattle.std.specs.Prelude.{◌≡◌};
+
+use std::slice;
 
 /// A field, or the end of a nested message.
 #[derive(Clone, Copy, Debug, PartialEq, Eq)]
@@ -17,4 +20,24 @@ pub(crate) struct Node {
     pub node: FieldNode,
     pub start: usize,
     pub len: usize,
+}
+
+/// Nodes one after another. One that stands alone takes no memory beside the list.
+#[derive(Drop)]
+pub(crate) enum NodeList {
+    One(Node),
+    Many(Vec<Node>),
+}
+
+impl NodeList {
+    ghost use Rattle.field_tree.specs.Ranges.{listed};
+
+    pub(crate) fn as_slice(&self) -> &[Node]
+        ensures { result.now ≡ listed self.now }
+    {
+        match self {
+            NodeList::One(node) => slice::from_ref(node),
+            NodeList::Many(nodes) => nodes.as_slice(),
+        }
+    }
 }

@@ -27,7 +27,7 @@ fn parse(alloc: Global, text: &[u8], depth: u8) -> Result<FieldTree, FieldError>
     ensures { Gives result (outcome depth text.now) }
 {
     let parsed = read(alloc, text)?;
-    match judge(&parsed.nodes, depth) {
+    match judge(parsed.nodes.as_slice(), depth) {
         Ok(encoded) => Ok(FieldTree::from_parts(parsed.nodes, parsed.bytes, encoded)),
         Err(fault) => Err(FieldError::Fault(fault)),
     }

@@ -1,12 +1,12 @@
 //! Reading a text byte by byte, without recursion.
-ghost use Rattle.std.specs.Prelude.{◌≡◌, ℕ, ◌+◌, ◌<◌, ◌≤◌, ◌==◌, ◌||◌, length, List, [], drop, IfOk, OnOk, Some, None};
-ghost use Rattle.field_tree.specs.Machine.{HalfFits, with_node, with_byte, settled, before_byte, applied, next, finish, nodes_or_column, beginning};
-ghost use Rattle.field_tree.specs.Views.{reading, Takes, Keeps, Ends, GivesNodes};
+ghost use Rattle.std.specs.Prelude.{◌≡◌, ℕ, ◌+◌, ◌-◌, ◌<◌, ◌≤◌, ◌==◌, ◌||◌, length, List, [], drop, IfOk, IfSome, OnOk, Some, None, false};
+ghost use Rattle.field_tree.specs.Machine.{HalfFits, settled, before_byte, applied, next, finish, nodes_or_column, beginning};
+ghost use Rattle.field_tree.specs.Views.{reading, AddsNode, AddsByte, Takes, Keeps, IsOnly, Ends, GivesNodes};
 
 use crate::act::{act, may_end, pending_node, taken_back};
 use crate::fault::{FieldError, FieldFault};
 use crate::mode::{Action, Mode};
-use crate::node::{FieldNode, Node};
+use crate::node::{FieldNode, Node, NodeList};
 use std::alloc::{AllocError, Global};
 use trace_base::limits::MAX_INPUT;
 
@@ -16,21 +16,21 @@ const FIRST_NODES: usize = 8;
 
 const FIRST_BYTES: usize = 64;
 
-/// Where the reading stands: the nodes so far, and the bytes of all texts, one behind another. The
-/// text that is being read begins at `start`.
+/// What was read so far of a text of `len` bytes: the nodes, and the bytes of all texts, one behind
+/// another. The text that is being read begins at `start`.
 #[derive(Drop)]
 pub(crate) struct Parser {
     pub nodes: Vec<Node>,
     pub bytes: Vec<u8>,
     pub start: usize,
     pub depth: u32,
-    pub mode: Mode,
+    pub len: usize,
 }
 
 /// The nodes of a text, and the bytes of their texts.
 #[derive(Drop)]
 pub(crate) struct Parsed {
-    pub nodes: Vec<Node>,
+    pub nodes: NodeList,
     pub bytes: Vec<u8>,
 }
 
@@ -51,38 +51,61 @@ fn make_room(bytes: &mut Vec<u8>) -> Result<(), AllocError>
     Ok(())
 }
 
+/// The same for the nodes of a text of this length. Each node but one of a nested message takes
+/// four bytes of text at least. It stays a call, so that the loop over the bytes stays short.
+#[inline(never)]
+fn make_node_room(nodes: &mut Vec<Node>, len: usize) -> Result<(), AllocError>
+    ensures { OnOk result (nodes.new.items ≡ nodes.old.items) }
+{
+    if nodes.is_empty() {
+        nodes.reserve((len / 4 + 1).min(FIRST_NODES))?;
+    }
+    Ok(())
+}
+
 impl Parser {
-    /// The beginning of a text of this length. Each node but one of a nested message takes four
-    /// bytes of text at least.
+    /// The beginning of a text of this length.
     #[tactic(auto, unfolding(crate::specs::Machine::beginning))]
-    fn new(alloc: Global, len: usize) -> Result<Self, AllocError>
-        requires { len ≤ MAX_INPUT }
-        ensures reading { IfOk result (λ parser. reading parser ≡ beginning) }
-        ensures kept { IfOk result (λ parser. Keeps parser) }
+    fn new(alloc: Global, len: usize) -> Self
+        ensures reading { reading result (Mode.Start false) ≡ beginning }
+        ensures kept { Keeps result }
     {
-        Ok(Parser {
-            nodes: Vec::with_capacity(alloc, (len / 4 + 1).min(FIRST_NODES))?,
+        Parser {
+            nodes: Vec::new(alloc),
             bytes: Vec::new(alloc),
             start: 0,
             depth: 0,
-            mode: Mode::Start { opened: false },
-        })
+            len,
+        }
+    }
+
+    /// The node whose text is the one that was being read.
+    fn placed(&self, node: FieldNode) -> Node
+        requires { Keeps self.now }
+        ensures { result ≡ record {
+          node = node;
+          start = self.now.start;
+          len = length self.now.bytes.items - self.now.start;
+        } }
+    {
+        Node {
+            node,
+            start: self.start,
+            len: self.bytes.len() - self.start,
+        }
     }
 
     /// Adds a node whose text is the one that was being read.
     #[tactic(auto, using(crate::proofs::RangeLemmas::node_kept, crate::proofs::RangeLemmas::node_shown, crate::proofs::RangeLemmas::node_open))]
     fn push_node(&mut self, node: FieldNode) -> Result<(), AllocError>
         requires { Keeps self.old }
-        ensures pushed { OnOk result (reading self.new ≡ with_node node (reading self.old)) }
+        ensures pushed { OnOk result (AddsNode node self.old self.new) }
         ensures kept { OnOk result (Keeps self.new) }
     {
-        let end = self.bytes.len();
-        self.nodes.push(Node {
-            node,
-            start: self.start,
-            len: end - self.start,
-        })?;
-        self.start = end;
+        let placed = self.placed(node);
+        make_node_room(&mut self.nodes, self.len)?;
+        self.nodes.push(placed)?;
+        self.start = self.bytes.len();
         Ok(())
     }
 
@@ -90,7 +113,7 @@ impl Parser {
     #[tactic(auto, using(crate::proofs::RangeLemmas::byte_kept, crate::proofs::RangeLemmas::byte_shown, crate::proofs::RangeLemmas::byte_open))]
     fn push_byte(&mut self, byte: u8) -> Result<(), AllocError>
         requires { Keeps self.old }
-        ensures pushed { OnOk result (reading self.new ≡ with_byte byte (reading self.old)) }
+        ensures pushed { OnOk result (AddsByte byte self.old self.new) }
         ensures kept { OnOk result (Keeps self.new) }
     {
         make_room(&mut self.bytes)?;
@@ -100,15 +123,15 @@ impl Parser {
 
     /// Ends the field that may end here, if one may.
     #[tactic(auto, unfolding(crate::specs::Machine::settled))]
-    fn settle(&mut self) -> Result<(), AllocError>
+    fn settle(&mut self, mode: &mut Mode) -> Result<(), AllocError>
         requires { Keeps self.old }
-        ensures settled { OnOk result (reading self.new ≡ settled (reading self.old)) }
+        ensures settled { OnOk result (reading self.new mode.new ≡ settled (reading self.old mode.old)) }
         ensures kept { OnOk result (Keeps self.new) }
     {
-        match pending_node(self.mode) {
+        match pending_node(*mode) {
             Some(node) => {
                 self.push_node(node)?;
-                self.mode = Mode::After;
+                *mode = Mode::After;
             }
             None => {}
         }
@@ -117,72 +140,81 @@ impl Parser {
 
     /// Does what is to be done at a byte, and answers whether the byte is taken.
     #[tactic(auto, unfolding(crate::specs::Machine::applied))]
-    fn perform(&mut self, action: Action) -> Result<bool, AllocError>
+    fn perform(&mut self, mode: &mut Mode, action: Action) -> Result<bool, AllocError>
         requires kept { Keeps self.old }
         requires depth { self.old.depth < u32.MAX }
-        ensures taken { IfOk result (λ taken. Takes taken (applied action (reading self.old)) (reading self.new)) }
+        ensures taken { IfOk result (λ taken. Takes taken (applied action (reading self.old mode.old)) (reading self.new mode.new)) }
         ensures kept { OnOk result (Keeps self.new) }
     {
         match action {
             Action::Refuse => return Ok(false),
-            Action::Go(mode) => self.mode = mode,
-            Action::Keep(mode, byte) => {
+            Action::Go(next) => *mode = next,
+            Action::Keep(next, byte) => {
                 self.push_byte(byte)?;
-                self.mode = mode;
+                *mode = next;
             }
             Action::Open(field) => {
                 self.push_node(FieldNode::Begin { field })?;
                 self.depth += 1;
-                self.mode = Mode::Start { opened: true };
+                *mode = Mode::Start { opened: true };
             }
             Action::Close => {
                 self.push_node(FieldNode::End)?;
                 self.depth = self.depth.saturating_sub(1);
-                self.mode = Mode::After;
+                *mode = Mode::After;
             }
         }
         Ok(true)
     }
 
-    fn before(&mut self, byte: u8) -> Result<(), AllocError>
+    fn before(&mut self, mode: &mut Mode, byte: u8) -> Result<(), AllocError>
         requires { Keeps self.old }
-        ensures before { OnOk result (reading self.new ≡ before_byte byte (reading self.old)) }
+        ensures before { OnOk result (reading self.new mode.new ≡ before_byte byte (reading self.old mode.old)) }
         ensures kept { OnOk result (Keeps self.new) }
     {
         if ends_field(byte) {
-            self.settle()?;
+            self.settle(mode)?;
         }
         Ok(())
     }
 
     /// Reads one byte, and answers whether the text so far begins some fields.
     #[tactic(auto, unfolding(crate::specs::Machine::next, crate::specs::Machine::settled))]
-    fn step(&mut self, byte: u8) -> Result<bool, AllocError>
+    fn step(&mut self, mode: &mut Mode, byte: u8) -> Result<bool, AllocError>
         requires kept { Keeps self.old }
         requires depth { self.old.depth < u32.MAX }
-        requires half { HalfFits self.old.mode }
-        ensures taken { IfOk result (λ taken. Takes taken (next (reading self.old) byte) (reading self.new)) }
+        requires half { HalfFits mode.old }
+        ensures taken { IfOk result (λ taken. Takes taken (next (reading self.old mode.old) byte) (reading self.new mode.new)) }
         ensures kept { OnOk result (Keeps self.new) }
     {
-        self.before(byte)?;
-        self.perform(act(self.mode, self.depth > 0, byte))
+        self.before(mode, byte)?;
+        self.perform(mode, act(*mode, self.depth > 0, byte))
     }
 
-    /// The nodes, where the text may end here.
-    #[tactic(auto, unfolding(crate::specs::Machine::finish))]
-    fn end(mut self) -> Result<Option<Parsed>, AllocError>
-        requires { Keeps self }
-        ensures { IfOk result (λ parsed. Ends parsed (finish (reading self))) }
+    /// The node that ends here and is the only one, where the text may end.
+    #[tactic(auto, using(crate::proofs::RangeLemmas::only_ends), unfolding(crate::specs::Machine::finish, crate::specs::Machine::settled))]
+    fn only_node(&self, mode: Mode) -> Option<Node>
+        requires { Keeps self.now }
+        ensures { IfSome result (λ node. IsOnly node (finish (reading self.now mode)) self.now.bytes.items) }
     {
-        self.settle()?;
-        if may_end(self.mode, self.depth) {
-            Ok(Some(Parsed {
-                nodes: self.nodes,
-                bytes: self.bytes,
-            }))
-        } else {
-            Ok(None)
+        if self.depth > 0 || !self.nodes.is_empty() {
+            return None;
         }
+        match pending_node(mode) {
+            Some(node) => Some(self.placed(node)),
+            None => None,
+        }
+    }
+
+    /// Ends the last field, and answers whether the text may end here.
+    #[tactic(auto, unfolding(crate::specs::Machine::finish))]
+    fn end(&mut self, mode: &mut Mode) -> Result<bool, AllocError>
+        requires { Keeps self.old }
+        ensures ended { IfOk result (λ ended. Ends ended (finish (reading self.old mode.old)) self.new) }
+        ensures kept { OnOk result (Keeps self.new) }
+    {
+        self.settle(mode)?;
+        Ok(may_end(*mode, self.depth))
     }
 }
 
@@ -200,20 +232,28 @@ pub(crate) fn read(alloc: Global, text: &[u8]) -> Result<Parsed, FieldError>
     requires { length text.now ≤ MAX_INPUT }
     ensures { GivesNodes result (nodes_or_column text.now) }
 {
-    let Ok(mut parser) = Parser::new(alloc, text.len()) else {
-        return Err(FieldError::OutOfMemory);
-    };
+    let mut parser = Parser::new(alloc, text.len());
+    let mut mode = Mode::Start { opened: false };
     for (at, byte) in text.iter().enumerate() {
-        let mode = parser.mode;
-        match parser.step(*byte) {
+        let before = mode;
+        match parser.step(&mut mode, *byte) {
             Ok(true) => {}
-            Ok(false) => return Err(bad_field(at + 1 - taken_back(mode, *byte))),
+            Ok(false) => return Err(bad_field(at + 1 - taken_back(before, *byte))),
             Err(_) => return Err(FieldError::OutOfMemory),
         }
     }
-    match parser.end() {
-        Ok(Some(parsed)) => Ok(parsed),
-        Ok(None) => Err(bad_field(text.len() + 1)),
+    if let Some(node) = parser.only_node(mode) {
+        return Ok(Parsed {
+            nodes: NodeList::One(node),
+            bytes: parser.bytes,
+        });
+    }
+    match parser.end(&mut mode) {
+        Ok(true) => Ok(Parsed {
+            nodes: NodeList::Many(parser.nodes),
+            bytes: parser.bytes,
+        }),
+        Ok(false) => Err(bad_field(text.len() + 1)),
         Err(_) => Err(FieldError::OutOfMemory),
     }
 }

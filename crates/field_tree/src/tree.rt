@@ -3,9 +3,9 @@ ghost use Rattle.std.specs.Prelude.{◌≡◌, ℕ, ◌≤◌, ◌<◌, List, []
 ghost use Rattle.std.specs.Option.{option_map};
 ghost use Rattle.field_tree.specs.Judged.{nodes_len};
 ghost use Rattle.field_tree.specs.Nodes.{IsFit};
-ghost use Rattle.field_tree.specs.Ranges.{shown, IsWhole};
+ghost use Rattle.field_tree.specs.Ranges.{shown, listed, IsWhole};
 
-use crate::node::{FieldNode, Node};
+use crate::node::{FieldNode, NodeList};
 use std::alloc::Global;
 use std::marker::Model;
 use trace_base::limits::MAX_PACKET_LEN;
@@ -14,7 +14,7 @@ use trace_base::limits::MAX_PACKET_LEN;
 /// other than `Bytes`. It is made by `parse_fields` alone, or without nodes by `empty`.
 #[derive(Drop)]
 pub struct FieldTree {
-    nodes: Vec<Node>,
+    nodes: NodeList,
     bytes: Vec<u8>,
     encoded: u32,
 }
@@ -22,20 +22,20 @@ pub struct FieldTree {
 impl Model for FieldTree {
     ghost use Rattle.std.specs.Prelude.{List, map};
     ghost use Rattle.field_tree.specs.Nodes.{Shown};
-    ghost use Rattle.field_tree.specs.Ranges.{shown, IsWhole};
+    ghost use Rattle.field_tree.specs.Ranges.{shown, listed, IsWhole};
 
     ghost Value = { List Shown };
 
-    ghost view = { λ tree. map (shown tree.bytes.items) tree.nodes.items };
+    ghost view = { λ tree. map (shown tree.bytes.items) (listed tree.nodes) };
 
-    ghost invariant = { λ tree. IsWhole tree.bytes.items tree.nodes.items tree.encoded };
+    ghost invariant = { λ tree. IsWhole tree.bytes.items (listed tree.nodes) tree.encoded };
 }
 
 impl FieldTree {
     /// The tree of some nodes with their texts, whose encoding has this length.
-    pub(crate) fn from_parts(nodes: Vec<Node>, bytes: Vec<u8>, encoded: u32) -> Self
-        requires { IsWhole bytes.items nodes.items encoded }
-        ensures { result ≡ map (shown bytes.items) nodes.items }
+    pub(crate) fn from_parts(nodes: NodeList, bytes: Vec<u8>, encoded: u32) -> Self
+        requires { IsWhole bytes.items (listed nodes) encoded }
+        ensures { result ≡ map (shown bytes.items) (listed nodes) }
     {
         FieldTree {
             nodes,
@@ -48,14 +48,14 @@ impl FieldTree {
     pub fn empty(alloc: Global) -> Self
         ensures { result ≡ [] }
     {
-        FieldTree::from_parts(Vec::new(alloc), Vec::new(alloc), 0)
+        FieldTree::from_parts(NodeList::Many(Vec::new(alloc)), Vec::new(alloc), 0)
     }
 
     /// How many nodes there are.
     pub fn len(&self) -> usize
         ensures { result ≡ length self.now }
     {
-        self.nodes.len()
+        self.nodes.as_slice().len()
     }
 
     /// The length of the encoding: nested messages have their lengths in four bytes, all other
@@ -73,7 +73,7 @@ impl FieldTree {
         ensures node { option_map (λ n. n.0) (slice_get self.now i) ≡ Some result }
         ensures fit { IsFit result }
     {
-        self.nodes[i].node
+        self.nodes.as_slice()[i].node
     }
 
     /// The text of one repetition, which is empty for nodes other than `Bytes`.
@@ -81,7 +81,7 @@ impl FieldTree {
         requires { i < length self.now }
         ensures { option_map (λ n. n.1) (slice_get self.now i) ≡ Some result.now }
     {
-        let placed = &self.nodes[i];
+        let placed = &self.nodes.as_slice()[i];
         &self.bytes[placed.start..placed.start + placed.len]
     }
 }
