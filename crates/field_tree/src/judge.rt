@@ -1,5 +1,5 @@
 //! What a list of nodes may have as part of a packet.
-ghost use Rattle.std.specs.Prelude.{◌≡◌, ℕ, ◌+◌, ◌*◌, ◌<◌, ◌≤◌, List, length, map, sum_by, drop, Option, Some, None};
+ghost use Rattle.std.specs.Prelude.{◌≡◌, ℕ, ◌+◌, ◌*◌, ◌<◌, ◌≤◌, ◌↔◌, IsTrue, List, length, map, sum_by, drop, Option, Some, None};
 ghost use Rattle.std.specs.Option.{option_or};
 ghost use Rattle.field_tree.specs.Judged as judged;
 ghost use Rattle.field_tree.specs.Judged.{Measures, node_len_at, placed_len, kind_of, deepest, reserved_from, reserved_at, placed_refusal, Judges};
@@ -111,6 +111,14 @@ fn most_open(nodes: &[Node]) -> usize
     most
 }
 
+/// Whether more nested messages stand inside one another. So many take as many nodes at least.
+#[tactic(auto, using(crate::proofs::JudgedLemmas::deepest_within))]
+fn is_deeper(nodes: &[Node], most: usize) -> bool
+    ensures { IsTrue result ↔ (most < deepest 0 0 (map kind_of nodes.now)) }
+{
+    nodes.len() > most && most_open(nodes) > most
+}
+
 /// A node's field, where it is the service's own and no message is open.
 #[tactic(auto, unfolding(crate::specs::Judged::reserved_at))]
 fn reserved_node(now: usize, node: FieldNode) -> Option<u32>
@@ -167,7 +175,7 @@ pub(crate) fn judge(nodes: &[Node], depth: u8) -> Result<u32, FieldFault>
     if let Some(fault) = reserved_fault(nodes, depth) {
         return Err(fault);
     }
-    if most_open(nodes) > usize::from(MAX_NESTING - depth) {
+    if is_deeper(nodes, usize::from(MAX_NESTING - depth)) {
         return Err(FieldFault::TooDeep);
     }
     match encoded_len(nodes) {
