@@ -52,13 +52,14 @@ fn make_room(bytes: &mut Vec<u8>) -> Result<(), AllocError>
 }
 
 /// The same for the nodes of a text of this length. Each node but one of a nested message takes
-/// four bytes of text at least. It stays a call, so that the loop over the bytes stays short.
+/// four bytes of text at least; such a message has two nodes. It stays a call, so that the loop
+/// over the bytes stays short.
 #[inline(never)]
 fn make_node_room(nodes: &mut Vec<Node>, len: usize) -> Result<(), AllocError>
     ensures { OnOk result (nodes.new.items ≡ nodes.old.items) }
 {
     if nodes.is_empty() {
-        nodes.reserve((len / 4 + 1).min(FIRST_NODES))?;
+        nodes.reserve_exact((len / 4 + 2).min(FIRST_NODES))?;
     }
     Ok(())
 }
