@@ -30,7 +30,7 @@ abbrev pub producer_of : Setup → ℕ → ℕ
 producer_of setup place = (slice_index_or setup.writers place (record { producer = 0; buffer = 0; policy = Drops })).producer
 
 -- the table has a producer with this number, counted from 1
-pub record IsProducer (setup : Setup) (producer : ℕ) : Type 0 where
+pub record HasProducer (setup : Setup) (producer : ℕ) : Type 0 where
   pub least : 1 ≤ producer
   pub most : producer ≤ length setup.ranges
 

@@ -2,6 +2,8 @@
 use Rattle.std.proofs.Common.{◌≡◌, ◌∙◌, ℕ, ◌+◌, ◌-◌, ◌<◌, ◌≤◌, inl, inr, Bool, true, false, not, ◌||◌, ◌&&◌, List, [], ◌∷◌, ◌++◌, length, map, reverse, Option, Some, is_some, refl, sym, ap, subst, arith, append_assoc}
 use Rattle.std.proofs.lemmas.Bool.{true≢false}
 use Rattle.std.proofs.lemmas.List.{length-map, length-reverse}
+use Rattle.trace_base.specs.declared.policy.WriterPolicy.{WriterPolicy}
+use Rattle.trace_base.specs.declared.policy.WriterPolicy.TheVariants.{Drops, Stalls}
 use Rattle.trace_model.specs.Calls.{Call, GivenUp}
 use Rattle.trace_model.specs.Packets.{Packet, Text, Account, account_of, noted, on_newest, is_lost, front_of, body_of, given_up_packet, open_places, with_more}
 use Rattle.trace_model.specs.Record.{mark_where}
@@ -19,39 +21,25 @@ use Rattle.trace_writer.specs.declared.fragment.OpenFragment.{OpenFragment}
 use Rattle.trace_writer.specs.declared.packet.OpenPacket.{OpenPacket}
 use Rattle.trace_writer.specs.declared.route.Route.{Route}
 use Rattle.trace_writer.specs.declared.state.State.{State}
-use Rattle.trace_writer.specs.declared.state.State.TheVariants.{Writing, Dropping}
+use Rattle.trace_writer.specs.declared.state.State.TheVariants.{Writing, Dropping, Stalled}
 use Rattle.trace_writer.specs.declared.state.Writer.{Writer}
 use Rattle.trace_writer.specs.Site.{Site, site_of, IsRoute}
 use Rattle.trace_writer.specs.Filled.{ShowsPages, HasByte}
 use Rattle.trace_writer.specs.Ids.{HasIds}
-use Rattle.trace_writer.specs.States.{InFragment, IsIdle}
-use Rattle.trace_writer.specs.Flows.{AsksInVainLast, Writes, with_loss}
+use Rattle.trace_writer.specs.States.{InFragment, IsIdle, IsStuck}
+use Rattle.trace_writer.specs.Empty.{is_stalled}
+use Rattle.trace_writer.specs.Helping.{refuses}
+use Rattle.trace_writer.specs.Flows.{AsksInVainLast, StopsAs, Writes, is_stopped, with_loss}
 use Rattle.trace_writer.specs.Agreement.{IsMeasured, IsWritingInto, IsThrownAway, StateAgrees, IsInPacketOf, is_inside, is_begun, counted, Agrees}
-use Rattle.trace_writer.specs.Outcomes.{GoesBehind, Notes}
+use Rattle.trace_writer.specs.Outcomes.{StopsBehind, GoesBehind, Notes, StallsNow}
 use Rattle.trace_writer.proofs.Accounts.{dropped_in, dropped-changed, account_is as newest_account}
 use Rattle.trace_writer.proofs.Idling.{changed_idle}
 use Rattle.trace_writer.proofs.Changes.{account_changed, account_lost, newest_open, or_true}
 use Rattle.trace_writer.proofs.Measuring.{long_written, long_opened}
+use Rattle.trace_writer.proofs.RunOn.{inside_seen}
+use Rattle.trace_writer.proofs.Working.{refuses_none}
 
 -- Views that show the same chunks
-
-pub inside_seen : (site : Site) (packet : Packet) (older : List Packet) (view new : WriterView) (pending : Pending) (fragment : OpenFragment) (coming : List ℕ)
-    → new.begun ≡ view.begun → InFragment site packet older view pending fragment coming → InFragment site packet older new pending fragment coming
-inside_seen site packet older view new pending fragment coming begun i = record {
-  pages = i.pages;
-  done = i.done;
-  now = i.now;
-  completed = i.completed;
-  begun = begun ∙ i.begun;
-  shown = i.shown;
-  id = i.id;
-  sized = i.sized;
-  whole = i.whole;
-  written = i.written;
-  few = i.few;
-  room = i.room;
-  writing = i.writing;
-}
 
 pub idle_seen : (site : Site) (account : Account) (view new : WriterView) (pending : Pending) → new.begun ≡ view.begun
     → IsIdle site account view pending → IsIdle site account new pending
@@ -75,7 +63,7 @@ lost_alike packet later kept given =
 pub agrees_changed : (setup : Setup) (place : ℕ) (view new : WriterView) (before after : Writer) (open_one later_one : OpenPacket) (packet later : Packet)
     (older : List Packet) → Agrees setup place view before → (account_of view.calls).packets ≡ packet ∷ older → (account_of new.calls).packets ≡ later ∷ older
     → later.kept ≡ packet.kept → later.finished ≡ false → after.route ≡ before.route → after.begun ≡ before.begun → after.dropped ≡ before.dropped
-    → after.packet ≡ Some later_one → IsMeasured later_one later → is_inside after.state ≡ true
+    → after.packet ≡ Some later_one → IsMeasured later_one later → is_inside after.packet after.state ≡ true
     → StateAgrees (site_of setup place after.route) (account_of new.calls) new after.pending after.state
     → Agrees setup place new after
 agrees_changed setup place view new before after open_one later_one packet later older a newest newer kept unfinished route_is begun_is dropped_is packet_is measured inside state = record {
@@ -199,7 +187,7 @@ agrees_dropping setup place view new before state next_id open_one later_one cou
     let begun : new.begun ≡ view.begun = ap (λ (v : WriterView). v.begun) new_is in
     agrees_changed setup place view new before (record before { state = state; packet = Some later_one }) open_one later_one packet (change packet)
     thrown.older a thrown.packets (ap (λ (account : Account). account.packets) account_is) (grows.kept packet) (grows.finished packet ∙ is.unfinished) refl refl refl refl
-    (measures packet is.some is.measured) (ap is_inside state_is)
+    (measures packet is.some is.measured) (ap (is_inside (Some later_one)) state_is)
     (subst (λ (s : State). StateAgrees site (account_of new.calls) new before.pending s) (sym state_is) (
       both.0 ∙ sym (ap length begun),
       record {
@@ -216,6 +204,60 @@ agrees_dropping setup place view new before state next_id open_one later_one cou
     ))
 
 -- Behind what was written for a call
+
+stuck_seen : (site : Site) (packets : List Packet) (view new : WriterView) → new.begun ≡ view.begun → IsStuck site packets view → IsStuck site packets new
+stuck_seen site packets view new begun stuck = record {
+  stalls = stuck.stalls;
+  pages = stuck.pages;
+  shown = subst (λ (xs : List _). ShowsPages site 0 xs stuck.pages) (sym begun) stuck.shown;
+  cut = stuck.cut;
+}
+
+-- a call stopped: its writer gave the packet up, or stalls
+agrees_stopped : (policy : WriterPolicy) (setup : Setup) (place : ℕ) (view mid new : WriterView) (before after : Writer) (state : State) (pending : Pending)
+    (next_id : ℕ) (open_one later_one : OpenPacket) (packet : Packet) (older : List Packet) (count : ℕ) (change : Packet → Packet) (call : Call)
+    → Agrees setup place view before → before.packet ≡ Some open_one
+    → (account_of view.calls).packets ≡ packet ∷ older → (account_of view.calls).flushed ≡ false → Grows change count
+    → IsMeasured later_one (change packet) → ((account : Account) → noted account call ≡ on_newest change account)
+    → mid.calls ≡ view.calls → next_id ≡ length mid.begun → StopsAs policy (site_of setup place before.route) (change packet) older mid pending
+    → StopsBehind policy (record before { state = state; packet = Some later_one; pending = pending }) after mid new call next_id → Agrees setup place new after
+agrees_stopped Drops setup place view mid new before after state pending next_id open_one later_one packet older count change call a packet_is newest unflushed grows measured noted_is calls id stops goes =
+    let site : Site = site_of setup place before.route in
+    let is : IsOpen view open_one packet = open_newest setup place view before open_one packet older a packet_is newest in
+    let later : Packet = given_up_packet (change packet) in
+    let account_is : account_of new.calls ≡ with_loss (change packet) older =
+    account_lost view new call packet older change
+    (ap (λ (v : WriterView). v.calls) goes.1 ∙ ap (λ (before_calls : List Call). (before_calls ++ call ∷ []) ++ GivenUp ∷ []) calls) newest unflushed noted_is in
+    let begun : new.begun ≡ mid.begun = ap (λ (v : WriterView). v.begun) goes.1 in
+    subst (λ (one : Writer). Agrees setup place new one) (sym goes.0)
+    (agrees_changed setup place view new before (record before { state = Dropping next_id; packet = Some later_one; pending = pending }) open_one later_one packet later
+    older a newest (ap (λ (account : Account). account.packets) account_is) (grows.kept packet) (grows.finished packet ∙ is.unfinished) refl refl refl refl
+    (record { len = measured.len; starts = measured.starts }) refl (
+      id ∙ sym (ap length begun),
+      record {
+        packet = later;
+        older = older;
+        packets = ap (λ (account : Account). account.packets) account_is;
+        unflushed = ap (λ (account : Account). account.flushed) account_is;
+        lost = or_true (not (change packet).kept);
+        idle = subst (λ (account : Account). IsIdle site account new pending) (sym account_is)
+            (idle_seen site (with_loss (change packet) older) mid new pending begun stops);
+      },
+    ))
+agrees_stopped Stalls setup place view mid new before after state pending next_id open_one later_one packet older count change call a packet_is newest unflushed grows measured noted_is calls id stops goes =
+    let site : Site = site_of setup place before.route in
+    let is : IsOpen view open_one packet = open_newest setup place view before open_one packet older a packet_is newest in
+    let account_is : account_of new.calls ≡ record { packets = change packet ∷ older; flushed = false } =
+    account_changed view new call packet older change
+    (ap (λ (v : WriterView). v.calls) goes.1 ∙ ap (λ (before_calls : List Call). before_calls ++ call ∷ []) calls) newest unflushed noted_is in
+    let begun : new.begun ≡ mid.begun = ap (λ (v : WriterView). v.begun) goes.1 in
+    let newer : (account_of new.calls).packets ≡ change packet ∷ older = ap (λ (account : Account). account.packets) account_is in
+    subst (λ (one : Writer). Agrees setup place new one) (sym goes.0)
+    (agrees_changed setup place view new before (record before { state = Stalled next_id; packet = Some later_one; pending = pending }) open_one later_one packet (change packet)
+    older a newest newer (grows.kept packet) (grows.finished packet ∙ is.unfinished) refl refl refl refl measured refl (
+      id ∙ sym (ap length begun),
+      subst (λ (packets : List Packet). IsStuck site packets new) (sym newer) (stuck_seen site (change packet ∷ older) mid new begun stops),
+    ))
 
 pub agrees_behind : (setup : Setup) (place : ℕ) (view mid new : WriterView) (before after : Writer) (state : State) (pending : Pending) (fragment : OpenFragment)
     (open_one later_one : OpenPacket) (count : ℕ) (change : Packet → Packet) (call : Call) (way : Flow)
@@ -235,50 +277,70 @@ agrees_behind setup place view mid new before after state pending fragment open_
     (ap (λ (v : WriterView). v.calls) goes.1 ∙ ap (λ (calls : List Call). calls ++ call ∷ []) writes.calls)
     (inside_seen site (change w.packet) w.older mid new pending next [] (ap (λ (v : WriterView). v.begun) goes.1) (writes.keeps w.packet w.older w.inside))
     (writes.byte w.byte) w.ids writes.ids)
-agrees_behind setup place view mid new before after state pending fragment open_one later_one count change call (flow.GivenUp next_id) a was packet_is grows measures fits noted_is writes goes =
+agrees_behind setup place view mid new before after state pending fragment open_one later_one count change call (flow.Stopped next_id) a was packet_is grows measures fits noted_is writes goes =
     let site : Site = site_of setup place before.route in
     let w : IsWritingInto site (account_of view.calls) view before.pending fragment = writing_agrees setup place view before fragment a was in
     let is : IsOpen view open_one w.packet = open_newest setup place view before open_one w.packet w.older a packet_is w.packets in
-    let later : Packet = given_up_packet (change w.packet) in
-    let account_is : account_of new.calls ≡ with_loss (change w.packet) w.older =
-    account_lost view new call w.packet w.older change
-    (ap (λ (v : WriterView). v.calls) goes.1 ∙ ap (λ (calls : List Call). (calls ++ call ∷ []) ++ GivenUp ∷ []) writes.0.calls) w.packets w.unflushed noted_is in
-    let measured : IsMeasured later_one (change w.packet) = measures w.packet is.some is.measured in
-    let begun : new.begun ≡ mid.begun = ap (λ (v : WriterView). v.begun) goes.1 in
-    subst (λ (one : Writer). Agrees setup place new one) (sym goes.0)
-    (agrees_changed setup place view new before (record before { state = Dropping next_id; packet = Some later_one; pending = pending }) open_one later_one w.packet later
-    w.older a w.packets (ap (λ (account : Account). account.packets) account_is) (grows.kept w.packet) (grows.finished w.packet ∙ is.unfinished) refl refl refl refl
-    (record { len = measured.len; starts = measured.starts }) refl (
-      writes.1 ∙ sym (ap length begun),
-      record {
-        packet = later;
-        older = w.older;
-        packets = ap (λ (account : Account). account.packets) account_is;
-        unflushed = ap (λ (account : Account). account.flushed) account_is;
-        lost = or_true (not (change w.packet).kept);
-        idle = subst (λ (account : Account). IsIdle site account new pending) (sym account_is)
-            (idle_seen site (with_loss (change w.packet) w.older) mid new pending begun (writes.0.lost w.packet w.older w.inside));
-      },
-    ))
+    agrees_stopped before.route.spec.policy setup place view mid new before after state pending next_id open_one later_one w.packet w.older count change call a packet_is
+    w.packets w.unflushed grows (measures w.packet is.some is.measured) noted_is writes.0.calls writes.1 (writes.0.stopped w.packet w.older w.inside) goes
 
 vain_seen : (setup : Setup) (route : Route) (old mid new : WriterView) → new.asked ≡ mid.asked → AsksInVainLast setup route old mid → AsksInVainLast setup route old new
 vain_seen setup route old mid new same vain =
     record { before = vain.before; words = vain.words; count_is = vain.count_is; claimed = vain.claimed; asked = same ∙ vain.asked }
 
+-- the call stalls its writer exactly where it stops and the writer is one that stalls
 pub notes_behind : (setup : Setup) (place : ℕ) (view mid new : WriterView) (before : Writer) (old after : Writer) (pending : Pending) (fragment : OpenFragment)
-    (count : ℕ) (change : Packet → Packet) (call : Call) (way : Flow)
+    (count : ℕ) (change : Packet → Packet) (call : Call) (way : Flow) → old.route ≡ before.route → refuses before.route.spec.policy (is_stopped way) ≡ false
     → Writes setup place before.route view mid before.pending pending fragment count change way → GoesBehind old after mid new call way
     → Notes setup before.route call view new
-notes_behind setup place view mid new before old after pending fragment count change call (flow.Going next) writes goes =
+notes_behind setup place view mid new before old after pending fragment count change call (flow.Going next) route_is goes_on writes goes =
     record { calls = inl (ap (λ (v : WriterView). v.calls) goes.1 ∙ ap (λ (calls : List Call). calls ++ call ∷ []) writes.calls) }
-notes_behind setup place view mid new before old after pending fragment count change call (flow.GivenUp next_id) writes goes = record {
-  calls = inr (
-    ap (λ (v : WriterView). v.calls) goes.1
-        ∙ ap (λ (calls : List Call). (calls ++ call ∷ []) ++ GivenUp ∷ []) writes.0.calls
-        ∙ append_assoc view.calls (call ∷ []) (GivenUp ∷ []),
-    vain_seen setup before.route view mid new (ap (λ (v : WriterView). v.asked) goes.1) writes.0.asked,
-  );
-}
+notes_behind setup place view mid new before old after pending fragment count change call (flow.Stopped next_id) route_is goes_on writes goes =
+    either before.route.spec.policy refl goes_on
+    (subst (λ (route : Route). StopsBehind route.spec.policy old after mid new call next_id) route_is goes)
+  where
+    either : (policy : WriterPolicy) → before.route.spec.policy ≡ policy → refuses policy true ≡ false → StopsBehind policy old after mid new call next_id
+        → Notes setup before.route call view new
+    either Drops is none stops = record {
+      calls = inr (
+        ap (λ (v : WriterView). v.calls) stops.1
+            ∙ ap (λ (calls : List Call). (calls ++ call ∷ []) ++ GivenUp ∷ []) writes.0.calls
+            ∙ append_assoc view.calls (call ∷ []) (GivenUp ∷ []),
+        is,
+        vain_seen setup before.route view mid new (ap (λ (v : WriterView). v.asked) stops.1) writes.0.asked,
+      );
+    }
+    either Stalls is none stops = absurd (true≢false none)
+
+pub stalls_behind : (setup : Setup) (place : ℕ) (view mid new : WriterView) (before : Writer) (old after : Writer) (pending : Pending) (fragment : OpenFragment)
+    (count : ℕ) (change : Packet → Packet) (call : Call) (way : Flow) → old.route ≡ before.route → refuses before.route.spec.policy (is_stopped way) ≡ true
+    → Writes setup place before.route view mid before.pending pending fragment count change way → GoesBehind old after mid new call way
+    → (is_stalled after.state ≡ true) × StallsNow setup before.route (call ∷ []) view new
+stalls_behind setup place view mid new before old after pending fragment count change call (flow.Going next) route_is stops_now writes goes =
+    absurd (true≢false (sym stops_now ∙ refuses_none before.route.spec.policy))
+stalls_behind setup place view mid new before old after pending fragment count change call (flow.Stopped next_id) route_is stops_now writes goes =
+    either before.route.spec.policy refl stops_now
+    (subst (λ (route : Route). StopsBehind route.spec.policy old after mid new call next_id) route_is goes)
+  where
+    either : (policy : WriterPolicy) → before.route.spec.policy ≡ policy → refuses policy true ≡ true → StopsBehind policy old after mid new call next_id
+        → (is_stalled after.state ≡ true) × StallsNow setup before.route (call ∷ []) view new
+    either Drops is some stops = absurd (true≢false (sym some))
+    either Stalls is some stops = (
+      ap (λ (one : Writer). is_stalled one.state) stops.0,
+      record {
+        stalls = is;
+        calls = ap (λ (v : WriterView). v.calls) stops.1 ∙ ap (λ (calls : List Call). calls ++ call ∷ []) writes.0.calls;
+        vain = vain_seen setup before.route view mid new (ap (λ (v : WriterView). v.asked) stops.1) writes.0.asked;
+      },
+    )
+
+pub going_behind : (policy : WriterPolicy) (old after : Writer) (mid new : WriterView) (call : Call) (way : Flow) → old.route.spec.policy ≡ policy
+    → refuses policy (is_stopped way) ≡ false → GoesBehind old after mid new call way → is_stalled after.state ≡ false
+going_behind policy old after mid new call (flow.Going next) is none goes = ap (λ (one : Writer). is_stalled one.state) goes.0
+going_behind Drops old after mid new call (flow.Stopped next_id) is none goes =
+    let stops : StopsBehind Drops old after mid new call next_id = subst (λ (policy : WriterPolicy). StopsBehind policy old after mid new call next_id) is goes in
+    ap (λ (one : Writer). is_stalled one.state) stops.0
+going_behind Stalls old after mid new call (flow.Stopped next_id) is none goes = absurd (true≢false none)
 
 -- as many holes are open as messages
 pub as_many_holes : (setup : Setup) (place : ℕ) (view : WriterView) (writer : Writer) (fragment : OpenFragment) (open_one : OpenPacket)

@@ -1,6 +1,7 @@
 -- A writer that agrees with its view begins a packet, at a place that was found or at none.
-use Rattle.std.proofs.Common.{◌≡◌, ◌∙◌, ℕ, ◌+◌, ◌-◌, ◌*◌, ◌≤◌, ◌==◌, cond, min, Bool, true, false, Some, List, [], ◌∷◌, length, take, vec_len, refl, sym, ap, subst, arith, map, true≢false, eqb-true}
+use Rattle.std.proofs.Common.{◌≡◌, ◌∙◌, ℕ, ◌+◌, ◌-◌, ◌*◌, ◌≤◌, ◌==◌, cond, min, Bool, true, false, Some, List, [], ◌∷◌, length, take, vec_len, refl, sym, ap, subst, arith, map, true≢false, eqb-true, Option, None}
 use Rattle.trace_base.specs.declared.limits.TheConstants.{MAX_PACKET_LEN}
+use Rattle.trace_base.specs.declared.policy.WriterPolicy.TheVariants.{Stalls}
 use Rattle.trace_model.specs.Calls as call
 use Rattle.trace_model.specs.Record.{mark_where}
 use Rattle.trace_model.specs.Packets.{Packet, Account, account_of, begun_packet, with_more, front_of, body_of, newest_is_lost}
@@ -11,10 +12,11 @@ use Rattle.chunk_plain.specs.Views.{Begun, WriterView}
 use Rattle.chunk_plain.specs.Steps.{restamps, notes_call}
 use Rattle.cut_steps.specs.RawChains.{raw_chains}
 use Rattle.cut_steps.proofs.Beginning.{between_lost}
+use Rattle.cut_steps.proofs.StateLaws.{states_are_cuts}
 use Rattle.trace_writer.specs.declared.chunk.HeldChunk.{HeldChunk}
 use Rattle.trace_writer.specs.declared.fragment.OpenFragment.{OpenFragment}
 use Rattle.trace_writer.specs.declared.packet.OpenPacket.{OpenPacket}
-use Rattle.trace_writer.specs.declared.state.State.TheVariants.{Writing, Dropping}
+use Rattle.trace_writer.specs.declared.state.State.TheVariants.{Writing, Dropping, Stalled}
 use Rattle.trace_writer.specs.declared.state.Writer.{Writer}
 use Rattle.trace_writer.specs.Headers.{held_head}
 use Rattle.trace_writer.specs.Site.{Site, site_of}
@@ -23,7 +25,7 @@ use Rattle.trace_writer.specs.Ids.{HasIds, last_id, least_filled}
 use Rattle.trace_writer.specs.Fragment.{IsPutInto}
 use Rattle.trace_writer.specs.States.{InFragment, IsIdle}
 use Rattle.trace_writer.specs.Placing.{IsStarted, IsRoomy}
-use Rattle.trace_writer.specs.Agreement.{Agrees, AgreesBetween, IsInPacketOf, IsMeasured, counted}
+use Rattle.trace_writer.specs.Agreement.{Agrees, AgreesBetween, IsInPacketOf, IsMeasured, is_begun, counted}
 use Rattle.trace_writer.proofs.Accounts.{account_one, dropped_in}
 use Rattle.trace_writer.proofs.Putting.{inside_more}
 
@@ -78,6 +80,36 @@ begin_nowhere setup place view new writer after next_id open_one len starts note
       begun = counted_one (length account.packets) writer.begun agrees.begun ∙ ap counted (omega arith) ∙ sym (ap (λ (a : Account). counted (length a.packets)) calls);
       dropped = counted_one (dropped_in account.packets) writer.dropped agrees.dropped ∙ ap counted (omega arith) ∙ sym (ap (λ (a : Account). counted (dropped_in a.packets)) calls);
     })
+
+-- It is not begun: the writer stalls.
+pub stall_nowhere : (setup : Setup) (place : ℕ) (view : WriterView) (writer after : Writer) (next_id : ℕ)
+    → after ≡ record writer { state = Stalled next_id } → writer.route.spec.policy ≡ Stalls
+    → next_id ≡ length view.begun → IsIdle (site_of setup place writer.route) (account_of view.calls) view writer.pending
+    → AgreesBetween setup place view writer → Agrees setup place view after
+stall_nowhere setup place view writer after next_id is stalls next idle agrees =
+    let site : Site = site_of setup place writer.route in
+    let packets : List Packet = (account_of view.calls).packets in
+    subst (Agrees setup place view) (sym is) (record {
+      route = agrees.route;
+      state = (
+        next,
+        record {
+          stalls = stalls;
+          pages = idle.pages;
+          shown = idle.shown;
+          cut = states_are_cuts.idle site.size packets idle.pages 4 idle.between idle.ended;
+        },
+      );
+      packet = none_in writer.packet agrees.none_begun;
+      inside = refl;
+      follows = λ e. agrees.follows;
+      begun = agrees.begun;
+      dropped = agrees.dropped;
+    })
+  where
+    none_in : (open_one : Option OpenPacket) → is_begun open_one ≡ false → IsInPacketOf (account_of view.calls).packets open_one
+    none_in None e = agrees.between
+    none_in (Some one) e = absurd (true≢false e)
 
 -- the mark is put in front where the packet before was lost
 pub record IsFronted (follows : Bool) (first fragment : OpenFragment) : Type 0 where

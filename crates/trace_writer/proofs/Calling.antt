@@ -8,13 +8,12 @@ use Rattle.chunk_plain.specs.Setup.{Setup}
 use Rattle.chunk_plain.specs.Views.{WriterView}
 use Rattle.cut_steps.specs.Writing.{with_open}
 use Rattle.trace_writer.specs.declared.flow.Flow.{Flow}
-use Rattle.trace_writer.specs.declared.flow.Flow.TheVariants.{Going, GivenUp}
+use Rattle.trace_writer.specs.declared.flow.Flow.TheVariants.{Going, Stopped}
 use Rattle.trace_writer.specs.declared.fragment.OpenFragment.{OpenFragment}
 use Rattle.trace_writer.specs.declared.route.Route.{Route}
 use Rattle.trace_writer.specs.Site.{Site, site_of}
 use Rattle.trace_writer.specs.Ids.{HasIds}
-use Rattle.trace_writer.specs.States.{IsIdle}
-use Rattle.trace_writer.specs.Flows.{PutsOn, GivesUpIn, Flows, SetsLength, WritesOn, CannotWrite, Writes, with_loss}
+use Rattle.trace_writer.specs.Flows.{PutsOn, StopsIn, Flows, SetsLength, WritesOn, CannotWrite, Writes, IsStopped}
 use Rattle.trace_writer.proofs.Putting.{puts_both, lost_behind, lost_within, vain_behind}
 
 -- Bytes
@@ -29,12 +28,12 @@ puts_write site old new before after fragment next bytes count count_is puts = r
 }
 
 lost_write : (site : Site) (setup : Setup) (route : Route) (old new : WriterView) (before after : Pending) (fragment : OpenFragment) (bytes : List ℕ)
-    → GivesUpIn site setup route old new before after fragment bytes → CannotWrite site setup route old new before after fragment (with_more bytes)
+    → StopsIn site setup route old new before after fragment bytes → CannotWrite site setup route old new before after fragment (with_more bytes)
 lost_write site setup route old new before after fragment bytes lost = record {
   asked = lost.asked;
   calls = lost.calls;
-  lost = λ packet older i.
-      subst (λ (xs : List ℕ). IsIdle site (with_loss (with_more xs packet) older) new after) (append-nil bytes) (lost.lost packet older [] i);
+  stopped = λ packet older i.
+      subst (λ (xs : List ℕ). IsStopped site (with_more xs packet) older new after) (append-nil bytes) (lost.stopped packet older [] i);
 }
 
 pub field_long : (head text : List ℕ) (times : ℕ) → length (head ++ repeat times text) ≡ length head + times * length text
@@ -48,7 +47,7 @@ pub writes_behind : (setup : Setup) (place : ℕ) (route : Route) (old mid new :
 writes_behind setup place route old mid new before between after fragment now one two count (Going next) count_is first second =
     puts_write (site_of setup place route) old new before after fragment next (one ++ two) count count_is
     (puts_both (site_of setup place route) old mid new before between after fragment now next one two first second)
-writes_behind setup place route old mid new before between after fragment now one two count (GivenUp next_id) count_is first lost = (
+writes_behind setup place route old mid new before between after fragment now one two count (Stopped next_id) count_is first lost = (
   lost_write (site_of setup place route) setup route old new before after fragment (one ++ two)
       (lost_behind (site_of setup place route) setup route old mid new before between after fragment now one two [] (one ++ two)
       (ap (λ (xs : List ℕ). one ++ xs) (sym (append-nil two))) first lost.0),
@@ -57,7 +56,7 @@ writes_behind setup place route old mid new before between after fragment now on
 
 -- the first of them doesn't
 pub writes_lost : (site : Site) (setup : Setup) (route : Route) (old new : WriterView) (before after : Pending) (fragment : OpenFragment) (one two : List ℕ)
-    → GivesUpIn site setup route old new before after fragment one → CannotWrite site setup route old new before after fragment (with_more (one ++ two))
+    → StopsIn site setup route old new before after fragment one → CannotWrite site setup route old new before after fragment (with_more (one ++ two))
 writes_lost site setup route old new before after fragment one two lost =
     lost_write site setup route old new before after fragment (one ++ two) (lost_within site setup route old new before after fragment one two lost)
 
@@ -74,22 +73,22 @@ writes_nested setup place route old mid new before between after fragment now ta
   ids = λ further h. second.ids further (first.ids (4 + further) (subst (λ (n : ℕ). HasIds fragment n) (omega arith) h));
   byte = λ h. second.byte;
 }
-writes_nested setup place route old mid new before between after fragment now tag (GivenUp next_id) first lost = (
+writes_nested setup place route old mid new before between after fragment now tag (Stopped next_id) first lost = (
   record {
     asked = vain_behind setup route old mid new first.asked first.calls lost.0.asked;
     calls = lost.0.calls ∙ first.calls;
-    lost = λ packet older i. lost.0.lost (with_more tag packet) older (first.keeps packet older i);
+    stopped = λ packet older i. lost.0.stopped (with_more tag packet) older (first.keeps packet older i);
   },
   lost.1,
 )
 
 -- the tag doesn't
 pub nested_lost : (site : Site) (setup : Setup) (route : Route) (old new : WriterView) (before after : Pending) (fragment : OpenFragment) (tag : List ℕ)
-    → GivesUpIn site setup route old new before after fragment tag
+    → StopsIn site setup route old new before after fragment tag
     → CannotWrite site setup route old new before after fragment (λ (packet : Packet). with_open (with_more tag packet))
 nested_lost site setup route old new before after fragment tag lost = record {
   asked = lost.asked;
   calls = lost.calls;
-  lost = λ packet older i.
-      subst (λ (xs : List ℕ). IsIdle site (with_loss (with_open (with_more xs packet)) older) new after) (append-nil tag) (lost.lost_nested packet older [] i);
+  stopped = λ packet older i.
+      subst (λ (xs : List ℕ). IsStopped site (with_open (with_more xs packet)) older new after) (append-nil tag) (lost.stopped_nested packet older [] i);
 }

@@ -39,7 +39,8 @@ use Rattle.trace_writer.proofs.Holes.{outside_here, outside_later}
 use Rattle.trace_writer.proofs.Payloads.{written_moved, written_offset, written_put}
 use Rattle.trace_writer.proofs.Putting.{held_same}
 use Rattle.trace_writer.proofs.Measuring.{Last, last_of, Innermost, innermost, long_ended, measured_ended}
-use Rattle.trace_writer.proofs.Agreeing.{Grows, IsOpen, open_newest, writing_agrees, agrees_writing, agrees_dropping, inside_seen}
+use Rattle.trace_writer.proofs.Agreeing.{Grows, IsOpen, open_newest, writing_agrees, agrees_writing, agrees_dropping}
+use Rattle.trace_writer.proofs.RunOn.{inside_seen}
 
 -- Where the innermost hole is
 

@@ -1,5 +1,5 @@
 -- What a call leaves of the packet that is begun, by the view of the writer's seat.
-use Rattle.std.proofs.Common.{◌≡◌, ◌∙◌, ℕ, ◌+◌, ◌<◌, Bool, true, false, not, inl, inr, if◌then◌else◌, List, [], ◌∷◌, ◌++◌, length, refl, sym, ap, arith}
+use Rattle.std.proofs.Common.{◌≡◌, ◌∙◌, ℕ, ◌+◌, ◌<◌, Bool, true, false, not, inl, inr, if◌then◌else◌, List, [], ◌∷◌, ◌++◌, length, ◌⊎◌, Result, Ok, Err, IfOk, IfErr, refl, sym, ap, arith}
 use Rattle.std.proofs.lemmas.List.Sums.{fold-append}
 use Rattle.trace_model.specs.Calls.{Call, Begun, Number, Bytes, Nested, Ended, GivenUp, Finished, Flushed}
 use Rattle.trace_model.specs.Encoding.{number_field, bytes_field}
@@ -8,7 +8,12 @@ use Rattle.chunk_plain.specs.Setup.{Setup}
 use Rattle.chunk_plain.specs.Views.{WriterView}
 use Rattle.trace_writer.specs.declared.route.Route.{Route}
 use Rattle.trace_writer.specs.Core.{in_packet, newest_depth, open_depth}
-use Rattle.trace_writer.specs.Outcomes.{Notes}
+use Rattle.trace_writer.specs.declared.fault.CallFault.{CallFault}
+use Rattle.trace_writer.specs.declared.fault.CallFault.TheVariants as fault_of
+use Rattle.trace_writer.specs.declared.fault.Begun.{Begun as BegunPacket}
+use Rattle.trace_writer.specs.declared.fault.Begun.TheVariants.{Kept, Dropping}
+use Rattle.trace_writer.specs.Placing.{BeginsPacket}
+use Rattle.trace_writer.specs.Outcomes.{Notes, StallsNow}
 use Rattle.trace_writer.proofs.Accounts.{account_one}
 
 -- whether a packet is begun, and how deep it is, by an account
@@ -54,6 +59,12 @@ pub begun_in : (view new : WriterView) (kept : Bool) → new.calls ≡ view.call
 begun_in view new kept notes =
     let account : account_of new.calls ≡ noted (account_of view.calls) (Begun kept) = ap account_of notes ∙ account_one view.calls (Begun kept) in
     (ap (λ (a : Account). is_writing a.packets) account, ap (λ (a : Account). depth_in a.packets) account)
+
+pub begins_in : (setup : Setup) (route : Route) (view new : WriterView) (answer : Result BegunPacket CallFault)
+    → IfOk answer (λ begun. BeginsPacket setup route view new begun) → IfOk answer (λ _. in_packet new ≡ true) × IfOk answer (λ _. open_depth new ≡ 0)
+begins_in setup route view new (Ok Kept) begins = begun_in view new true begins
+begins_in setup route view new (Ok Dropping) begins = begun_in view new false begins.0
+begins_in setup route view new (Err fault) begins = (begins, begins)
 
 -- a field call leaves it begun, whether it is given up or not
 pub goes_on : (setup : Setup) (route : Route) (view new : WriterView) (call : Call) (change : Packet → Packet)
@@ -119,6 +130,14 @@ ended_in view new notes deep =
     let after = ended_depth (account_of view.calls).packets (account_of view.calls).flushed deep in
     (ap (λ (a : Account). is_writing a.packets) account ∙ after.0, ap (λ (a : Account). depth_in a.packets + 1) account ∙ after.1)
 
+-- where a message is open a packet is begun
+pub deep_writing : (view : WriterView) → 0 < open_depth view → in_packet view ≡ true
+deep_writing view deep = by (in_packet view) refl
+  where
+    by : (b : Bool) → in_packet view ≡ b → in_packet view ≡ true
+    by true e = e
+    by false e = absurd (omega (arith, deep, ap (λ (b : Bool). if b then newest_depth (account_of view.calls).packets else 0) e))
+
 -- the packet is finished
 finished_writing : (packets : List Packet) (flushed : Bool) → is_writing (on_newest finished_packet (record { packets = packets; flushed = flushed })).packets ≡ false
 finished_writing [] flushed = refl
@@ -149,3 +168,16 @@ bytes_in setup route view new field times text notes writes = (
 
 pub nested_in : (setup : Setup) (route : Route) (view new : WriterView) (field : ℕ) → Notes setup route (Nested field) view new → in_packet view ≡ true → in_packet new ≡ true
 nested_in setup route view new field notes writes = goes_on setup route view new (Nested field) (with_nested field) (λ account. refl) (λ packet. refl) notes writes
+
+-- A call of a writer that may stall: it is noted, or nothing was done
+
+noted_stalled : (setup : Setup) (route : Route) (call : Call) (view new : WriterView) → StallsNow setup route (call ∷ []) view new → Notes setup route call view new
+noted_stalled setup route call view new stalls = record { calls = inl stalls.calls }
+
+pub noted_or_same : {A : Type 0} (P : Type 0) (answer : Result A CallFault) (was : Bool) (setup : Setup) (route : Route) (call : Call) (view new : WriterView)
+    → IfOk answer (λ _. Notes setup route call view new) → (was ≡ true → new ≡ view)
+    → (was ≡ false → IfErr answer (λ fault. (fault ≡ fault_of.Stalled) × P × StallsNow setup route (call ∷ []) view new))
+    → Notes setup route call view new ⊎ (new ≡ view)
+noted_or_same P (Ok answer) was setup route call view new notes same stalls = inl notes
+noted_or_same P (Err fault) true setup route call view new notes same stalls = inr (same refl)
+noted_or_same P (Err fault) false setup route call view new notes same stalls = inl (noted_stalled setup route call view new (stalls refl).2)

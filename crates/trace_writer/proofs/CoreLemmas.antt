@@ -16,7 +16,7 @@ use Rattle.trace_writer.specs.declared.fault.CallFault.TheVariants.{Reserved, To
 use Rattle.trace_writer.specs.declared.chunk.HeldChunk.{HeldChunk}
 use Rattle.trace_writer.specs.declared.fragment.OpenFragment.{OpenFragment}
 use Rattle.trace_writer.specs.declared.packet.OpenPacket.{OpenPacket}
-use Rattle.trace_writer.specs.declared.state.State.TheVariants.{Idle, Between, Writing, Dropping}
+use Rattle.trace_writer.specs.declared.state.State.TheVariants.{Idle, Between, Writing, Dropping, Stalled}
 use Rattle.trace_writer.specs.declared.state.Writer.{Writer}
 use Rattle.trace_writer.specs.Refusals.{field_refusal, nested_refusal}
 use Rattle.trace_writer.specs.Agreement.{Agrees, StateAgrees, IsInPacketOf, is_begun, len_of, depth_of}
@@ -212,3 +212,9 @@ pub dropping_counts : (setup : Setup) (place : ℕ) (view : WriterView) (writer 
 dropping_counts setup place view writer next_id state agrees =
     let lost = subst (StateAgrees (site_of setup place writer.route) (account_of view.calls) view writer.pending) state agrees.state in
     counts_idle (site_of setup place writer.route) next_id view.begun lost.1.idle.pages lost.0 lost.1.idle.shown
+
+pub stalled_counts : (setup : Setup) (place : ℕ) (view : WriterView) (writer : Writer) (next_id : ℕ) → writer.state ≡ Stalled next_id
+    → Agrees setup place view writer → CountsIdle next_id view.begun
+stalled_counts setup place view writer next_id state agrees =
+    let stuck = subst (StateAgrees (site_of setup place writer.route) (account_of view.calls) view writer.pending) state agrees.state in
+    counts_idle (site_of setup place writer.route) next_id view.begun stuck.1.pages stuck.0 stuck.1.shown

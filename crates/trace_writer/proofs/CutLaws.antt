@@ -21,11 +21,11 @@ use Rattle.trace_writer.specs.declared.chunk.HeldChunk.{HeldChunk}
 use Rattle.trace_writer.specs.declared.fragment.OpenFragment.{OpenFragment}
 use Rattle.trace_writer.specs.declared.route.Route.{Route}
 use Rattle.trace_writer.specs.declared.state.State.{State}
-use Rattle.trace_writer.specs.declared.state.State.TheVariants.{Idle, Between, Writing, Dropping}
+use Rattle.trace_writer.specs.declared.state.State.TheVariants.{Idle, Between, Writing, Dropping, Stalled}
 use Rattle.trace_writer.specs.Headers.{held_head}
 use Rattle.trace_writer.specs.Site.{Site, site_of}
 use Rattle.trace_writer.specs.Filled.{ShowsPages}
-use Rattle.trace_writer.specs.States.{InFragment, IsIdle, IsBehind}
+use Rattle.trace_writer.specs.States.{InFragment, IsIdle, IsBehind, IsStuck}
 use Rattle.trace_writer.specs.Agreement.{StateAgrees}
 use Rattle.trace_writer.specs.Outcomes.{completed_images, completed_patches, held_image, fragment_payload, held_images, held_patches, AgreeingIsCut}
 use Rattle.trace_writer.proofs.Finishing.{laid_all}
@@ -88,6 +88,15 @@ idle_cut site view pending idle = record {
   patches_are = append-nil (completed_patches view.begun) ∙ shown_patches site 0 view.begun idle.pages idle.shown;
   cut = raw_cut_is_cut site.size (account_of view.calls).packets idle.pages
       (between_cut site.size (account_of view.calls).packets idle.pages 4 idle.between idle.ended);
+}
+
+stuck_cut : (site : Site) (view : WriterView) → IsStuck site (account_of view.calls).packets view
+    → IsCut site.size (site.place + 2) view.calls (completed_images view.begun ++ []) (completed_patches view.begun ++ [])
+stuck_cut site view stuck = record {
+  pages = stuck.pages;
+  images_are = append-nil (completed_images view.begun) ∙ shown_images site 0 view.begun stuck.pages stuck.shown;
+  patches_are = append-nil (completed_patches view.begun) ∙ shown_patches site 0 view.begun stuck.pages stuck.shown;
+  cut = stuck.cut;
 }
 
 -- A chunk is held: it is the last page
@@ -176,6 +185,7 @@ state_is_cut setup place route view pending (Idle next_id) w = idle_cut (site_of
 state_is_cut setup place route view pending (Between chunk) w = between_is_cut (site_of setup place route) view pending chunk w
 state_is_cut setup place route view pending (Writing fragment) w = writing_is_cut (site_of setup place route) view pending fragment w.packet w.older w.packets w.inside
 state_is_cut setup place route view pending (Dropping next_id) w = idle_cut (site_of setup place route) view pending w.1.idle
+state_is_cut setup place route view pending (Stalled next_id) w = stuck_cut (site_of setup place route) view w.1
 
 pub agreeing_is_cut : AgreeingIsCut
 agreeing_is_cut setup place view writer agrees = state_is_cut setup place writer.route view writer.pending writer.state agrees.state

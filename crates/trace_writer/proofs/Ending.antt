@@ -67,7 +67,7 @@ flushed_agrees setup place view new writer after next_id pending none notes rout
           (next, subst (λ (a : Account). IsIdle (site_of setup place writer.route) a new pending) (sym calls) idle)));
       packet = subst (λ (o : Option OpenPacket). IsInPacketOf (account_of new.calls).packets o) (sym packet)
           (subst (λ (ps : List Packet). IsInPacketOf ps writer.packet) (sym packets) agrees.packet);
-      inside = ap is_inside state ∙ sym (ap is_begun packet ∙ none);
+      inside = ap (is_inside after.packet) state ∙ sym (ap is_begun packet ∙ none);
       follows = λ e. follows ∙ agrees.follows none ∙ sym (ap newest_is_lost packets);
       begun = begun ∙ agrees.begun ∙ sym (ap (λ (ps : List Packet). counted (length ps)) packets);
       dropped = dropped ∙ agrees.dropped ∙ sym (ap (λ (ps : List Packet). counted (dropped_in ps)) packets);
@@ -102,6 +102,11 @@ flush_held setup place view between new writer after pending chunk head next_id 
     subst (Agrees setup place new) (sym is)
     (flushed_agrees setup place view new writer (record writer { state = Idle next_id; pending = pending }) next_id pending none calls refl refl refl refl refl refl refl
     (next ∙ sym (ap length begun ∙ begun_one_more site (account_of view.calls) view between writer.pending chunk head (behind_content site writer.pending chunk) completes_it behind)) idle agrees)
+
+pub idle_of : (setup : Setup) (place : ℕ) (view : WriterView) (writer : Writer) (next_id : ℕ) → writer.state ≡ Idle next_id → Agrees setup place view writer
+    → IsIdle (site_of setup place writer.route) (account_of view.calls) view writer.pending
+idle_of setup place view writer next_id state agrees =
+    (subst (StateAgrees (site_of setup place writer.route) (account_of view.calls) view writer.pending) state agrees.state).1
 
 -- What the completion of a held chunk asks.
 

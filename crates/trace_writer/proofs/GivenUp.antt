@@ -38,7 +38,9 @@ use Rattle.trace_writer.specs.Fragment.{IsSameChunk, IsPutInto, AnswersClose, Cl
 use Rattle.trace_writer.specs.Headers.{completed_chunk, flags_value, held_head}
 use Rattle.trace_writer.specs.Site.{Site}
 use Rattle.trace_writer.specs.Filled.{IsWritten, ShowsPages}
-use Rattle.trace_writer.specs.Flows.{LosesRest}
+use Rattle.trace_base.specs.declared.policy.WriterPolicy.{WriterPolicy}
+use Rattle.trace_base.specs.declared.policy.WriterPolicy.TheVariants.{Drops}
+use Rattle.trace_writer.specs.Flows.{StopsAs, StopsHere}
 use Rattle.trace_writer.specs.States.{InFragment, IsIdle}
 use Rattle.trace_writer.proofs.Holes.{outside_here, outside_later}
 use Rattle.trace_writer.proofs.Payloads.{written_moved, written_offset, written_long, written_put, written_dropped, lost_page, full_lost}
@@ -332,23 +334,26 @@ next_among packet level outer levels =
     (ap (λ (b : Bool). b || is_among (length (flat open_length (level ∷ outer))) (open_places (level ∷ outer)))
     (eq-eqb (length (flat open_length (level ∷ outer))) (length (flat open_length (level ∷ outer))) refl))
 
-pub loses_rest : (site : Site) (old new : WriterView) (before after : Pending) (first : OpenFragment)
-    → vec_len first.held.body.payload < first.at + 4 → EndsGivenUp site old new before after first → LosesRest site old new before after first
-loses_rest site old new before after first filled e = record {
+pub loses_rest : (site : Site) (old new : WriterView) (before after : Pending) (first : OpenFragment) → site.policy ≡ Drops
+    → vec_len first.held.body.payload < first.at + 4 → EndsGivenUp site old new before after first → StopsHere site old new before after first
+loses_rest site old new before after first drops filled e = record {
   calls = e.calls;
   full = λ ends packet older rest some w.
-      given_idle site packet (given_up_packet (with_more rest packet)) older old new before after first (with_more rest packet).text refl refl refl filled
+      subst (λ (policy : WriterPolicy). StopsAs policy site (with_more rest packet) older new after) (sym drops)
+      (given_idle site packet (given_up_packet (with_more rest packet)) older old new before after first (with_more rest packet).text refl refl refl filled
       (λ less. absurd (omega (arith, ends, less))) w
-      (gives_up site.size packet older w.pages first.continues w.done w.now rest before.unsent (reverse before.holes) some w.writing) e;
+      (gives_up site.size packet older w.pages first.continues w.done w.now rest before.unsent (reverse before.holes) some w.writing) e);
   full_nested = λ ends packet older rest w.
-      given_idle site packet (given_up_packet (with_open (with_more rest packet))) older old new before after first (with_open (with_more rest packet)).text refl refl refl filled
+      subst (λ (policy : WriterPolicy). StopsAs policy site (with_open (with_more rest packet)) older new after) (sym drops)
+      (given_idle site packet (given_up_packet (with_open (with_more rest packet))) older old new before after first (with_open (with_more rest packet)).text refl refl refl filled
       (λ less. absurd (omega (arith, ends, less))) w
-      (gives_up_nested site.size packet older w.pages first.continues w.done w.now rest before.unsent (reverse before.holes) [] (λ n none. absurd (false≢true none)) w.writing) e;
+      (gives_up_nested site.size packet older w.pages first.continues w.done w.now rest before.unsent (reverse before.holes) [] (λ n none. absurd (false≢true none)) w.writing) e);
   length_next = λ packet older w.
-      given_idle site packet (given_up_packet (with_open packet)) older old new before after first (with_open packet).text refl refl refl filled
+      subst (λ (policy : WriterPolicy). StopsAs policy site (with_open packet) older new after) (sym drops)
+      (given_idle site packet (given_up_packet (with_open packet)) older old new before after first (with_open packet).text refl refl refl filled
       (λ less. next_among packet w.writing.level w.writing.outer w.writing.levels) w
       (subst (λ (p : Packet). GivesUp site.size packet older w.pages first.continues w.done w.now before.unsent (reverse before.holes) (with_open p).text) (more_none packet)
-      (given_nested site packet older old before first w)) e;
+      (given_nested site packet older old before first w)) e);
 }
 
 -- The chunk that is to be completed

@@ -1,5 +1,5 @@
 -- What a call adds to the packet, put into the fragment that is written without moving it.
-use Rattle.std.proofs.Common.{◌≡◌, ◌∙◌, ℕ, zero, suc, ◌+◌, ◌-◌, ◌*◌, ◌<◌, ◌≤◌, true, min, List, [], ◌++◌, length, Option, Some, None, take, drop, refl, sym, ap, subst, arith, append_assoc, append-nil, length-append, add-one}
+use Rattle.std.proofs.Common.{◌≡◌, ◌∙◌, ℕ, ◌+◌, ◌-◌, ◌*◌, ◌<◌, ◌≤◌, true, min, List, [], ◌++◌, length, Option, Some, None, take, drop, refl, sym, ap, subst, arith, append_assoc, length-append, add-one}
 use Rattle.std.proofs.Math.Nat.{suc-mul, mul-le-mul_right}
 use Rattle.std.specs.Prelude.{vec_len}
 use Rattle.std.specs.List.{repeat}
@@ -18,19 +18,22 @@ use Rattle.cut_steps.specs.Writing.{with_open}
 use Rattle.cut_steps.proofs.Places.{with_bytes_mid}
 use Rattle.trace_writer.specs.declared.fragment.OpenFragment.{OpenFragment}
 use Rattle.trace_writer.specs.declared.packet.OpenPacket.{OpenPacket}
-use Rattle.trace_writer.specs.declared.state.State.TheVariants.{Writing}
+use Rattle.trace_writer.specs.declared.state.State.{State}
+use Rattle.trace_writer.specs.declared.state.State.TheVariants.{Idle, Between, Writing, Dropping, Stalled}
+use Rattle.trace_writer.specs.Empty.{is_empty}
 use Rattle.trace_writer.specs.declared.state.Writer.{Writer}
 use Rattle.trace_writer.specs.Site.{Site, site_of}
 use Rattle.trace_writer.specs.Filled.{HasByte}
-use Rattle.trace_writer.specs.Fragment.{IsSameChunk, IsPutInto}
+use Rattle.trace_writer.specs.Fragment.{IsSameChunk, IsPutInto, OpensMessage}
 use Rattle.trace_writer.specs.Flows.{SetsAside}
 use Rattle.trace_writer.specs.Ids.{HasIds}
-use Rattle.trace_writer.specs.InPlace.{PutsField, OpensMessage, PutsNested}
-use Rattle.trace_writer.specs.Agreement.{IsWritingInto, Agrees, is_begun, len_of, depth_of}
-use Rattle.trace_writer.proofs.Putting.{inside_more, ids_behind}
+use Rattle.trace_writer.specs.InPlace.{PutsField, PutsNested}
+use Rattle.trace_writer.specs.Agreement.{IsWritingInto, Agrees, NeedsNoChunk, is_begun, len_of, depth_of}
+use Rattle.trace_writer.proofs.Putting.{inside_more, ids_behind, repeat-next}
 use Rattle.trace_writer.proofs.SettingAside.{sets_here}
 use Rattle.trace_writer.proofs.Measuring.{measured_more, measured_nested}
-use Rattle.trace_writer.proofs.Agreeing.{IsOpen, open_newest, writing_agrees, agrees_writing, as_many_holes, grows_more, grows_nested, inside_seen}
+use Rattle.trace_writer.proofs.Agreeing.{IsOpen, open_newest, writing_agrees, agrees_writing, as_many_holes, grows_more, grows_nested}
+use Rattle.trace_writer.proofs.RunOn.{inside_seen}
 
 -- Bytes behind bytes
 
@@ -51,13 +54,6 @@ with_bytes_both old one two at fits =
     ∙ with_bytes_mid front (take (length two) rest) (drop (length two) rest) two long
     ∙ ap (λ (xs : List ℕ). front ++ two ++ xs) (drop_more (at + length one) (length two) old ∙ ap (λ (n : ℕ). drop n old) more)
     ∙ ap (λ (xs : List ℕ). xs ++ drop (at + length (one ++ two)) old) (append_assoc (take at old) one two)
-
-repeat-next : (turn : ℕ) (piece : List ℕ) → repeat (turn + 1) piece ≡ repeat turn piece ++ piece
-repeat-next zero piece = ap (λ (n : ℕ). repeat n piece) (add-one zero) ∙ append-nil piece
-repeat-next (suc turn) piece =
-    ap (λ (n : ℕ). repeat n piece) (add-one (suc turn))
-    ∙ ap (λ (xs : List ℕ). piece ++ xs) (ap (λ (n : ℕ). repeat n piece) (sym (add-one turn)) ∙ repeat-next turn piece)
-    ∙ sym (append_assoc piece (repeat turn piece) piece)
 
 same_both : (old mid new : OpenFragment) → IsSameChunk old mid → IsSameChunk mid new → IsSameChunk old new
 same_both old mid new first second = record {
@@ -161,3 +157,12 @@ agrees_opened setup place view new before after field tag a puts fits few tag_is
     sets.byte w.ids
     (λ further h. sets.ids further (ids_behind puts.fragment opens.tagged puts.fragment.at tag (length tag) (4 + further) opens.put opens.at
     (subst (λ (n : ℕ). HasIds puts.fragment n) (omega arith) h))))
+
+-- where no further chunk is needed and nothing fits into a fragment, none is held
+pub needs_empty : (state : State) (more : ℕ) → NeedsNoChunk state more
+    → ((fragment : OpenFragment) → state ≡ Writing fragment → fragment.at + more ≤ vec_len fragment.held.body.payload → ⊥) → is_empty state ≡ true
+needs_empty (Idle next_id) more needs none = absurd needs
+needs_empty (Between chunk) more needs none = absurd needs
+needs_empty (Writing fragment) more needs none = absurd (none fragment refl needs)
+needs_empty (Dropping next_id) more needs none = refl
+needs_empty (Stalled next_id) more needs none = refl

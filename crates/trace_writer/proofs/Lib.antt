@@ -1,12 +1,15 @@
 pub mod Accounts
 pub mod Agreeing
+pub mod Asking
 pub mod Beginnings
 pub mod Calling
 pub mod Changes
 pub mod Closing
+pub mod CoreAnswers
 pub mod CoreCalls
 pub mod CoreLemmas
 pub mod CutLaws
+pub mod DropLaws
 pub mod Ending
 pub mod Finishing
 pub mod GivenUp
@@ -20,4 +23,7 @@ pub mod Putting
 pub mod RunOn
 pub mod Seats
 pub mod SettingAside
+pub mod Stalling
 pub mod Starting
+pub mod Stopping
+pub mod Working

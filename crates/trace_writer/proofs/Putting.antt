@@ -22,8 +22,8 @@ use Rattle.trace_writer.specs.Site.{Site}
 use Rattle.trace_writer.specs.Filled.{frames, IsWritten, HasByte}
 use Rattle.trace_writer.specs.Fragment.{IsPutInto}
 use Rattle.trace_writer.specs.Ids.{HasIds}
-use Rattle.trace_writer.specs.States.{InFragment, IsIdle}
-use Rattle.trace_writer.specs.Flows.{IsInPacket, AsksMore, AsksInVainLast, PutsOn, GivesUpIn, RunsOn, CannotRunOn, with_loss}
+use Rattle.trace_writer.specs.States.{InFragment}
+use Rattle.trace_writer.specs.Flows.{IsInPacket, AsksMore, AsksInVainLast, PutsOn, StopsIn, RunsOn, CannotRunOn, IsStopped}
 use Rattle.trace_writer.proofs.Payloads.{written_moved}
 
 -- One fragment
@@ -242,23 +242,23 @@ puts_run site old mid new before between after fragment next later piece rest so
   byte = λ none h. absurd (omega (arith, none, left));
 }
 
--- or the packet is given up
+-- or the packet stops
 pub puts_lost : (site : Site) (setup : Setup) (route : Route) (old mid new : WriterView) (before between after : Pending) (fragment next : OpenFragment)
     (piece rest : List ℕ) → PutsSoFar site old mid before between fragment next piece rest → CannotRunOn site setup route mid new between after next
-    → next.at ≡ site.size → 0 < length rest → GivesUpIn site setup route old new before after fragment piece
+    → next.at ≡ site.size → 0 < length rest → StopsIn site setup route old new before after fragment piece
 puts_lost site setup route old mid new before between after fragment next piece rest so_far cannot full left =
     let whole : (packet : Packet) (more : List ℕ) → with_more (rest ++ more) (with_more so_far.put packet) ≡ with_more (piece ++ more) packet =
     λ packet more. with_more-both packet so_far.put (rest ++ more)
     ∙ ap (λ (xs : List ℕ). with_more xs packet) (sym (append_assoc so_far.put rest more) ∙ ap (λ (xs : List ℕ). xs ++ more) (sym so_far.piece_is)) in
     record {
       asked = vain_behind setup route old mid new so_far.asked so_far.calls cannot.asked;
-      calls = cannot.loses.calls ∙ so_far.calls;
-      lost = λ packet older more i.
-          subst (λ (p : Packet). IsIdle site (with_loss p older) new after) (whole packet more)
-          (cannot.loses.full full (with_more so_far.put packet) older (rest ++ more) (omega (arith, length-append rest more, left)) (so_far.keeps packet older i));
-      lost_nested = λ packet older more i.
-          subst (λ (p : Packet). IsIdle site (with_loss (with_open p) older) new after) (whole packet more)
-          (cannot.loses.full_nested full (with_more so_far.put packet) older (rest ++ more) (so_far.keeps packet older i));
+      calls = cannot.stops.calls ∙ so_far.calls;
+      stopped = λ packet older more i.
+          subst (λ (p : Packet). IsStopped site p older new after) (whole packet more)
+          (cannot.stops.full full (with_more so_far.put packet) older (rest ++ more) (omega (arith, length-append rest more, left)) (so_far.keeps packet older i));
+      stopped_nested = λ packet older more i.
+          subst (λ (p : Packet). IsStopped site (with_open p) older new after) (whole packet more)
+          (cannot.stops.full_nested full (with_more so_far.put packet) older (rest ++ more) (so_far.keeps packet older i));
     }
 
 -- all of it is written
@@ -300,11 +300,11 @@ puts_both site old mid new before between after fragment now next one two first 
   byte = λ h. second.byte (first.byte h);
 }
 
--- a packet that is given up in a piece behind another is given up in the two, whatever comes behind them
+-- a packet that stops in a piece behind another stops in the two, whatever comes behind them
 pub lost_behind : (site : Site) (setup : Setup) (route : Route) (old mid new : WriterView) (before between after : Pending) (fragment now : OpenFragment)
     (one two later whole : List ℕ) → whole ≡ one ++ (two ++ later)
-    → PutsOn site old mid before between fragment now one → GivesUpIn site setup route mid new between after now two
-    → GivesUpIn site setup route old new before after fragment whole
+    → PutsOn site old mid before between fragment now one → StopsIn site setup route mid new between after now two
+    → StopsIn site setup route old new before after fragment whole
 lost_behind site setup route old mid new before between after fragment now one two later whole whole_is first lost =
     let all : (packet : Packet) (more : List ℕ) → with_more (two ++ (later ++ more)) (with_more one packet) ≡ with_more (whole ++ more) packet =
     λ packet more. with_more-both packet one (two ++ (later ++ more))
@@ -313,25 +313,25 @@ lost_behind site setup route old mid new before between after fragment now one t
     record {
       asked = vain_behind setup route old mid new first.asked first.calls lost.asked;
       calls = lost.calls ∙ first.calls;
-      lost = λ packet older more i.
-          subst (λ (p : Packet). IsIdle site (with_loss p older) new after) (all packet more)
-          (lost.lost (with_more one packet) older (later ++ more) (first.keeps packet older i));
-      lost_nested = λ packet older more i.
-          subst (λ (p : Packet). IsIdle site (with_loss (with_open p) older) new after) (all packet more)
-          (lost.lost_nested (with_more one packet) older (later ++ more) (first.keeps packet older i));
+      stopped = λ packet older more i.
+          subst (λ (p : Packet). IsStopped site p older new after) (all packet more)
+          (lost.stopped (with_more one packet) older (later ++ more) (first.keeps packet older i));
+      stopped_nested = λ packet older more i.
+          subst (λ (p : Packet). IsStopped site (with_open p) older new after) (all packet more)
+          (lost.stopped_nested (with_more one packet) older (later ++ more) (first.keeps packet older i));
     }
 
--- a packet that is given up in a piece is given up in it and what comes behind
+-- a packet that stops in a piece stops in it and what comes behind
 pub lost_within : (site : Site) (setup : Setup) (route : Route) (old new : WriterView) (before after : Pending) (fragment : OpenFragment) (one later : List ℕ)
-    → GivesUpIn site setup route old new before after fragment one → GivesUpIn site setup route old new before after fragment (one ++ later)
+    → StopsIn site setup route old new before after fragment one → StopsIn site setup route old new before after fragment (one ++ later)
 lost_within site setup route old new before after fragment one later lost = record {
   asked = lost.asked;
   calls = lost.calls;
-  lost = λ packet older more i.
-      subst (λ (xs : List ℕ). IsIdle site (with_loss (with_more xs packet) older) new after) (sym (append_assoc one later more)) (lost.lost packet older (later ++ more) i);
-  lost_nested = λ packet older more i.
-      subst (λ (xs : List ℕ). IsIdle site (with_loss (with_open (with_more xs packet)) older) new after) (sym (append_assoc one later more))
-      (lost.lost_nested packet older (later ++ more) i);
+  stopped = λ packet older more i.
+      subst (λ (xs : List ℕ). IsStopped site (with_more xs packet) older new after) (sym (append_assoc one later more)) (lost.stopped packet older (later ++ more) i);
+  stopped_nested = λ packet older more i.
+      subst (λ (xs : List ℕ). IsStopped site (with_open (with_more xs packet)) older new after) (sym (append_assoc one later more))
+      (lost.stopped_nested packet older (later ++ more) i);
 }
 
 pub puts_nothing : (site : Site) (view : WriterView) (pending : Pending) (fragment : OpenFragment) → PutsOn site view view pending pending fragment fragment []
@@ -359,18 +359,21 @@ repeat-at turn times piece before =
     let split : times ≡ turn + suc (times - (turn + 1)) = omega (arith, before) in
     ap (λ (n : ℕ). repeat n piece) split ∙ repeat-both turn (suc (times - (turn + 1))) piece
 
+pub repeat-next : (turn : ℕ) (piece : List ℕ) → repeat (turn + 1) piece ≡ repeat turn piece ++ piece
+repeat-next turn piece = repeat-both turn 1 piece ∙ ap (λ (xs : List ℕ). repeat turn piece ++ xs) (append-nil piece)
+
 pub times_next : (site : Site) (old mid new : WriterView) (before between after : Pending) (fragment now next : OpenFragment) (turn : ℕ) (piece : List ℕ)
     → PutsOn site old mid before between fragment now (repeat turn piece) → PutsOn site mid new between after now next piece
     → PutsOn site old new before after fragment next (repeat (turn + 1) piece)
 times_next site old mid new before between after fragment now next turn piece first second =
     subst (λ (xs : List ℕ). PutsOn site old new before after fragment next xs)
-    (sym (repeat-both turn 1 piece ∙ ap (λ (xs : List ℕ). repeat turn piece ++ xs) (append-nil piece)))
+    (sym (repeat-next turn piece))
     (puts_both site old mid new before between after fragment now next (repeat turn piece) piece first second)
 
 pub times_lost : (site : Site) (setup : Setup) (route : Route) (old mid new : WriterView) (before between after : Pending) (fragment now : OpenFragment)
     (turn times : ℕ) (piece : List ℕ) → turn < times
-    → PutsOn site old mid before between fragment now (repeat turn piece) → GivesUpIn site setup route mid new between after now piece
-    → GivesUpIn site setup route old new before after fragment (repeat times piece)
+    → PutsOn site old mid before between fragment now (repeat turn piece) → StopsIn site setup route mid new between after now piece
+    → StopsIn site setup route old new before after fragment (repeat times piece)
 times_lost site setup route old mid new before between after fragment now turn times piece earlier first lost =
     lost_behind site setup route old mid new before between after fragment now (repeat turn piece) piece (repeat (times - (turn + 1)) piece) (repeat times piece)
     (repeat-at turn times piece earlier) first lost

@@ -17,7 +17,7 @@ use Rattle.chunk_plain.specs.Setup.{Setup, spot}
 use Rattle.chunk_plain.specs.Views.{Ask, Begun, Held, Completed, Head, Content, WriterView}
 use Rattle.chunk_plain.specs.Steps.{no_head, restamps, completes}
 use Rattle.chunk_plain.specs.Words.{IsHolding, MayFollow, head_at}
-use Rattle.claim_arbiter.specs.Claiming.{AsksInVain, ClaimsInTurn, lost_asks}
+use Rattle.claim_arbiter.specs.Claiming.{AsksInVain, lost_asks}
 use Rattle.cut_steps.specs.RawChains.{earlier_pieces, current_piece, offset_behind}
 use Rattle.cut_steps.specs.Writing.{IsWriting}
 use Rattle.cut_steps.proofs.StepLemmas.{all_end_well-more, is_among-right}
@@ -27,8 +27,10 @@ use Rattle.trace_writer.specs.declared.fragment.OpenFragment.{OpenFragment}
 use Rattle.trace_writer.specs.declared.route.Route.{Route}
 use Rattle.trace_writer.specs.Headers.{completed_chunk, flags_value, held_head}
 use Rattle.trace_writer.specs.Site.{Site, IsRoute, site_of}
+use Rattle.trace_writer.specs.Filled.{ShowsPages}
 use Rattle.trace_writer.specs.States.{InFragment}
-use Rattle.trace_writer.specs.Flows.{AsksMore, RunsOn, LosesRest, CannotRunOn}
+use Rattle.trace_writer.specs.Claims.{Wins}
+use Rattle.trace_writer.specs.Flows.{AsksMore, RunsOn, StopsHere, CannotRunOn}
 use Rattle.trace_writer.proofs.Holes.{outside_most, among_reverse, lasts_reverse}
 use Rattle.trace_writer.proofs.Payloads.{written_moved, written_offset, written_ended, written_first, run_page, full_run}
 use Rattle.trace_writer.proofs.Seats.{shows_long, content_is, shows_one, completed_here, restamped_here, holds_here, head_here}
@@ -50,7 +52,7 @@ run_content site before payload id count continues =
     completed_chunk site.place id count (flags_value continues true (is_among id (hole_chunks before.holes))) payload
     (with_lasts (hole_chunks before.holes) before.unsent) site.buffer
 
-abbrev run_completion : ℕ → ℕ → Pending → WriterView → List ℕ → ℕ → ℕ → ℕ → Bool → WriterView
+abbrev pub run_completion : ℕ → ℕ → Pending → WriterView → List ℕ → ℕ → ℕ → ℕ → Bool → WriterView
 run_completion place buffer before view payload chunk id count continues =
     completes (restamps view chunk id (record { count = count; flags = flags_value continues true (is_among id (hole_chunks before.holes)) })) chunk id
     (completed_chunk place id count (flags_value continues true (is_among id (hole_chunks before.holes))) payload (with_lasts (hole_chunks before.holes) before.unsent) buffer)
@@ -75,43 +77,61 @@ ends_as fragment ended held bytes count continues = record {
 }
 
 -- a further chunk is begun behind the held one
-pub claimed_behind : (setup : Setup) (first count chunk : ℕ) (old new : WriterView) (completed : List Begun) (entry : Begun) → ClaimsInTurn setup first count chunk old new
+pub claimed_behind : (route : Route) (chunk : ℕ) (old new : WriterView) (completed : List Begun) (entry : Begun) → Wins route chunk old new
     → old.begun ≡ completed ++ entry ∷ [] → new.begun ≡ completed ++ entry ∷ Held chunk no_head ∷ []
-claimed_behind setup first count chunk old new completed entry claims begun =
-    ap (λ (v : WriterView). v.begun) claims.view
+claimed_behind route chunk old new completed entry wins begun =
+    wins.begun
     ∙ ap (λ (xs : List Begun). xs ++ Held chunk no_head ∷ []) begun
     ∙ append_assoc completed (entry ∷ []) (Held chunk no_head ∷ [])
 
-pub ended_holds : (setup : Setup) (first count chunk : ℕ) (site : Site) (packet : Packet) (older : List Packet) (old one : WriterView) (pending : Pending) (fragment : OpenFragment)
-    (ended : HeldChunk) → ClaimsInTurn setup first count chunk old one → InFragment site packet older old pending fragment [] → Ends fragment ended
-    → IsHolding one ended.held.chunk ended.held.id
-ended_holds setup first count chunk site packet older old one pending fragment ended claims w e =
-    let head : Head = held_head fragment.count fragment.continues in
-    let begun : one.begun ≡ w.completed ++ Held fragment.held.chunk head ∷ Held chunk no_head ∷ [] =
-    claimed_behind setup first count chunk old one w.completed (Held fragment.held.chunk head) claims w.begun in
+-- the fragment's chunk is held in this view too, before these
+pub record IsHeldStill (site : Site) (packet : Packet) (older : List Packet) (old : WriterView) (pending : Pending) (fragment : OpenFragment) (one : WriterView) : Type 0 where
+  pub inside : InFragment site packet older old pending fragment []
+  pub later : List Begun
+  pub begun : one.begun ≡ inside.completed ++ Held fragment.held.chunk (held_head fragment.count fragment.continues) ∷ later
+
+pub held_first : (site : Site) (packet : Packet) (older : List Packet) (old : WriterView) (pending : Pending) (fragment : OpenFragment)
+    → InFragment site packet older old pending fragment [] → IsHeldStill site packet older old pending fragment old
+held_first site packet older old pending fragment w = record { inside = w; later = []; begun = w.begun }
+
+pub held_behind : (route : Route) (chunk : ℕ) (site : Site) (packet : Packet) (older : List Packet) (old one : WriterView) (pending : Pending) (fragment : OpenFragment)
+    → Wins route chunk old one → InFragment site packet older old pending fragment [] → IsHeldStill site packet older old pending fragment one
+held_behind route chunk site packet older old one pending fragment wins w = record {
+  inside = w;
+  later = Held chunk no_head ∷ [];
+  begun = claimed_behind route chunk old one w.completed (Held fragment.held.chunk (held_head fragment.count fragment.continues)) wins w.begun;
+}
+
+pub ended_holds : (site : Site) (packet : Packet) (older : List Packet) (old one : WriterView) (pending : Pending) (fragment : OpenFragment) (ended : HeldChunk)
+    → IsHeldStill site packet older old pending fragment one → Ends fragment ended → IsHolding one ended.held.chunk ended.held.id
+ended_holds site packet older old one pending fragment ended h e =
+    let w : InFragment site packet older old pending fragment [] = h.inside in
     subst (λ (c : ℕ). IsHolding one c ended.held.id) (sym e.chunk)
-    (holds_here one w.completed (Held chunk no_head ∷ []) fragment.held.chunk ended.held.id head begun
+    (holds_here one w.completed h.later fragment.held.chunk ended.held.id (held_head fragment.count fragment.continues) h.begun
     (e.id ∙ w.id ∙ sym (shows_long site 0 w.completed w.pages w.shown)))
 
-pub ended_head : (setup : Setup) (first count chunk : ℕ) (site : Site) (packet : Packet) (older : List Packet) (old one : WriterView) (pending : Pending) (fragment : OpenFragment)
-    (ended : HeldChunk) → ClaimsInTurn setup first count chunk old one → InFragment site packet older old pending fragment [] → Ends fragment ended
-    → head_at one ended.held.id ≡ held_head ended.count ended.continues
-ended_head setup first count chunk site packet older old one pending fragment ended claims w e =
-    let head : Head = held_head fragment.count fragment.continues in
-    let begun : one.begun ≡ w.completed ++ Held fragment.held.chunk head ∷ Held chunk no_head ∷ [] =
-    claimed_behind setup first count chunk old one w.completed (Held fragment.held.chunk head) claims w.begun in
-    head_here one w.completed (Held chunk no_head ∷ []) fragment.held.chunk ended.held.id head begun
+pub ended_head : (site : Site) (packet : Packet) (older : List Packet) (old one : WriterView) (pending : Pending) (fragment : OpenFragment) (ended : HeldChunk)
+    → IsHeldStill site packet older old pending fragment one → Ends fragment ended → head_at one ended.held.id ≡ held_head ended.count ended.continues
+ended_head site packet older old one pending fragment ended h e =
+    let w : InFragment site packet older old pending fragment [] = h.inside in
+    head_here one w.completed h.later fragment.held.chunk ended.held.id (held_head fragment.count fragment.continues) h.begun
     (e.id ∙ w.id ∙ sym (shows_long site 0 w.completed w.pages w.shown))
     ∙ ap (λ (n : ℕ). held_head n fragment.continues) (sym e.count)
     ∙ ap (λ (c : Bool). held_head ended.count c) (sym e.continues)
 
+pub ended_size : (site : Site) (packet : Packet) (older : List Packet) (old one : WriterView) (pending : Pending) (fragment : OpenFragment) (ended : HeldChunk)
+    → IsHeldStill site packet older old pending fragment one → Ends fragment ended → vec_len ended.held.body.payload ≡ vec_len fragment.held.body.payload
+    → vec_len ended.held.body.payload ≡ (spot site.setup ended.held.chunk).payload_size
+ended_size site packet older old one pending fragment ended h e len =
+    len ∙ h.inside.whole ∙ sym h.inside.sized ∙ ap (λ (c : ℕ). (spot site.setup c).payload_size) (sym e.chunk)
+
 -- the held chunk is completed
-pub completed_before : (setup : Setup) (first count chunk place : ℕ) (site : Site) (old one two : WriterView) (before : Pending) (fragment : OpenFragment) (ended : HeldChunk)
-    (completed : List Begun) → ClaimsInTurn setup first count chunk old one → Ends fragment ended → place ≡ site.place
+pub completed_before : (place : ℕ) (site : Site) (one two : WriterView) (before : Pending) (fragment : OpenFragment) (ended : HeldChunk)
+    (completed later : List Begun) → Ends fragment ended → place ≡ site.place
     → two ≡ run_completion place site.buffer before one ended.held.body.payload.items ended.held.chunk ended.held.id ended.count ended.continues
-    → old.begun ≡ completed ++ Held fragment.held.chunk (held_head fragment.count fragment.continues) ∷ [] → fragment.held.id ≡ length completed
-    → two.begun ≡ (completed ++ Completed fragment.held.chunk (run_content site before ended.held.body.payload.items fragment.held.id fragment.count fragment.continues) ∷ []) ++ Held chunk no_head ∷ []
-completed_before setup first count chunk place site old one two before fragment ended completed claims e place_is view begun id =
+    → one.begun ≡ completed ++ Held fragment.held.chunk (held_head fragment.count fragment.continues) ∷ later → fragment.held.id ≡ length completed
+    → two.begun ≡ completed ++ Completed fragment.held.chunk (run_content site before ended.held.body.payload.items fragment.held.id fragment.count fragment.continues) ∷ later
+completed_before place site one two before fragment ended completed later e place_is view begun id =
     let head : Head = held_head fragment.count fragment.continues in
     let payload : List ℕ = ended.held.body.payload.items in
     let buffer : ℕ = site.buffer in
@@ -123,9 +143,59 @@ completed_before setup first count chunk place site old one two before fragment 
     ∙ ap (λ (i : ℕ). run_completion site.place buffer before one payload fragment.held.chunk i ended.count ended.continues) e.id
     ∙ ap (λ (n : ℕ). run_completion site.place buffer before one payload fragment.held.chunk fragment.held.id n ended.continues) e.count
     ∙ ap (λ (c : Bool). run_completion site.place buffer before one payload fragment.held.chunk fragment.held.id fragment.count c) e.continues in
-    completed_here one two completed (Held chunk no_head ∷ []) fragment.held.chunk fragment.held.id head _ content
-    (claimed_behind setup first count chunk old one completed (Held fragment.held.chunk head) claims begun) id is
-    ∙ sym (append_assoc completed (Completed fragment.held.chunk content ∷ []) (Held chunk no_head ∷ []))
+    completed_here one two completed later fragment.held.chunk fragment.held.id head _ content begun id is
+
+-- The held chunk is completed, and this chunk is begun behind it.
+pub record BeginsNext (site : Site) (before : Pending) (fragment : OpenFragment) (payload : List ℕ) (chunk : ℕ) (old two : WriterView) : Type 0 where
+  pub begun : (completed : List Begun) → old.begun ≡ completed ++ Held fragment.held.chunk (held_head fragment.count fragment.continues) ∷ []
+      → fragment.held.id ≡ length completed
+      → two.begun ≡ (completed ++ Completed fragment.held.chunk (run_content site before payload fragment.held.id fragment.count fragment.continues) ∷ []) ++ Held chunk no_head ∷ []
+  pub calls : two.calls ≡ old.calls
+  pub asked : AsksMore old two
+  pub sized : (spot site.setup chunk).payload_size ≡ site.size
+
+-- the chunk that was claimed has the payload size of all of the writer's
+claimed_size : (setup : Setup) (place chunk : ℕ) (route : Route) (old new : WriterView) → IsRoute setup place route
+    → Wins route chunk old new → (spot setup chunk).payload_size ≡ route.payload_size
+claimed_size setup place chunk route old new r wins =
+    r.sizes chunk (record {
+      least = subst (λ (range : ChunkRange). range.first ≤ chunk) (sym r.range) wins.least;
+      below = subst (λ (range : ChunkRange). chunk < range.first + range.count) (sym r.range) wins.below;
+    })
+
+-- a writer that drops claims first
+pub next_first : (setup : Setup) (place now_place chunk : ℕ) (route : Route) (old one two : WriterView) (before : Pending) (fragment : OpenFragment) (ended : HeldChunk)
+    → IsRoute setup place route → Wins route chunk old one → Ends fragment ended → now_place ≡ place
+    → two ≡ run_completion now_place route.spec.buffer before one ended.held.body.payload.items ended.held.chunk ended.held.id ended.count ended.continues
+    → BeginsNext (site_of setup place route) before fragment ended.held.body.payload.items chunk old two
+next_first setup place now_place chunk route old one two before fragment ended r wins e place_is view =
+    let site : Site = site_of setup place route in
+    let head : Head = held_head fragment.count fragment.continues in
+    let content : Content = run_content site before ended.held.body.payload.items fragment.held.id fragment.count fragment.continues in
+    record {
+      begun = λ completed begun id.
+          completed_before now_place site one two before fragment ended completed (Held chunk no_head ∷ []) e place_is view
+          (claimed_behind route chunk old one completed (Held fragment.held.chunk head) wins begun) id
+          ∙ sym (append_assoc completed (Completed fragment.held.chunk content ∷ []) (Held chunk no_head ∷ []));
+      calls = ap (λ (v : WriterView). v.calls) view ∙ wins.calls;
+      asked = record { more = wins.asked.more; asked = ap (λ (v : WriterView). v.asked) view ∙ wins.asked.asked };
+      sized = claimed_size setup place chunk route old one r wins;
+    }
+
+-- one that stalls completes first
+pub next_last : (setup : Setup) (place chunk : ℕ) (route : Route) (old one two : WriterView) (before : Pending) (fragment : OpenFragment) (ended : HeldChunk)
+    → IsRoute setup place route → Wins route chunk one two → Ends fragment ended
+    → one ≡ run_completion place route.spec.buffer before old ended.held.body.payload.items ended.held.chunk ended.held.id ended.count ended.continues
+    → BeginsNext (site_of setup place route) before fragment ended.held.body.payload.items chunk old two
+next_last setup place chunk route old one two before fragment ended r wins e view =
+    let site : Site = site_of setup place route in record {
+      begun = λ completed begun id.
+          wins.begun
+          ∙ ap (λ (xs : List Begun). xs ++ Held chunk no_head ∷ []) (completed_before place site old one before fragment ended completed [] e refl view begun id);
+      calls = wins.calls ∙ ap (λ (v : WriterView). v.calls) view;
+      asked = record { more = wins.asked.more; asked = wins.asked.asked ∙ ap (λ (v : WriterView). v.asked ++ wins.asked.more) view };
+      sized = claimed_size setup place chunk route one two r wins;
+    }
 
 -- The next chunk
 
@@ -174,6 +244,35 @@ pub record GoesOnIn (site : Site) (old new : WriterView) (before after : Pending
   pub whole : vec_len next.held.body.payload ≡ site.size
   pub sized : (spot site.setup next.held.chunk).payload_size ≡ site.size
 
+-- the page of the chunk that is completed
+abbrev pub page_run : (site : Site) (packet : Packet) (older : List Packet) (old : WriterView) (before : Pending) (fragment : OpenFragment)
+    → InFragment site packet older old before fragment [] → Page
+page_run site packet older old before fragment w =
+    run_page fragment.continues (is_among fragment.held.id (hole_chunks before.holes)) (w.done ++ w.now ∷ []) w.written.rest
+    (with_lasts (hole_chunks before.holes) before.unsent)
+
+pub page_full : (site : Site) (packet : Packet) (older : List Packet) (old : WriterView) (before : Pending) (fragment : OpenFragment)
+    (w : InFragment site packet older old before fragment []) → IsFull site.size (page_run site packet older old before fragment w)
+page_full site packet older old before fragment w =
+    let items : List ℕ = fragment.held.body.payload.items in
+    let long : length items ≡ site.size = let all = fragment.held.body.payload.ok.0 in omega (arith, w.whole, all) in
+    let few : fragment.count ≤ 1023 = fragment.few in
+    full_run items fragment.start fragment.at fragment.count site.size w.done w.now fragment.continues (is_among fragment.held.id (hole_chunks before.holes))
+    (with_lasts (hole_chunks before.holes) before.unsent) w.written long few
+
+pub page_shown : (site : Site) (packet : Packet) (older : List Packet) (old : WriterView) (before : Pending) (fragment : OpenFragment) (payload : List ℕ)
+    (w : InFragment site packet older old before fragment [])
+    → payload ≡ with_bytes fragment.held.body.payload.items fragment.start (redundant (fragment.at - fragment.start - 4))
+    → ShowsPages site 0 (w.completed ++ Completed fragment.held.chunk (run_content site before payload fragment.held.id fragment.count fragment.continues) ∷ [])
+    (w.pages ++ page_run site packet older old before fragment w ∷ [])
+page_shown site packet older old before fragment payload w payload_is =
+    let page : Page = page_run site packet older old before fragment w in
+    let laid_is : payload ≡ laid false (w.done ++ w.now ∷ []) w.written.rest =
+    payload_is ∙ written_ended fragment.held.body.payload.items fragment.start fragment.at fragment.count w.done w.now w.written in
+    shows_one site 0 fragment.held.id fragment.held.chunk w.completed w.pages
+    (run_content site before payload fragment.held.id fragment.count fragment.continues) page w.shown (omega (arith, w.id))
+    (content_is site fragment.held.id fragment.count payload page (w.written.count_is ∙ sym (length-append w.done (w.now ∷ []))) laid_is)
+
 in_next : (site : Site) (packet : Packet) (older : List Packet) (old new : WriterView) (before after : Pending) (fragment next : OpenFragment) (coming : List ℕ)
     (w : InFragment site packet older old before fragment []) → 284 ≤ site.size
     → (left_behind site.size (current_piece w.pages w.done w.now) ≡ 0)
@@ -181,22 +280,11 @@ in_next : (site : Site) (packet : Packet) (older : List Packet) (old new : Write
     → IsWriting site.size packet older w.pages fragment.continues w.done w.now before.unsent (reverse before.holes) coming
     → GoesOnIn site old new before after fragment next → InFragment site packet older new after next coming
 in_next site packet older old new before after fragment next coming w least left writing e =
-    let items : List ℕ = fragment.held.body.payload.items in
-    let awaits : Bool = is_among fragment.held.id (hole_chunks before.holes) in
-    let patches : List Patch = with_lasts (hole_chunks before.holes) before.unsent in
-    let fragments : List (List ℕ) = w.done ++ w.now ∷ [] in
-    let page : Page = run_page fragment.continues awaits fragments w.written.rest patches in
+    let page : Page = page_run site packet older old before fragment w in
     let pages : List Page = w.pages ++ page ∷ [] in
     let content : Content = run_content site before e.payload fragment.held.id fragment.count fragment.continues in
-    let long : length items ≡ site.size = let all = fragment.held.body.payload.ok.0 in omega (arith, w.whole, all) in
-    let few : fragment.count ≤ 1023 = fragment.few in
-    let full : IsFull site.size page =
-    full_run items fragment.start fragment.at fragment.count site.size w.done w.now fragment.continues awaits patches w.written long few in
-    let last_is : fragment.held.id ≡ 0 + length w.pages = omega (arith, w.id) in
-    let laid_is : e.payload ≡ laid false fragments w.written.rest =
-    e.payload_is ∙ written_ended items fragment.start fragment.at fragment.count w.done w.now w.written in
     let runs : IsWriting site.size packet older pages true [] [] [] (reverse before.holes) coming =
-    writing_run_on site.size packet older w.pages page w.done w.now before.unsent (reverse before.holes) coming refl refl full
+    writing_run_on site.size packet older w.pages page w.done w.now before.unsent (reverse before.holes) coming refl refl (page_full site packet older old before fragment w)
     (sym (lasts_reverse before.holes before.unsent))
     (ap (λ (i : ℕ). is_among i (hole_chunks before.holes)) w.id ∙ sym (among_reverse (length w.pages) before.holes))
     left writing in
@@ -209,8 +297,7 @@ in_next site packet older old new before after fragment next coming w least left
       now = [];
       completed = w.completed ++ Completed fragment.held.chunk content ∷ [];
       begun = e.begun w.completed w.begun (w.id ∙ sym (shows_long site 0 w.completed w.pages w.shown));
-      shown = shows_one site 0 fragment.held.id fragment.held.chunk w.completed w.pages content page w.shown last_is
-          (content_is site fragment.held.id fragment.count e.payload page (w.written.count_is ∙ sym (length-append w.done (w.now ∷ []))) laid_is);
+      shown = page_shown site packet older old before fragment e.payload w e.payload_is;
       id = e.id ∙ ap (λ (n : ℕ). n + 1) w.id ∙ sym (length-append w.pages (page ∷ []));
       sized = e.sized;
       whole = e.whole;
@@ -222,7 +309,7 @@ in_next site packet older old new before after fragment next coming w least left
     }
 
 -- a length may come anywhere
-writing_coming : (size : ℕ) (packet : Packet) (older : List Packet) (pages : List Page) (continues : Bool) (done : List (List ℕ)) (now : List ℕ)
+pub writing_coming : (size : ℕ) (packet : Packet) (older : List Packet) (pages : List Page) (continues : Bool) (done : List (List ℕ)) (now : List ℕ)
     (unsent : List Patch) (holes : List Hole) (coming : List ℕ)
     → IsWriting size packet older pages continues done now unsent holes [] → IsWriting size packet older pages continues done now unsent holes coming
 writing_coming size packet older pages continues done now unsent holes coming w =
@@ -253,7 +340,7 @@ writing_coming size packet older pages continues done now unsent holes coming w 
       continues_is = w.continues_is;
     }
 
-left_is : (site : Site) (packet : Packet) (older : List Packet) (view : WriterView) (pending : Pending) (fragment : OpenFragment)
+pub left_is : (site : Site) (packet : Packet) (older : List Packet) (view : WriterView) (pending : Pending) (fragment : OpenFragment)
     (w : InFragment site packet older view pending fragment [])
     → left_behind site.size (current_piece w.pages w.done w.now) ≡ site.size - fragment.at
 left_is site packet older view pending fragment w =
@@ -286,15 +373,6 @@ runs_on site old new before after fragment next least filled e = record {
       (writing_coming site.size packet older w.pages fragment.continues w.done w.now before.unsent (reverse before.holes) coming w.writing) e;
 }
 
--- the chunk that was claimed has the payload size of all of the writer's
-claimed_size : (setup : Setup) (place chunk : ℕ) (route : Route) (old new : WriterView) → IsRoute setup place route
-    → ClaimsInTurn setup route.arbiter.first route.arbiter.chunks chunk old new → (spot setup chunk).payload_size ≡ route.payload_size
-claimed_size setup place chunk route old new r claims =
-    r.sizes chunk (record {
-      least = subst (λ (range : ChunkRange). range.first ≤ chunk) (sym r.range) claims.least;
-      below = subst (λ (range : ChunkRange). chunk < range.first + range.count) (sym r.range) claims.below;
-    })
-
 -- the next fragment is that of the chunk that was started
 pub record StartsIn (started : HeldChunk) (next : OpenFragment) : Type 0 where
   pub held : next.held ≡ started.held
@@ -304,55 +382,38 @@ pub record StartsIn (started : HeldChunk) (next : OpenFragment) : Type 0 where
   pub continues : next.continues ≡ started.continues
 
 -- the started chunk is held behind those that are completed, and has no fragment yet
-pub run_holds : (setup : Setup) (place now_place : ℕ) (route : Route) (packet : Packet) (older : List Packet) (old one two : WriterView) (before : Pending) (fragment : OpenFragment)
-    (ended started : HeldChunk) (token : HeldToken) → InFragment (site_of setup place route) packet older old before fragment []
-    → ClaimsInTurn setup route.arbiter.first route.arbiter.chunks token.chunk old one → Ends fragment ended → now_place ≡ place
-    → two ≡ run_completion now_place route.spec.buffer before one ended.held.body.payload.items ended.held.chunk ended.held.id ended.count ended.continues
-    → Starts (site_of setup place route) fragment token started → IsHolding two started.held.chunk started.held.id
-run_holds setup place now_place route packet older old one two before fragment ended started token w claims e place_is completes_is s =
-    let site : Site = site_of setup place route in
+pub run_holds : (site : Site) (packet : Packet) (older : List Packet) (old two : WriterView) (before : Pending) (fragment : OpenFragment)
+    (payload : List ℕ) (started : HeldChunk) (token : HeldToken) → InFragment site packet older old before fragment []
+    → BeginsNext site before fragment payload token.chunk old two → Starts site fragment token started → IsHolding two started.held.chunk started.held.id
+run_holds site packet older old two before fragment payload started token w next s =
     let id : fragment.held.id ≡ length w.completed = w.id ∙ sym (shows_long site 0 w.completed w.pages w.shown) in
     started_holds site two fragment token started w.completed
-    (Completed fragment.held.chunk (run_content site before ended.held.body.payload.items fragment.held.id fragment.count fragment.continues)) s id
-    (completed_before setup route.arbiter.first route.arbiter.chunks token.chunk now_place site old one two before fragment ended w.completed claims e place_is completes_is w.begun id)
+    (Completed fragment.held.chunk (run_content site before payload fragment.held.id fragment.count fragment.continues)) s id (next.begun w.completed w.begun id)
 
-pub run_follows : (setup : Setup) (place now_place : ℕ) (route : Route) (packet : Packet) (older : List Packet) (old one two : WriterView) (before : Pending) (fragment : OpenFragment)
-    (ended started : HeldChunk) (token : HeldToken) (next : Head) → InFragment (site_of setup place route) packet older old before fragment []
-    → ClaimsInTurn setup route.arbiter.first route.arbiter.chunks token.chunk old one → Ends fragment ended → now_place ≡ place
-    → two ≡ run_completion now_place route.spec.buffer before one ended.held.body.payload.items ended.held.chunk ended.held.id ended.count ended.continues
-    → Starts (site_of setup place route) fragment token started → MayFollow (head_at two started.held.id) next
-run_follows setup place now_place route packet older old one two before fragment ended started token next w claims e place_is completes_is s =
-    let site : Site = site_of setup place route in
+pub run_follows : (site : Site) (packet : Packet) (older : List Packet) (old two : WriterView) (before : Pending) (fragment : OpenFragment)
+    (payload : List ℕ) (started : HeldChunk) (token : HeldToken) (head : Head) → InFragment site packet older old before fragment []
+    → BeginsNext site before fragment payload token.chunk old two → Starts site fragment token started → MayFollow (head_at two started.held.id) head
+run_follows site packet older old two before fragment payload started token head w next s =
     let id : fragment.held.id ≡ length w.completed = w.id ∙ sym (shows_long site 0 w.completed w.pages w.shown) in
     started_follows site two fragment token started w.completed
-    (Completed fragment.held.chunk (run_content site before ended.held.body.payload.items fragment.held.id fragment.count fragment.continues)) next s id
-    (completed_before setup route.arbiter.first route.arbiter.chunks token.chunk now_place site old one two before fragment ended w.completed claims e place_is completes_is w.begun id)
+    (Completed fragment.held.chunk (run_content site before payload fragment.held.id fragment.count fragment.continues)) head s id (next.begun w.completed w.begun id)
 
-pub goes_on_in : (setup : Setup) (place now_place : ℕ) (route : Route) (old one two new : WriterView) (before after : Pending) (fragment : OpenFragment)
-    (ended started : HeldChunk) (token : HeldToken) (next : OpenFragment) → IsRoute setup place route
-    → ClaimsInTurn setup route.arbiter.first route.arbiter.chunks token.chunk old one → Ends fragment ended → now_place ≡ place
-    → two ≡ run_completion now_place route.spec.buffer before one ended.held.body.payload.items ended.held.chunk ended.held.id ended.count ended.continues
+pub goes_on_in : (site : Site) (old two new : WriterView) (before after : Pending) (fragment : OpenFragment)
+    (ended started : HeldChunk) (token : HeldToken) (next : OpenFragment)
+    → BeginsNext site before fragment ended.held.body.payload.items token.chunk old two → Ends fragment ended
     → after ≡ record before { unsent = [] }
-    → Starts (site_of setup place route) fragment token started → StartsIn started next
+    → Starts site fragment token started → StartsIn started next
     → new ≡ restamps two started.held.chunk started.held.id (held_head (started.count + 1) started.continues)
-    → GoesOnIn (site_of setup place route) old new before after fragment next
-goes_on_in setup place now_place route old one two new before after fragment ended started token next r claims e place_is completes_is after_is s n view =
-    let site : Site = site_of setup place route in
+    → GoesOnIn site old new before after fragment next
+goes_on_in site old two new before after fragment ended started token next begins e after_is s n view =
     let payload : List ℕ = ended.held.body.payload.items in
     let head : Head = held_head (started.count + 1) started.continues in
     let held : next.held ≡ token = n.held ∙ s.held in
     let chunk_is : next.held.chunk ≡ token.chunk = ap (λ (t : HeldToken). t.chunk) held in
     let stamped : new ≡ restamps two token.chunk token.id head = view ∙ ap (λ (t : HeldToken). restamps two t.chunk t.id head) s.held in
-    let size : (spot setup token.chunk).payload_size ≡ route.payload_size = claimed_size setup place token.chunk route old one r claims in
-    let lost : List Ask = lost_asks (length old.calls) route.arbiter.first claims.words in
-    let won : Ask = record { chunk = token.chunk; found = claims.found; won = true; calls = length old.calls } in
     record {
-      calls = ap (λ (v : WriterView). v.calls) view ∙ ap (λ (v : WriterView). v.calls) completes_is ∙ ap (λ (v : WriterView). v.calls) claims.view;
-      asked = record {
-        more = lost ++ won ∷ [];
-        asked = ap (λ (v : WriterView). v.asked) view ∙ ap (λ (v : WriterView). v.asked) completes_is ∙ ap (λ (v : WriterView). v.asked) claims.view
-            ∙ append_assoc old.asked lost (won ∷ []);
-      };
+      calls = ap (λ (v : WriterView). v.calls) view ∙ begins.calls;
+      asked = record { more = begins.asked.more; asked = ap (λ (v : WriterView). v.asked) view ∙ begins.asked.asked };
       none_left = after_is;
       payload = payload;
       payload_is = e.payload;
@@ -360,9 +421,7 @@ goes_on_in setup place now_place route old one two new before after fragment end
           let content : Content = run_content site before payload fragment.held.id fragment.count fragment.continues in
           let entry : Begun = Completed fragment.held.chunk content in
           let last : token.id ≡ length (completed ++ entry ∷ []) = s.id ∙ ap (λ (m : ℕ). m + 1) id ∙ sym (length-append completed (entry ∷ [])) in
-          let behind : two.begun ≡ (completed ++ entry ∷ []) ++ Held token.chunk no_head ∷ [] =
-          completed_before setup route.arbiter.first route.arbiter.chunks token.chunk now_place site old one two before fragment ended completed claims e place_is completes_is begun id in
-          restamped_here two new (completed ++ entry ∷ []) [] token.chunk token.id no_head head behind last stamped
+          restamped_here two new (completed ++ entry ∷ []) [] token.chunk token.id no_head head (begins.begun completed begun id) last stamped
           ∙ ap (λ (c : ℕ). (completed ++ entry ∷ []) ++ Held c head ∷ []) (sym chunk_is)
           ∙ ap (λ (m : ℕ). (completed ++ entry ∷ []) ++ Held next.held.chunk (held_head m started.continues) ∷ []) (sym n.count)
           ∙ ap (λ (c : Bool). (completed ++ entry ∷ []) ++ Held next.held.chunk (held_head next.count c) ∷ []) (sym n.continues);
@@ -371,15 +430,16 @@ goes_on_in setup place now_place route old one two new before after fragment end
       at = n.at ∙ ap (λ (m : ℕ). m + 4) s.at;
       count = n.count ∙ ap (λ (m : ℕ). m + 1) s.count;
       continues = n.continues ∙ s.continues;
-      whole = ap (λ (t : HeldToken). vec_len t.body.payload) held ∙ s.whole ∙ size;
-      sized = ap (λ (c : ℕ). (spot setup c).payload_size) chunk_is ∙ size;
+      whole = ap (λ (t : HeldToken). vec_len t.body.payload) held ∙ s.whole ∙ begins.sized;
+      sized = ap (λ (c : ℕ). (spot site.setup c).payload_size) chunk_is ∙ begins.sized;
     }
 
 -- No chunk was free
 
-in_view : (site : Site) (packet : Packet) (older : List Packet) (view other : WriterView) (pending : Pending) (fragment : OpenFragment) (coming : List ℕ)
+-- views that show the same chunks
+pub inside_seen : (site : Site) (packet : Packet) (older : List Packet) (view other : WriterView) (pending : Pending) (fragment : OpenFragment) (coming : List ℕ)
     → other.begun ≡ view.begun → InFragment site packet older view pending fragment coming → InFragment site packet older other pending fragment coming
-in_view site packet older view other pending fragment coming same w = record {
+inside_seen site packet older view other pending fragment coming same w = record {
   pages = w.pages;
   done = w.done;
   now = w.now;
@@ -395,21 +455,21 @@ in_view site packet older view other pending fragment coming same w = record {
   writing = w.writing;
 }
 
-loses_from : (site other : Site) (old mid new : WriterView) (before after : Pending) (fragment : OpenFragment) → other ≡ site → mid.begun ≡ old.begun → mid.calls ≡ old.calls
-    → LosesRest other mid new before after fragment → LosesRest site old new before after fragment
-loses_from site other old mid new before after fragment site_is begun calls other_loses =
-    let loses : LosesRest site mid new before after fragment = subst (λ (s : Site). LosesRest s mid new before after fragment) site_is other_loses in
+stops_from : (site other : Site) (old mid new : WriterView) (before after : Pending) (fragment : OpenFragment) → other ≡ site → mid.begun ≡ old.begun → mid.calls ≡ old.calls
+    → StopsHere other mid new before after fragment → StopsHere site old new before after fragment
+stops_from site other old mid new before after fragment site_is begun calls other_stops =
+    let stops : StopsHere site mid new before after fragment = subst (λ (s : Site). StopsHere s mid new before after fragment) site_is other_stops in
     record {
-      calls = loses.calls ∙ calls;
-      full = λ ends packet older rest some w. loses.full ends packet older rest some (in_view site packet older old mid before fragment [] begun w);
-      full_nested = λ ends packet older rest w. loses.full_nested ends packet older rest (in_view site packet older old mid before fragment [] begun w);
-      length_next = λ packet older w. loses.length_next packet older (in_view site packet older old mid before fragment [] begun w);
+      calls = stops.calls ∙ calls;
+      full = λ ends packet older rest some w. stops.full ends packet older rest some (inside_seen site packet older old mid before fragment [] begun w);
+      full_nested = λ ends packet older rest w. stops.full_nested ends packet older rest (inside_seen site packet older old mid before fragment [] begun w);
+      length_next = λ packet older w. stops.length_next packet older (inside_seen site packet older old mid before fragment [] begun w);
     }
 
 pub cannot_run_on : (setup now_setup : Setup) (place now_place : ℕ) (route : Route) (old mid new : WriterView) (before after : Pending) (fragment : OpenFragment)
     → now_setup ≡ setup → now_place ≡ place → AsksInVain setup route.arbiter.first route.arbiter.chunks old mid → new.asked ≡ mid.asked
-    → LosesRest (site_of now_setup now_place route) mid new before after fragment → CannotRunOn (site_of setup place route) setup route old new before after fragment
-cannot_run_on setup now_setup place now_place route old mid new before after fragment setup_is place_is vain asked loses = record {
+    → StopsHere (site_of now_setup now_place route) mid new before after fragment → CannotRunOn (site_of setup place route) setup route old new before after fragment
+cannot_run_on setup now_setup place now_place route old mid new before after fragment setup_is place_is vain asked stops = record {
   asked = record {
     before = [];
     words = vain.words;
@@ -418,9 +478,9 @@ cannot_run_on setup now_setup place now_place route old mid new before after fra
     asked = asked ∙ ap (λ (v : WriterView). v.asked) vain.view
         ∙ ap (λ (asks : List Ask). asks ++ lost_asks (length old.calls) route.arbiter.first vain.words) (sym (append-nil old.asked));
   };
-  loses = loses_from (site_of setup place route) (site_of now_setup now_place route) old mid new before after fragment
+  stops = stops_from (site_of setup place route) (site_of now_setup now_place route) old mid new before after fragment
       (ap (λ (x : Setup). site_of x now_place route) setup_is ∙ ap (λ (n : ℕ). site_of setup n route) place_is)
-      (ap (λ (v : WriterView). v.begun) vain.view) (ap (λ (v : WriterView). v.calls) vain.view) loses;
+      (ap (λ (v : WriterView). v.begun) vain.view) (ap (λ (v : WriterView). v.calls) vain.view) stops;
 }
 
 pub next_id_after : (setup : Setup) (first count : ℕ) (site : Site) (packet : Packet) (older : List Packet) (old mid new : WriterView) (pending : Pending) (fragment : OpenFragment)

@@ -24,7 +24,7 @@ use Rattle.trace_writer.proofs.Holes.{outside_here}
 use Rattle.trace_writer.proofs.Payloads.{written_moved, written_offset}
 use Rattle.trace_writer.proofs.Putting.{written_more, held_same, ids_behind, ids_next}
 
-only_one : (n at : ℕ) → IsTrue (is_among n (at ∷ [])) → n ≡ at
+pub only_one : (n at : ℕ) → IsTrue (is_among n (at ∷ [])) → n ≡ at
 only_one n at among = either (at == n) refl among
   where
     either : (same : Bool) → (at == n) ≡ same → IsTrue (same || false) → n ≡ at
@@ -111,6 +111,6 @@ pub cannot_set : (site : Site) (setup : Setup) (route : Route) (old new : Writer
     → CannotRunOn site setup route old new before after fragment → CannotSetAside site setup route old new before after fragment
 cannot_set site setup route old new before after fragment cannot = record {
   asked = cannot.asked;
-  calls = cannot.loses.calls;
-  lost = cannot.loses.length_next;
+  calls = cannot.stops.calls;
+  stopped = cannot.stops.length_next;
 }

@@ -1,9 +1,11 @@
 -- A packet begins in a chunk: behind what the held one holds, or first in a new one.
-use Rattle.std.proofs.Common.{◌≡◌, ◌∙◌, ℕ, ◌+◌, ◌%◌, ◌<◌, ◌≤◌, Bool, true, false, not, ◌==◌, ◌&&◌, nat_le, nat_lt, List, [], ◌∷◌, ◌++◌, length, reverse, take, drop, vec_len, refl, sym, ap, subst, arith, append-nil, true≢false, inr}
+use Rattle.std.proofs.Common.{◌≡◌, ◌∙◌, ℕ, ◌+◌, ◌%◌, ◌<◌, ◌≤◌, Bool, true, false, not, ◌==◌, ◌&&◌, nat_le, nat_lt, List, [], ◌∷◌, ◌++◌, length, reverse, take, drop, vec_len, refl, sym, ap, subst, arith, append-nil, true≢false, inr, Result, Ok, Err, IfOk, IfErr}
 use Rattle.std.proofs.lemmas.Bool.{ne_eqb}
 use Rattle.std.proofs.lemmas.Bool.Decides.{nat_tests}
 use Rattle.std.proofs.lemmas.List.{take-append-drop, length-take, length-append}
 use Rattle.trace_base.specs.declared.limits.TheConstants.{MAX_FRAGMENTS, MAX_OPEN_HOLES}
+use Rattle.trace_base.specs.declared.policy.WriterPolicy.{WriterPolicy}
+use Rattle.trace_base.specs.declared.policy.WriterPolicy.TheVariants.{Drops}
 use Rattle.trace_model.specs.Calls as call
 use Rattle.trace_model.specs.Calls.{Call}
 use Rattle.trace_model.specs.Images.{Patch}
@@ -17,10 +19,10 @@ use Rattle.commit_body.specs.Pending.{Pending}
 use Rattle.chunk_plain.specs.declared.tokens.Held.{Held as HeldToken}
 use Rattle.chunk_plain.specs.declared.setup.ChunkRange.{ChunkRange}
 use Rattle.chunk_plain.specs.Setup.{Setup, spot}
-use Rattle.chunk_plain.specs.Views.{Ask, Begun, Held, Head, WriterView}
+use Rattle.chunk_plain.specs.Views.{Ask, Begun, Held, Head, WriterView, ServiceView}
 use Rattle.chunk_plain.specs.Steps.{no_head, restamps, completes}
-use Rattle.chunk_plain.specs.Words.{IsBegun, head_at}
-use Rattle.claim_arbiter.specs.Claiming.{lost_asks, AsksInVain, ClaimsInTurn}
+use Rattle.chunk_plain.specs.Words.{IsBegun, IsWriterStep, head_at}
+use Rattle.claim_arbiter.specs.Claiming.{lost_asks}
 use Rattle.cut_steps.specs.RawChains.{raw_chains, page_with, earlier_pieces, chains_before}
 use Rattle.cut_steps.specs.Writing.{IsWriting}
 use Rattle.cut_steps.proofs.Beginning.{writing_begun, writing_begun_new, begins_well-begun}
@@ -29,17 +31,26 @@ use Rattle.trace_writer.specs.declared.begin.Place.TheVariants.{Behind, Nowhere}
 use Rattle.trace_writer.specs.declared.chunk.HeldChunk.{HeldChunk}
 use Rattle.trace_writer.specs.declared.fault.Begun.{Begun as BegunPacket}
 use Rattle.trace_writer.specs.declared.fault.Begun.TheVariants.{Kept, Dropping}
+use Rattle.trace_writer.specs.declared.fault.CallFault.{CallFault}
+use Rattle.trace_writer.specs.declared.fault.CallFault.TheVariants as fault_of
 use Rattle.trace_writer.specs.declared.fragment.OpenFragment.{OpenFragment}
 use Rattle.trace_writer.specs.declared.route.Route.{Route}
+use Rattle.trace_writer.specs.declared.state.State.{State}
+use Rattle.trace_writer.specs.declared.state.Writer.{Writer}
+use Rattle.trace_writer.specs.Empty.{is_stalled}
 use Rattle.trace_writer.specs.Headers.{held_head}
 use Rattle.trace_writer.specs.Site.{Site, IsRoute, site_of}
 use Rattle.trace_writer.specs.Filled.{frames, IsFilled, IsWritten, ShowsPages}
 use Rattle.trace_writer.specs.States.{InFragment, IsIdle, IsBehind, has_room}
+use Rattle.trace_writer.specs.Claims.{Wins}
 use Rattle.trace_writer.specs.Flows.{AsksInVainLast}
-use Rattle.trace_writer.specs.Placing.{IsStarted, IsRoomy, IsPlace, BeginsPacket, is_kept, is_behind}
+use Rattle.trace_writer.specs.Helping.{IsWork, refuses, stalls_now}
+use Rattle.trace_writer.specs.Outcomes.{StallsNow}
+use Rattle.trace_writer.specs.Placing.{IsStarted, IsRoomy, IsPlace, BeginsAt, StallsAt, BeginsPacket, is_kept, is_behind}
 use Rattle.trace_writer.proofs.Idling.{completed_idle, behind_content}
 use Rattle.trace_writer.proofs.Payloads.{length-framed}
 use Rattle.trace_writer.proofs.Seats.{restamped_here, holds_here, head_here, shows_long}
+use Rattle.trace_writer.proofs.Working.{work_then, refuses_none}
 
 -- four bytes are set aside for the size of a fragment behind these
 pub started_written : (payload : List ℕ) (at count : ℕ) (done : List (List ℕ)) → at + 4 ≤ length payload → IsFilled payload at count done
@@ -102,14 +113,14 @@ started_inside site account packet view new pending chunk fragment pages complet
 pub new_roomy : (setup : Setup) (place : ℕ) (route : Route) (account : Account) (view new : WriterView) (pending : Pending) (held : HeldToken) (chunk : HeldChunk) (id : ℕ)
     → IsRoute setup place route → chunk.held ≡ held → chunk.at ≡ 0 → chunk.count ≡ 0 → chunk.continues ≡ false
     → id ≡ length view.begun → id + 4096 ≤ 4294967295
-    → ClaimsInTurn setup route.arbiter.first route.arbiter.chunks held.chunk view new → IsBegun setup held.chunk id held
+    → Wins route held.chunk view new → IsBegun setup held.chunk id held
     → IsIdle (site_of setup place route) account view pending → IsRoomy (site_of setup place route) account new pending chunk
 new_roomy setup place route account view new pending held chunk id is_route held_is at_is count_is continues_is id_is ids claims begun idle =
     let site : Site = site_of setup place route in
     let chunk_is : chunk.held.chunk ≡ held.chunk = ap (λ (h : HeldToken). h.chunk) held_is in
     let chunk_id : chunk.held.id ≡ id = ap (λ (h : HeldToken). h.id) held_is ∙ begun.id_is in
     let listed : new.begun ≡ view.begun ++ Held chunk.held.chunk no_head ∷ [] =
-    ap (λ (v : WriterView). v.begun) claims.view ∙ ap (λ (n : ℕ). view.begun ++ Held n no_head ∷ []) (sym chunk_is) in
+    claims.begun ∙ ap (λ (n : ℕ). view.begun ++ Held n no_head ∷ []) (sym chunk_is) in
     let long : length view.begun ≡ length idle.pages = shows_long site 0 view.begun idle.pages idle.shown in
     let sized : (spot setup held.chunk).payload_size ≡ route.payload_size =
     is_route.sizes held.chunk (record { least = subst (λ (range : ChunkRange). range.first ≤ held.chunk) (sym is_route.range) claims.least; below = subst (λ (range : ChunkRange). held.chunk < range.first + range.count) (sym is_route.range) claims.below }) in
@@ -136,28 +147,16 @@ new_roomy setup place route account view new pending held chunk id is_route held
           started stamped;
     }
 
-pub vain_idle : (site : Site) (setup : Setup) (first count : ℕ) (account : Account) (view new : WriterView) (pending : Pending)
-    → AsksInVain setup first count view new → IsIdle site account view pending → IsIdle site account new pending
-vain_idle site setup first count account view new pending vain idle =
-    let same : new.begun ≡ view.begun = ap (λ (v : WriterView). v.begun) vain.view in
-    record {
-      pages = idle.pages;
-      shown = subst (λ (begun : List Begun). ShowsPages site 0 begun idle.pages) (sym same) idle.shown;
-      holes = idle.holes;
-      unsent = idle.unsent;
-      ended = idle.ended;
-      between = idle.between;
-      fresh = idle.fresh;
-    }
-
-pub vain_last : (setup : Setup) (route : Route) (view new : WriterView) → AsksInVain setup route.arbiter.first route.arbiter.chunks view new
-    → AsksInVainLast setup route view new
-vain_last setup route view new vain = record {
-  before = [];
-  words = vain.words;
-  count_is = vain.count_is;
-  claimed = vain.claimed;
-  asked = ap (λ (v : WriterView). v.asked) vain.view ∙ ap (λ (asks : List Ask). asks ++ lost_asks (length view.calls) route.arbiter.first vain.words) (sym (append-nil view.asked));
+pub none_idle : (site : Site) (account : Account) (view new : WriterView) (pending : Pending) → new.begun ≡ view.begun
+    → IsIdle site account view pending → IsIdle site account new pending
+none_idle site account view new pending same idle = record {
+  pages = idle.pages;
+  shown = subst (λ (begun : List Begun). ShowsPages site 0 begun idle.pages) (sym same) idle.shown;
+  holes = idle.holes;
+  unsent = idle.unsent;
+  ended = idle.ended;
+  between = idle.between;
+  fresh = idle.fresh;
 }
 
 -- Behind what the held chunk holds
@@ -253,34 +252,124 @@ place_here setup there place moved route account old new pending found setup_is 
     (subst (λ (n : ℕ). IsPlace there n route account old new pending found) place_is is)
 
 -- what became of the packet that was begun there
-pub begins_from : (setup : Setup) (place : ℕ) (route : Route) (account : Account) (old mid new : WriterView) (pending : Pending) (found : Place) (begun : BegunPacket)
-    → IsPlace setup place route account old mid pending found → mid.calls ≡ old.calls → new.calls ≡ mid.calls ++ call.Begun (is_kept begun) ∷ [] → new.asked ≡ mid.asked
-    → is_kept begun ≡ is_behind found → BeginsPacket setup route old new begun
-begins_from setup place route account old mid new pending found Kept is same calls asked kept = calls ∙ ap (λ (noted : List Call). noted ++ call.Begun true ∷ []) same
-begins_from setup place route account old mid new pending (Behind chunk) Dropping is same calls asked kept = absurd (true≢false (sym kept))
-begins_from setup place route account old mid new pending (Nowhere next_id) Dropping is same calls asked kept = (
-  calls ∙ ap (λ (noted : List Call). noted ++ call.Begun false ∷ []) same,
-  record {
-    before = is.2.before;
-    words = is.2.words;
-    count_is = is.2.count_is;
-    claimed = is.2.claimed;
-    asked = asked ∙ is.2.asked;
-  },
+
+in_vain_from : (setup : Setup) (route : Route) (old mid new : WriterView) → new.asked ≡ mid.asked → AsksInVainLast setup route old mid
+    → AsksInVainLast setup route old new
+in_vain_from setup route old mid new asked vain = record {
+  before = vain.before;
+  words = vain.words;
+  count_is = vain.count_is;
+  claimed = vain.claimed;
+  asked = asked ∙ vain.asked;
+}
+
+begins_from : (setup : Setup) (place : ℕ) (route : Route) (account : Account) (old mid new : WriterView) (pending : Pending) (found : Place) (begun : BegunPacket)
+    → IsPlace setup place route account old mid pending found → mid.calls ≡ old.calls → new.asked ≡ mid.asked
+    → BeginsAt route.spec.policy found begun mid.calls new.calls → BeginsPacket setup route old new begun
+begins_from setup place route account old mid new pending found Kept is same asked at =
+    at.calls ∙ ap (λ (noted : List Call). noted ++ call.Begun true ∷ []) same
+begins_from setup place route account old mid new pending (Behind chunk) Dropping is same asked at = absurd (true≢false (sym at.kept))
+begins_from setup place route account old mid new pending (Nowhere next_id) Dropping is same asked at = (
+  at.calls ∙ ap (λ (noted : List Call). noted ++ call.Begun false ∷ []) same,
+  at.drops refl,
+  in_vain_from setup route old mid new asked is.2,
 )
 
--- the same writer of the same table, with the same calls, after a place was found
-pub record IsSameWriter (setup there : Setup) (place moved : ℕ) (route other : Route) (old mid : WriterView) : Type 0 where
-  pub setup_is : there ≡ setup
-  pub place_is : moved ≡ place
-  pub route_is : other ≡ route
-  pub calls : mid.calls ≡ old.calls
+-- or of the writer that begins none
+stalls_from : (setup : Setup) (place : ℕ) (route : Route) (account : Account) (old mid new : WriterView) (pending : Pending) (found : Place) (fault : CallFault) (after : State)
+    → IsPlace setup place route account old mid pending found → mid.calls ≡ old.calls → new.asked ≡ mid.asked
+    → StallsAt route.spec.policy found fault mid.calls new.calls after → StallsNow setup route [] old new
+stalls_from setup place route account old mid new pending (Behind chunk) fault after is same asked at = absurd (true≢false at.nowhere)
+stalls_from setup place route account old mid new pending (Nowhere next_id) fault after is same asked at = record {
+  stalls = at.stalls;
+  calls = at.calls ∙ same ∙ sym (append-nil old.calls);
+  vain = in_vain_from setup route old mid new asked is.2;
+}
 
-pub place_found : (setup there : Setup) (place moved : ℕ) (route other : Route) (old mid : WriterView) (pending : Pending) (found : Place)
-    → IsSameWriter setup there place moved route other old mid → IsPlace setup place route (account_of old.calls) old mid pending found
-    → IsPlace there moved other (account_of mid.calls) old mid pending found
-place_found setup there place moved route other old mid pending found same is =
-    subst (λ (s : Setup). IsPlace s moved other (account_of mid.calls) old mid pending found) (sym same.setup_is)
-    (subst (λ (n : ℕ). IsPlace setup n other (account_of mid.calls) old mid pending found) (sym same.place_is)
-    (subst (λ (r : Route). IsPlace setup place r (account_of mid.calls) old mid pending found) (sym same.route_is)
-    (subst (λ (noted : List Call). IsPlace setup place route (account_of noted) old mid pending found) (sym same.calls) is)))
+-- A place was found for the writer's next packet, and nothing else was noted.
+pub record HasFound {H T W S : Type 0} (setup : T → Setup) (sits : T → W → Type 0) (place : W → ℕ) (view : T → W → WriterView)
+    (serves : T → S → Type 0) (service_view : T → S → ServiceView) (needs : H → T → Type 0) (helps : H → T → ℕ → Bool → H → T → Type 0)
+    (before : Writer) (helper : H) (old : T) (seat : W) (writer : Writer) (left : H) (new : T) (after : W) (found : Place) : Type 0 where
+  pub route_is : writer.route ≡ before.route
+  pub calls : (view new after).calls ≡ (view old seat).calls
+  pub at : IsPlace (setup old) (place seat) before.route (account_of (view old seat).calls) (view old seat) (view new after) writer.pending found
+  pub work : IsWork setup sits place view serves service_view needs helps before.route helper old seat (refuses before.route.spec.policy (not (is_behind found))) left new after
+
+module _ {H T W S : Type 0} {setup : T → Setup} {sits : T → W → Type 0} {place : W → ℕ} {view : T → W → WriterView}
+    {serves : T → S → Type 0} {service_view : T → S → ServiceView} {needs : H → T → Type 0} {helps : H → T → ℕ → Bool → H → T → Type 0}
+    {before : Writer} {helper : H} {old : T} {seat : W} where
+  -- the same under other names
+  pub found_there : {writer same_writer : Writer} {left same_left : H} {new same_new : T} {after same_after : W} {found same_found : Place}
+      → writer ≡ same_writer → left ≡ same_left → new ≡ same_new → after ≡ same_after → found ≡ same_found
+      → HasFound setup sits place view serves service_view needs helps before helper old seat same_writer same_left same_new same_after same_found
+      → HasFound setup sits place view serves service_view needs helps before helper old seat writer left new after found
+  found_there {writer} {same_writer} {left} {same_left} {new} {same_new} {after} {same_after} {found} {same_found} writer_is left_is new_is after_is found_is has =
+      subst (λ (w : Writer). HasFound setup sits place view serves service_view needs helps before helper old seat w left new after found) (sym writer_is)
+      (subst (λ (h : H). HasFound setup sits place view serves service_view needs helps before helper old seat same_writer h new after found) (sym left_is)
+      (subst (λ (t : T). HasFound setup sits place view serves service_view needs helps before helper old seat same_writer same_left t after found) (sym new_is)
+      (subst (λ (w : W). HasFound setup sits place view serves service_view needs helps before helper old seat same_writer same_left same_new w found) (sym after_is)
+      (subst (λ (p : Place). HasFound setup sits place view serves service_view needs helps before helper old seat same_writer same_left same_new same_after p) (sym found_is)
+      has))))
+
+  module _ {writer : Writer} {left : H} {mid : T} {between : W} {found : Place} where
+    pub found_place : HasFound setup sits place view serves service_view needs helps before helper old seat writer left mid between found
+        → IsPlace (setup mid) (place between) writer.route (account_of (view mid between).calls) (view old seat) (view mid between) writer.pending found
+    found_place has =
+        subst (λ (s : Setup). IsPlace s (place between) writer.route (account_of (view mid between).calls) (view old seat) (view mid between) writer.pending found) (sym has.work.others.setup_stays)
+        (subst (λ (n : ℕ). IsPlace (setup old) n writer.route (account_of (view mid between).calls) (view old seat) (view mid between) writer.pending found) (sym has.work.others.place_stays)
+        (subst (λ (r : Route). IsPlace (setup old) (place seat) r (account_of (view mid between).calls) (view old seat) (view mid between) writer.pending found) (sym has.route_is)
+        (subst (λ (noted : List Call). IsPlace (setup old) (place seat) before.route (account_of noted) (view old seat) (view mid between) writer.pending found) (sym has.calls) has.at)))
+
+    -- What became of the packet that was begun there.
+
+    pub found_begins : (new : WriterView) (result : Result BegunPacket CallFault)
+        → HasFound setup sits place view serves service_view needs helps before helper old seat writer left mid between found
+        → new.asked ≡ (view mid between).asked
+        → IfOk result (λ begun. BeginsAt writer.route.spec.policy found begun (view mid between).calls new.calls)
+        → IfOk result (λ begun. BeginsPacket (setup old) before.route (view old seat) new begun)
+    found_begins new (Err fault) has asked at = at
+    found_begins new (Ok begun) has asked at =
+        begins_from (setup old) (place seat) before.route (account_of (view old seat).calls) (view old seat) (view mid between) new writer.pending found begun has.at has.calls asked
+        (subst (λ (r : Route). BeginsAt r.spec.policy found begun (view mid between).calls new.calls) has.route_is at)
+
+    pub found_stalls : (new : WriterView) (state : State) (result : Result BegunPacket CallFault)
+        → HasFound setup sits place view serves service_view needs helps before helper old seat writer left mid between found
+        → new.asked ≡ (view mid between).asked
+        → IfErr result (λ fault. StallsAt writer.route.spec.policy found fault (view mid between).calls new.calls state)
+        → IfErr result (λ fault. (fault ≡ fault_of.Stalled) × (is_stalled state ≡ true) × StallsNow (setup old) before.route [] (view old seat) new)
+    found_stalls new state (Ok begun) has asked at = at
+    found_stalls new state (Err fault) has asked at = (
+      at.fault_is,
+      at.stalled,
+      stalls_from (setup old) (place seat) before.route (account_of (view old seat).calls) (view old seat) (view mid between) new writer.pending found fault state has.at has.calls asked
+          (subst (λ (r : Route). StallsAt r.spec.policy found fault (view mid between).calls new.calls state) has.route_is at),
+    )
+
+    pub found_work : (new : T) (after : W) (stalled : Bool) (state : State) (result : Result BegunPacket CallFault)
+        → ((helper : H) (old new : T) (seat after : W) → IsWriterStep setup sits place view serves service_view old seat new after → needs helper old → needs helper new)
+        → HasFound setup sits place view serves service_view needs helps before helper old seat writer left mid between found → stalled ≡ false
+        → IfOk result (λ begun. BeginsAt writer.route.spec.policy found begun (view mid between).calls (view new after).calls)
+        → IfErr result (λ fault. StallsAt writer.route.spec.policy found fault (view mid between).calls (view new after).calls state)
+        → IsWriterStep setup sits place view serves service_view mid between new after
+        → IsWork setup sits place view serves service_view needs helps before.route helper old seat (stalls_now stalled result) left new after
+    found_work new after stalled state result keeps has goes begins stalls step =
+        subst (λ (refused : Bool). IsWork setup sits place view serves service_view needs helps before.route helper old seat refused left new after)
+        (refused_is before.route.spec.policy result
+        (subst (λ (r : Route). IfOk result (λ begun. BeginsAt r.spec.policy found begun (view mid between).calls (view new after).calls)) has.route_is begins)
+        (subst (λ (r : Route). IfErr result (λ fault. StallsAt r.spec.policy found fault (view mid between).calls (view new after).calls state)) has.route_is stalls))
+        (work_then setup sits place view serves service_view needs helps before.route helper old seat (refuses before.route.spec.policy (not (is_behind found))) left mid between new after keeps has.work step)
+      where
+        kept_is : (policy : WriterPolicy) (begun : BegunPacket) → is_kept begun ≡ is_behind found → (is_kept begun ≡ false → policy ≡ Drops)
+            → refuses policy (not (is_behind found)) ≡ false
+        kept_is policy Kept kept drops = ap (λ (b : Bool). refuses policy (not b)) (sym kept) ∙ refuses_none policy
+        kept_is policy Dropping kept drops = ap (λ (p : WriterPolicy). refuses p (not (is_behind found))) (drops refl)
+
+        refused_is : (policy : WriterPolicy) (result : Result BegunPacket CallFault)
+            → IfOk result (λ begun. BeginsAt policy found begun (view mid between).calls (view new after).calls)
+            → IfErr result (λ fault. StallsAt policy found fault (view mid between).calls (view new after).calls state)
+            → refuses policy (not (is_behind found)) ≡ stalls_now stalled result
+        refused_is policy (Ok begun) at other = kept_is policy begun at.kept at.drops
+        refused_is policy (Err fault) other at =
+            ap (λ (p : WriterPolicy). refuses p (not (is_behind found))) at.stalls
+            ∙ ap not at.nowhere
+            ∙ sym (ap (λ (f : CallFault). stalls_now {A = BegunPacket} stalled (Err f)) at.fault_is ∙ ap not goes)

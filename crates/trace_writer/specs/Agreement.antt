@@ -1,5 +1,5 @@
 -- A writer agrees with the view of its seat: its packets, their chunks, and what it counts.
-use Rattle.std.specs.Prelude.{◌≡◌, ℕ, ◌+◌, ◌-◌, min, Bool, true, false, List, [], ◌∷◌, length, map, reverse, Option, Some, None}
+use Rattle.std.specs.Prelude.{◌≡◌, ℕ, ◌+◌, ◌-◌, ◌≤◌, min, ⊤, vec_len, Bool, true, false, List, [], ◌∷◌, length, map, reverse, Option, Some, None}
 use Rattle.trace_base.specs.declared.limits.TheConstants.{MAX_PACKET_LEN}
 use Rattle.trace_model.specs.Packets.{Packet, Account, account_of, body_of, front_of, open_places, is_lost, newest_is_lost, is_writing, begun_count, dropped_at_begin}
 use Rattle.commit_body.specs.Pending.{Pending}
@@ -8,12 +8,12 @@ use Rattle.chunk_plain.specs.Views.{WriterView}
 use Rattle.trace_writer.specs.declared.fragment.OpenFragment.{OpenFragment}
 use Rattle.trace_writer.specs.declared.packet.OpenPacket.{OpenPacket}
 use Rattle.trace_writer.specs.declared.state.State.{State}
-use Rattle.trace_writer.specs.declared.state.State.TheVariants.{Idle, Between, Writing, Dropping}
+use Rattle.trace_writer.specs.declared.state.State.TheVariants.{Idle, Between, Writing, Dropping, Stalled}
 use Rattle.trace_writer.specs.declared.state.Writer.{Writer}
 use Rattle.trace_writer.specs.Site.{Site, site_of, IsRoute}
 use Rattle.trace_writer.specs.Filled.{HasByte}
 use Rattle.trace_writer.specs.Ids.{HasIds}
-use Rattle.trace_writer.specs.States.{InFragment, IsIdle, IsBehind}
+use Rattle.trace_writer.specs.States.{InFragment, IsIdle, IsBehind, IsStuck}
 
 -- the packet that is begun has this length without its front mark, and these messages are open in it
 pub record IsMeasured (open_one : OpenPacket) (packet : Packet) : Type 0 where
@@ -44,6 +44,7 @@ StateAgrees site account view pending (Idle next_id) = (next_id ≡ length view.
 StateAgrees site account view pending (Between chunk) = IsBehind site account view pending chunk
 StateAgrees site account view pending (Writing fragment) = IsWritingInto site account view pending fragment
 StateAgrees site account view pending (Dropping next_id) = (next_id ≡ length view.begun) × IsThrownAway site account view pending
+StateAgrees site account view pending (Stalled next_id) = (next_id ≡ length view.begun) × IsStuck site account.packets view
 
 -- whether a packet is begun, and how long it is
 abbrev pub IsInPacketOf : List Packet → Option OpenPacket → Type 0
@@ -51,16 +52,25 @@ IsInPacketOf packets None = is_writing packets ≡ false
 IsInPacketOf [] (Some open_one) = ⊥
 IsInPacketOf (packet ∷ older) (Some open_one) = (packet.finished ≡ false) × IsMeasured open_one packet
 
--- whether the state is one of a packet that is begun
-abbrev pub is_inside : State → Bool
-is_inside (Idle next_id) = false
-is_inside (Between chunk) = false
-is_inside (Writing fragment) = true
-is_inside (Dropping next_id) = true
-
 abbrev pub is_begun : Option OpenPacket → Bool
 is_begun None = false
 is_begun (Some open_one) = true
+
+-- whether the state is one of a packet that is begun; a writer stalls in this packet or between two
+abbrev pub is_inside : Option OpenPacket → State → Bool
+is_inside packet (Idle next_id) = false
+is_inside packet (Between chunk) = false
+is_inside packet (Writing fragment) = true
+is_inside packet (Dropping next_id) = true
+is_inside packet (Stalled next_id) = is_begun packet
+
+-- So many bytes of the packet need no further chunk: they fit into the held one, or are thrown away, or nothing is written.
+abbrev pub NeedsNoChunk : State → ℕ → Type 0
+NeedsNoChunk (Idle next_id) more = ⊥
+NeedsNoChunk (Between chunk) more = ⊥
+NeedsNoChunk (Writing fragment) more = fragment.at + more ≤ vec_len fragment.held.body.payload
+NeedsNoChunk (Dropping next_id) more = ⊤
+NeedsNoChunk (Stalled next_id) more = ⊤
 
 -- its length so far, and how many messages are open in it
 abbrev pub len_of : Option OpenPacket → ℕ
@@ -79,7 +89,7 @@ pub record Agrees (setup : Setup) (place : ℕ) (view : WriterView) (writer : Wr
   pub route : IsRoute setup place writer.route
   pub state : StateAgrees (site_of setup place writer.route) (account_of view.calls) view writer.pending writer.state
   pub packet : IsInPacketOf (account_of view.calls).packets writer.packet
-  pub inside : is_inside writer.state ≡ is_begun writer.packet
+  pub inside : is_inside writer.packet writer.state ≡ is_begun writer.packet
   pub follows : is_begun writer.packet ≡ false → writer.follows_loss ≡ newest_is_lost (account_of view.calls).packets
   pub begun : writer.begun ≡ counted (begun_count view.calls)
   pub dropped : writer.dropped ≡ counted (dropped_at_begin view.calls)
@@ -88,6 +98,7 @@ pub record Agrees (setup : Setup) (place : ℕ) (view : WriterView) (writer : Wr
 pub record AgreesBetween (setup : Setup) (place : ℕ) (view : WriterView) (writer : Writer) : Type 0 where
   pub route : IsRoute setup place writer.route
   pub between : is_writing (account_of view.calls).packets ≡ false
+  pub none_begun : is_begun writer.packet ≡ false
   pub follows : writer.follows_loss ≡ newest_is_lost (account_of view.calls).packets
   pub begun : writer.begun ≡ counted (begun_count view.calls)
   pub dropped : writer.dropped ≡ counted (dropped_at_begin view.calls)

@@ -7,7 +7,7 @@ use Rattle.chunk_plain.specs.Views.{WriterView}
 use Rattle.trace_writer.specs.declared.fault.CallFault.{CallFault}
 use Rattle.trace_writer.specs.declared.writer.WriterCore.{WriterCore}
 use Rattle.trace_writer.specs.Agreement.{Agrees}
-use Rattle.trace_writer.specs.Empty.{is_empty}
+use Rattle.trace_writer.specs.Empty.{is_empty, is_stalled as is_stalled_state}
 use Rattle.trace_writer.specs.Refusals.{field_refusal, nested_refusal}
 
 -- the writer agrees with the view of the seat that it was made with
@@ -47,3 +47,7 @@ nested_fault view field = nested_refusal (newest_depth (packets_of view.calls)) 
 -- the writer holds a chunk
 abbrev pub holds_chunk : {S : Type 0} → WriterCore S → Bool
 holds_chunk core = not (is_empty core.writer.state)
+
+-- the writer waits for ever
+abbrev pub is_stalled : {S : Type 0} → WriterCore S → Bool
+is_stalled core = is_stalled_state core.writer.state

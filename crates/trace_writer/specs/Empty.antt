@@ -1,7 +1,7 @@
--- States without a chunk.
+-- States without a chunk, and the state of a writer that waits for ever.
 use Rattle.std.specs.Prelude.{Bool, true, false}
 use Rattle.trace_writer.specs.declared.state.State.{State}
-use Rattle.trace_writer.specs.declared.state.State.TheVariants.{Idle, Between, Writing, Dropping}
+use Rattle.trace_writer.specs.declared.state.State.TheVariants.{Idle, Between, Writing, Dropping, Stalled}
 
 abbrev pub empty : State
 empty = Idle 0
@@ -11,3 +11,11 @@ is_empty (Idle next_id) = true
 is_empty (Between chunk) = false
 is_empty (Writing fragment) = false
 is_empty (Dropping next_id) = true
+is_empty (Stalled next_id) = true
+
+abbrev pub is_stalled : State → Bool
+is_stalled (Idle next_id) = false
+is_stalled (Between chunk) = false
+is_stalled (Writing fragment) = false
+is_stalled (Dropping next_id) = false
+is_stalled (Stalled next_id) = true

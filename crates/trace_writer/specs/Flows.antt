@@ -1,5 +1,7 @@
 -- How the writing of a packet goes on, whichever packet it is: the code that streams bytes doesn't know it.
-use Rattle.std.specs.Prelude.{◌≡◌, ℕ, ◌+◌, ◌<◌, true, false, List, [], ◌∷◌, ◌++◌, length, vec_len}
+use Rattle.std.specs.Prelude.{◌≡◌, ℕ, ◌+◌, ◌<◌, Bool, true, false, List, [], ◌∷◌, ◌++◌, length, vec_len}
+use Rattle.trace_base.specs.declared.policy.WriterPolicy.{WriterPolicy}
+use Rattle.trace_base.specs.declared.policy.WriterPolicy.TheVariants.{Drops, Stalls}
 use Rattle.trace_model.specs.Packets.{Packet, Account, with_more, given_up_packet, body_of}
 use Rattle.commit_body.specs.Pending.{Pending}
 use Rattle.chunk_plain.specs.Setup.{Setup}
@@ -7,13 +9,13 @@ use Rattle.chunk_plain.specs.Views.{Ask, WriterView}
 use Rattle.claim_arbiter.specs.Claiming.{lost_asks, AllClaimed}
 use Rattle.cut_steps.specs.Writing.{with_open}
 use Rattle.trace_writer.specs.declared.flow.Flow.{Flow}
-use Rattle.trace_writer.specs.declared.flow.Flow.TheVariants.{Going, GivenUp}
+use Rattle.trace_writer.specs.declared.flow.Flow.TheVariants.{Going, Stopped}
 use Rattle.trace_writer.specs.declared.fragment.OpenFragment.{OpenFragment}
 use Rattle.trace_writer.specs.declared.route.Route.{Route}
 use Rattle.trace_writer.specs.Site.{Site, site_of}
 use Rattle.trace_writer.specs.Filled.{HasByte}
 use Rattle.trace_writer.specs.Ids.{HasIds}
-use Rattle.trace_writer.specs.States.{InFragment, IsIdle}
+use Rattle.trace_writer.specs.States.{InFragment, IsIdle, IsStuck}
 
 -- some packet is written
 pub record IsInPacket (site : Site) (view : WriterView) (pending : Pending) (fragment : OpenFragment) : Type 0 where
@@ -38,6 +40,14 @@ pub record AsksInVainLast (setup : Setup) (route : Route) (old new : WriterView)
 abbrev pub with_loss : Packet → List Packet → Account
 with_loss packet older = record { packets = given_up_packet packet ∷ older; flushed = false }
 
+-- No chunk is there for the rest of the newest packet: its writer gave it up, or waits for ever.
+abbrev pub StopsAs : WriterPolicy → Site → Packet → List Packet → WriterView → Pending → Type 0
+StopsAs Drops site packet older view pending = IsIdle site (with_loss packet older) view pending
+StopsAs Stalls site packet older view pending = IsStuck site (packet ∷ older) view
+
+abbrev pub IsStopped : Site → Packet → List Packet → WriterView → Pending → Type 0
+IsStopped site packet older view pending = StopsAs site.policy site packet older view pending
+
 -- Bytes of a packet
 
 -- The bytes were written to the packet.
@@ -50,20 +60,24 @@ pub record PutsOn (site : Site) (old new : WriterView) (before after : Pending) 
   pub ids : (further : ℕ) → HasIds fragment (length bytes + further) → HasIds next further
   pub byte : HasByte fragment → HasByte next
 
--- The packet was given up before all these bytes were written, whatever its writer is asked to write behind them.
-pub record GivesUpIn (site : Site) (setup : Setup) (route : Route) (old new : WriterView) (before after : Pending) (fragment : OpenFragment) (bytes : List ℕ) : Type 0 where
+-- The packet stops before all these bytes were written, whatever its writer is asked to write behind them.
+pub record StopsIn (site : Site) (setup : Setup) (route : Route) (old new : WriterView) (before after : Pending) (fragment : OpenFragment) (bytes : List ℕ) : Type 0 where
   pub asked : AsksInVainLast setup route old new
   pub calls : new.calls ≡ old.calls
-  pub lost : (packet : Packet) (older : List Packet) (more : List ℕ) → InFragment site packet older old before fragment []
-      → IsIdle site (with_loss (with_more (bytes ++ more) packet) older) new after
-  pub lost_nested : (packet : Packet) (older : List Packet) (more : List ℕ) → InFragment site packet older old before fragment []
-      → IsIdle site (with_loss (with_open (with_more (bytes ++ more) packet)) older) new after
+  pub stopped : (packet : Packet) (older : List Packet) (more : List ℕ) → InFragment site packet older old before fragment []
+      → IsStopped site (with_more (bytes ++ more) packet) older new after
+  pub stopped_nested : (packet : Packet) (older : List Packet) (more : List ℕ) → InFragment site packet older old before fragment []
+      → IsStopped site (with_open (with_more (bytes ++ more) packet)) older new after
+
+abbrev pub is_stopped : Flow → Bool
+is_stopped (Going next) = false
+is_stopped (Stopped next_id) = true
 
 abbrev pub Flows : Setup → ℕ → Route → WriterView → WriterView → Pending → Pending → OpenFragment → List ℕ → Flow → Type 0
 Flows setup place route old new before after fragment bytes (Going next) =
     PutsOn (site_of setup place route) old new before after fragment next bytes
-Flows setup place route old new before after fragment bytes (GivenUp next_id) =
-    GivesUpIn (site_of setup place route) setup route old new before after fragment bytes × (next_id ≡ length new.begun)
+Flows setup place route old new before after fragment bytes (Stopped next_id) =
+    StopsIn (site_of setup place route) setup route old new before after fragment bytes × (next_id ≡ length new.begun)
 
 -- The end of a chunk: all bytes of the payload are used, or a nested length comes next that doesn't fit
 
@@ -82,25 +96,25 @@ pub record RunsOn (site : Site) (old new : WriterView) (before after : Pending) 
   pub length_next : (packet : Packet) (older : List Packet) → InFragment site packet older old before fragment []
       → InFragment site packet older new after next (length (body_of packet) ∷ [])
 
--- the packet is given up where it stands, of which more was to be written
-pub record LosesRest (site : Site) (old new : WriterView) (before after : Pending) (fragment : OpenFragment) : Type 0 where
+-- the packet stops where it stands, of which more was to be written
+pub record StopsHere (site : Site) (old new : WriterView) (before after : Pending) (fragment : OpenFragment) : Type 0 where
   pub calls : new.calls ≡ old.calls
   pub full : fragment.at ≡ site.size → (packet : Packet) (older : List Packet) (rest : List ℕ) → 0 < length rest
-      → InFragment site packet older old before fragment [] → IsIdle site (with_loss (with_more rest packet) older) new after
+      → InFragment site packet older old before fragment [] → IsStopped site (with_more rest packet) older new after
   pub full_nested : fragment.at ≡ site.size → (packet : Packet) (older : List Packet) (rest : List ℕ)
-      → InFragment site packet older old before fragment [] → IsIdle site (with_loss (with_open (with_more rest packet)) older) new after
+      → InFragment site packet older old before fragment [] → IsStopped site (with_open (with_more rest packet)) older new after
   pub length_next : (packet : Packet) (older : List Packet) → InFragment site packet older old before fragment []
-      → IsIdle site (with_loss (with_open packet) older) new after
+      → IsStopped site (with_open packet) older new after
 
--- it is given up since no chunk was free
+-- it stops since no chunk was free
 pub record CannotRunOn (site : Site) (setup : Setup) (route : Route) (old new : WriterView) (before after : Pending) (fragment : OpenFragment) : Type 0 where
   pub asked : AsksInVainLast setup route old new
-  pub loses : LosesRest site old new before after fragment
+  pub stops : StopsHere site old new before after fragment
 
 abbrev pub Continues : Setup → ℕ → Route → WriterView → WriterView → Pending → Pending → OpenFragment → Flow → Type 0
 Continues setup place route old new before after fragment (Going next) =
     RunsOn (site_of setup place route) old new before after fragment next
-Continues setup place route old new before after fragment (GivenUp next_id) =
+Continues setup place route old new before after fragment (Stopped next_id) =
     CannotRunOn (site_of setup place route) setup route old new before after fragment × (next_id ≡ length new.begun)
 
 -- Nested lengths
@@ -114,17 +128,17 @@ pub record SetsAside (site : Site) (old new : WriterView) (before after : Pendin
   pub ids : (further : ℕ) → HasIds fragment (4 + further) → HasIds next further
   pub byte : HasByte next
 
--- the packet is given up with the length that was to come
+-- the packet stops with the length that was to come
 pub record CannotSetAside (site : Site) (setup : Setup) (route : Route) (old new : WriterView) (before after : Pending) (fragment : OpenFragment) : Type 0 where
   pub asked : AsksInVainLast setup route old new
   pub calls : new.calls ≡ old.calls
-  pub lost : (packet : Packet) (older : List Packet) → InFragment site packet older old before fragment []
-      → IsIdle site (with_loss (with_open packet) older) new after
+  pub stopped : (packet : Packet) (older : List Packet) → InFragment site packet older old before fragment []
+      → IsStopped site (with_open packet) older new after
 
 abbrev pub SetsLength : Setup → ℕ → Route → WriterView → WriterView → Pending → Pending → OpenFragment → Flow → Type 0
 SetsLength setup place route old new before after fragment (Going next) =
     SetsAside (site_of setup place route) old new before after fragment next
-SetsLength setup place route old new before after fragment (GivenUp next_id) =
+SetsLength setup place route old new before after fragment (Stopped next_id) =
     CannotSetAside (site_of setup place route) setup route old new before after fragment × (next_id ≡ length new.begun)
 
 -- A call's part of a packet
@@ -137,15 +151,15 @@ pub record WritesOn (site : Site) (old new : WriterView) (before after : Pending
   pub ids : (further : ℕ) → HasIds fragment (count + further) → HasIds next further
   pub byte : HasByte fragment → HasByte next
 
--- the packet is given up in the call
+-- the packet stops in the call
 pub record CannotWrite (site : Site) (setup : Setup) (route : Route) (old new : WriterView) (before after : Pending) (fragment : OpenFragment) (change : Packet → Packet) : Type 0 where
   pub asked : AsksInVainLast setup route old new
   pub calls : new.calls ≡ old.calls
-  pub lost : (packet : Packet) (older : List Packet) → InFragment site packet older old before fragment []
-      → IsIdle site (with_loss (change packet) older) new after
+  pub stopped : (packet : Packet) (older : List Packet) → InFragment site packet older old before fragment []
+      → IsStopped site (change packet) older new after
 
 abbrev pub Writes : Setup → ℕ → Route → WriterView → WriterView → Pending → Pending → OpenFragment → ℕ → (Packet → Packet) → Flow → Type 0
 Writes setup place route old new before after fragment count change (Going next) =
     WritesOn (site_of setup place route) old new before after fragment next count change
-Writes setup place route old new before after fragment count change (GivenUp next_id) =
+Writes setup place route old new before after fragment count change (Stopped next_id) =
     CannotWrite (site_of setup place route) setup route old new before after fragment change × (next_id ≡ length new.begun)

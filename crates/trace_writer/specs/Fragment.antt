@@ -1,9 +1,10 @@
 -- What is done to a fragment that is written.
-use Rattle.std.specs.Prelude.{◌≡◌, ℕ, List, vec_len}
+use Rattle.std.specs.Prelude.{◌≡◌, ℕ, ◌+◌, List, length, vec_len}
 use Rattle.trace_model.specs.Images.{with_bytes}
+use Rattle.trace_model.specs.Packets.{open_length}
 use Rattle.commit_body.specs.declared.closed.Closed.{Closed}
 use Rattle.commit_body.specs.declared.closed.Closed.TheVariants.{Here, Later}
-use Rattle.commit_body.specs.Pending.{Pending, ClosesHole}
+use Rattle.commit_body.specs.Pending.{Pending, AddsHole, ClosesHole}
 use Rattle.trace_writer.specs.declared.fragment.OpenFragment.{OpenFragment}
 
 -- nothing but the payload and the place of the next byte differs
@@ -31,3 +32,12 @@ pub record AnswersClose (old new : OpenFragment) (before after : Pending) (value
   pub closes : ClosesHole before after old.held.id value answer
   pub put : Closes old new answer
   pub at : new.at ≡ old.at
+
+-- a nested message's tag stands behind the bytes before, and behind it four bytes that are set aside for its length
+pub record OpensMessage (old new : OpenFragment) (before after : Pending) (tag : List ℕ) : Type 0 where
+  pub tagged : OpenFragment
+  pub put : IsPutInto old tagged old.at tag
+  pub at : tagged.at ≡ old.at + length tag
+  pub put_length : IsPutInto tagged new tagged.at open_length
+  pub length_at : new.at ≡ tagged.at + 4
+  pub adds : AddsHole before after tagged.held.id tagged.at

@@ -1,12 +1,10 @@
 -- What is put into the fragment that is written, where all of it fits there.
 use Rattle.std.specs.Prelude.{◌≡◌, ℕ, ◌+◌, List, [], ◌∷◌, ◌++◌, length, Some}
-use Rattle.trace_model.specs.Packets.{open_length}
-use Rattle.commit_body.specs.Pending.{Pending, AddsHole}
 use Rattle.trace_writer.specs.declared.fragment.OpenFragment.{OpenFragment}
 use Rattle.trace_writer.specs.declared.packet.OpenPacket.{OpenPacket}
 use Rattle.trace_writer.specs.declared.state.State.TheVariants.{Writing}
 use Rattle.trace_writer.specs.declared.state.Writer.{Writer}
-use Rattle.trace_writer.specs.Fragment.{IsPutInto}
+use Rattle.trace_writer.specs.Fragment.{IsPutInto, OpensMessage}
 
 -- the bytes of a field stand behind those before, and the packet is as much longer
 pub record PutsField (old new : Writer) (bytes : List ℕ) : Type 0 where
@@ -21,15 +19,6 @@ pub record PutsField (old new : Writer) (bytes : List ℕ) : Type 0 where
   pub at : next.at ≡ fragment.at + length bytes
   pub len : later.len ≡ open_one.len + length bytes
   pub starts : later.starts.items ≡ open_one.starts.items
-
--- a nested message's tag stands behind the bytes before, and behind it four bytes that are set aside for its length
-pub record OpensMessage (old new : OpenFragment) (before after : Pending) (tag : List ℕ) : Type 0 where
-  pub tagged : OpenFragment
-  pub put : IsPutInto old tagged old.at tag
-  pub at : tagged.at ≡ old.at + length tag
-  pub put_length : IsPutInto tagged new tagged.at open_length
-  pub length_at : new.at ≡ tagged.at + 4
-  pub adds : AddsHole before after tagged.held.id tagged.at
 
 -- a nested message is begun behind the bytes before, and the packet is longer by its tag and length
 pub record PutsNested (old new : Writer) (tag : List ℕ) : Type 0 where

@@ -1,10 +1,12 @@
 pub mod Agreement
+pub mod Claims
 pub mod Core
 pub mod Empty
 pub mod Filled
 pub mod Flows
 pub mod Fragment
 pub mod Headers
+pub mod Helping
 pub mod Ids
 pub mod InPlace
 pub mod Outcomes

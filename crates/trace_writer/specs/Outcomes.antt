@@ -1,6 +1,8 @@
 -- What a call of a writer does to the view of its seat, and the cut that the writer's chunks are.
 use Rattle.std.specs.Prelude.{◌≡◌, ℕ, ◌+◌, ◌-◌, Bool, false, List, [], ◌∷◌, ◌++◌, ◌⊎◌}
 use Rattle.wire_varint.specs.Varint.{redundant}
+use Rattle.trace_base.specs.declared.policy.WriterPolicy.{WriterPolicy}
+use Rattle.trace_base.specs.declared.policy.WriterPolicy.TheVariants.{Drops, Stalls}
 use Rattle.trace_model.specs.Calls.{Call, GivenUp}
 use Rattle.trace_model.specs.Images.{Image, Patch, with_bytes}
 use Rattle.trace_model.specs.Cut.{IsCut}
@@ -14,21 +16,33 @@ use Rattle.trace_writer.specs.declared.flow.Flow.TheVariants as flow
 use Rattle.trace_writer.specs.declared.fragment.OpenFragment.{OpenFragment}
 use Rattle.trace_writer.specs.declared.route.Route.{Route}
 use Rattle.trace_writer.specs.declared.state.State.{State}
-use Rattle.trace_writer.specs.declared.state.State.TheVariants.{Idle, Between, Writing, Dropping}
+use Rattle.trace_writer.specs.declared.state.State.TheVariants.{Idle, Between, Writing, Dropping, Stalled}
 use Rattle.trace_writer.specs.declared.state.Writer.{Writer}
+use Rattle.trace_writer.specs.Empty.{is_stalled}
 use Rattle.trace_writer.specs.Headers.{flags_value}
 use Rattle.trace_writer.specs.Flows.{AsksInVainLast}
 use Rattle.trace_writer.specs.Agreement.{Agrees}
 
 -- behind what was written for a call the call is noted, and that the packet was given up
+abbrev pub StopsBehind : WriterPolicy → Writer → Writer → WriterView → WriterView → Call → ℕ → Type 0
+StopsBehind Drops old new before after call next_id =
+    (new ≡ record old { state = Dropping next_id }) × (after ≡ notes_call (notes_call before call) GivenUp)
+StopsBehind Stalls old new before after call next_id = (new ≡ record old { state = Stalled next_id }) × (after ≡ notes_call before call)
+
 abbrev pub GoesBehind : Writer → Writer → WriterView → WriterView → Call → Flow → Type 0
 GoesBehind old new before after call (flow.Going fragment) = (new ≡ record old { state = Writing fragment }) × (after ≡ notes_call before call)
-GoesBehind old new before after call (flow.GivenUp next_id) =
-    (new ≡ record old { state = Dropping next_id }) × (after ≡ notes_call (notes_call before call) GivenUp)
+GoesBehind old new before after call (flow.Stopped next_id) = StopsBehind old.route.spec.policy old new before after call next_id
 
--- the call was noted, and the packet went on; or it was given up, since a claim found no chunk free
+-- The call was noted, and the packet went on; or it was given up, by a writer that drops, since a claim found no chunk free.
 pub record Notes (setup : Setup) (route : Route) (call : Call) (old new : WriterView) : Type 0 where
-  pub calls : (new.calls ≡ old.calls ++ call ∷ []) ⊎ ((new.calls ≡ old.calls ++ call ∷ GivenUp ∷ []) × AsksInVainLast setup route old new)
+  pub calls : (new.calls ≡ old.calls ++ call ∷ [])
+      ⊎ ((new.calls ≡ old.calls ++ call ∷ GivenUp ∷ []) × (route.spec.policy ≡ Drops) × AsksInVainLast setup route old new)
+
+-- The call stalls its writer, which is one that stalls: a claim found no chunk free. These calls are noted.
+pub record StallsNow (setup : Setup) (route : Route) (noted : List Call) (old new : WriterView) : Type 0 where
+  pub stalls : route.spec.policy ≡ Stalls
+  pub calls : new.calls ≡ old.calls ++ noted
+  pub vain : AsksInVainLast setup route old new
 
 -- The images of a writer
 
@@ -56,6 +70,7 @@ held_images place (Idle next_id) = []
 held_images place (Between chunk) = held_image place chunk.held.id chunk.count chunk.continues chunk.held.body.payload.items ∷ []
 held_images place (Writing fragment) = held_image place fragment.held.id fragment.count fragment.continues (fragment_payload fragment) ∷ []
 held_images place (Dropping next_id) = []
+held_images place (Stalled next_id) = []
 
 -- the patches that weren't sent count as those of the held chunk
 abbrev pub held_patches : Pending → State → List (List Patch)
@@ -63,6 +78,7 @@ held_patches pending (Idle next_id) = []
 held_patches pending (Between chunk) = with_lasts (hole_chunks pending.holes) pending.unsent ∷ []
 held_patches pending (Writing fragment) = with_lasts (hole_chunks pending.holes) pending.unsent ∷ []
 held_patches pending (Dropping next_id) = []
+held_patches pending (Stalled next_id) = []
 
 abbrev pub images_so_far : ℕ → WriterView → Writer → List Image
 images_so_far place view writer = completed_images view.begun ++ held_images place writer.state
@@ -74,3 +90,8 @@ patches_so_far view writer = completed_patches view.begun ++ held_patches writer
 abbrev pub AgreeingIsCut : Type 0
 AgreeingIsCut = (setup : Setup) (place : ℕ) (view : WriterView) (writer : Writer) → Agrees setup place view writer
     → IsCut writer.route.payload_size (place + 2) view.calls (images_so_far place view writer) (patches_so_far view writer)
+
+-- A writer that drops packets never waits for ever.
+abbrev pub DropsNeverStall : Type 0
+DropsNeverStall = (setup : Setup) (place : ℕ) (view : WriterView) (writer : Writer) → Agrees setup place view writer
+    → writer.route.spec.policy ≡ Drops → is_stalled writer.state ≡ false

@@ -1,25 +1,31 @@
 //! Where a packet begins.
-ghost use Rattle.std.specs.Prelude.{◌≡◌, ℕ, ◌+◌, ◌<◌, ◌≤◌, true, false, [], ◌∷◌, ◌++◌, List, None, length};
+ghost use Rattle.std.specs.Prelude.{◌≡◌, ℕ, ◌+◌, ◌<◌, ◌≤◌, true, false, [], ◌∷◌, ◌++◌, List, None, length, not, Ok, Err, IfOk, IfErr, vec_len};
 ghost use Rattle.trace_model.specs.Packets.{Account, account_of};
 ghost use Rattle.commit_body.specs.Pending.{Pending};
 ghost use Rattle.chunk_plain.specs.Views.{WriterView};
-ghost use Rattle.trace_writer.specs.Empty.{is_empty};
+ghost use Rattle.trace_base.specs.declared.policy.WriterPolicy.TheVariants.{Drops, Stalls};
+ghost use Rattle.trace_writer.specs.declared.fault.CallFault.TheVariants as call_fault;
+ghost use Rattle.trace_writer.specs.Empty.{is_empty, is_stalled as is_stalled_state};
+ghost use Rattle.trace_writer.specs.Helping.{IsWork, refuses, stalls_now};
+ghost use Rattle.trace_writer.specs.Outcomes.{StallsNow};
 ghost use Rattle.trace_model.specs.Calls as call;
 ghost use Rattle.chunk_plain.specs.Words.{IsWriterStep};
 ghost use Rattle.trace_writer.specs.Site.{IsRoute, site_of};
 ghost use Rattle.trace_writer.specs.Agreement.{Agrees, AgreesBetween, is_begun};
-ghost use Rattle.trace_writer.specs.States.{IsIdle, IsBehind};
-ghost use Rattle.trace_writer.specs.Placing.{IsPlace, BeginsPacket, is_kept, is_behind};
+ghost use Rattle.trace_writer.specs.States.{IsIdle, IsBehind, has_room};
+ghost use Rattle.trace_writer.specs.Placing.{BeginsHere, IsPlace, IsRoomy, BeginsAt, StallsAt, BeginsPacket, is_behind};
 
 use crate::chunk::HeldChunk;
-use crate::fault::Begun;
+use crate::claim::claim_next;
+use crate::fault::{Begun, CallFault};
+use crate::helper::HelperOn;
 use crate::packet::OpenPacket;
 use crate::route::Route;
-use crate::state::{State, Writer, put_state, take_state};
+use crate::state::{State, Writer, is_stalled, put_state, take_state};
 use chunk_plain::{Words, WriterCall};
-use claim_arbiter::claim_over;
 use commit_body::PatchList;
 use std::sync::ledger::Ledger;
+use trace_base::policy::WriterPolicy;
 use trace_base::steps::Steps;
 
 /// The mark in front of a packet whose predecessor was dropped.
@@ -29,125 +35,182 @@ const FRONT_MARK: [u8; 3] = [0xD0, 0x02, 0x01];
 #[derive(Debug)]
 pub(crate) enum Place {
     Behind(HeldChunk),
-    /// No chunk was free: the packet is dropped as a whole. The next chunk gets this id.
+    /// No chunk was free. The next one gets this id.
     Nowhere { next_id: u32 },
 }
 
 /// A place in a new chunk.
-fn new_place<W: Words, L: Ledger>(
+fn new_place<W: Words, L: Ledger, H: HelperOn<W>>(
     route: &Route,
     table: &mut W,
     seat: &mut W::Writer,
+    help: &mut H,
     next_id: u32,
     steps: &mut Steps<L>,
 ) -> Place
     requires seat { W.sits table.old seat.old }
+    requires needs { H.needs help.old table.old }
     requires route { IsRoute (W.setup table.old) (W.place seat.old) route.now }
     requires next { next_id ≡ length (W.view table.old seat.old).begun }
     requires ids { next_id + 4096 ≤ 4294967295 }
     ensures calls { (W.view table.new seat.new).calls ≡ (W.view table.old seat.old).calls }
     ensures place { (account : Account) (pending : Pending) → IsIdle (site_of (W.setup table.old) (W.place seat.old) route.now) account (W.view table.old seat.old) pending
         → IsPlace (W.setup table.old) (W.place seat.old) route.now account (W.view table.old seat.old) (W.view table.new seat.new) pending result }
-    ensures step { IsWriterStep W.setup W.sits W.place W.view W.serves W.service_view table.old seat.old table.new seat.new }
-    ensures few_steps { steps.new ≤ steps.old + route.now.arbiter.chunks + 1 }
+    ensures work { IsWork W.setup W.sits W.place W.view W.serves W.service_view H.needs H.helps route.now help.old table.old seat.old (refuses route.now.spec.policy (not (is_behind result))) help.new table.new seat.new }
+    ensures few_steps { route.now.spec.policy ≡ Drops → steps.new ≤ steps.old + route.now.arbiter.chunks + 1 }
 {
-    match claim_over(&route.arbiter, table, seat, next_id, steps) {
+    match claim_next(route, table, seat, help, next_id, steps) {
         Some(held) => Place::Behind(HeldChunk::new(held, false)),
         None => Place::Nowhere { next_id },
     }
 }
 
 /// A place in the held chunk where room is left there, and else in a new one.
-fn place_behind<W: Words, L: Ledger>(
+fn place_behind<W: Words, L: Ledger, H: HelperOn<W>>(
     route: &Route,
     table: &mut W,
     seat: &mut W::Writer,
+    help: &mut H,
     pending: &mut PatchList,
     chunk: HeldChunk,
     steps: &mut Steps<L>,
 ) -> Place
     requires seat { W.sits table.old seat.old }
+    requires needs { H.needs help.old table.old }
     requires route { IsRoute (W.setup table.old) (W.place seat.old) route.now }
     requires behind { (account : Account) × IsBehind (site_of (W.setup table.old) (W.place seat.old) route.now) account (W.view table.old seat.old) pending.old chunk }
     requires ids { chunk.held.id + 4097 ≤ 4294967295 }
     ensures calls { (W.view table.new seat.new).calls ≡ (W.view table.old seat.old).calls }
     ensures place { (account : Account) → IsBehind (site_of (W.setup table.old) (W.place seat.old) route.now) account (W.view table.old seat.old) pending.old chunk
         → IsPlace (W.setup table.old) (W.place seat.old) route.now account (W.view table.old seat.old) (W.view table.new seat.new) pending.new result }
-    ensures step { IsWriterStep W.setup W.sits W.place W.view W.serves W.service_view table.old seat.old table.new seat.new }
-    ensures few_steps { steps.new ≤ steps.old + route.now.arbiter.chunks + 1 }
+    ensures asked { has_room (vec_len chunk.held.body.payload) chunk ≡ true → (W.view table.new seat.new).asked ≡ (W.view table.old seat.old).asked }
+    ensures work { IsWork W.setup W.sits W.place W.view W.serves W.service_view H.needs H.helps route.now help.old table.old seat.old (refuses route.now.spec.policy (not (is_behind result))) help.new table.new seat.new }
+    ensures few_steps { route.now.spec.policy ≡ Drops → steps.new ≤ steps.old + route.now.arbiter.chunks + 1 }
 {
     if chunk.has_room() {
         return Place::Behind(chunk);
     }
     let next_id = chunk.held.id + 1;
     chunk.complete(table, seat, pending, route.spec.buffer, false);
-    new_place(route, table, seat, next_id, steps)
+    new_place(route, table, seat, help, next_id, steps)
 }
 
-/// Begins a packet at a place that was found.
+/// Begins a packet in a chunk that has room for it.
+fn begin_kept<W: Words>(writer: &mut Writer, table: &mut W, seat: &mut W::Writer, chunk: HeldChunk)
+    requires seat { W.sits table.old seat.old }
+    requires roomy { IsRoomy (site_of (W.setup table.old) (W.place seat.old) writer.old.route) (account_of (W.view table.old seat.old).calls) (W.view table.old seat.old) writer.old.pending chunk }
+    requires empty { is_empty writer.old.state ≡ true }
+    requires agrees { AgreesBetween (W.setup table.old) (W.place seat.old) (W.view table.old seat.old) writer.old }
+    ensures agrees { Agrees (W.setup table.old) (W.place seat.old) (W.view table.new seat.new) writer.new }
+    ensures route { writer.new.route ≡ writer.old.route }
+    ensures calls { (W.view table.new seat.new).calls ≡ (W.view table.old seat.old).calls ++ call.Begun true ∷ [] }
+    ensures going { is_stalled_state writer.new.state ≡ false }
+    ensures asked { (W.view table.new seat.new).asked ≡ (W.view table.old seat.old).asked }
+    ensures step { IsWriterStep W.setup W.sits W.place W.view W.serves W.service_view table.old seat.old table.new seat.new }
+{
+    writer.begun = writer.begun.saturating_add(1);
+    writer.packet = Some(OpenPacket::new());
+    let mut fragment = chunk.start_fragment(table, seat);
+    if writer.follows_loss {
+        fragment.put(&FRONT_MARK);
+    }
+    put_state(&mut writer.state, State::Writing(fragment));
+    table.note_call(seat, WriterCall::Begun { kept: true });
+}
+
+/// Begins a packet that is dropped as a whole.
+fn begin_dropped<W: Words>(writer: &mut Writer, table: &mut W, seat: &mut W::Writer, next_id: u32)
+    requires seat { W.sits table.old seat.old }
+    requires next { next_id ≡ length (W.view table.old seat.old).begun }
+    requires idle { IsIdle (site_of (W.setup table.old) (W.place seat.old) writer.old.route) (account_of (W.view table.old seat.old).calls) (W.view table.old seat.old) writer.old.pending }
+    requires empty { is_empty writer.old.state ≡ true }
+    requires agrees { AgreesBetween (W.setup table.old) (W.place seat.old) (W.view table.old seat.old) writer.old }
+    ensures agrees { Agrees (W.setup table.old) (W.place seat.old) (W.view table.new seat.new) writer.new }
+    ensures route { writer.new.route ≡ writer.old.route }
+    ensures calls { (W.view table.new seat.new).calls ≡ (W.view table.old seat.old).calls ++ call.Begun false ∷ [] }
+    ensures going { is_stalled_state writer.new.state ≡ false }
+    ensures asked { (W.view table.new seat.new).asked ≡ (W.view table.old seat.old).asked }
+    ensures step { IsWriterStep W.setup W.sits W.place W.view W.serves W.service_view table.old seat.old table.new seat.new }
+{
+    writer.begun = writer.begun.saturating_add(1);
+    writer.packet = Some(OpenPacket::new());
+    put_state(&mut writer.state, State::Dropping { next_id });
+    writer.dropped = writer.dropped.saturating_add(1);
+    table.note_call(seat, WriterCall::Begun { kept: false });
+}
+
+/// Begins a packet at a place that was found. Where none was it is dropped, or the writer stalls.
 fn begin_at<W: Words>(
     writer: &mut Writer,
     table: &mut W,
     seat: &mut W::Writer,
     place: Place,
-) -> Begun
+) -> Result<Begun, CallFault>
     requires seat { W.sits table.old seat.old }
     requires place { (before : WriterView) × IsPlace (W.setup table.old) (W.place seat.old) writer.old.route (account_of (W.view table.old seat.old).calls) before (W.view table.old seat.old) writer.old.pending place }
     requires empty { is_empty writer.old.state ≡ true }
     requires agrees { AgreesBetween (W.setup table.old) (W.place seat.old) (W.view table.old seat.old) writer.old }
     ensures agrees { Agrees (W.setup table.old) (W.place seat.old) (W.view table.new seat.new) writer.new }
     ensures route { writer.new.route ≡ writer.old.route }
-    ensures calls { (W.view table.new seat.new).calls ≡ (W.view table.old seat.old).calls ++ call.Begun (is_kept result) ∷ [] }
+    ensures going { IfOk result (λ _. is_stalled_state writer.new.state ≡ false) }
+    ensures begins { IfOk result (λ begun. BeginsAt writer.old.route.spec.policy place begun (W.view table.old seat.old).calls (W.view table.new seat.new).calls) }
+    ensures stalls { IfErr result (λ fault. StallsAt writer.old.route.spec.policy place fault (W.view table.old seat.old).calls (W.view table.new seat.new).calls writer.new.state) }
     ensures asked { (W.view table.new seat.new).asked ≡ (W.view table.old seat.old).asked }
-    ensures kept { is_kept result ≡ is_behind place }
     ensures step { IsWriterStep W.setup W.sits W.place W.view W.serves W.service_view table.old seat.old table.new seat.new }
 {
-    writer.begun = writer.begun.saturating_add(1);
-    writer.packet = Some(OpenPacket::new());
     match place {
         Place::Behind(chunk) => {
-            let mut fragment = chunk.start_fragment(table, seat);
-            if writer.follows_loss {
-                fragment.put(&FRONT_MARK);
+            begin_kept(writer, table, seat, chunk);
+            Ok(Begun::Kept)
+        }
+        Place::Nowhere { next_id } => match writer.route.spec.policy {
+            WriterPolicy::Drops => {
+                begin_dropped(writer, table, seat, next_id);
+                Ok(Begun::Dropping)
             }
-            put_state(&mut writer.state, State::Writing(fragment));
-            table.note_call(seat, WriterCall::Begun { kept: true });
-            Begun::Kept
-        }
-        Place::Nowhere { next_id } => {
-            put_state(&mut writer.state, State::Dropping { next_id });
-            writer.dropped = writer.dropped.saturating_add(1);
-            table.note_call(seat, WriterCall::Begun { kept: false });
-            Begun::Dropping
-        }
+            WriterPolicy::Stalls => {
+                put_state(&mut writer.state, State::Stalled { next_id });
+                Err(CallFault::Stalled)
+            }
+        },
     }
 }
 
 /// Begins a packet.
-pub(crate) fn begin<W: Words, L: Ledger>(
+pub(crate) fn begin<W: Words, L: Ledger, H: HelperOn<W>>(
     writer: &mut Writer,
     table: &mut W,
     seat: &mut W::Writer,
+    help: &mut H,
     steps: &mut Steps<L>,
-) -> Begun
+) -> Result<Begun, CallFault>
     requires seat { W.sits table.old seat.old }
+    requires needs { H.needs help.old table.old }
     requires agrees { Agrees (W.setup table.old) (W.place seat.old) (W.view table.old seat.old) writer.old }
     requires none_begun { is_begun writer.old.packet ≡ false }
     requires ids { length (W.view table.old seat.old).begun + 4096 ≤ 4294967295 }
     ensures agrees { Agrees (W.setup table.old) (W.place seat.old) (W.view table.new seat.new) writer.new }
     ensures route { writer.new.route ≡ writer.old.route }
-    ensures begins { BeginsPacket (W.setup table.old) writer.old.route (W.view table.old seat.old) (W.view table.new seat.new) result }
-    ensures step { IsWriterStep W.setup W.sits W.place W.view W.serves W.service_view table.old seat.old table.new seat.new }
-    ensures few_steps { steps.new ≤ steps.old + writer.old.route.arbiter.chunks + 1 }
+    ensures going { IfOk result (λ _. is_stalled_state writer.new.state ≡ false) }
+    ensures begins { IfOk result (λ begun. BeginsPacket (W.setup table.old) writer.old.route (W.view table.old seat.old) (W.view table.new seat.new) begun) }
+    ensures stays { is_stalled_state writer.old.state ≡ true → (result ≡ Err call_fault.Stalled) × (writer.new ≡ writer.old) × (table.new ≡ table.old) × (seat.new ≡ seat.old) × (help.new ≡ help.old) }
+    ensures stalls { is_stalled_state writer.old.state ≡ false → IfErr result (λ fault. (fault ≡ call_fault.Stalled) × (is_stalled_state writer.new.state ≡ true) × StallsNow (W.setup table.old) writer.old.route [] (W.view table.old seat.old) (W.view table.new seat.new)) }
+    ensures asked { BeginsHere writer.old.state → (W.view table.new seat.new).asked ≡ (W.view table.old seat.old).asked }
+    ensures work { IsWork W.setup W.sits W.place W.view W.serves W.service_view H.needs H.helps writer.old.route help.old table.old seat.old (stalls_now (is_stalled_state writer.old.state) result) help.new table.new seat.new }
+    ensures few_steps { writer.old.route.spec.policy ≡ Drops → steps.new ≤ steps.old + writer.old.route.arbiter.chunks + 1 }
 {
+    if is_stalled(&writer.state) {
+        return Err(CallFault::Stalled);
+    }
     let route = writer.route;
     let place = match take_state(&mut writer.state) {
-        State::Idle { next_id } => new_place(&route, table, seat, next_id, steps),
+        State::Idle { next_id } => new_place(&route, table, seat, help, next_id, steps),
         State::Between(chunk) => {
-            place_behind(&route, table, seat, &mut writer.pending, chunk, steps)
+            place_behind(&route, table, seat, help, &mut writer.pending, chunk, steps)
         }
         State::Writing(_fragment) => unreachable!(),
         State::Dropping { next_id: _ } => unreachable!(),
+        State::Stalled { next_id: _ } => unreachable!(),
     };
     begin_at(writer, table, seat, place)
 }

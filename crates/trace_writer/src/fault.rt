@@ -20,4 +20,7 @@ pub enum CallFault {
     TooDeep,
     #[error("packet too long")]
     PacketTooLong,
+    /// No chunk was free, and the helper freed none: the writer waits for ever.
+    #[error("stalled")]
+    Stalled,
 }

@@ -1,73 +1,94 @@
 //! The fields of a packet that is begun, and its nested messages.
-ghost use Rattle.std.specs.Prelude.{◌≡◌, ℕ, ◌+◌, ◌*◌, ◌<◌, ◌≤◌, true, false, [], ◌∷◌, ◌++◌, List, length};
+ghost use Rattle.std.specs.Prelude.{◌≡◌, ℕ, ◌+◌, ◌*◌, ◌<◌, ◌≤◌, true, false, [], ◌∷◌, ◌++◌, List, length, Ok, Err, IfOk, IfErr};
 ghost use Rattle.std.specs.List.{repeat};
 ghost use Rattle.trace_base.specs.declared.limits.TheConstants.{MAX_PACKET_LEN, MAX_OPEN_HOLES};
 ghost use Rattle.trace_model.specs.Calls as call;
 ghost use Rattle.trace_model.specs.Encoding.{nested_tag};
 ghost use Rattle.trace_model.specs.Packets.{Account, noted, on_newest, with_more};
 ghost use Rattle.chunk_plain.specs.Words.{IsWriterStep, call_of};
-ghost use Rattle.trace_writer.specs.Agreement.{Agrees, is_begun, len_of, depth_of};
-ghost use Rattle.trace_writer.specs.Empty.{is_empty};
-ghost use Rattle.trace_writer.specs.Outcomes.{Notes, GoesBehind};
+ghost use Rattle.trace_writer.specs.Agreement.{Agrees, NeedsNoChunk, is_begun, len_of, depth_of};
+ghost use Rattle.trace_writer.specs.declared.fault.CallFault.TheVariants as call_fault;
+ghost use Rattle.trace_writer.specs.Flows.{is_stopped};
+ghost use Rattle.trace_writer.specs.Empty.{is_empty, is_stalled as is_stalled_state};
+ghost use Rattle.trace_writer.specs.Helping.{IsWork, refuses, stalls_now};
+ghost use Rattle.trace_writer.specs.Outcomes.{Notes, GoesBehind, StallsNow};
 
+use crate::fault::CallFault;
 use crate::flow::Flow;
+use crate::helper::HelperOn;
 use crate::here::{put_field_here, put_nested_here};
-use crate::state::{State, Writer, put_state, take_state};
+use crate::state::{State, Writer, is_stalled, put_state, take_state};
 use crate::stream::{put_field, put_nested};
 use chunk_plain::{Words, WriterCall};
 use std::sync::ledger::Ledger;
+use trace_base::policy::WriterPolicy;
 use trace_base::steps::Steps;
 
 /// Writes a field that the packet may have: what stands in front of its content, and its text so
 /// many times.
-pub(crate) fn write_field<W: Words, L: Ledger>(
+pub(crate) fn write_field<W: Words, L: Ledger, H: HelperOn<W>>(
     writer: &mut Writer,
     table: &mut W,
     seat: &mut W::Writer,
+    help: &mut H,
     head: &[u8],
     text: &[u8],
     times: u32,
     call: WriterCall<'_>,
     steps: &mut Steps<L>,
-)
+) -> Result<(), CallFault>
     requires seat { W.sits table.old seat.old }
+    requires needs { H.needs help.old table.old }
     requires agrees { Agrees (W.setup table.old) (W.place seat.old) (W.view table.old seat.old) writer.old }
     requires begun { is_begun writer.old.packet ≡ true }
     requires fits { len_of writer.old.packet + (length head.now + times * length text.now) ≤ MAX_PACKET_LEN }
     requires call { (account : Account) → noted account (call_of call) ≡ on_newest (with_more (head.now ++ repeat times text.now)) account }
     ensures agrees { Agrees (W.setup table.old) (W.place seat.old) (W.view table.new seat.new) writer.new }
     ensures route { writer.new.route ≡ writer.old.route }
-    ensures notes { Notes (W.setup table.old) writer.old.route (call_of call.entry) (W.view table.old seat.old) (W.view table.new seat.new) }
-    ensures step { IsWriterStep W.setup W.sits W.place W.view W.serves W.service_view table.old seat.old table.new seat.new }
+    ensures notes { IfOk result (λ _. Notes (W.setup table.old) writer.old.route (call_of call.entry) (W.view table.old seat.old) (W.view table.new seat.new)) }
+    ensures going { IfOk result (λ _. is_stalled_state writer.new.state ≡ false) }
+    ensures stays { is_stalled_state writer.old.state ≡ true → (result ≡ Err call_fault.Stalled) × (writer.new ≡ writer.old) × (table.new ≡ table.old) × (seat.new ≡ seat.old) × (help.new ≡ help.old) }
+    ensures stalls { is_stalled_state writer.old.state ≡ false → IfErr result (λ fault. (fault ≡ call_fault.Stalled) × (is_stalled_state writer.new.state ≡ true) × StallsNow (W.setup table.old) writer.old.route ((call_of call.entry) ∷ []) (W.view table.old seat.old) (W.view table.new seat.new)) }
+    ensures asked { NeedsNoChunk writer.old.state (length head.now + times * length text.now) → (W.view table.new seat.new).asked ≡ (W.view table.old seat.old).asked }
+    ensures work { IsWork W.setup W.sits W.place W.view W.serves W.service_view H.needs H.helps writer.old.route help.old table.old seat.old (stalls_now (is_stalled_state writer.old.state) result) help.new table.new seat.new }
 {
     if put_field_here(writer, head, text, times) {
         table.note_call(seat, call);
-    } else {
-        write_field_on(writer, table, seat, head, text, times, call, steps);
+        return Ok(());
     }
+    write_field_on(writer, table, seat, help, head, text, times, call, steps)
 }
 
 /// Writes a field over as many chunks as it takes.
-fn write_field_on<W: Words, L: Ledger>(
+fn write_field_on<W: Words, L: Ledger, H: HelperOn<W>>(
     writer: &mut Writer,
     table: &mut W,
     seat: &mut W::Writer,
+    help: &mut H,
     head: &[u8],
     text: &[u8],
     times: u32,
     call: WriterCall<'_>,
     steps: &mut Steps<L>,
-)
+) -> Result<(), CallFault>
     requires seat { W.sits table.old seat.old }
+    requires needs { H.needs help.old table.old }
     requires agrees { Agrees (W.setup table.old) (W.place seat.old) (W.view table.old seat.old) writer.old }
     requires begun { is_begun writer.old.packet ≡ true }
     requires fits { len_of writer.old.packet + (length head.now + times * length text.now) ≤ MAX_PACKET_LEN }
     requires call { (account : Account) → noted account (call_of call) ≡ on_newest (with_more (head.now ++ repeat times text.now)) account }
     ensures agrees { Agrees (W.setup table.old) (W.place seat.old) (W.view table.new seat.new) writer.new }
     ensures route { writer.new.route ≡ writer.old.route }
-    ensures notes { Notes (W.setup table.old) writer.old.route (call_of call.entry) (W.view table.old seat.old) (W.view table.new seat.new) }
-    ensures step { IsWriterStep W.setup W.sits W.place W.view W.serves W.service_view table.old seat.old table.new seat.new }
+    ensures notes { IfOk result (λ _. Notes (W.setup table.old) writer.old.route (call_of call.entry) (W.view table.old seat.old) (W.view table.new seat.new)) }
+    ensures going { IfOk result (λ _. is_stalled_state writer.new.state ≡ false) }
+    ensures stays { is_stalled_state writer.old.state ≡ true → (result ≡ Err call_fault.Stalled) × (writer.new ≡ writer.old) × (table.new ≡ table.old) × (seat.new ≡ seat.old) × (help.new ≡ help.old) }
+    ensures stalls { is_stalled_state writer.old.state ≡ false → IfErr result (λ fault. (fault ≡ call_fault.Stalled) × (is_stalled_state writer.new.state ≡ true) × StallsNow (W.setup table.old) writer.old.route ((call_of call.entry) ∷ []) (W.view table.old seat.old) (W.view table.new seat.new)) }
+    ensures asked { is_empty writer.old.state ≡ true → (W.view table.new seat.new).asked ≡ (W.view table.old seat.old).asked }
+    ensures work { IsWork W.setup W.sits W.place W.view W.serves W.service_view H.needs H.helps writer.old.route help.old table.old seat.old (stalls_now (is_stalled_state writer.old.state) result) help.new table.new seat.new }
 {
+    if is_stalled(&writer.state) {
+        return Err(CallFault::Stalled);
+    }
     let route = writer.route;
     let Some(packet) = &mut writer.packet else {
         unreachable!()
@@ -77,29 +98,33 @@ fn write_field_on<W: Words, L: Ledger>(
         State::Writing(fragment) => {
             let pending = &mut writer.pending;
             let flow = put_field(
-                &route, table, seat, pending, fragment, head, text, times, steps,
+                &route, table, seat, help, pending, fragment, head, text, times, steps,
             );
-            go_on(writer, table, seat, flow, call);
+            go_on(writer, table, seat, flow, call)
         }
         State::Dropping { next_id } => {
             put_state(&mut writer.state, State::Dropping { next_id });
             table.note_call(seat, call);
+            Ok(())
         }
         State::Idle { next_id: _ } => unreachable!(),
         State::Between(_chunk) => unreachable!(),
+        State::Stalled { next_id: _ } => unreachable!(),
     }
 }
 
 /// Begins a nested message that the packet may have, by its tag and a length that is set aside.
-pub(crate) fn write_nested<W: Words, L: Ledger>(
+pub(crate) fn write_nested<W: Words, L: Ledger, H: HelperOn<W>>(
     writer: &mut Writer,
     table: &mut W,
     seat: &mut W::Writer,
+    help: &mut H,
     field: u32,
     tag: &[u8],
     steps: &mut Steps<L>,
-)
+) -> Result<(), CallFault>
     requires seat { W.sits table.old seat.old }
+    requires needs { H.needs help.old table.old }
     requires agrees { Agrees (W.setup table.old) (W.place seat.old) (W.view table.old seat.old) writer.old }
     requires begun { is_begun writer.old.packet ≡ true }
     requires tag { tag.now ≡ nested_tag field }
@@ -107,26 +132,32 @@ pub(crate) fn write_nested<W: Words, L: Ledger>(
     requires depth { depth_of writer.old.packet < MAX_OPEN_HOLES }
     ensures agrees { Agrees (W.setup table.old) (W.place seat.old) (W.view table.new seat.new) writer.new }
     ensures route { writer.new.route ≡ writer.old.route }
-    ensures notes { Notes (W.setup table.old) writer.old.route (call.Nested field) (W.view table.old seat.old) (W.view table.new seat.new) }
-    ensures step { IsWriterStep W.setup W.sits W.place W.view W.serves W.service_view table.old seat.old table.new seat.new }
+    ensures notes { IfOk result (λ _. Notes (W.setup table.old) writer.old.route (call.Nested field) (W.view table.old seat.old) (W.view table.new seat.new)) }
+    ensures going { IfOk result (λ _. is_stalled_state writer.new.state ≡ false) }
+    ensures stays { is_stalled_state writer.old.state ≡ true → (result ≡ Err call_fault.Stalled) × (writer.new ≡ writer.old) × (table.new ≡ table.old) × (seat.new ≡ seat.old) × (help.new ≡ help.old) }
+    ensures stalls { is_stalled_state writer.old.state ≡ false → IfErr result (λ fault. (fault ≡ call_fault.Stalled) × (is_stalled_state writer.new.state ≡ true) × StallsNow (W.setup table.old) writer.old.route ((call.Nested field) ∷ []) (W.view table.old seat.old) (W.view table.new seat.new)) }
+    ensures asked { NeedsNoChunk writer.old.state (length tag.now + 4) → (W.view table.new seat.new).asked ≡ (W.view table.old seat.old).asked }
+    ensures work { IsWork W.setup W.sits W.place W.view W.serves W.service_view H.needs H.helps writer.old.route help.old table.old seat.old (stalls_now (is_stalled_state writer.old.state) result) help.new table.new seat.new }
 {
     if put_nested_here(writer, tag) {
         table.note_call(seat, WriterCall::Nested { field });
-    } else {
-        write_nested_on(writer, table, seat, field, tag, steps);
+        return Ok(());
     }
+    write_nested_on(writer, table, seat, help, field, tag, steps)
 }
 
 /// Begins a nested message over as many chunks as its tag and its length take.
-fn write_nested_on<W: Words, L: Ledger>(
+fn write_nested_on<W: Words, L: Ledger, H: HelperOn<W>>(
     writer: &mut Writer,
     table: &mut W,
     seat: &mut W::Writer,
+    help: &mut H,
     field: u32,
     tag: &[u8],
     steps: &mut Steps<L>,
-)
+) -> Result<(), CallFault>
     requires seat { W.sits table.old seat.old }
+    requires needs { H.needs help.old table.old }
     requires agrees { Agrees (W.setup table.old) (W.place seat.old) (W.view table.old seat.old) writer.old }
     requires begun { is_begun writer.old.packet ≡ true }
     requires tag { tag.now ≡ nested_tag field }
@@ -134,9 +165,16 @@ fn write_nested_on<W: Words, L: Ledger>(
     requires depth { depth_of writer.old.packet < MAX_OPEN_HOLES }
     ensures agrees { Agrees (W.setup table.old) (W.place seat.old) (W.view table.new seat.new) writer.new }
     ensures route { writer.new.route ≡ writer.old.route }
-    ensures notes { Notes (W.setup table.old) writer.old.route (call.Nested field) (W.view table.old seat.old) (W.view table.new seat.new) }
-    ensures step { IsWriterStep W.setup W.sits W.place W.view W.serves W.service_view table.old seat.old table.new seat.new }
+    ensures notes { IfOk result (λ _. Notes (W.setup table.old) writer.old.route (call.Nested field) (W.view table.old seat.old) (W.view table.new seat.new)) }
+    ensures going { IfOk result (λ _. is_stalled_state writer.new.state ≡ false) }
+    ensures stays { is_stalled_state writer.old.state ≡ true → (result ≡ Err call_fault.Stalled) × (writer.new ≡ writer.old) × (table.new ≡ table.old) × (seat.new ≡ seat.old) × (help.new ≡ help.old) }
+    ensures stalls { is_stalled_state writer.old.state ≡ false → IfErr result (λ fault. (fault ≡ call_fault.Stalled) × (is_stalled_state writer.new.state ≡ true) × StallsNow (W.setup table.old) writer.old.route ((call.Nested field) ∷ []) (W.view table.old seat.old) (W.view table.new seat.new)) }
+    ensures asked { is_empty writer.old.state ≡ true → (W.view table.new seat.new).asked ≡ (W.view table.old seat.old).asked }
+    ensures work { IsWork W.setup W.sits W.place W.view W.serves W.service_view H.needs H.helps writer.old.route help.old table.old seat.old (stalls_now (is_stalled_state writer.old.state) result) help.new table.new seat.new }
 {
+    if is_stalled(&writer.state) {
+        return Err(CallFault::Stalled);
+    }
     let route = writer.route;
     let call = WriterCall::Nested { field };
     let Some(packet) = &mut writer.packet else {
@@ -146,15 +184,17 @@ fn write_nested_on<W: Words, L: Ledger>(
     match take_state(&mut writer.state) {
         State::Writing(fragment) => {
             let pending = &mut writer.pending;
-            let flow = put_nested(&route, table, seat, pending, fragment, tag, steps);
-            go_on(writer, table, seat, flow, call);
+            let flow = put_nested(&route, table, seat, help, pending, fragment, tag, steps);
+            go_on(writer, table, seat, flow, call)
         }
         State::Dropping { next_id } => {
             put_state(&mut writer.state, State::Dropping { next_id });
             table.note_call(seat, call);
+            Ok(())
         }
         State::Idle { next_id: _ } => unreachable!(),
         State::Between(_chunk) => unreachable!(),
+        State::Stalled { next_id: _ } => unreachable!(),
     }
 }
 
@@ -165,23 +205,36 @@ fn go_on<W: Words>(
     seat: &mut W::Writer,
     flow: Flow,
     call: WriterCall<'_>,
-)
+) -> Result<(), CallFault>
     requires seat { W.sits table.old seat.old }
     requires empty { is_empty writer.old.state ≡ true }
+    ensures going { IfOk result (λ _. refuses writer.old.route.spec.policy (is_stopped flow) ≡ false) }
+    ensures stalls { IfErr result (λ fault. (fault ≡ call_fault.Stalled) × (refuses writer.old.route.spec.policy (is_stopped flow) ≡ true)) }
     ensures goes { GoesBehind writer.old writer.new (W.view table.old seat.old) (W.view table.new seat.new) (call_of call.entry) flow }
     ensures step { IsWriterStep W.setup W.sits W.place W.view W.serves W.service_view table.old seat.old table.new seat.new }
 {
     table.note_call(seat, call);
     match flow {
-        Flow::Going(fragment) => put_state(&mut writer.state, State::Writing(fragment)),
-        Flow::GivenUp { next_id } => {
-            put_state(&mut writer.state, State::Dropping { next_id });
-            table.note_call(seat, WriterCall::GivenUp);
+        Flow::Going(fragment) => {
+            put_state(&mut writer.state, State::Writing(fragment));
+            Ok(())
         }
+        Flow::Stopped { next_id } => match writer.route.spec.policy {
+            WriterPolicy::Drops => {
+                put_state(&mut writer.state, State::Dropping { next_id });
+                table.note_call(seat, WriterCall::GivenUp);
+                Ok(())
+            }
+            WriterPolicy::Stalls => {
+                put_state(&mut writer.state, State::Stalled { next_id });
+                Err(CallFault::Stalled)
+            }
+        },
     }
 }
 
-/// Ends the innermost nested message, and puts its length in or keeps it as a patch.
+/// Ends the innermost nested message, and puts its length in or keeps it as a patch. Where the writer
+/// waits for ever nothing changes.
 pub(crate) fn end_message<W: Words>(writer: &mut Writer, table: &mut W, seat: &mut W::Writer)
     requires seat { W.sits table.old seat.old }
     requires agrees { Agrees (W.setup table.old) (W.place seat.old) (W.view table.old seat.old) writer.old }
@@ -189,10 +242,15 @@ pub(crate) fn end_message<W: Words>(writer: &mut Writer, table: &mut W, seat: &m
     requires depth { 0 < depth_of writer.old.packet }
     ensures agrees { Agrees (W.setup table.old) (W.place seat.old) (W.view table.new seat.new) writer.new }
     ensures route { writer.new.route ≡ writer.old.route }
-    ensures notes { (W.view table.new seat.new).calls ≡ (W.view table.old seat.old).calls ++ call.Ended ∷ [] }
+    ensures stalled { is_stalled_state writer.old.state ≡ true → (writer.new ≡ writer.old) × (table.new ≡ table.old) × (seat.new ≡ seat.old) }
+    ensures goes { is_stalled_state writer.new.state ≡ is_stalled_state writer.old.state }
+    ensures notes { is_stalled_state writer.old.state ≡ false → (W.view table.new seat.new).calls ≡ (W.view table.old seat.old).calls ++ call.Ended ∷ [] }
     ensures others { record (W.view table.new seat.new) { calls = (W.view table.old seat.old).calls } ≡ W.view table.old seat.old }
     ensures step { IsWriterStep W.setup W.sits W.place W.view W.serves W.service_view table.old seat.old table.new seat.new }
 {
+    if is_stalled(&writer.state) {
+        return;
+    }
     let Some(packet) = &mut writer.packet else {
         unreachable!()
     };
@@ -202,6 +260,7 @@ pub(crate) fn end_message<W: Words>(writer: &mut Writer, table: &mut W, seat: &m
         State::Dropping { next_id: _ } => {}
         State::Idle { next_id: _ } => unreachable!(),
         State::Between(_chunk) => unreachable!(),
+        State::Stalled { next_id: _ } => unreachable!(),
     }
     table.note_call(seat, WriterCall::Ended);
 }

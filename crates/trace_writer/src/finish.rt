@@ -3,12 +3,12 @@ ghost use Rattle.std.specs.Prelude.{◌≡◌, ℕ, ◌+◌, ◌<◌, ◌≤◌,
 ghost use Rattle.trace_model.specs.Calls as call;
 ghost use Rattle.chunk_plain.specs.Words.{IsWriterStep};
 ghost use Rattle.trace_writer.specs.Agreement.{Agrees, is_begun, depth_of};
-ghost use Rattle.trace_writer.specs.Empty.{is_empty};
+ghost use Rattle.trace_writer.specs.Empty.{is_empty, is_stalled as is_stalled_state};
 
-use crate::state::{State, Writer, put_state, take_state};
+use crate::state::{State, Writer, is_stalled, put_state, take_state};
 use chunk_plain::{Words, WriterCall};
 
-/// Ends a packet whose messages have all ended.
+/// Ends a packet whose messages have all ended. Where the writer waits for ever nothing changes.
 pub(crate) fn finish<W: Words>(writer: &mut Writer, table: &mut W, seat: &mut W::Writer)
     requires seat { W.sits table.old seat.old }
     requires agrees { Agrees (W.setup table.old) (W.place seat.old) (W.view table.old seat.old) writer.old }
@@ -16,11 +16,16 @@ pub(crate) fn finish<W: Words>(writer: &mut Writer, table: &mut W, seat: &mut W:
     requires depth { depth_of writer.old.packet ≡ 0 }
     ensures agrees { Agrees (W.setup table.old) (W.place seat.old) (W.view table.new seat.new) writer.new }
     ensures route { writer.new.route ≡ writer.old.route }
-    ensures ended { is_begun writer.new.packet ≡ false }
-    ensures notes { (W.view table.new seat.new).calls ≡ (W.view table.old seat.old).calls ++ call.Finished ∷ [] }
+    ensures stalled { is_stalled_state writer.old.state ≡ true → (writer.new ≡ writer.old) × (table.new ≡ table.old) × (seat.new ≡ seat.old) }
+    ensures goes { is_stalled_state writer.new.state ≡ is_stalled_state writer.old.state }
+    ensures ended { is_stalled_state writer.old.state ≡ false → is_begun writer.new.packet ≡ false }
+    ensures notes { is_stalled_state writer.old.state ≡ false → (W.view table.new seat.new).calls ≡ (W.view table.old seat.old).calls ++ call.Finished ∷ [] }
     ensures others { record (W.view table.new seat.new) { calls = (W.view table.old seat.old).calls } ≡ W.view table.old seat.old }
     ensures step { IsWriterStep W.setup W.sits W.place W.view W.serves W.service_view table.old seat.old table.new seat.new }
 {
+    if is_stalled(&writer.state) {
+        return;
+    }
     match take_state(&mut writer.state) {
         State::Writing(fragment) => {
             put_state(&mut writer.state, State::Between(fragment.end()));
@@ -32,24 +37,30 @@ pub(crate) fn finish<W: Words>(writer: &mut Writer, table: &mut W, seat: &mut W:
         }
         State::Idle { next_id: _ } => unreachable!(),
         State::Between(_chunk) => unreachable!(),
+        State::Stalled { next_id: _ } => unreachable!(),
     }
     writer.packet = None;
     table.note_call(seat, WriterCall::Finished);
 }
 
-/// Completes the held chunk, where there is one.
+/// Completes the held chunk, where there is one. Where the writer waits for ever nothing changes.
 pub(crate) fn flush<W: Words>(writer: &mut Writer, table: &mut W, seat: &mut W::Writer)
     requires seat { W.sits table.old seat.old }
     requires agrees { Agrees (W.setup table.old) (W.place seat.old) (W.view table.old seat.old) writer.old }
     requires none_begun { is_begun writer.old.packet ≡ false }
     ensures agrees { Agrees (W.setup table.old) (W.place seat.old) (W.view table.new seat.new) writer.new }
     ensures route { writer.new.route ≡ writer.old.route }
+    ensures stalled { is_stalled_state writer.old.state ≡ true → (writer.new ≡ writer.old) × (table.new ≡ table.old) × (seat.new ≡ seat.old) }
+    ensures goes { is_stalled_state writer.new.state ≡ is_stalled_state writer.old.state }
     ensures none_begun { is_begun writer.new.packet ≡ false }
     ensures none_held { is_empty writer.new.state ≡ true }
-    ensures notes { (W.view table.new seat.new).calls ≡ (W.view table.old seat.old).calls ++ call.Flushed ∷ [] }
+    ensures notes { is_stalled_state writer.old.state ≡ false → (W.view table.new seat.new).calls ≡ (W.view table.old seat.old).calls ++ call.Flushed ∷ [] }
     ensures asked { (W.view table.new seat.new).asked ≡ (W.view table.old seat.old).asked }
     ensures step { IsWriterStep W.setup W.sits W.place W.view W.serves W.service_view table.old seat.old table.new seat.new }
 {
+    if is_stalled(&writer.state) {
+        return;
+    }
     match take_state(&mut writer.state) {
         State::Between(chunk) => {
             let next_id = chunk.held.id + 1;
@@ -60,6 +71,7 @@ pub(crate) fn flush<W: Words>(writer: &mut Writer, table: &mut W, seat: &mut W::
         State::Idle { next_id } => put_state(&mut writer.state, State::Idle { next_id }),
         State::Writing(_fragment) => unreachable!(),
         State::Dropping { next_id: _ } => unreachable!(),
+        State::Stalled { next_id: _ } => unreachable!(),
     }
     table.note_call(seat, WriterCall::Flushed);
 }

@@ -4,6 +4,7 @@ use crate::fragment::OpenFragment;
 #[derive(Debug)]
 pub(crate) enum Flow {
     Going(OpenFragment),
-    /// No chunk was free: the packet was given up. The next chunk gets this id.
-    GivenUp { next_id: u32 },
+    /// No chunk was free: a writer that drops has given the packet up, and one that stalls has no
+    /// chunk to go on in. The next chunk gets this id.
+    Stopped { next_id: u32 },
 }

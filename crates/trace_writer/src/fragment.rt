@@ -38,8 +38,7 @@ pub(crate) struct OpenFragment {
 
 impl OpenFragment {
     ghost use Rattle.commit_body.specs.Pending.{AddsHole, ClosesHole};
-    ghost use Rattle.trace_writer.specs.Fragment.{IsPutInto, AnswersClose};
-    ghost use Rattle.trace_writer.specs.InPlace.{OpensMessage};
+    ghost use Rattle.trace_writer.specs.Fragment.{IsPutInto, OpensMessage, AnswersClose};
 
     /// Writes the first bytes of the piece, as many as fit, and says how many.
     pub fn put(&mut self, piece: &[u8]) -> usize
@@ -55,6 +54,7 @@ impl OpenFragment {
     /// Writes a head, and behind it a text so many times, where all of it fits; else nothing changes.
     pub fn put_whole(&mut self, head: &[u8], text: &[u8], times: u32) -> bool
         requires { length head.now + times * length text.now ≤ MAX_PACKET_LEN }
+        ensures fits { self.old.at + (length head.now + times * length text.now) ≤ vec_len self.old.held.body.payload → result ≡ true }
         ensures unchanged { result ≡ false → self.new ≡ self.old }
         ensures bytes { result ≡ true → IsPutInto self.old self.new self.old.at (head.now ++ repeat times text.now) }
         ensures at { result ≡ true → self.new.at ≡ self.old.at + (length head.now + times * length text.now) }
@@ -102,6 +102,7 @@ impl OpenFragment {
     pub fn put_message(&mut self, pending: &mut PatchList, tag: &[u8]) -> bool
         requires few { length pending.old.holes < MAX_OPEN_HOLES }
         requires small { length tag.now + 4 ≤ MAX_PACKET_LEN }
+        ensures fits { self.old.at + (length tag.now + 4) ≤ vec_len self.old.held.body.payload → result ≡ true }
         ensures unchanged { result ≡ false → self.new ≡ self.old }
         ensures none_added { result ≡ false → pending.new ≡ pending.old }
         ensures opens { result ≡ true → OpensMessage self.old self.new pending.old pending.new tag.now }

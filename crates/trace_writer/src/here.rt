@@ -1,6 +1,6 @@
 //! What a call adds to the packet, where all of it fits into the fragment that is written: then the
 //! held chunk stays where it is.
-ghost use Rattle.std.specs.Prelude.{◌≡◌, ◌+◌, ◌*◌, ◌<◌, ◌≤◌, ◌++◌, true, false, length};
+ghost use Rattle.std.specs.Prelude.{◌≡◌, ◌+◌, ◌*◌, ◌<◌, ◌≤◌, ◌++◌, true, false, length, vec_len};
 ghost use Rattle.std.specs.List.{repeat};
 ghost use Rattle.trace_base.specs.declared.limits.TheConstants.{MAX_PACKET_LEN, MAX_OPEN_HOLES};
 ghost use Rattle.trace_writer.specs.declared.fragment.OpenFragment.{OpenFragment};
@@ -14,6 +14,7 @@ use crate::state::{State, Writer};
 pub(crate) fn put_field_here(writer: &mut Writer, head: &[u8], text: &[u8], times: u32) -> bool
     requires begun { is_begun writer.old.packet ≡ true }
     requires fits { len_of writer.old.packet + (length head.now + times * length text.now) ≤ MAX_PACKET_LEN }
+    ensures fits { (fragment : OpenFragment) → writer.old.state ≡ Writing fragment → fragment.at + (length head.now + times * length text.now) ≤ vec_len fragment.held.body.payload → result ≡ true }
     ensures unchanged { result ≡ false → writer.new ≡ writer.old }
     ensures puts { result ≡ true → PutsField writer.old writer.new (head.now ++ repeat times text.now) }
 {
@@ -36,6 +37,7 @@ pub(crate) fn put_nested_here(writer: &mut Writer, tag: &[u8]) -> bool
     requires fits { len_of writer.old.packet + (length tag.now + 4) ≤ MAX_PACKET_LEN }
     requires depth { depth_of writer.old.packet < MAX_OPEN_HOLES }
     requires few { (fragment : OpenFragment) → writer.old.state ≡ Writing fragment → length writer.old.pending.holes < MAX_OPEN_HOLES }
+    ensures fits { (fragment : OpenFragment) → writer.old.state ≡ Writing fragment → fragment.at + (length tag.now + 4) ≤ vec_len fragment.held.body.payload → result ≡ true }
     ensures unchanged { result ≡ false → writer.new ≡ writer.old }
     ensures puts { result ≡ true → PutsNested writer.old writer.new tag.now }
 {

@@ -8,11 +8,13 @@
 mod begin;
 mod bytes;
 mod chunk;
+mod claim;
 mod fault;
 mod field;
 mod finish;
 mod flow;
 mod fragment;
+mod helper;
 mod here;
 mod laws;
 mod packet;
@@ -24,5 +26,6 @@ mod tests;
 mod writer;
 
 pub use fault::{Begun, CallFault};
-pub use laws::agreeing_is_cut;
+pub use helper::{HelperOn, NoHelp};
+pub use laws::{agreeing_is_cut, drops_never_stall};
 pub use writer::WriterCore;

@@ -1,6 +1,6 @@
 //! What a writer has between two calls.
 ghost use Rattle.std.specs.Prelude.{◌≡◌, true};
-ghost use Rattle.trace_writer.specs.Empty.{is_empty, empty};
+ghost use Rattle.trace_writer.specs.Empty.{is_empty, is_stalled as is_stalled_state, empty};
 
 use crate::chunk::HeldChunk;
 use crate::fragment::OpenFragment;
@@ -19,6 +19,8 @@ pub(crate) enum State {
     Writing(OpenFragment),
     /// The packet was dropped, at its begin or later.
     Dropping { next_id: u32 },
+    /// No chunk came free for the packet, or for the next one.
+    Stalled { next_id: u32 },
 }
 
 /// A writer without its seat.
@@ -34,6 +36,13 @@ pub(crate) struct Writer {
     /// Packets that were begun, and those of them that were dropped at their begin.
     pub begun: u64,
     pub dropped: u64,
+}
+
+/// Whether the writer waits for ever.
+pub(crate) fn is_stalled(state: &State) -> bool
+    ensures { result ≡ is_stalled_state state.now }
+{
+    matches!(state, State::Stalled { next_id: _ })
 }
 
 /// Takes the state out, and leaves one without a chunk.
@@ -52,6 +61,7 @@ pub(crate) fn put_state(state: &mut State, new: State)
     match mem::replace(state, new) {
         State::Idle { next_id: _ } => {}
         State::Dropping { next_id: _ } => {}
+        State::Stalled { next_id: _ } => {}
         State::Between(_chunk) => unreachable!(),
         State::Writing(_fragment) => unreachable!(),
     }

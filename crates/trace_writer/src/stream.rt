@@ -1,5 +1,5 @@
 //! The bytes of a packet, streamed into chunks: where a chunk ends the packet runs on in the next
-//! one, or is given up where none is free.
+//! one, or stops where none is free.
 ghost use Rattle.std.specs.Prelude.{◌≡◌, ℕ, ◌+◌, ◌-◌, ◌*◌, ◌<◌, ◌≤◌, ◌⊎◌, [], ◌∷◌, ◌++◌, length, vec_len};
 ghost use Rattle.std.specs.List.{repeat};
 ghost use Rattle.trace_base.specs.declared.limits.TheConstants.{MAX_OPEN_HOLES};
@@ -9,21 +9,51 @@ ghost use Rattle.trace_writer.specs.Filled.{HasByte};
 ghost use Rattle.trace_writer.specs.Ids.{HasIds};
 ghost use Rattle.trace_model.specs.Packets.{Packet, with_more};
 ghost use Rattle.cut_steps.specs.Writing.{with_open};
-ghost use Rattle.trace_writer.specs.Flows.{Flows, Continues, SetsLength, LosesRest, IsInPacket, Writes};
+ghost use Rattle.trace_base.specs.declared.policy.WriterPolicy.TheVariants.{Drops, Stalls};
+ghost use Rattle.trace_writer.specs.Helping.{IsWork, refuses};
+ghost use Rattle.trace_writer.specs.Flows.{Flows, Continues, SetsLength, StopsHere, IsInPacket, Writes, is_stopped};
 
 use crate::chunk::HeldChunk;
+use crate::claim::claim_asking;
 use crate::flow::Flow;
 use crate::fragment::OpenFragment;
+use crate::helper::HelperOn;
 use crate::route::Route;
 use chunk_plain::Words;
 use claim_arbiter::claim_over;
 use commit_body::PatchList;
 use std::sync::ledger::Ledger;
+use trace_base::policy::WriterPolicy;
 use trace_base::steps::Steps;
 
 /// Goes on in a new chunk, where all of the fragment's chunk is filled or a nested length comes next
 /// that doesn't fit.
-pub(crate) fn run_on<W: Words, L: Ledger>(
+pub(crate) fn run_on<W: Words, L: Ledger, H: HelperOn<W>>(
+    route: &Route,
+    table: &mut W,
+    seat: &mut W::Writer,
+    help: &mut H,
+    pending: &mut PatchList,
+    fragment: OpenFragment,
+    steps: &mut Steps<L>,
+) -> Flow
+    requires seat { W.sits table.old seat.old }
+    requires needs { H.needs help.old table.old }
+    requires route { IsRoute (W.setup table.old) (W.place seat.old) route.now }
+    requires inside { IsInPacket (site_of (W.setup table.old) (W.place seat.old) route.now) (W.view table.old seat.old) pending.old fragment }
+    requires filled { vec_len fragment.held.body.payload < fragment.at + 4 }
+    requires ids { HasIds fragment 1 }
+    ensures flow { Continues (W.setup table.old) (W.place seat.old) route.now (W.view table.old seat.old) (W.view table.new seat.new) pending.old pending.new fragment result }
+    ensures work { IsWork W.setup W.sits W.place W.view W.serves W.service_view H.needs H.helps route.now help.old table.old seat.old (refuses route.now.spec.policy (is_stopped result)) help.new table.new seat.new }
+{
+    match route.spec.policy {
+        WriterPolicy::Drops => run_on_or_drop(route, table, seat, pending, fragment, steps),
+        WriterPolicy::Stalls => run_on_or_stall(route, table, seat, help, pending, fragment, steps),
+    }
+}
+
+/// Claims first, and gives the packet up where no chunk is free.
+fn run_on_or_drop<W: Words, L: Ledger>(
     route: &Route,
     table: &mut W,
     seat: &mut W::Writer,
@@ -32,6 +62,7 @@ pub(crate) fn run_on<W: Words, L: Ledger>(
     steps: &mut Steps<L>,
 ) -> Flow
     requires seat { W.sits table.old seat.old }
+    requires drops { route.now.spec.policy ≡ Drops }
     requires route { IsRoute (W.setup table.old) (W.place seat.old) route.now }
     requires inside { IsInPacket (site_of (W.setup table.old) (W.place seat.old) route.now) (W.view table.old seat.old) pending.old fragment }
     requires filled { vec_len fragment.held.body.payload < fragment.at + 4 }
@@ -43,12 +74,42 @@ pub(crate) fn run_on<W: Words, L: Ledger>(
     let next_id = fragment.held.id + 1;
     let Some(next) = claim_over(&route.arbiter, table, seat, next_id, steps) else {
         give_up(route, table, seat, pending, fragment);
-        return Flow::GivenUp { next_id };
+        return Flow::Stopped { next_id };
     };
     fragment
         .end()
         .complete(table, seat, pending, route.spec.buffer, true);
     Flow::Going(HeldChunk::new(next, true).start_fragment(table, seat))
+}
+
+/// Completes the chunk first, so that the helper may take it where no other is free.
+fn run_on_or_stall<W: Words, L: Ledger, H: HelperOn<W>>(
+    route: &Route,
+    table: &mut W,
+    seat: &mut W::Writer,
+    help: &mut H,
+    pending: &mut PatchList,
+    fragment: OpenFragment,
+    steps: &mut Steps<L>,
+) -> Flow
+    requires seat { W.sits table.old seat.old }
+    requires needs { H.needs help.old table.old }
+    requires stalls { route.now.spec.policy ≡ Stalls }
+    requires route { IsRoute (W.setup table.old) (W.place seat.old) route.now }
+    requires inside { IsInPacket (site_of (W.setup table.old) (W.place seat.old) route.now) (W.view table.old seat.old) pending.old fragment }
+    requires filled { vec_len fragment.held.body.payload < fragment.at + 4 }
+    requires ids { HasIds fragment 1 }
+    ensures flow { Continues (W.setup table.old) (W.place seat.old) route.now (W.view table.old seat.old) (W.view table.new seat.new) pending.old pending.new fragment result }
+    ensures work { IsWork W.setup W.sits W.place W.view W.serves W.service_view H.needs H.helps route.now help.old table.old seat.old (is_stopped result) help.new table.new seat.new }
+{
+    let next_id = fragment.held.id + 1;
+    fragment
+        .end()
+        .complete(table, seat, pending, route.spec.buffer, true);
+    match claim_asking(route, table, seat, help, next_id, steps) {
+        Some(next) => Flow::Going(HeldChunk::new(next, true).start_fragment(table, seat)),
+        None => Flow::Stopped { next_id },
+    }
 }
 
 /// Gives the packet up: the holes are closed with 0, and the chunk is completed with the drop mark.
@@ -60,10 +121,11 @@ fn give_up<W: Words>(
     fragment: OpenFragment,
 )
     requires seat { W.sits table.old seat.old }
+    requires drops { route.now.spec.policy ≡ Drops }
     requires route { IsRoute (W.setup table.old) (W.place seat.old) route.now }
     requires filled { vec_len fragment.held.body.payload < fragment.at + 4 }
     requires inside { IsInPacket (site_of (W.setup table.old) (W.place seat.old) route.now) (W.view table.old seat.old) pending.old fragment }
-    ensures loses { LosesRest (site_of (W.setup table.old) (W.place seat.old) route.now) (W.view table.old seat.old) (W.view table.new seat.new) pending.old pending.new fragment }
+    ensures stops { StopsHere (site_of (W.setup table.old) (W.place seat.old) route.now) (W.view table.old seat.old) (W.view table.new seat.new) pending.old pending.new fragment }
     ensures asked { (W.view table.new seat.new).asked ≡ (W.view table.old seat.old).asked }
     ensures begun { length (W.view table.new seat.new).begun ≡ length (W.view table.old seat.old).begun }
     ensures step { IsWriterStep W.setup W.sits W.place W.view W.serves W.service_view table.old seat.old table.new seat.new }
@@ -78,21 +140,23 @@ fn give_up<W: Words>(
 }
 
 /// Writes a piece of the packet, over as many chunks as it takes.
-pub(crate) fn put_piece<W: Words, L: Ledger>(
+pub(crate) fn put_piece<W: Words, L: Ledger, H: HelperOn<W>>(
     route: &Route,
     table: &mut W,
     seat: &mut W::Writer,
+    help: &mut H,
     pending: &mut PatchList,
     fragment: OpenFragment,
     piece: &[u8],
     steps: &mut Steps<L>,
 ) -> Flow
     requires seat { W.sits table.old seat.old }
+    requires needs { H.needs help.old table.old }
     requires route { IsRoute (W.setup table.old) (W.place seat.old) route.now }
     requires inside { IsInPacket (site_of (W.setup table.old) (W.place seat.old) route.now) (W.view table.old seat.old) pending.old fragment }
     requires ids { HasIds fragment (length piece.now) }
     ensures flow { Flows (W.setup table.old) (W.place seat.old) route.now (W.view table.old seat.old) (W.view table.new seat.new) pending.old pending.new fragment piece.now result }
-    ensures step { IsWriterStep W.setup W.sits W.place W.view W.serves W.service_view table.old seat.old table.new seat.new }
+    ensures work { IsWork W.setup W.sits W.place W.view W.serves W.service_view H.needs H.helps route.now help.old table.old seat.old (refuses route.now.spec.policy (is_stopped result)) help.new table.new seat.new }
 {
     let mut fragment = fragment;
     let mut rest = piece;
@@ -102,18 +166,19 @@ pub(crate) fn put_piece<W: Words, L: Ledger>(
         if rest.is_empty() {
             return Flow::Going(fragment);
         }
-        match run_on(route, table, seat, pending, fragment, steps) {
+        match run_on(route, table, seat, help, pending, fragment, steps) {
             Flow::Going(next) => fragment = next,
-            Flow::GivenUp { next_id } => return Flow::GivenUp { next_id },
+            Flow::Stopped { next_id } => return Flow::Stopped { next_id },
         }
     }
 }
 
 /// Writes a piece so many times over.
-pub(crate) fn put_times<W: Words, L: Ledger>(
+pub(crate) fn put_times<W: Words, L: Ledger, H: HelperOn<W>>(
     route: &Route,
     table: &mut W,
     seat: &mut W::Writer,
+    help: &mut H,
     pending: &mut PatchList,
     fragment: OpenFragment,
     piece: &[u8],
@@ -121,58 +186,62 @@ pub(crate) fn put_times<W: Words, L: Ledger>(
     steps: &mut Steps<L>,
 ) -> Flow
     requires seat { W.sits table.old seat.old }
+    requires needs { H.needs help.old table.old }
     requires route { IsRoute (W.setup table.old) (W.place seat.old) route.now }
     requires inside { IsInPacket (site_of (W.setup table.old) (W.place seat.old) route.now) (W.view table.old seat.old) pending.old fragment }
     requires ids { HasIds fragment (times * length piece.now) }
     ensures flow { Flows (W.setup table.old) (W.place seat.old) route.now (W.view table.old seat.old) (W.view table.new seat.new) pending.old pending.new fragment (repeat times piece.now) result }
-    ensures step { IsWriterStep W.setup W.sits W.place W.view W.serves W.service_view table.old seat.old table.new seat.new }
+    ensures work { IsWork W.setup W.sits W.place W.view W.serves W.service_view H.needs H.helps route.now help.old table.old seat.old (refuses route.now.spec.policy (is_stopped result)) help.new table.new seat.new }
 {
     let mut fragment = fragment;
     for _turn in 0..times {
-        match put_piece(route, table, seat, pending, fragment, piece, steps) {
+        match put_piece(route, table, seat, help, pending, fragment, piece, steps) {
             Flow::Going(next) => fragment = next,
-            Flow::GivenUp { next_id } => return Flow::GivenUp { next_id },
+            Flow::Stopped { next_id } => return Flow::Stopped { next_id },
         }
     }
     Flow::Going(fragment)
 }
 
 /// Sets a nested length aside, which is never cut.
-pub(crate) fn put_length<W: Words, L: Ledger>(
+pub(crate) fn put_length<W: Words, L: Ledger, H: HelperOn<W>>(
     route: &Route,
     table: &mut W,
     seat: &mut W::Writer,
+    help: &mut H,
     pending: &mut PatchList,
     fragment: OpenFragment,
     steps: &mut Steps<L>,
 ) -> Flow
     requires seat { W.sits table.old seat.old }
+    requires needs { H.needs help.old table.old }
     requires route { IsRoute (W.setup table.old) (W.place seat.old) route.now }
     requires inside { IsInPacket (site_of (W.setup table.old) (W.place seat.old) route.now) (W.view table.old seat.old) pending.old fragment }
     requires ids { HasIds fragment 4 }
     requires few { length pending.old.holes < MAX_OPEN_HOLES }
     ensures flow { SetsLength (W.setup table.old) (W.place seat.old) route.now (W.view table.old seat.old) (W.view table.new seat.new) pending.old pending.new fragment result }
-    ensures step { IsWriterStep W.setup W.sits W.place W.view W.serves W.service_view table.old seat.old table.new seat.new }
+    ensures work { IsWork W.setup W.sits W.place W.view W.serves W.service_view H.needs H.helps route.now help.old table.old seat.old (refuses route.now.spec.policy (is_stopped result)) help.new table.new seat.new }
 {
     let mut fragment = fragment;
     if fragment.put_hole(pending) {
         return Flow::Going(fragment);
     }
-    match run_on(route, table, seat, pending, fragment, steps) {
+    match run_on(route, table, seat, help, pending, fragment, steps) {
         Flow::Going(mut next) => {
             next.put_hole(pending);
             Flow::Going(next)
         }
-        Flow::GivenUp { next_id } => Flow::GivenUp { next_id },
+        Flow::Stopped { next_id } => Flow::Stopped { next_id },
     }
 }
 
 /// Writes what stands in front of a field's content, and behind it the field's text so many times
 /// over.
-pub(crate) fn put_field<W: Words, L: Ledger>(
+pub(crate) fn put_field<W: Words, L: Ledger, H: HelperOn<W>>(
     route: &Route,
     table: &mut W,
     seat: &mut W::Writer,
+    help: &mut H,
     pending: &mut PatchList,
     fragment: OpenFragment,
     head: &[u8],
@@ -181,38 +250,41 @@ pub(crate) fn put_field<W: Words, L: Ledger>(
     steps: &mut Steps<L>,
 ) -> Flow
     requires seat { W.sits table.old seat.old }
+    requires needs { H.needs help.old table.old }
     requires route { IsRoute (W.setup table.old) (W.place seat.old) route.now }
     requires inside { IsInPacket (site_of (W.setup table.old) (W.place seat.old) route.now) (W.view table.old seat.old) pending.old fragment }
     requires ids { HasIds fragment (length head.now + times * length text.now) }
     ensures flow { Writes (W.setup table.old) (W.place seat.old) route.now (W.view table.old seat.old) (W.view table.new seat.new) pending.old pending.new fragment (length head.now + times * length text.now) (with_more (head.now ++ repeat times text.now)) result }
-    ensures step { IsWriterStep W.setup W.sits W.place W.view W.serves W.service_view table.old seat.old table.new seat.new }
+    ensures work { IsWork W.setup W.sits W.place W.view W.serves W.service_view H.needs H.helps route.now help.old table.old seat.old (refuses route.now.spec.policy (is_stopped result)) help.new table.new seat.new }
 {
-    match put_piece(route, table, seat, pending, fragment, head, steps) {
-        Flow::Going(next) => put_times(route, table, seat, pending, next, text, times, steps),
-        Flow::GivenUp { next_id } => Flow::GivenUp { next_id },
+    match put_piece(route, table, seat, help, pending, fragment, head, steps) {
+        Flow::Going(next) => put_times(route, table, seat, help, pending, next, text, times, steps),
+        Flow::Stopped { next_id } => Flow::Stopped { next_id },
     }
 }
 
 /// Writes a nested message's tag, and sets its length aside.
-pub(crate) fn put_nested<W: Words, L: Ledger>(
+pub(crate) fn put_nested<W: Words, L: Ledger, H: HelperOn<W>>(
     route: &Route,
     table: &mut W,
     seat: &mut W::Writer,
+    help: &mut H,
     pending: &mut PatchList,
     fragment: OpenFragment,
     tag: &[u8],
     steps: &mut Steps<L>,
 ) -> Flow
     requires seat { W.sits table.old seat.old }
+    requires needs { H.needs help.old table.old }
     requires route { IsRoute (W.setup table.old) (W.place seat.old) route.now }
     requires inside { IsInPacket (site_of (W.setup table.old) (W.place seat.old) route.now) (W.view table.old seat.old) pending.old fragment }
     requires ids { HasIds fragment (length tag.now + 4) }
     requires few { length pending.old.holes < MAX_OPEN_HOLES }
     ensures flow { Writes (W.setup table.old) (W.place seat.old) route.now (W.view table.old seat.old) (W.view table.new seat.new) pending.old pending.new fragment (length tag.now + 4) (λ (packet : Packet). with_open (with_more tag.now packet)) result }
-    ensures step { IsWriterStep W.setup W.sits W.place W.view W.serves W.service_view table.old seat.old table.new seat.new }
+    ensures work { IsWork W.setup W.sits W.place W.view W.serves W.service_view H.needs H.helps route.now help.old table.old seat.old (refuses route.now.spec.policy (is_stopped result)) help.new table.new seat.new }
 {
-    match put_piece(route, table, seat, pending, fragment, tag, steps) {
-        Flow::Going(next) => put_length(route, table, seat, pending, next, steps),
-        Flow::GivenUp { next_id } => Flow::GivenUp { next_id },
+    match put_piece(route, table, seat, help, pending, fragment, tag, steps) {
+        Flow::Going(next) => put_length(route, table, seat, help, pending, next, steps),
+        Flow::Stopped { next_id } => Flow::Stopped { next_id },
     }
 }

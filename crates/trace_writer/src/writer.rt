@@ -1,27 +1,30 @@
 //! A writer with its seat: what its callers have.
-ghost use Rattle.std.specs.Prelude.{◌≡◌, ℕ, ◌+◌, ◌-◌, ◌*◌, ◌<◌, ◌≤◌, true, false, Some, None, [], ◌∷◌, ◌++◌, length, slice_get, IfOk, IfErr};
+ghost use Rattle.std.specs.Prelude.{◌≡◌, ℕ, ◌+◌, ◌-◌, ◌*◌, ◌<◌, ◌≤◌, true, false, Some, None, [], ◌∷◌, ◌++◌, length, slice_get, IfOk, IfErr, Ok, Err};
 ghost use Rattle.trace_base.specs.declared.limits.TheConstants.{MAX_FIELD, MAX_INPUT, MAX_OPEN_HOLES};
 ghost use Rattle.trace_writer.specs.Empty.{is_empty};
 ghost use Rattle.trace_base.specs.declared.policy.WriterPolicy.TheVariants.{Drops};
 ghost use Rattle.page_geometry.specs.Sizes.{payload_size};
 ghost use Rattle.trace_model.specs.Calls as call;
-ghost use Rattle.trace_model.specs.Encoding.{number_field, bytes_head};
+ghost use Rattle.trace_model.specs.Encoding.{number_field, bytes_head, nested_tag};
 ghost use Rattle.trace_model.specs.Packets.{begun_count, dropped_at_begin};
-ghost use Rattle.chunk_plain.specs.Setup.{Setup, spot, range_of, producer_of, IsChunkOf};
+ghost use Rattle.chunk_plain.specs.Setup.{Setup, spot, range_of, producer_of, HasProducer, IsChunkOf};
 ghost use Rattle.chunk_plain.specs.Views.{WriterView};
 ghost use Rattle.chunk_plain.specs.Words.{IsWriterStep};
 ghost use Rattle.claim_arbiter.specs.Claiming.{range_in};
-ghost use Rattle.trace_writer.specs.Agreement.{is_begun, len_of, depth_of, counted};
-ghost use Rattle.trace_writer.specs.Outcomes.{Notes, completed_images};
-ghost use Rattle.trace_writer.specs.Placing.{BeginsPacket};
+ghost use Rattle.trace_writer.specs.Agreement.{NeedsNoChunk, is_begun, len_of, depth_of, counted};
+ghost use Rattle.trace_writer.specs.declared.fault.CallFault.TheVariants as call_fault;
+ghost use Rattle.trace_writer.specs.Helping.{IsWork, stalls_now};
+ghost use Rattle.trace_writer.specs.Outcomes.{Notes, StallsNow, completed_images};
+ghost use Rattle.trace_writer.specs.Placing.{BeginsHere, BeginsPacket};
 ghost use Rattle.trace_writer.specs.Refusals.{field_refusal, nested_refusal};
 ghost use Rattle.trace_writer.specs.Site.{IsRoute};
-ghost use Rattle.trace_writer.specs.Core.{CoreAgrees, IsNew, in_packet, open_depth, field_fault, nested_fault, holds_chunk};
+ghost use Rattle.trace_writer.specs.Core.{CoreAgrees, IsNew, in_packet, open_depth, field_fault, nested_fault, holds_chunk, is_stalled};
 
 use crate::begin::begin;
 use crate::fault::{Begun, CallFault};
 use crate::field::{end_message, write_field, write_nested};
 use crate::finish::{finish, flush};
+use crate::helper::HelperOn;
 use crate::packet::OpenPacket;
 use crate::route::Route;
 use crate::state::{State, Writer};
@@ -35,8 +38,8 @@ use trace_base::limits::MAX_PACKET_LEN;
 use trace_base::policy::WriterSpec;
 use trace_base::steps::Steps;
 
-/// A writer that drops packets where no chunk is free. It is made with its seat, and may hold a
-/// chunk, so it has to be ended by `into_seat`.
+/// A writer: where no chunk is free it drops the packet, or asks its helper and stalls where that
+/// frees none. It is made with its seat, and may hold a chunk, so it has to be ended by `into_seat`.
 #[derive(Debug)]
 pub struct WriterCore<S> {
     seat: S,
@@ -46,12 +49,11 @@ pub struct WriterCore<S> {
 impl<S> WriterCore<S> {
     /// A writer for a seat with which nothing was begun or noted.
     pub fn make(seat: S, spec: WriterSpec, arbiter: Arbiter, geometry: Geometry) -> WriterCore<S>
-        requires policy { spec.policy ≡ Drops }
         ensures seat { result.seat ≡ seat }
         ensures arbiter { result.writer.route.arbiter ≡ arbiter }
         ensures none_held { holds_chunk result ≡ false }
         ensures agrees { (setup : Setup) (place : ℕ) (view : WriterView) → slice_get setup.writers place ≡ Some spec
-            → range_of setup (producer_of setup place) ≡ range_in arbiter
+            → HasProducer setup spec.producer → range_of setup (producer_of setup place) ≡ range_in arbiter
             → ((chunk : ℕ) → IsChunkOf setup (producer_of setup place) chunk → (spot setup chunk).payload_size ≡ payload_size geometry.page_size geometry.chunks)
             → IsNew view → CoreAgrees setup place view result }
     {
@@ -73,48 +75,61 @@ impl<S> WriterCore<S> {
     }
 
     /// Begins a packet. It claims only where the packet is to begin in a new chunk.
-    pub fn begin<W: Words<Writer = S>, L: Ledger>(
+    pub fn begin<W: Words<Writer = S>, L: Ledger, H: HelperOn<W>>(
         &mut self,
         table: &mut W,
+        help: &mut H,
         steps: &mut Steps<L>,
-    ) -> Begun
+    ) -> Result<Begun, CallFault>
         requires seat { W.sits table.old self.old.seat }
+        requires needs { H.needs help.old table.old }
         requires agrees { CoreAgrees (W.setup table.old) (W.place self.old.seat) (W.view table.old self.old.seat) self.old }
         requires none_begun { in_packet (W.view table.old self.old.seat) ≡ false }
         requires ids { length (W.view table.old self.old.seat).begun + 4096 ≤ 4294967295 }
         ensures agrees { CoreAgrees (W.setup table.old) (W.place self.old.seat) (W.view table.new self.new.seat) self.new }
-        ensures begins { BeginsPacket (W.setup table.old) self.old.writer.route (W.view table.old self.old.seat) (W.view table.new self.new.seat) result }
-        ensures in_packet { in_packet (W.view table.new self.new.seat) ≡ true }
-        ensures depth { open_depth (W.view table.new self.new.seat) ≡ 0 }
-        ensures arbiter { self.new.writer.route.arbiter ≡ self.old.writer.route.arbiter }
-        ensures step { IsWriterStep W.setup W.sits W.place W.view W.serves W.service_view table.old self.old.seat table.new self.new.seat }
-        ensures few_steps { steps.new ≤ steps.old + self.old.writer.route.arbiter.chunks + 1 }
+        ensures begins { IfOk result (λ begun. BeginsPacket (W.setup table.old) self.old.writer.route (W.view table.old self.old.seat) (W.view table.new self.new.seat) begun) }
+        ensures in_packet { IfOk result (λ _. in_packet (W.view table.new self.new.seat) ≡ true) }
+        ensures depth { IfOk result (λ _. open_depth (W.view table.new self.new.seat) ≡ 0) }
+        ensures going { IfOk result (λ _. is_stalled self.new ≡ false) }
+        ensures stays { is_stalled self.old ≡ true → (result ≡ Err call_fault.Stalled) × (self.new ≡ self.old) × (table.new ≡ table.old) × (help.new ≡ help.old) }
+        ensures stalls { is_stalled self.old ≡ false → IfErr result (λ fault. (fault ≡ call_fault.Stalled) × (is_stalled self.new ≡ true) × StallsNow (W.setup table.old) self.old.writer.route [] (W.view table.old self.old.seat) (W.view table.new self.new.seat)) }
+        ensures asked { BeginsHere self.old.writer.state → (W.view table.new self.new.seat).asked ≡ (W.view table.old self.old.seat).asked }
+        ensures route { self.new.writer.route ≡ self.old.writer.route }
+        ensures work { IsWork W.setup W.sits W.place W.view W.serves W.service_view H.needs H.helps self.old.writer.route help.old table.old self.old.seat (stalls_now (is_stalled self.old) result) help.new table.new self.new.seat }
+        ensures alone { self.old.writer.route.spec.policy ≡ Drops → (help.new ≡ help.old) × IsWriterStep W.setup W.sits W.place W.view W.serves W.service_view table.old self.old.seat table.new self.new.seat }
+        ensures few_steps { self.old.writer.route.spec.policy ≡ Drops → steps.new ≤ steps.old + self.old.writer.route.arbiter.chunks + 1 }
     {
-        begin(&mut self.writer, table, &mut self.seat, steps)
+        begin(&mut self.writer, table, &mut self.seat, help, steps)
     }
 
     /// Writes a number.
-    pub fn varint<W: Words<Writer = S>, L: Ledger>(
+    pub fn varint<W: Words<Writer = S>, L: Ledger, H: HelperOn<W>>(
         &mut self,
         table: &mut W,
+        help: &mut H,
         field: u32,
         value: u64,
         steps: &mut Steps<L>,
     ) -> Result<(), CallFault>
         requires seat { W.sits table.old self.old.seat }
+        requires needs { H.needs help.old table.old }
         requires agrees { CoreAgrees (W.setup table.old) (W.place self.old.seat) (W.view table.old self.old.seat) self.old }
         requires begun { in_packet (W.view table.old self.old.seat) ≡ true }
         requires least { 1 ≤ field }
         requires most { field ≤ MAX_FIELD }
         ensures agrees { CoreAgrees (W.setup table.old) (W.place self.old.seat) (W.view table.new self.new.seat) self.new }
-        ensures refused { IfErr result (λ fault. field_fault (W.view table.old self.old.seat) field (length (number_field field value)) ≡ Some fault) }
-        ensures unchanged { IfErr result (λ _. (self.new ≡ self.old) × (table.new ≡ table.old)) }
+        ensures refused { (fault : CallFault) → field_fault (W.view table.old self.old.seat) field (length (number_field field value)) ≡ Some fault → (result ≡ Err fault) × (self.new ≡ self.old) × (table.new ≡ table.old) × (help.new ≡ help.old) }
         ensures accepted { IfOk result (λ _. field_fault (W.view table.old self.old.seat) field (length (number_field field value)) ≡ None) }
+        ensures asked { NeedsNoChunk self.old.writer.state (length (number_field field value)) → (W.view table.new self.new.seat).asked ≡ (W.view table.old self.old.seat).asked }
         ensures notes { IfOk result (λ _. Notes (W.setup table.old) self.old.writer.route (call.Number field value) (W.view table.old self.old.seat) (W.view table.new self.new.seat)) }
+        ensures going { IfOk result (λ _. is_stalled self.new ≡ false) }
+        ensures stays { field_fault (W.view table.old self.old.seat) field (length (number_field field value)) ≡ None → is_stalled self.old ≡ true → (result ≡ Err call_fault.Stalled) × (self.new ≡ self.old) × (table.new ≡ table.old) × (help.new ≡ help.old) }
+        ensures stalls { field_fault (W.view table.old self.old.seat) field (length (number_field field value)) ≡ None → is_stalled self.old ≡ false → IfErr result (λ fault. (fault ≡ call_fault.Stalled) × (is_stalled self.new ≡ true) × StallsNow (W.setup table.old) self.old.writer.route (call.Number field value ∷ []) (W.view table.old self.old.seat) (W.view table.new self.new.seat)) }
         ensures in_packet { in_packet (W.view table.new self.new.seat) ≡ true }
         ensures depth { open_depth (W.view table.new self.new.seat) ≡ open_depth (W.view table.old self.old.seat) }
-        ensures arbiter { self.new.writer.route.arbiter ≡ self.old.writer.route.arbiter }
-        ensures step { IsWriterStep W.setup W.sits W.place W.view W.serves W.service_view table.old self.old.seat table.new self.new.seat }
+        ensures route { self.new.writer.route ≡ self.old.writer.route }
+        ensures work { IsWork W.setup W.sits W.place W.view W.serves W.service_view H.needs H.helps self.old.writer.route help.old table.old self.old.seat (stalls_now (is_stalled self.old) result) help.new table.new self.new.seat }
+        ensures alone { self.old.writer.route.spec.policy ≡ Drops → (help.new ≡ help.old) × IsWriterStep W.setup W.sits W.place W.view W.serves W.service_view table.old self.old.seat table.new self.new.seat }
     {
         let head = head_number(field, value);
         check_field(&self.writer.packet, field, head.as_slice().len() as u64)?;
@@ -122,39 +137,45 @@ impl<S> WriterCore<S> {
             &mut self.writer,
             table,
             &mut self.seat,
+            help,
             head.as_slice(),
             &[],
             0,
             WriterCall::Number { field, value },
             steps,
-        );
-        Ok(())
+        )
     }
 
     /// Writes a text, so many times over.
-    pub fn bytes<W: Words<Writer = S>, L: Ledger>(
+    pub fn bytes<W: Words<Writer = S>, L: Ledger, H: HelperOn<W>>(
         &mut self,
         table: &mut W,
+        help: &mut H,
         field: u32,
         value: &[u8],
         times: u32,
         steps: &mut Steps<L>,
     ) -> Result<(), CallFault>
         requires seat { W.sits table.old self.old.seat }
+        requires needs { H.needs help.old table.old }
         requires agrees { CoreAgrees (W.setup table.old) (W.place self.old.seat) (W.view table.old self.old.seat) self.old }
         requires begun { in_packet (W.view table.old self.old.seat) ≡ true }
         requires least { 1 ≤ field }
         requires most { field ≤ MAX_FIELD }
         requires text { length value.now ≤ MAX_INPUT }
         ensures agrees { CoreAgrees (W.setup table.old) (W.place self.old.seat) (W.view table.new self.new.seat) self.new }
-        ensures refused { IfErr result (λ fault. field_fault (W.view table.old self.old.seat) field (length (bytes_head field (times * length value.now)) + times * length value.now) ≡ Some fault) }
-        ensures unchanged { IfErr result (λ _. (self.new ≡ self.old) × (table.new ≡ table.old)) }
+        ensures refused { (fault : CallFault) → field_fault (W.view table.old self.old.seat) field (length (bytes_head field (times * length value.now)) + times * length value.now) ≡ Some fault → (result ≡ Err fault) × (self.new ≡ self.old) × (table.new ≡ table.old) × (help.new ≡ help.old) }
         ensures accepted { IfOk result (λ _. field_fault (W.view table.old self.old.seat) field (length (bytes_head field (times * length value.now)) + times * length value.now) ≡ None) }
+        ensures asked { NeedsNoChunk self.old.writer.state (length (bytes_head field (times * length value.now)) + times * length value.now) → (W.view table.new self.new.seat).asked ≡ (W.view table.old self.old.seat).asked }
         ensures notes { IfOk result (λ _. Notes (W.setup table.old) self.old.writer.route (call.Bytes field value.now times) (W.view table.old self.old.seat) (W.view table.new self.new.seat)) }
+        ensures going { IfOk result (λ _. is_stalled self.new ≡ false) }
+        ensures stays { field_fault (W.view table.old self.old.seat) field (length (bytes_head field (times * length value.now)) + times * length value.now) ≡ None → is_stalled self.old ≡ true → (result ≡ Err call_fault.Stalled) × (self.new ≡ self.old) × (table.new ≡ table.old) × (help.new ≡ help.old) }
+        ensures stalls { field_fault (W.view table.old self.old.seat) field (length (bytes_head field (times * length value.now)) + times * length value.now) ≡ None → is_stalled self.old ≡ false → IfErr result (λ fault. (fault ≡ call_fault.Stalled) × (is_stalled self.new ≡ true) × StallsNow (W.setup table.old) self.old.writer.route (call.Bytes field value.now times ∷ []) (W.view table.old self.old.seat) (W.view table.new self.new.seat)) }
         ensures in_packet { in_packet (W.view table.new self.new.seat) ≡ true }
         ensures depth { open_depth (W.view table.new self.new.seat) ≡ open_depth (W.view table.old self.old.seat) }
-        ensures arbiter { self.new.writer.route.arbiter ≡ self.old.writer.route.arbiter }
-        ensures step { IsWriterStep W.setup W.sits W.place W.view W.serves W.service_view table.old self.old.seat table.new self.new.seat }
+        ensures route { self.new.writer.route ≡ self.old.writer.route }
+        ensures work { IsWork W.setup W.sits W.place W.view W.serves W.service_view H.needs H.helps self.old.writer.route help.old table.old self.old.seat (stalls_now (is_stalled self.old) result) help.new table.new self.new.seat }
+        ensures alone { self.old.writer.route.spec.policy ≡ Drops → (help.new ≡ help.old) × IsWriterStep W.setup W.sits W.place W.view W.serves W.service_view table.old self.old.seat table.new self.new.seat }
     {
         let len = u64::from(times) * value.len() as u64;
         // A longer one is refused, whatever stands before it.
@@ -168,6 +189,7 @@ impl<S> WriterCore<S> {
             &mut self.writer,
             table,
             &mut self.seat,
+            help,
             head.as_slice(),
             value,
             times,
@@ -177,81 +199,99 @@ impl<S> WriterCore<S> {
                 times,
             },
             steps,
-        );
-        Ok(())
+        )
     }
 
     /// Begins a nested message.
-    pub fn begin_nested<W: Words<Writer = S>, L: Ledger>(
+    pub fn begin_nested<W: Words<Writer = S>, L: Ledger, H: HelperOn<W>>(
         &mut self,
         table: &mut W,
+        help: &mut H,
         field: u32,
         steps: &mut Steps<L>,
     ) -> Result<(), CallFault>
         requires seat { W.sits table.old self.old.seat }
+        requires needs { H.needs help.old table.old }
         requires agrees { CoreAgrees (W.setup table.old) (W.place self.old.seat) (W.view table.old self.old.seat) self.old }
         requires begun { in_packet (W.view table.old self.old.seat) ≡ true }
         requires least { 1 ≤ field }
         requires most { field ≤ MAX_FIELD }
         ensures agrees { CoreAgrees (W.setup table.old) (W.place self.old.seat) (W.view table.new self.new.seat) self.new }
-        ensures refused { IfErr result (λ fault. nested_fault (W.view table.old self.old.seat) field ≡ Some fault) }
-        ensures unchanged { IfErr result (λ _. (self.new ≡ self.old) × (table.new ≡ table.old)) }
+        ensures refused { (fault : CallFault) → nested_fault (W.view table.old self.old.seat) field ≡ Some fault → (result ≡ Err fault) × (self.new ≡ self.old) × (table.new ≡ table.old) × (help.new ≡ help.old) }
         ensures accepted { IfOk result (λ _. nested_fault (W.view table.old self.old.seat) field ≡ None) }
+        ensures asked { NeedsNoChunk self.old.writer.state (length (nested_tag field) + 4) → (W.view table.new self.new.seat).asked ≡ (W.view table.old self.old.seat).asked }
         ensures notes { IfOk result (λ _. Notes (W.setup table.old) self.old.writer.route (call.Nested field) (W.view table.old self.old.seat) (W.view table.new self.new.seat)) }
+        ensures going { IfOk result (λ _. is_stalled self.new ≡ false) }
+        ensures stays { nested_fault (W.view table.old self.old.seat) field ≡ None → is_stalled self.old ≡ true → (result ≡ Err call_fault.Stalled) × (self.new ≡ self.old) × (table.new ≡ table.old) × (help.new ≡ help.old) }
+        ensures stalls { nested_fault (W.view table.old self.old.seat) field ≡ None → is_stalled self.old ≡ false → IfErr result (λ fault. (fault ≡ call_fault.Stalled) × (is_stalled self.new ≡ true) × StallsNow (W.setup table.old) self.old.writer.route (call.Nested field ∷ []) (W.view table.old self.old.seat) (W.view table.new self.new.seat)) }
         ensures in_packet { in_packet (W.view table.new self.new.seat) ≡ true }
-        ensures arbiter { self.new.writer.route.arbiter ≡ self.old.writer.route.arbiter }
-        ensures step { IsWriterStep W.setup W.sits W.place W.view W.serves W.service_view table.old self.old.seat table.new self.new.seat }
+        ensures route { self.new.writer.route ≡ self.old.writer.route }
+        ensures work { IsWork W.setup W.sits W.place W.view W.serves W.service_view H.needs H.helps self.old.writer.route help.old table.old self.old.seat (stalls_now (is_stalled self.old) result) help.new table.new self.new.seat }
+        ensures alone { self.old.writer.route.spec.policy ≡ Drops → (help.new ≡ help.old) × IsWriterStep W.setup W.sits W.place W.view W.serves W.service_view table.old self.old.seat table.new self.new.seat }
     {
         let head = head_nested(field);
         let tag = head.as_slice();
         check_nested(&self.writer.packet, field, tag.len() as u32)?;
-        write_nested(&mut self.writer, table, &mut self.seat, field, tag, steps);
-        Ok(())
+        write_nested(
+            &mut self.writer,
+            table,
+            &mut self.seat,
+            help,
+            field,
+            tag,
+            steps,
+        )
     }
 
-    /// Ends the innermost nested message.
+    /// Ends the innermost nested message. Where the writer stalls nothing changes.
     pub fn end_nested<W: Words<Writer = S>>(&mut self, table: &mut W)
         requires seat { W.sits table.old self.old.seat }
         requires agrees { CoreAgrees (W.setup table.old) (W.place self.old.seat) (W.view table.old self.old.seat) self.old }
         requires depth { 0 < open_depth (W.view table.old self.old.seat) }
         ensures agrees { CoreAgrees (W.setup table.old) (W.place self.old.seat) (W.view table.new self.new.seat) self.new }
-        ensures notes { (W.view table.new self.new.seat).calls ≡ (W.view table.old self.old.seat).calls ++ call.Ended ∷ [] }
+        ensures stalled { is_stalled self.old ≡ true → (self.new ≡ self.old) × (table.new ≡ table.old) }
+        ensures goes { is_stalled self.new ≡ is_stalled self.old }
+        ensures notes { is_stalled self.old ≡ false → (W.view table.new self.new.seat).calls ≡ (W.view table.old self.old.seat).calls ++ call.Ended ∷ [] }
         ensures others { record (W.view table.new self.new.seat) { calls = (W.view table.old self.old.seat).calls } ≡ (W.view table.old self.old.seat) }
         ensures in_packet { in_packet (W.view table.new self.new.seat) ≡ true }
-        ensures depth_falls { open_depth (W.view table.new self.new.seat) + 1 ≡ open_depth (W.view table.old self.old.seat) }
-        ensures arbiter { self.new.writer.route.arbiter ≡ self.old.writer.route.arbiter }
+        ensures depth_falls { is_stalled self.old ≡ false → open_depth (W.view table.new self.new.seat) + 1 ≡ open_depth (W.view table.old self.old.seat) }
+        ensures route { self.new.writer.route ≡ self.old.writer.route }
         ensures step { IsWriterStep W.setup W.sits W.place W.view W.serves W.service_view table.old self.old.seat table.new self.new.seat }
     {
         end_message(&mut self.writer, table, &mut self.seat);
     }
 
-    /// Ends the packet.
+    /// Ends the packet. Where the writer stalls nothing changes.
     pub fn finish<W: Words<Writer = S>>(&mut self, table: &mut W)
         requires seat { W.sits table.old self.old.seat }
         requires agrees { CoreAgrees (W.setup table.old) (W.place self.old.seat) (W.view table.old self.old.seat) self.old }
         requires begun { in_packet (W.view table.old self.old.seat) ≡ true }
         requires depth { open_depth (W.view table.old self.old.seat) ≡ 0 }
         ensures agrees { CoreAgrees (W.setup table.old) (W.place self.old.seat) (W.view table.new self.new.seat) self.new }
-        ensures notes { (W.view table.new self.new.seat).calls ≡ (W.view table.old self.old.seat).calls ++ call.Finished ∷ [] }
+        ensures stalled { is_stalled self.old ≡ true → (self.new ≡ self.old) × (table.new ≡ table.old) }
+        ensures goes { is_stalled self.new ≡ is_stalled self.old }
+        ensures notes { is_stalled self.old ≡ false → (W.view table.new self.new.seat).calls ≡ (W.view table.old self.old.seat).calls ++ call.Finished ∷ [] }
         ensures others { record (W.view table.new self.new.seat) { calls = (W.view table.old self.old.seat).calls } ≡ (W.view table.old self.old.seat) }
-        ensures in_packet { in_packet (W.view table.new self.new.seat) ≡ false }
-        ensures arbiter { self.new.writer.route.arbiter ≡ self.old.writer.route.arbiter }
+        ensures in_packet { is_stalled self.old ≡ false → in_packet (W.view table.new self.new.seat) ≡ false }
+        ensures route { self.new.writer.route ≡ self.old.writer.route }
         ensures step { IsWriterStep W.setup W.sits W.place W.view W.serves W.service_view table.old self.old.seat table.new self.new.seat }
     {
         finish(&mut self.writer, table, &mut self.seat);
     }
 
-    /// Completes the held chunk, where there is one.
+    /// Completes the held chunk, where there is one. Where the writer stalls nothing changes.
     pub fn flush<W: Words<Writer = S>>(&mut self, table: &mut W)
         requires seat { W.sits table.old self.old.seat }
         requires agrees { CoreAgrees (W.setup table.old) (W.place self.old.seat) (W.view table.old self.old.seat) self.old }
         requires none_begun { in_packet (W.view table.old self.old.seat) ≡ false }
         ensures agrees { CoreAgrees (W.setup table.old) (W.place self.old.seat) (W.view table.new self.new.seat) self.new }
         ensures none_held { holds_chunk self.new ≡ false }
-        ensures notes { (W.view table.new self.new.seat).calls ≡ (W.view table.old self.old.seat).calls ++ call.Flushed ∷ [] }
+        ensures stalled { is_stalled self.old ≡ true → (self.new ≡ self.old) × (table.new ≡ table.old) }
+        ensures goes { is_stalled self.new ≡ is_stalled self.old }
+        ensures notes { is_stalled self.old ≡ false → (W.view table.new self.new.seat).calls ≡ (W.view table.old self.old.seat).calls ++ call.Flushed ∷ [] }
         ensures asked { (W.view table.new self.new.seat).asked ≡ (W.view table.old self.old.seat).asked }
         ensures in_packet { in_packet (W.view table.new self.new.seat) ≡ false }
-        ensures arbiter { self.new.writer.route.arbiter ≡ self.old.writer.route.arbiter }
+        ensures route { self.new.writer.route ≡ self.old.writer.route }
         ensures step { IsWriterStep W.setup W.sits W.place W.view W.serves W.service_view table.old self.old.seat table.new self.new.seat }
     {
         flush(&mut self.writer, table, &mut self.seat);
@@ -266,6 +306,7 @@ impl<S> WriterCore<S> {
             State::Writing(fragment) => fragment.held.id + 1,
             State::Idle { next_id } => *next_id,
             State::Dropping { next_id } => *next_id,
+            State::Stalled { next_id } => *next_id,
         };
         u64::from(u32::MAX - next_id)
     }
@@ -293,6 +334,7 @@ impl<S> WriterCore<S> {
             State::Writing(fragment) => fragment.held.id,
             State::Idle { next_id } => *next_id,
             State::Dropping { next_id } => *next_id,
+            State::Stalled { next_id } => *next_id,
         }
     }
 
@@ -338,6 +380,7 @@ fn drop_state(state: State)
 {
     match state {
         State::Idle { next_id: _ } | State::Dropping { next_id: _ } => {}
+        State::Stalled { next_id: _ } => {}
         State::Between(_chunk) => unreachable!(),
         State::Writing(_fragment) => unreachable!(),
     }

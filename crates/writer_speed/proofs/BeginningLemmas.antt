@@ -1,5 +1,5 @@
 -- A writer as it begins, at a table of one page that nobody has used.
-use Rattle.std.proofs.Common.{◌≡◌, ◌∙◌, ℕ, zero, suc, ◌<◌, Some, List, [], ◌∷◌, ◌++◌, length, slice_get, get_or, refl, sym, ap, subst, arith}
+use Rattle.std.proofs.Common.{◌≡◌, ◌∙◌, ℕ, zero, suc, ◌<◌, Some, List, [], ◌∷◌, ◌++◌, length, Option, slice_get, get_or, unwrap_or, refl, sym, ap, subst, arith}
 use Rattle.std.proofs.lemmas.List.{get_or_append_left}
 use Rattle.std.proofs.Math.Seq.{get_or-append_seam}
 use native.Mathlib.Decide.{dec_le}
@@ -10,7 +10,7 @@ use Rattle.page_geometry.specs.Sizes.{payload_size}
 use Rattle.page_geometry.specs.declared.geometry.Geometry.{Geometry}
 use Rattle.chunk_plain.specs.declared.setup.ProducerSpec.{ProducerSpec}
 use Rattle.chunk_plain.specs.declared.setup.Spot.{Spot}
-use Rattle.chunk_plain.specs.Setup.{Setup, no_spot, spot, range_of, producer_of, IsChunkOf}
+use Rattle.chunk_plain.specs.Setup.{Setup, no_spot, spot, range_of, producer_of, HasProducer, IsChunkOf}
 use Rattle.chunk_plain.specs.Laying.{setup_of, page_spots, spot_at}
 use Rattle.chunk_plain.specs.Views.{WriterView}
 use Rattle.chunk_plain.specs.World.{World, writer}
@@ -54,14 +54,21 @@ fresh_payload geometry chunk inside =
 pub first_agrees : (setup : Setup) (world : World) (geometry : Geometry) (arbiter : Arbiter) (core : WriterCore PlainWriter)
     → setup ≡ fresh_setup geometry → world ≡ first_world (fresh_setup geometry) → range_of setup 1 ≡ range_in arbiter
     → ((s : Setup) (place : ℕ) (view : WriterView) → slice_get s.writers place ≡ Some one_writer
-    → range_of s (producer_of s place) ≡ range_in arbiter
+    → HasProducer s one_writer.producer → range_of s (producer_of s place) ≡ range_in arbiter
     → ((chunk : ℕ) → IsChunkOf s (producer_of s place) chunk → (spot s chunk).payload_size ≡ payload_size geometry.page_size geometry.chunks)
     → IsNew view → CoreAgrees s place view core)
     → CoreAgrees setup 0 (writer world 0) core
 first_agrees setup world geometry arbiter core is world_is range agrees =
     agrees setup 0 (writer world 0)
     (ap (λ (s : Setup). slice_get s.writers 0) is)
+    (subst (λ (s : Setup). HasProducer s 1) (sym is) (record { least = omega arith; most = omega arith }))
     (ap (λ (s : Setup). range_of setup (producer_of s 0)) is ∙ range)
     (λ chunk inside. ap (λ (s : Setup). (spot s chunk).payload_size) is
     ∙ fresh_payload geometry chunk (subst (λ (s : Setup). IsChunkOf s (producer_of s 0) chunk) is inside))
     (subst (λ (w : World). IsNew (writer w 0)) (sym world_is) (record { begun = refl; calls = refl }))
+
+-- and it drops packets
+pub first_drops : (setup : Setup) (geometry : Geometry) (view : WriterView) (core : WriterCore PlainWriter)
+    → setup ≡ fresh_setup geometry → CoreAgrees setup 0 view core → core.writer.route.spec.policy ≡ Drops
+first_drops setup geometry view core is agrees =
+    ap (λ (o : Option WriterSpec). (unwrap_or o one_writer).policy) (sym agrees.route.spec ∙ ap (λ (s : Setup). slice_get s.writers 0) is)

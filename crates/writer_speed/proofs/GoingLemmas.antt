@@ -1,25 +1,34 @@
 -- Calls of a writer, one behind another.
-use Rattle.std.proofs.Common.{ℕ, sym, subst}
+use Rattle.std.proofs.Common.{◌≡◌, ◌∙◌, ℕ, false, sym, ap, subst}
+use Rattle.trace_base.specs.declared.policy.WriterPolicy.TheVariants.{Drops}
 use Rattle.chunk_plain.specs.Setup.{Setup}
 use Rattle.chunk_plain.specs.Views.{WriterView, ServiceView}
 use Rattle.chunk_plain.specs.Words.{IsWriterStep}
 use Rattle.chunk_plain.proofs.SeatSteps.{steps_follow}
+use Rattle.trace_writer.specs.declared.route.Route.{Route}
 use Rattle.trace_writer.specs.declared.writer.WriterCore.{WriterCore}
-use Rattle.trace_writer.specs.Core.{CoreAgrees}
-use Rattle.writer_speed.specs.Going.{GoesOn}
+use Rattle.trace_writer.specs.Core.{CoreAgrees, is_stalled}
+use Rattle.trace_writer.specs.Outcomes.{DropsNeverStall}
+use Rattle.writer_speed.specs.Going.{IsReady, GoesOn}
 
 module _ {T W S : Type 0} (setup : T → Setup) (sits : T → W → Type 0) (place : W → ℕ) (view : T → W → WriterView)
     (serves : T → S → Type 0) (service_view : T → S → ServiceView) where
+  -- it drops packets, and so never stalls
+  pub never_stalled : DropsNeverStall → (table : T) (core : WriterCore W) → IsReady setup sits place view table core → is_stalled core ≡ false
+  never_stalled law table core ready = law (setup table) (place core.seat) (view table core.seat) core.writer ready.agrees ready.drops
+
   -- one call
   pub goes_once : (old : T) (before : WriterCore W) (new : T) (after : WriterCore W)
+      → before.writer.route.spec.policy ≡ Drops → after.writer.route ≡ before.writer.route
       → CoreAgrees (setup old) (place before.seat) (view new after.seat) after
       → IsWriterStep setup sits place view serves service_view old before.seat new after.seat
       → GoesOn setup sits place view serves service_view old before new after
-  goes_once old before new after agrees step = record {
+  goes_once old before new after drops route agrees step = record {
     ready = record {
       seat = step.seat_stays;
       agrees = subst (λ (s : Setup). CoreAgrees s (place after.seat) (view new after.seat) after) (sym step.setup_stays)
           (subst (λ (p : ℕ). CoreAgrees (setup old) p (view new after.seat) after) (sym step.place_stays) agrees);
+      drops = ap (λ (r : Route). r.spec.policy) route ∙ drops;
     };
     step = step;
   }

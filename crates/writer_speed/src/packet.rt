@@ -7,7 +7,7 @@ ghost use Rattle.writer_speed.specs.Going.{IsReady, GoesOn};
 use chunk_plain::Words;
 use std::sync::ledger::Ledger;
 use trace_base::steps::Steps;
-use trace_writer::WriterCore;
+use trace_writer::{NoHelp, WriterCore, drops_never_stall};
 
 /// A number that is refused is left out, and so are other fields.
 fn write_number<W: Words, L: Ledger>(
@@ -24,7 +24,7 @@ fn write_number<W: Words, L: Ledger>(
     ensures goes { GoesOn W.setup W.sits W.place W.view W.serves W.service_view table.old writer.old table.new writer.new }
     ensures inside { in_packet (W.view table.new writer.new.seat) ≡ true }
 {
-    let _ = writer.varint(table, field, value, steps);
+    let _ = writer.varint(table, &mut NoHelp, field, value, steps);
 }
 
 fn write_text<W: Words, L: Ledger>(
@@ -42,7 +42,7 @@ fn write_text<W: Words, L: Ledger>(
     ensures goes { GoesOn W.setup W.sits W.place W.view W.serves W.service_view table.old writer.old table.new writer.new }
     ensures inside { in_packet (W.view table.new writer.new.seat) ≡ true }
 {
-    let _ = writer.bytes(table, field, text, 1, steps);
+    let _ = writer.bytes(table, &mut NoHelp, field, text, 1, steps);
 }
 
 fn begin_message<W: Words, L: Ledger>(
@@ -58,7 +58,7 @@ fn begin_message<W: Words, L: Ledger>(
     ensures goes { GoesOn W.setup W.sits W.place W.view W.serves W.service_view table.old writer.old table.new writer.new }
     ensures inside { in_packet (W.view table.new writer.new.seat) ≡ true }
 {
-    let _ = writer.begin_nested(table, field, steps);
+    let _ = writer.begin_nested(table, &mut NoHelp, field, steps);
 }
 
 /// Ends the packet with each message that is open in it.
@@ -68,6 +68,7 @@ fn end_packet<W: Words>(writer: &mut WriterCore<W::Writer>, table: &mut W)
     ensures goes { GoesOn W.setup W.sits W.place W.view W.serves W.service_view table.old writer.old table.new writer.new }
     ensures outside { in_packet (W.view table.new writer.new.seat) ≡ false }
 {
+    drops_never_stall();
     'messages: while writer.depth() != 0 {
         writer.end_nested(table);
     }
@@ -85,7 +86,11 @@ fn begin_packet<W: Words, L: Ledger>(
     ensures goes { GoesOn W.setup W.sits W.place W.view W.serves W.service_view table.old writer.old table.new writer.new }
     ensures inside { in_packet (W.view table.new writer.new.seat) ≡ true }
 {
-    let _ = writer.begin(table, steps);
+    drops_never_stall();
+    // It begins each packet, since it drops those for which no chunk is free.
+    let Ok(_begun) = writer.begin(table, &mut NoHelp, steps) else {
+        unreachable!()
+    };
 }
 
 /// Writes `8:1234567890 900{1:"abc" 2:42}`.

@@ -5,7 +5,7 @@ use Rattle.chunk_plain.specs.declared.setup.ChunkRange.{ChunkRange}
 use Rattle.chunk_plain.specs.declared.plain_seats.PlainWriter.{PlainWriter}
 use Rattle.claim_arbiter.specs.Claiming.{range_in}
 use Rattle.trace_writer.specs.Core.{CoreAgrees}
-use Rattle.writer_speed.proofs.BeginningLemmas.{first_agrees}
+use Rattle.writer_speed.proofs.BeginningLemmas.{first_agrees, first_drops}
 use Rattle.writer_speed.proofs.measure.Goals as goal
 
 pub write_all-requires-clause-ready : goal.write_all-requires-clause-ready
@@ -22,8 +22,10 @@ write_all-requires-clause-ready g c =
     ap (λ (n : ℕ). let one : ChunkRange = record { first = n; count = (range_of setup 1).count } in one) (sym first)
     ∙ ap (λ (n : ℕ). let one : ChunkRange = record { first = c.new-arbiter.result.first; count = n } in one) (sym chunks) in
     let inside : 0 < length setup.writers = subst (λ (s : Setup). 0 < length s.writers) (sym setup_is) (omega arith) in
+    let agrees : CoreAgrees setup 0 (writer table.seat.me.0 0) core =
+    first_agrees setup table.seat.me.0 c.in-Ok.geometry c.new-arbiter.result core setup_is world_is range c.make-writer.ensures.agrees in
     record {
       seat = subst (λ (s : PlainWriter). s.place < length setup.writers) (sym c.make-writer.ensures.seat) inside;
-      agrees = subst (λ (s : PlainWriter). CoreAgrees setup s.place (writer table.seat.me.0 s.place) core) (sym c.make-writer.ensures.seat)
-          (first_agrees setup table.seat.me.0 c.in-Ok.geometry c.new-arbiter.result core setup_is world_is range c.make-writer.ensures.agrees);
+      agrees = subst (λ (s : PlainWriter). CoreAgrees setup s.place (writer table.seat.me.0 s.place) core) (sym c.make-writer.ensures.seat) agrees;
+      drops = first_drops setup c.in-Ok.geometry (writer table.seat.me.0 0) core setup_is agrees;
     }

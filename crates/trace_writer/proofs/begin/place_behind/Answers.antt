@@ -1,9 +1,11 @@
-use Rattle.std.proofs.Common.{◌∙◌, sym, ap}
+use Rattle.std.proofs.Common.{◌∙◌, Bool, sym, ap, subst}
 use Rattle.chunk_plain.specs.Views.{WriterView}
+use Rattle.trace_writer.specs.Helping.{IsWork}
 use Rattle.trace_writer.specs.Site.{site_of}
 use Rattle.trace_writer.proofs.Ending.{behind_holds, behind_head}
 use Rattle.trace_writer.proofs.Idling.{begun_one_more}
 use Rattle.trace_writer.proofs.Starting.{behind_roomy, place_from, behind_idle, room_of, idle_there, place_here}
+use Rattle.trace_writer.proofs.Working.{work_none, work_before, refuses_none}
 use Rattle.trace_writer.proofs.begin.place_behind.Goals as goal
 
 pub complete-requires-clause-held : goal.complete-requires-clause-held
@@ -41,3 +43,16 @@ returns-clause-place g c = λ account behind.
     (c.new_place.ensures.place account c.complete.new.pending
     (idle_there setup (g.W.Words.setup c.complete.new.table) place (g.W.Words.place c.complete.new.seat) c.args.route.now account mid c.complete.new.pending
     step.setup_stays step.place_stays idle)))
+
+pub returns-then-has_room-clause-work : goal.returns-then-has_room-clause-work
+returns-then-has_room-clause-work g c =
+    subst (λ (refused : Bool). IsWork g.W.Words.setup g.W.Words.sits g.W.Words.place g.W.Words.view g.W.Words.serves g.W.Words.service_view g.H.HelperOn.needs g.H.HelperOn.helps
+    c.args.route.now c.args.help.now c.args.table.now c.args.seat.now refused c.args.help.now c.args.table.now c.args.seat.now) (sym (refuses_none c.args.route.now.spec.policy))
+    (work_none g.W.Words.setup g.W.Words.sits g.W.Words.place g.W.Words.view g.W.Words.serves g.W.Words.service_view g.H.HelperOn.needs g.H.HelperOn.helps
+    c.args.route.now c.args.help.now c.args.table.now c.args.seat.now c.requires.seat c.requires.needs)
+
+pub returns-clause-work : goal.returns-clause-work
+returns-clause-work g c =
+    work_before g.W.Words.setup g.W.Words.sits g.W.Words.place g.W.Words.view g.W.Words.serves g.W.Words.service_view g.H.HelperOn.needs g.H.HelperOn.helps
+    c.args.route.now c.args.help.now c.args.table.now c.args.seat.now c.complete.new.table c.complete.new.seat _ c.new_place.new.help c.new_place.new.table c.new_place.new.seat
+    c.complete.ensures.step c.new_place.ensures.work

@@ -1,9 +1,13 @@
-use Rattle.std.proofs.Common.{ℕ, ◌+◌, ◌≤◌, ◌++◌, refl, sym, subst}
+use Rattle.std.proofs.Common.{◌∙◌, ℕ, ◌+◌, ◌*◌, ◌≤◌, ◌++◌, length, refl, sym, ap, subst}
 use Rattle.std.specs.List.{repeat}
 use Rattle.chunk_plain.specs.Words.{call_of}
 use Rattle.trace_writer.specs.Agreement.{len_of}
 use Rattle.trace_writer.proofs.Calling.{field_long}
-use Rattle.trace_writer.proofs.InPlace.{agrees_put}
+use Rattle.std.proofs.lemmas.Bool.{true≢false}
+use Rattle.trace_writer.specs.declared.state.Writer.{Writer}
+use Rattle.trace_writer.specs.Empty.{is_empty, is_stalled}
+use Rattle.trace_writer.proofs.Working.{work_own}
+use Rattle.trace_writer.proofs.InPlace.{agrees_put, needs_empty}
 use Rattle.trace_writer.proofs.field.write_field.Goals as goal
 
 pub returns-then-put_field_here-clause-agrees : goal.returns-then-put_field_here-clause-agrees
@@ -14,3 +18,21 @@ returns-then-put_field_here-clause-agrees g c =
     (c.if-put_field_here.ensures.puts refl)
     (subst (λ (n : ℕ). len_of c.args.writer.now.packet + n ≤ 1048576) (sym (field_long c.args.head.now c.args.text.now c.args.times)) c.requires.fits)
     c.requires.call c.note_call.ensures.view
+
+pub returns-then-put_field_here-clause-going : goal.returns-then-put_field_here-clause-going
+returns-then-put_field_here-clause-going g c = ap (λ (writer : Writer). is_stalled writer.state) (c.if-put_field_here.ensures.puts refl).new_is
+
+pub returns-then-put_field_here-clause-stays : goal.returns-then-put_field_here-clause-stays
+returns-then-put_field_here-clause-stays g c = λ stalled. absurd (true≢false (sym stalled ∙ ap is_stalled (c.if-put_field_here.ensures.puts refl).was))
+
+pub returns-then-put_field_here-clause-work : goal.returns-then-put_field_here-clause-work
+returns-then-put_field_here-clause-work g c =
+    work_own g.W.Words.setup g.W.Words.sits g.W.Words.place g.W.Words.view g.W.Words.serves g.W.Words.service_view g.H.HelperOn.needs g.H.HelperOn.helps
+    c.args.writer.now.route c.args.help.now c.args.table.now c.args.seat.now c.note_call.new.self c.note_call.new.seat g.met.H.HelperOn.needs_stay c.requires.needs c.note_call.ensures.step
+
+pub returns-clause-asked : goal.returns-clause-asked
+returns-clause-asked g c = λ needs.
+    c.write_field_on.ensures.asked
+    (ap (λ (writer : Writer). is_empty writer.state) (c.put_field_here.ensures.unchanged c.if-put_field_here.false)
+    ∙ needs_empty c.args.writer.now.state (length c.args.head.now + c.args.times * length c.args.text.now) needs
+    (λ fragment was fits. absurd (true≢false (sym (c.put_field_here.ensures.fits fragment was fits) ∙ c.if-put_field_here.false))))

@@ -1,5 +1,9 @@
-use Rattle.std.proofs.Common.{refl}
-use Rattle.trace_writer.proofs.InPlace.{few_holes, agrees_opened}
+use Rattle.std.proofs.Common.{◌∙◌, ◌+◌, length, refl, sym, ap}
+use Rattle.std.proofs.lemmas.Bool.{true≢false}
+use Rattle.trace_writer.specs.declared.state.Writer.{Writer}
+use Rattle.trace_writer.specs.Empty.{is_empty, is_stalled}
+use Rattle.trace_writer.proofs.Working.{work_own}
+use Rattle.trace_writer.proofs.InPlace.{few_holes, agrees_opened, needs_empty}
 use Rattle.trace_writer.proofs.field.write_nested.Goals as goal
 
 pub put_nested_here-requires-clause-few : goal.put_nested_here-requires-clause-few
@@ -16,3 +20,21 @@ returns-then-put_nested_here-clause-agrees g c =
     c.args.field c.args.tag.now c.requires.agrees puts c.requires.fits
     (few_holes setup place view c.args.writer.now c.args.writer.now.packet puts.fragment refl c.requires.agrees puts.was c.requires.begun c.requires.depth)
     c.requires.tag c.note_call.ensures.view
+
+pub returns-then-put_nested_here-clause-going : goal.returns-then-put_nested_here-clause-going
+returns-then-put_nested_here-clause-going g c = ap (λ (writer : Writer). is_stalled writer.state) (c.if-put_nested_here.ensures.puts refl).new_is
+
+pub returns-then-put_nested_here-clause-stays : goal.returns-then-put_nested_here-clause-stays
+returns-then-put_nested_here-clause-stays g c = λ stalled. absurd (true≢false (sym stalled ∙ ap is_stalled (c.if-put_nested_here.ensures.puts refl).was))
+
+pub returns-then-put_nested_here-clause-work : goal.returns-then-put_nested_here-clause-work
+returns-then-put_nested_here-clause-work g c =
+    work_own g.W.Words.setup g.W.Words.sits g.W.Words.place g.W.Words.view g.W.Words.serves g.W.Words.service_view g.H.HelperOn.needs g.H.HelperOn.helps
+    c.args.writer.now.route c.args.help.now c.args.table.now c.args.seat.now c.note_call.new.self c.note_call.new.seat g.met.H.HelperOn.needs_stay c.requires.needs c.note_call.ensures.step
+
+pub returns-clause-asked : goal.returns-clause-asked
+returns-clause-asked g c = λ needs.
+    c.write_nested_on.ensures.asked
+    (ap (λ (writer : Writer). is_empty writer.state) (c.put_nested_here.ensures.unchanged c.if-put_nested_here.false)
+    ∙ needs_empty c.args.writer.now.state (length c.args.tag.now + 4) needs
+    (λ fragment was fits. absurd (true≢false (sym (c.put_nested_here.ensures.fits fragment was fits) ∙ c.if-put_nested_here.false))))

@@ -38,11 +38,11 @@ complete-requires-clause-size g c =
     let i = c.requires.inside in let e = c.end_dropped.ensures in
     dropped_size _ i.packet i.older _ c.args.pending.now c.holes.pending c.args.fragment c.holes.fragment c.end_dropped.result i.inside c.holes.invariant e.held e.len
 
-pub returns-clause-loses : goal.returns-clause-loses
-returns-clause-loses g c =
+pub returns-clause-stops : goal.returns-clause-stops
+returns-clause-stops g c =
     let e = c.end_dropped.ensures in
     let site = site_of (g.W.Words.setup c.args.table.now) (g.W.Words.place c.args.seat.now) c.args.route.now in
     let old = g.W.Words.view c.args.table.now c.args.seat.now in let new = g.W.Words.view c.complete.new.table c.complete.new.seat in
-    loses_rest site old new c.args.pending.now c.complete.new.pending c.args.fragment c.requires.filled
+    loses_rest site old new c.args.pending.now c.complete.new.pending c.args.fragment c.requires.drops c.requires.filled
     (ends_given_up site old new c.args.pending.now c.holes.pending c.complete.new.pending c.args.fragment c.holes.fragment c.end_dropped.result
     c.holes.invariant (omega arith) e.held e.bytes e.count e.continues c.complete.ensures.pending c.complete.ensures.view)

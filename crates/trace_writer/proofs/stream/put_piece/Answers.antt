@@ -1,14 +1,16 @@
-use Rattle.std.proofs.Common.{◌≡◌, ◌∙◌, ℕ, List, take, drop, ap, subst, sym}
+use Rattle.std.proofs.Common.{◌≡◌, ◌∙◌, ℕ, true, List, take, drop, ap, subst, sym}
 use Rattle.chunk_plain.specs.Setup.{Setup}
-use Rattle.chunk_plain.proofs.SeatSteps.{stays, steps_follow}
 use Rattle.trace_writer.specs.Site.{Site, site_of}
 use Rattle.trace_writer.specs.Flows.{IsInPacket, RunsOn, CannotRunOn}
+use Rattle.trace_writer.specs.Helping.{refuses}
 use Rattle.trace_writer.proofs.Putting.{PutsSoFar, puts_none, puts_part, puts_run, puts_lost, puts_all, inside_so_far, full_when_left, left_is, left_none, left_some, ids_most}
+use Rattle.trace_writer.proofs.Working.{work_none, work_behind, work_on}
 use Rattle.trace_writer.proofs.stream.put_piece.Goals as goal
 
 pub chunks-init : goal.chunks-init
 chunks-init g c = record {
-  step = stays g.W.Words.setup g.W.Words.sits g.W.Words.place g.W.Words.view g.W.Words.serves g.W.Words.service_view c.args.table.now c.args.seat.now c.requires.seat;
+  work = work_none g.W.Words.setup g.W.Words.sits g.W.Words.place g.W.Words.view g.W.Words.serves g.W.Words.service_view g.H.HelperOn.needs g.H.HelperOn.helps
+      c.args.route.now c.args.help.now c.args.table.now c.args.seat.now c.requires.seat c.requires.needs;
   so_far = puts_none (site_of (g.W.Words.setup c.args.table.now) (g.W.Words.place c.args.seat.now) c.args.route.now)
       (g.W.Words.view c.args.table.now c.args.seat.now) c.args.pending.now c.args.fragment c.args.piece.now;
 }
@@ -26,9 +28,9 @@ returns-then-is_empty-clause-flow g c =
 pub run_on-requires-clause-inside : goal.run_on-requires-clause-inside
 run_on-requires-clause-inside g c =
     let setup = g.W.Words.setup c.args.table.now in let place = g.W.Words.place c.args.seat.now in let route = c.args.route.now in
-    let site = site_of setup place route in let step = c.chunks.invariant.step in
+    let site = site_of setup place route in let others = c.chunks.invariant.work.others in
     let site_is : site_of (g.W.Words.setup c.chunks.table) (g.W.Words.place c.chunks.seat) route ≡ site =
-    ap (λ (s : Setup). site_of s (g.W.Words.place c.chunks.seat) route) step.setup_stays ∙ ap (λ (n : ℕ). site_of setup n route) step.place_stays in
+    ap (λ (s : Setup). site_of s (g.W.Words.place c.chunks.seat) route) others.setup_stays ∙ ap (λ (n : ℕ). site_of setup n route) others.place_stays in
     let old = g.W.Words.view c.args.table.now c.args.seat.now in let mid = g.W.Words.view c.chunks.table c.chunks.seat in
     let rest = c.chunks.rest.now in let count = c.put-count.result in
     subst (λ (s : Site). IsInPacket s mid c.chunks.pending c.put-count.new.self) (sym site_is)
@@ -51,9 +53,9 @@ run_on-requires-clause-ids g c =
 pub chunks-preserved : goal.chunks-preserved
 chunks-preserved g c =
     let setup = g.W.Words.setup c.args.table.now in let place = g.W.Words.place c.args.seat.now in let route = c.args.route.now in
-    let site = site_of setup place route in let step = c.chunks.invariant.step in
+    let site = site_of setup place route in let others = c.chunks.invariant.work.others in
     let site_is : site_of (g.W.Words.setup c.chunks.table) (g.W.Words.place c.chunks.seat) route ≡ site =
-    ap (λ (s : Setup). site_of s (g.W.Words.place c.chunks.seat) route) step.setup_stays ∙ ap (λ (n : ℕ). site_of setup n route) step.place_stays in
+    ap (λ (s : Setup). site_of s (g.W.Words.place c.chunks.seat) route) others.setup_stays ∙ ap (λ (n : ℕ). site_of setup n route) others.place_stays in
     let old = g.W.Words.view c.args.table.now c.args.seat.now in let mid = g.W.Words.view c.chunks.table c.chunks.seat in
     let new = g.W.Words.view c.run_on.new.table c.run_on.new.seat in
     let rest = c.chunks.rest.now in let count = c.put-count.result in
@@ -64,8 +66,9 @@ chunks-preserved g c =
     c.put-count.ensures.count c.put-count.ensures.bytes c.put-count.ensures.at left
     (inside_so_far site old mid c.args.pending.now c.chunks.pending c.args.fragment c.put-count.new.self c.args.piece.now (drop count rest) part c.requires.inside) in
     record {
-      step = steps_follow g.W.Words.setup g.W.Words.sits g.W.Words.place g.W.Words.view g.W.Words.serves g.W.Words.service_view
-          c.args.table.now c.args.seat.now c.chunks.table c.chunks.seat c.run_on.new.table c.run_on.new.seat step c.in-Going.ensures.step;
+      work = work_on g.W.Words.setup g.W.Words.sits g.W.Words.place g.W.Words.view g.W.Words.serves g.W.Words.service_view g.H.HelperOn.needs g.H.HelperOn.helps
+          route c.args.help.now c.args.table.now c.args.seat.now c.chunks.help c.chunks.table c.chunks.seat c.run_on.new.help c.run_on.new.table c.run_on.new.seat
+          c.chunks.invariant.work c.in-Going.ensures.work;
       so_far = subst (λ (xs : List ℕ). PutsSoFar site old new c.args.pending.now c.run_on.new.pending c.args.fragment c.in-Going.next c.args.piece.now xs) (left_is rest count)
           (puts_run site old mid new c.args.pending.now c.chunks.pending c.run_on.new.pending c.args.fragment c.put-count.new.self c.in-Going.next c.args.piece.now (drop count rest)
           part
@@ -73,12 +76,12 @@ chunks-preserved g c =
           full c.requires.route.least left);
     }
 
-pub returns-in-GivenUp-clause-flow : goal.returns-in-GivenUp-clause-flow
-returns-in-GivenUp-clause-flow g c =
+pub returns-in-Stopped-clause-flow : goal.returns-in-Stopped-clause-flow
+returns-in-Stopped-clause-flow g c =
     let setup = g.W.Words.setup c.args.table.now in let place = g.W.Words.place c.args.seat.now in let route = c.args.route.now in
-    let site = site_of setup place route in let step = c.chunks.invariant.step in
+    let site = site_of setup place route in let others = c.chunks.invariant.work.others in
     let site_is : site_of (g.W.Words.setup c.chunks.table) (g.W.Words.place c.chunks.seat) route ≡ site =
-    ap (λ (s : Setup). site_of s (g.W.Words.place c.chunks.seat) route) step.setup_stays ∙ ap (λ (n : ℕ). site_of setup n route) step.place_stays in
+    ap (λ (s : Setup). site_of s (g.W.Words.place c.chunks.seat) route) others.setup_stays ∙ ap (λ (n : ℕ). site_of setup n route) others.place_stays in
     let old = g.W.Words.view c.args.table.now c.args.seat.now in let mid = g.W.Words.view c.chunks.table c.chunks.seat in
     let new = g.W.Words.view c.run_on.new.table c.run_on.new.seat in
     let rest = c.chunks.rest.now in let count = c.put-count.result in
@@ -88,11 +91,18 @@ returns-in-GivenUp-clause-flow g c =
     let full = full_when_left site mid c.chunks.pending c.chunks.fragment c.put-count.new.self c.chunks.fragment.at (take count rest) rest count
     c.put-count.ensures.count c.put-count.ensures.bytes c.put-count.ensures.at left
     (inside_so_far site old mid c.args.pending.now c.chunks.pending c.args.fragment c.put-count.new.self c.args.piece.now (drop count rest) part c.requires.inside) in
-    let cannot = c.in-GivenUp.ensures.flow in (
+    let cannot = c.in-Stopped.ensures.flow in (
       puts_lost site setup route old mid new c.args.pending.now c.chunks.pending c.run_on.new.pending c.args.fragment c.put-count.new.self c.args.piece.now (drop count rest) part
           (subst (λ (s : Site). CannotRunOn s setup route mid new c.chunks.pending c.run_on.new.pending c.put-count.new.self) site_is
           (subst (λ (s : Setup). CannotRunOn (site_of (g.W.Words.setup c.chunks.table) (g.W.Words.place c.chunks.seat) route) s route mid new c.chunks.pending c.run_on.new.pending c.put-count.new.self)
-          step.setup_stays cannot.0))
+          others.setup_stays cannot.0))
           full left,
       cannot.1,
     )
+
+pub returns-in-Stopped-clause-work : goal.returns-in-Stopped-clause-work
+returns-in-Stopped-clause-work g c =
+    let route = c.args.route.now in
+    work_behind g.W.Words.setup g.W.Words.sits g.W.Words.place g.W.Words.view g.W.Words.serves g.W.Words.service_view g.H.HelperOn.needs g.H.HelperOn.helps
+    route c.args.help.now c.args.table.now c.args.seat.now c.chunks.help c.chunks.table c.chunks.seat
+    (refuses route.spec.policy true) c.run_on.new.help c.run_on.new.table c.run_on.new.seat c.chunks.invariant.work c.in-Stopped.ensures.work

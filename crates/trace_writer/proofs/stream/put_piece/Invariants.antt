@@ -1,12 +1,13 @@
-use Rattle.std.proofs.Common.{◌+◌, ◌-◌, ◌*◌, length, vec_len}
-use Rattle.chunk_plain.specs.Words.{IsWriterStep}
+use Rattle.std.proofs.Common.{◌+◌, ◌-◌, ◌*◌, false, length, vec_len}
 use Rattle.trace_writer.specs.Site.{site_of}
+use Rattle.trace_writer.specs.Helping.{IsWork}
 use Rattle.trace_writer.proofs.Putting.{PutsSoFar}
 use Rattle.trace_writer.proofs.stream.put_piece.Given as goal
 
 abbrev pub invariant-chunks : goal.invariant-chunks
 invariant-chunks g l = record {
-  step : IsWriterStep g.W.Words.setup g.W.Words.sits g.W.Words.place g.W.Words.view g.W.Words.serves g.W.Words.service_view l.fn.table l.fn.seat l.table l.seat;
+  work : IsWork g.W.Words.setup g.W.Words.sits g.W.Words.place g.W.Words.view g.W.Words.serves g.W.Words.service_view g.H.HelperOn.needs g.H.HelperOn.helps
+      l.route l.fn.help l.fn.table l.fn.seat false l.help l.table l.seat;
   so_far : PutsSoFar (site_of (g.W.Words.setup l.fn.table) (g.W.Words.place l.fn.seat) l.route) (g.W.Words.view l.fn.table l.fn.seat)
       (g.W.Words.view l.table l.seat) l.fn.pending l.pending l.fn.fragment l.fragment l.piece l.rest;
 }

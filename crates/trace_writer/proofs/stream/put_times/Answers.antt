@@ -1,18 +1,27 @@
-use Rattle.std.proofs.Common.{◌≡◌, ◌∙◌, ℕ, ap, subst, sym, arith}
+use Rattle.std.proofs.Common.{◌≡◌, ◌∙◌, ℕ, true, ap, subst, sym, arith}
 use Rattle.std.specs.List.{repeat}
 use Rattle.chunk_plain.specs.Setup.{Setup}
-use Rattle.chunk_plain.proofs.SeatSteps.{steps_follow}
 use Rattle.trace_writer.specs.Site.{Site, site_of}
-use Rattle.trace_writer.specs.Flows.{IsInPacket, PutsOn, GivesUpIn}
-use Rattle.trace_writer.proofs.Putting.{inside_behind, times_next, times_lost, times_ids}
+use Rattle.trace_writer.specs.Flows.{IsInPacket, PutsOn, StopsIn}
+use Rattle.trace_writer.specs.Helping.{refuses}
+use Rattle.trace_writer.proofs.Putting.{inside_behind, puts_nothing, times_next, times_lost, times_ids}
+use Rattle.trace_writer.proofs.Working.{work_none, work_behind, work_on}
 use Rattle.trace_writer.proofs.stream.put_times.Goals as goal
+
+pub loop-turn-init : goal.loop-turn-init
+loop-turn-init g c = record {
+  work = work_none g.W.Words.setup g.W.Words.sits g.W.Words.place g.W.Words.view g.W.Words.serves g.W.Words.service_view g.H.HelperOn.needs g.H.HelperOn.helps
+      c.args.route.now c.args.help.now c.args.table.now c.args.seat.now c.requires.seat c.requires.needs;
+  puts = puts_nothing (site_of (g.W.Words.setup c.args.table.now) (g.W.Words.place c.args.seat.now) c.args.route.now)
+      (g.W.Words.view c.args.table.now c.args.seat.now) c.args.pending.now c.args.fragment;
+}
 
 pub put_piece-requires-clause-inside : goal.put_piece-requires-clause-inside
 put_piece-requires-clause-inside g c =
     let setup = g.W.Words.setup c.args.table.now in let place = g.W.Words.place c.args.seat.now in let route = c.args.route.now in
-    let site = site_of setup place route in let step = c.loop-turn.invariant.step in
+    let site = site_of setup place route in let others = c.loop-turn.invariant.work.others in
     let site_is : site_of (g.W.Words.setup c.loop-turn.table) (g.W.Words.place c.loop-turn.seat) route ≡ site =
-    ap (λ (s : Setup). site_of s (g.W.Words.place c.loop-turn.seat) route) step.setup_stays ∙ ap (λ (n : ℕ). site_of setup n route) step.place_stays in
+    ap (λ (s : Setup). site_of s (g.W.Words.place c.loop-turn.seat) route) others.setup_stays ∙ ap (λ (n : ℕ). site_of setup n route) others.place_stays in
     let mid = g.W.Words.view c.loop-turn.table c.loop-turn.seat in
     subst (λ (s : Site). IsInPacket s mid c.loop-turn.pending c.loop-turn.fragment) (sym site_is)
     (inside_behind site (g.W.Words.view c.args.table.now c.args.seat.now) mid c.args.pending.now c.loop-turn.pending c.args.fragment c.loop-turn.fragment
@@ -24,34 +33,35 @@ put_piece-requires-clause-ids g c =
     (g.W.Words.view c.args.table.now c.args.seat.now) (g.W.Words.view c.loop-turn.table c.loop-turn.seat) c.args.pending.now c.loop-turn.pending
     c.args.fragment c.loop-turn.fragment c.loop-turn._turn c.args.times c.args.piece.now c.loop-turn-test.true c.requires.ids c.loop-turn.invariant.puts
 
-pub returns-in-GivenUp-clause-flow : goal.returns-in-GivenUp-clause-flow
-returns-in-GivenUp-clause-flow g c =
+pub returns-in-Stopped-clause-flow : goal.returns-in-Stopped-clause-flow
+returns-in-Stopped-clause-flow g c =
     let setup = g.W.Words.setup c.args.table.now in let place = g.W.Words.place c.args.seat.now in let route = c.args.route.now in
-    let site = site_of setup place route in let step = c.loop-turn.invariant.step in
+    let site = site_of setup place route in let others = c.loop-turn.invariant.work.others in
     let site_is : site_of (g.W.Words.setup c.loop-turn.table) (g.W.Words.place c.loop-turn.seat) route ≡ site =
-    ap (λ (s : Setup). site_of s (g.W.Words.place c.loop-turn.seat) route) step.setup_stays ∙ ap (λ (n : ℕ). site_of setup n route) step.place_stays in
+    ap (λ (s : Setup). site_of s (g.W.Words.place c.loop-turn.seat) route) others.setup_stays ∙ ap (λ (n : ℕ). site_of setup n route) others.place_stays in
     let old = g.W.Words.view c.args.table.now c.args.seat.now in let mid = g.W.Words.view c.loop-turn.table c.loop-turn.seat in
     let new = g.W.Words.view c.put_piece.new.table c.put_piece.new.seat in
-    let lost = c.in-GivenUp.ensures.flow in (
+    let lost = c.in-Stopped.ensures.flow in (
       times_lost site setup route old mid new c.args.pending.now c.loop-turn.pending c.put_piece.new.pending c.args.fragment c.loop-turn.fragment
           c.loop-turn._turn c.args.times c.args.piece.now c.loop-turn-test.true c.loop-turn.invariant.puts
-          (subst (λ (s : Site). GivesUpIn s setup route mid new c.loop-turn.pending c.put_piece.new.pending c.loop-turn.fragment c.args.piece.now) site_is
-          (subst (λ (s : Setup). GivesUpIn (site_of (g.W.Words.setup c.loop-turn.table) (g.W.Words.place c.loop-turn.seat) route) s route mid new c.loop-turn.pending c.put_piece.new.pending c.loop-turn.fragment c.args.piece.now)
-          step.setup_stays lost.0)),
+          (subst (λ (s : Site). StopsIn s setup route mid new c.loop-turn.pending c.put_piece.new.pending c.loop-turn.fragment c.args.piece.now) site_is
+          (subst (λ (s : Setup). StopsIn (site_of (g.W.Words.setup c.loop-turn.table) (g.W.Words.place c.loop-turn.seat) route) s route mid new c.loop-turn.pending c.put_piece.new.pending c.loop-turn.fragment c.args.piece.now)
+          others.setup_stays lost.0)),
       lost.1,
     )
 
 pub loop-turn-preserved : goal.loop-turn-preserved
 loop-turn-preserved g c =
     let setup = g.W.Words.setup c.args.table.now in let place = g.W.Words.place c.args.seat.now in let route = c.args.route.now in
-    let site = site_of setup place route in let step = c.loop-turn.invariant.step in
+    let site = site_of setup place route in let others = c.loop-turn.invariant.work.others in
     let site_is : site_of (g.W.Words.setup c.loop-turn.table) (g.W.Words.place c.loop-turn.seat) route ≡ site =
-    ap (λ (s : Setup). site_of s (g.W.Words.place c.loop-turn.seat) route) step.setup_stays ∙ ap (λ (n : ℕ). site_of setup n route) step.place_stays in
+    ap (λ (s : Setup). site_of s (g.W.Words.place c.loop-turn.seat) route) others.setup_stays ∙ ap (λ (n : ℕ). site_of setup n route) others.place_stays in
     let old = g.W.Words.view c.args.table.now c.args.seat.now in let mid = g.W.Words.view c.loop-turn.table c.loop-turn.seat in
     let new = g.W.Words.view c.put_piece.new.table c.put_piece.new.seat in
     record {
-      step = steps_follow g.W.Words.setup g.W.Words.sits g.W.Words.place g.W.Words.view g.W.Words.serves g.W.Words.service_view
-          c.args.table.now c.args.seat.now c.loop-turn.table c.loop-turn.seat c.put_piece.new.table c.put_piece.new.seat step c.in-Going.ensures.step;
+      work = work_on g.W.Words.setup g.W.Words.sits g.W.Words.place g.W.Words.view g.W.Words.serves g.W.Words.service_view g.H.HelperOn.needs g.H.HelperOn.helps
+          route c.args.help.now c.args.table.now c.args.seat.now c.loop-turn.help c.loop-turn.table c.loop-turn.seat c.put_piece.new.help c.put_piece.new.table c.put_piece.new.seat
+          c.loop-turn.invariant.work c.in-Going.ensures.work;
       puts = times_next site old mid new c.args.pending.now c.loop-turn.pending c.put_piece.new.pending c.args.fragment c.loop-turn.fragment c.in-Going.next
           c.loop-turn._turn c.args.piece.now c.loop-turn.invariant.puts
           (subst (λ (s : Site). PutsOn s mid new c.loop-turn.pending c.put_piece.new.pending c.loop-turn.fragment c.in-Going.next c.args.piece.now) site_is c.in-Going.ensures.flow);
@@ -62,3 +72,10 @@ returns-clause-flow g c =
     subst (λ (n : ℕ). PutsOn (site_of (g.W.Words.setup c.args.table.now) (g.W.Words.place c.args.seat.now) c.args.route.now)
     (g.W.Words.view c.args.table.now c.args.seat.now) (g.W.Words.view c.loop-turn.table c.loop-turn.seat) c.args.pending.now c.loop-turn.pending
     c.args.fragment c.loop-turn.fragment (repeat n c.args.piece.now)) (omega arith) c.loop-turn.invariant.puts
+
+pub returns-in-Stopped-clause-work : goal.returns-in-Stopped-clause-work
+returns-in-Stopped-clause-work g c =
+    let route = c.args.route.now in
+    work_behind g.W.Words.setup g.W.Words.sits g.W.Words.place g.W.Words.view g.W.Words.serves g.W.Words.service_view g.H.HelperOn.needs g.H.HelperOn.helps
+    route c.args.help.now c.args.table.now c.args.seat.now c.loop-turn.help c.loop-turn.table c.loop-turn.seat
+    (refuses route.spec.policy true) c.put_piece.new.help c.put_piece.new.table c.put_piece.new.seat c.loop-turn.invariant.work c.in-Stopped.ensures.work

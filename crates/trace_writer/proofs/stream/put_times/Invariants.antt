@@ -1,12 +1,14 @@
+use Rattle.std.proofs.Common.{false}
 use Rattle.std.specs.List.{repeat}
-use Rattle.chunk_plain.specs.Words.{IsWriterStep}
 use Rattle.trace_writer.specs.Site.{site_of}
+use Rattle.trace_writer.specs.Helping.{IsWork}
 use Rattle.trace_writer.specs.Flows.{PutsOn}
 use Rattle.trace_writer.proofs.stream.put_times.Given as goal
 
 abbrev pub invariant-loop-turn : goal.invariant-loop-turn
 invariant-loop-turn g l = record {
-  step : IsWriterStep g.W.Words.setup g.W.Words.sits g.W.Words.place g.W.Words.view g.W.Words.serves g.W.Words.service_view l.fn.table l.fn.seat l.table l.seat;
+  work : IsWork g.W.Words.setup g.W.Words.sits g.W.Words.place g.W.Words.view g.W.Words.serves g.W.Words.service_view g.H.HelperOn.needs g.H.HelperOn.helps
+      l.route l.fn.help l.fn.table l.fn.seat false l.help l.table l.seat;
   puts : PutsOn (site_of (g.W.Words.setup l.fn.table) (g.W.Words.place l.fn.seat) l.route) (g.W.Words.view l.fn.table l.fn.seat)
       (g.W.Words.view l.table l.seat) l.fn.pending l.pending l.fn.fragment l.fragment (repeat l._turn l.piece);
 }

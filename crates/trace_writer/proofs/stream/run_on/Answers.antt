@@ -1,85 +1,15 @@
-use Rattle.std.proofs.Common.{◌+◌}
-use Rattle.trace_writer.proofs.RunOn.{Starts, StartsIn, next_id, next_id_after, ends_as, ended_holds, ended_head, run_holds, run_follows, goes_on_in, runs_on, cannot_run_on}
-use Rattle.trace_writer.specs.Site.{site_of}
-use Rattle.trace_writer.specs.Headers.{held_head}
+use Rattle.std.proofs.Common.{◌≡◌, false, Bool, sym, ap, subst}
+use Rattle.trace_base.specs.declared.policy.WriterPolicy.{WriterPolicy}
+use Rattle.trace_writer.specs.Flows.{is_stopped}
+use Rattle.trace_writer.specs.Helping.{refuses, IsWork}
+use Rattle.trace_writer.proofs.Working.{work_own}
 use Rattle.trace_writer.proofs.stream.run_on.Goals as goal
 
-pub claim_over-requires-clause-id : goal.claim_over-requires-clause-id
-claim_over-requires-clause-id g c =
-    let i = c.requires.inside in
-    next_id _ i.packet i.older _ c.args.pending.now c.args.fragment i.inside
-
-pub returns-in_default-clause-flow : goal.returns-in_default-clause-flow
-returns-in_default-clause-flow g c =
-    let setup = g.W.Words.setup c.args.table.now in let place = g.W.Words.place c.args.seat.now in
-    let old = g.W.Words.view c.args.table.now c.args.seat.now in let mid = g.W.Words.view c.claim_over.new.table c.claim_over.new.seat in
-    let new = g.W.Words.view c.give_up.new.table c.give_up.new.seat in
-    let vain = c.in_default.ensures.lost in let step = c.in_default.ensures.step in let i = c.requires.inside in (
-      cannot_run_on setup (g.W.Words.setup c.claim_over.new.table) place (g.W.Words.place c.claim_over.new.seat) c.args.route.now old mid new
-          c.args.pending.now c.give_up.new.pending c.args.fragment step.setup_stays step.place_stays vain c.give_up.ensures.asked c.give_up.ensures.loses,
-      next_id_after setup _ _ _ i.packet i.older old mid new c.args.pending.now c.args.fragment i.inside vain c.give_up.ensures.begun,
-    )
-
-pub complete-requires-clause-held : goal.complete-requires-clause-held
-complete-requires-clause-held g c =
-    let setup = g.W.Words.setup c.args.table.now in let arbiter = c.args.route.now.arbiter in
-    let old = g.W.Words.view c.args.table.now c.args.seat.now in let one = g.W.Words.view c.claim_over.new.table c.claim_over.new.seat in
-    let i = c.requires.inside in let e = c.end.ensures in
-    ended_holds setup arbiter.first arbiter.chunks c.in-Some.next.chunk (site_of setup (g.W.Words.place c.args.seat.now) c.args.route.now) i.packet i.older old one c.args.pending.now c.args.fragment c.end.result c.in-Some.ensures.won i.inside
-    (ends_as c.args.fragment c.end.result e.held e.bytes e.count e.continues)
-
-pub complete-requires-clause-head : goal.complete-requires-clause-head
-complete-requires-clause-head g c =
-    let setup = g.W.Words.setup c.args.table.now in let arbiter = c.args.route.now.arbiter in
-    let old = g.W.Words.view c.args.table.now c.args.seat.now in let one = g.W.Words.view c.claim_over.new.table c.claim_over.new.seat in
-    let i = c.requires.inside in let e = c.end.ensures in
-    ended_head setup arbiter.first arbiter.chunks c.in-Some.next.chunk (site_of setup (g.W.Words.place c.args.seat.now) c.args.route.now) i.packet i.older old one c.args.pending.now c.args.fragment c.end.result c.in-Some.ensures.won i.inside
-    (ends_as c.args.fragment c.end.result e.held e.bytes e.count e.continues)
-
-pub start_fragment-requires-clause-held : goal.start_fragment-requires-clause-held
-start_fragment-requires-clause-held g c =
-    let route = c.args.route.now in let setup = g.W.Words.setup c.args.table.now in let place = g.W.Words.place c.args.seat.now in
-    let old = g.W.Words.view c.args.table.now c.args.seat.now in let one = g.W.Words.view c.claim_over.new.table c.claim_over.new.seat in
-    let two = g.W.Words.view c.complete.new.table c.complete.new.seat in
-    let i = c.requires.inside in
-    let e = c.end.ensures in
-    let ends = ends_as c.args.fragment c.end.result e.held e.bytes e.count e.continues in
-    let n = c.new.ensures in let b = c.in-Some.ensures.begun in
-    let starts : Starts (site_of setup place route) c.args.fragment c.in-Some.next c.new.result =
-    record { held = n.held; at = n.at; count = n.count; continues = n.continues; id = b.id_is; whole = b.whole } in
-    run_holds setup place (g.W.Words.place c.claim_over.new.seat) route i.packet i.older old one two c.args.pending.now c.args.fragment c.end.result c.new.result c.in-Some.next
-    i.inside c.in-Some.ensures.won ends c.in-Some.ensures.step.place_stays c.complete.ensures.view starts
-
-pub start_fragment-requires-clause-head : goal.start_fragment-requires-clause-head
-start_fragment-requires-clause-head g c =
-    let route = c.args.route.now in let setup = g.W.Words.setup c.args.table.now in let place = g.W.Words.place c.args.seat.now in
-    let old = g.W.Words.view c.args.table.now c.args.seat.now in let one = g.W.Words.view c.claim_over.new.table c.claim_over.new.seat in
-    let two = g.W.Words.view c.complete.new.table c.complete.new.seat in
-    let i = c.requires.inside in
-    let e = c.end.ensures in
-    let ends = ends_as c.args.fragment c.end.result e.held e.bytes e.count e.continues in
-    let n = c.new.ensures in let b = c.in-Some.ensures.begun in
-    let starts : Starts (site_of setup place route) c.args.fragment c.in-Some.next c.new.result =
-    record { held = n.held; at = n.at; count = n.count; continues = n.continues; id = b.id_is; whole = b.whole } in
-    run_follows setup place (g.W.Words.place c.claim_over.new.seat) route i.packet i.older old one two c.args.pending.now c.args.fragment c.end.result c.new.result c.in-Some.next
-    (held_head (c.new.result.count + 1) c.new.result.continues)
-    i.inside c.in-Some.ensures.won ends c.in-Some.ensures.step.place_stays c.complete.ensures.view starts
-
-pub returns-clause-flow : goal.returns-clause-flow
-returns-clause-flow g c =
-    let route = c.args.route.now in let setup = g.W.Words.setup c.args.table.now in let place = g.W.Words.place c.args.seat.now in
-    let old = g.W.Words.view c.args.table.now c.args.seat.now in let one = g.W.Words.view c.claim_over.new.table c.claim_over.new.seat in
-    let two = g.W.Words.view c.complete.new.table c.complete.new.seat in
-    let i = c.requires.inside in
-    let e = c.end.ensures in
-    let ends = ends_as c.args.fragment c.end.result e.held e.bytes e.count e.continues in
-    let n = c.new.ensures in let b = c.in-Some.ensures.begun in
-    let starts : Starts (site_of setup place route) c.args.fragment c.in-Some.next c.new.result =
-    record { held = n.held; at = n.at; count = n.count; continues = n.continues; id = b.id_is; whole = b.whole } in
-    let new = g.W.Words.view c.start_fragment.new.table c.start_fragment.new.seat in
-    let s = c.start_fragment.ensures in
-    let in_next : StartsIn c.new.result c.start_fragment.result =
-    record { held = s.held; start = s.start; at = s.at; count = s.count; continues = s.continues } in
-    runs_on (site_of setup place route) old new c.args.pending.now c.complete.new.pending c.args.fragment c.start_fragment.result c.requires.route.least c.requires.filled
-    (goes_on_in setup place (g.W.Words.place c.claim_over.new.seat) route old one two new c.args.pending.now c.complete.new.pending c.args.fragment c.end.result c.new.result c.in-Some.next
-    c.start_fragment.result c.requires.route c.in-Some.ensures.won ends c.in-Some.ensures.step.place_stays c.complete.ensures.view c.complete.ensures.pending starts in_next s.view)
+pub returns-in-Drops-clause-work : goal.returns-in-Drops-clause-work
+returns-in-Drops-clause-work g c =
+    let none : refuses c.args.route.now.spec.policy (is_stopped c.run_on_or_drop.result) ≡ false =
+    ap (λ (policy : WriterPolicy). refuses policy (is_stopped c.run_on_or_drop.result)) c.in-Drops.is in
+    subst (λ (refused : Bool). IsWork g.W.Words.setup g.W.Words.sits g.W.Words.place g.W.Words.view g.W.Words.serves g.W.Words.service_view g.H.HelperOn.needs g.H.HelperOn.helps
+    c.args.route.now c.args.help.now c.args.table.now c.args.seat.now refused c.args.help.now c.run_on_or_drop.new.table c.run_on_or_drop.new.seat) (sym none)
+    (work_own g.W.Words.setup g.W.Words.sits g.W.Words.place g.W.Words.view g.W.Words.serves g.W.Words.service_view g.H.HelperOn.needs g.H.HelperOn.helps
+    c.args.route.now c.args.help.now c.args.table.now c.args.seat.now c.run_on_or_drop.new.table c.run_on_or_drop.new.seat g.met.H.HelperOn.needs_stay c.requires.needs c.run_on_or_drop.ensures.step)

@@ -1,10 +1,12 @@
 use Rattle.std.proofs.Common.{arith}
-use Rattle.writer_speed.proofs.GoingLemmas.{goes_once, goes_further}
+use Rattle.writer_speed.proofs.GoingLemmas.{never_stalled, goes_once, goes_further}
 use Rattle.writer_speed.proofs.packet.end_packet.Goals as goal
 
 pub messages-smaller : goal.messages-smaller
 messages-smaller g c =
-    let falls = c.end_nested.ensures.depth_falls in
+    let going = never_stalled g.W.Words.setup g.W.Words.sits g.W.Words.place g.W.Words.view g.W.Words.serves g.W.Words.service_view
+    c.drops_never_stall.ensures c.messages.table c.messages.writer c.messages.invariant.goes.ready in
+    let falls = c.end_nested.ensures.depth_falls going in
     omega (arith, falls)
 
 pub messages-preserved : goal.messages-preserved
@@ -13,6 +15,7 @@ messages-preserved g c =
       goes = goes_further g.W.Words.setup g.W.Words.sits g.W.Words.place g.W.Words.view g.W.Words.serves g.W.Words.service_view
           c.args.table.now c.args.writer.now c.messages.table c.messages.writer c.end_nested.new.table c.end_nested.new.self c.messages.invariant.goes
           (goes_once g.W.Words.setup g.W.Words.sits g.W.Words.place g.W.Words.view g.W.Words.serves g.W.Words.service_view
-          c.messages.table c.messages.writer c.end_nested.new.table c.end_nested.new.self c.end_nested.ensures.agrees c.end_nested.ensures.step);
+          c.messages.table c.messages.writer c.end_nested.new.table c.end_nested.new.self c.messages.invariant.goes.ready.drops
+          c.end_nested.ensures.route c.end_nested.ensures.agrees c.end_nested.ensures.step);
       inside = c.end_nested.ensures.in_packet;
     }

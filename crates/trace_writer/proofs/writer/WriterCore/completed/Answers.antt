@@ -1,4 +1,4 @@
-use Rattle.trace_writer.proofs.CoreLemmas.{between_counts, writing_counts, idle_counts, dropping_counts}
+use Rattle.trace_writer.proofs.CoreLemmas.{between_counts, writing_counts, idle_counts, dropping_counts, stalled_counts}
 use Rattle.trace_writer.proofs.writer.WriterCore.completed.Goals as goal
 
 pub returns-in-Between : goal.returns-in-Between
@@ -12,3 +12,6 @@ returns-in-Idle g c = λ setup place view agrees. (idle_counts setup place view 
 
 pub returns-in-Dropping : goal.returns-in-Dropping
 returns-in-Dropping g c = λ setup place view agrees. (dropping_counts setup place view c.args.self.now.writer c.in-Dropping.next_id c.in-Dropping.is agrees).completed_is
+
+pub returns-in-Stalled : goal.returns-in-Stalled
+returns-in-Stalled g c = λ setup place view agrees. (stalled_counts setup place view c.args.self.now.writer c.in-Stalled.next_id c.in-Stalled.is agrees).completed_is

@@ -1,0 +1,31 @@
+use Rattle.std.proofs.Common.{◌∙◌, ap, Some, ℕ, true}
+use Rattle.trace_model.specs.Calls as call
+use Rattle.chunk_plain.specs.Steps.{notes_call}
+use Rattle.trace_writer.specs.declared.state.State.{State}
+use Rattle.trace_writer.specs.declared.state.State.TheVariants.{Writing}
+use Rattle.trace_writer.specs.Placing.{IsStarted}
+use Rattle.trace_writer.proofs.Beginnings.{begin_behind, IsFronted, fronted_put, fronted_not}
+use Rattle.trace_writer.proofs.begin.begin_kept.Goals.{then-writer, else-writer}
+use Rattle.trace_writer.proofs.begin.begin_kept.Goals as goal
+
+pub returns-clause-agrees : goal.returns-clause-agrees
+returns-clause-agrees g c =
+    let setup = g.W.Words.setup c.args.table.now in
+    let place = g.W.Words.place c.args.seat.now in
+    let view = g.W.Words.view c.args.table.now c.args.seat.now in
+    let writer = c.args.writer.now in
+    let chunk = c.args.chunk in
+    let first = c.start_fragment-fragment.result in
+    let s = c.start_fragment-fragment.ensures in
+    let started : IsStarted chunk first = record { held = s.held; start = s.start; at = s.at; count = s.count; continues = s.continues } in
+    let fronted : IsFronted writer.follows_loss first c.if-writer.fragment = elim c.if-writer.branch [
+      | then-writer w ↦ fronted_put _ _ view _ chunk first w.put.new.self c.if-writer.fragment writer.follows_loss w.put.result w.if-writer.true started c.requires.roomy
+          w.put.ensures.count w.put.ensures.bytes w.put.ensures.at w.fragment-is
+      | else-writer w ↦ fronted_not first c.if-writer.fragment writer.follows_loss w.if-writer.false w.fragment-is
+    ] in
+    begin_behind setup place view (g.W.Words.view c.note_call.new.self c.note_call.new.seat) writer _ chunk first c.if-writer.fragment c.new.result
+    c.new.ensures.len c.new.ensures.starts started fronted
+    (c.note_call.ensures.view ∙ ap (λ v. notes_call v (call.Begun true)) s.view)
+    (ap (λ (state : State). record writer { state = state; packet = Some c.new.result; begun = c.saturating_add-writer.result }) c.put_state.ensures
+    ∙ ap (λ (n : ℕ). record writer { state = Writing c.if-writer.fragment; packet = Some c.new.result; begun = n }) c.saturating_add-writer.ensures)
+    c.requires.roomy c.requires.agrees

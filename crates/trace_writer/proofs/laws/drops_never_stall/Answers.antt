@@ -1,0 +1,5 @@
+use Rattle.trace_writer.proofs.DropLaws as drop_laws
+use Rattle.trace_writer.proofs.laws.drops_never_stall.Goals as goal
+
+pub returns : goal.returns
+returns c = drop_laws.drops_never_stall

@@ -1,0 +1,83 @@
+use Rattle.std.proofs.Common.{◌+◌}
+use Rattle.trace_writer.specs.Site.{site_of}
+use Rattle.trace_writer.specs.Headers.{held_head}
+use Rattle.trace_writer.proofs.Asking.{asks_first, wins_in_turn}
+use Rattle.trace_writer.proofs.RunOn.{next_id, next_id_after, ends_as, held_behind, ended_holds, ended_head, next_first, run_holds, run_follows, goes_on_in, runs_on, cannot_run_on}
+use Rattle.trace_writer.proofs.stream.run_on_or_drop.Goals as goal
+
+pub claim_over-requires-clause-id : goal.claim_over-requires-clause-id
+claim_over-requires-clause-id g c =
+    let i = c.requires.inside in
+    next_id _ i.packet i.older _ c.args.pending.now c.args.fragment i.inside
+
+pub returns-in_default-clause-flow : goal.returns-in_default-clause-flow
+returns-in_default-clause-flow g c =
+    let setup = g.W.Words.setup c.args.table.now in let place = g.W.Words.place c.args.seat.now in
+    let old = g.W.Words.view c.args.table.now c.args.seat.now in let mid = g.W.Words.view c.claim_over.new.table c.claim_over.new.seat in
+    let new = g.W.Words.view c.give_up.new.table c.give_up.new.seat in
+    let vain = c.in_default.ensures.lost in let step = c.in_default.ensures.step in let i = c.requires.inside in (
+      cannot_run_on setup (g.W.Words.setup c.claim_over.new.table) place (g.W.Words.place c.claim_over.new.seat) c.args.route.now old mid new
+          c.args.pending.now c.give_up.new.pending c.args.fragment step.setup_stays step.place_stays vain c.give_up.ensures.asked c.give_up.ensures.stops,
+      next_id_after setup _ _ _ i.packet i.older old mid new c.args.pending.now c.args.fragment i.inside vain c.give_up.ensures.begun,
+    )
+
+pub complete-requires-clause-held : goal.complete-requires-clause-held
+complete-requires-clause-held g c =
+    let setup = g.W.Words.setup c.args.table.now in let route = c.args.route.now in let site = site_of setup (g.W.Words.place c.args.seat.now) route in
+    let old = g.W.Words.view c.args.table.now c.args.seat.now in let one = g.W.Words.view c.claim_over.new.table c.claim_over.new.seat in
+    let i = c.requires.inside in let e = c.end.ensures in
+    ended_holds site i.packet i.older old one c.args.pending.now c.args.fragment c.end.result
+    (held_behind route c.in-Some.next.chunk site i.packet i.older old one c.args.pending.now c.args.fragment
+    (wins_in_turn setup route c.in-Some.next.chunk old old one (asks_first old) c.in-Some.ensures.won) i.inside)
+    (ends_as c.args.fragment c.end.result e.held e.bytes e.count e.continues)
+
+pub complete-requires-clause-head : goal.complete-requires-clause-head
+complete-requires-clause-head g c =
+    let setup = g.W.Words.setup c.args.table.now in let route = c.args.route.now in let site = site_of setup (g.W.Words.place c.args.seat.now) route in
+    let old = g.W.Words.view c.args.table.now c.args.seat.now in let one = g.W.Words.view c.claim_over.new.table c.claim_over.new.seat in
+    let i = c.requires.inside in let e = c.end.ensures in
+    ended_head site i.packet i.older old one c.args.pending.now c.args.fragment c.end.result
+    (held_behind route c.in-Some.next.chunk site i.packet i.older old one c.args.pending.now c.args.fragment
+    (wins_in_turn setup route c.in-Some.next.chunk old old one (asks_first old) c.in-Some.ensures.won) i.inside)
+    (ends_as c.args.fragment c.end.result e.held e.bytes e.count e.continues)
+
+pub start_fragment-requires-clause-held : goal.start_fragment-requires-clause-held
+start_fragment-requires-clause-held g c =
+    let route = c.args.route.now in let setup = g.W.Words.setup c.args.table.now in let place = g.W.Words.place c.args.seat.now in let site = site_of setup place route in
+    let old = g.W.Words.view c.args.table.now c.args.seat.now in let one = g.W.Words.view c.claim_over.new.table c.claim_over.new.seat in
+    let two = g.W.Words.view c.complete.new.table c.complete.new.seat in
+    let i = c.requires.inside in let e = c.end.ensures in let n = c.new.ensures in let b = c.in-Some.ensures.begun in
+    run_holds site i.packet i.older old two c.args.pending.now c.args.fragment c.end.result.held.body.payload.items c.new.result c.in-Some.next i.inside
+    (next_first setup place (g.W.Words.place c.claim_over.new.seat) c.in-Some.next.chunk route old one two c.args.pending.now c.args.fragment c.end.result c.requires.route
+    (wins_in_turn setup route c.in-Some.next.chunk old old one (asks_first old) c.in-Some.ensures.won)
+    (ends_as c.args.fragment c.end.result e.held e.bytes e.count e.continues) c.in-Some.ensures.step.place_stays c.complete.ensures.view)
+    (record { held = n.held; at = n.at; count = n.count; continues = n.continues; id = b.id_is; whole = b.whole })
+
+pub start_fragment-requires-clause-head : goal.start_fragment-requires-clause-head
+start_fragment-requires-clause-head g c =
+    let route = c.args.route.now in let setup = g.W.Words.setup c.args.table.now in let place = g.W.Words.place c.args.seat.now in let site = site_of setup place route in
+    let old = g.W.Words.view c.args.table.now c.args.seat.now in let one = g.W.Words.view c.claim_over.new.table c.claim_over.new.seat in
+    let two = g.W.Words.view c.complete.new.table c.complete.new.seat in
+    let i = c.requires.inside in let e = c.end.ensures in let n = c.new.ensures in let b = c.in-Some.ensures.begun in
+    run_follows site i.packet i.older old two c.args.pending.now c.args.fragment c.end.result.held.body.payload.items c.new.result c.in-Some.next
+    (held_head (c.new.result.count + 1) c.new.result.continues) i.inside
+    (next_first setup place (g.W.Words.place c.claim_over.new.seat) c.in-Some.next.chunk route old one two c.args.pending.now c.args.fragment c.end.result c.requires.route
+    (wins_in_turn setup route c.in-Some.next.chunk old old one (asks_first old) c.in-Some.ensures.won)
+    (ends_as c.args.fragment c.end.result e.held e.bytes e.count e.continues) c.in-Some.ensures.step.place_stays c.complete.ensures.view)
+    (record { held = n.held; at = n.at; count = n.count; continues = n.continues; id = b.id_is; whole = b.whole })
+
+pub returns-clause-flow : goal.returns-clause-flow
+returns-clause-flow g c =
+    let route = c.args.route.now in let setup = g.W.Words.setup c.args.table.now in let place = g.W.Words.place c.args.seat.now in let site = site_of setup place route in
+    let old = g.W.Words.view c.args.table.now c.args.seat.now in let one = g.W.Words.view c.claim_over.new.table c.claim_over.new.seat in
+    let two = g.W.Words.view c.complete.new.table c.complete.new.seat in
+    let i = c.requires.inside in let e = c.end.ensures in let n = c.new.ensures in let b = c.in-Some.ensures.begun in let s = c.start_fragment.ensures in
+    let new = g.W.Words.view c.start_fragment.new.table c.start_fragment.new.seat in
+    let ends = ends_as c.args.fragment c.end.result e.held e.bytes e.count e.continues in
+    runs_on site old new c.args.pending.now c.complete.new.pending c.args.fragment c.start_fragment.result c.requires.route.least c.requires.filled
+    (goes_on_in site old two new c.args.pending.now c.complete.new.pending c.args.fragment c.end.result c.new.result c.in-Some.next c.start_fragment.result
+    (next_first setup place (g.W.Words.place c.claim_over.new.seat) c.in-Some.next.chunk route old one two c.args.pending.now c.args.fragment c.end.result c.requires.route
+    (wins_in_turn setup route c.in-Some.next.chunk old old one (asks_first old) c.in-Some.ensures.won) ends c.in-Some.ensures.step.place_stays c.complete.ensures.view)
+    ends c.complete.ensures.pending
+    (record { held = n.held; at = n.at; count = n.count; continues = n.continues; id = b.id_is; whole = b.whole })
+    (record { held = s.held; start = s.start; at = s.at; count = s.count; continues = s.continues }) s.view)

@@ -1,9 +1,0 @@
-use Rattle.std.proofs.Common.{◌≡◌, ◌-◌, length, arith}
-use Rattle.trace_writer.proofs.tests.make_call.Goals as goal
-
-pub begin-begun-requires-clause-ids : goal.begin-begun-requires-clause-ids
-begin-begun-requires-clause-ids g c =
-    let view = g.W.Words.view c.args.table.now c.args.writer.now.seat in
-    let left : c.ids_left.result ≡ 4294967295 - length view.begun =
-    c.ids_left.ensures (g.W.Words.setup c.args.table.now) (g.W.Words.place c.args.writer.now.seat) view c.requires.agrees in
-    omega (arith, left, c.if-ids_left-ge4096.true)

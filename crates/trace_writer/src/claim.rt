@@ -1,0 +1,72 @@
+//! How a writer gets its next chunk.
+ghost use Rattle.std.specs.Prelude.{◌≡◌, ◌+◌, ◌^◌, ◌-◌, ◌<◌, ◌≤◌, length, not, is_some, IfSome, IfNone};
+ghost use Rattle.trace_base.specs.declared.policy.WriterPolicy.TheVariants.{Drops, Stalls};
+ghost use Rattle.chunk_plain.specs.Words.{IsHolding, IsBegun};
+ghost use Rattle.trace_writer.specs.Claims.{Wins, FindsNone};
+ghost use Rattle.trace_writer.specs.Helping.{IsWork, refuses};
+ghost use Rattle.trace_writer.specs.Site.{IsRoute};
+
+use crate::helper::HelperOn;
+use crate::route::Route;
+use chunk_plain::{Held, Words};
+use claim_arbiter::claim_over;
+use std::sync::ledger::Ledger;
+use trace_base::policy::WriterPolicy;
+use trace_base::steps::Steps;
+
+/// Claims a chunk for a writer that stalls: where none is free it asks the helper, and claims again
+/// as long as that frees one.
+pub(crate) fn claim_asking<W: Words, L: Ledger, H: HelperOn<W>>(
+    route: &Route,
+    table: &mut W,
+    seat: &mut W::Writer,
+    help: &mut H,
+    next_id: u32,
+    steps: &mut Steps<L>,
+) -> Option<Held>
+    requires seat { W.sits table.old seat.old }
+    requires needs { H.needs help.old table.old }
+    requires route { IsRoute (W.setup table.old) (W.place seat.old) route.now }
+    requires stalls { route.now.spec.policy ≡ Stalls }
+    requires id { next_id ≡ length (W.view table.old seat.old).begun }
+    requires id_fits { next_id < 2 ^ 32 - 1 }
+    ensures won { IfSome result (λ held. Wins route.now held.chunk (W.view table.old seat.old) (W.view table.new seat.new)) }
+    ensures begun { IfSome result (λ held. IsBegun (W.setup table.old) held.chunk next_id held) }
+    ensures none { IfNone result (FindsNone (W.setup table.old) route.now (W.view table.old seat.old) (W.view table.new seat.new)) }
+    ensures work { IsWork W.setup W.sits W.place W.view W.serves W.service_view H.needs H.helps route.now help.old table.old seat.old (not (is_some result)) help.new table.new seat.new }
+{
+    'claims: loop {
+        if let Some(held) = claim_over(&route.arbiter, table, seat, next_id, steps) {
+            return Some(held);
+        }
+        if !help.help(table, route.spec.producer) {
+            return None;
+        }
+    }
+}
+
+/// Claims the next chunk.
+pub(crate) fn claim_next<W: Words, L: Ledger, H: HelperOn<W>>(
+    route: &Route,
+    table: &mut W,
+    seat: &mut W::Writer,
+    help: &mut H,
+    next_id: u32,
+    steps: &mut Steps<L>,
+) -> Option<Held>
+    requires seat { W.sits table.old seat.old }
+    requires needs { H.needs help.old table.old }
+    requires route { IsRoute (W.setup table.old) (W.place seat.old) route.now }
+    requires id { next_id ≡ length (W.view table.old seat.old).begun }
+    requires id_fits { next_id < 2 ^ 32 - 1 }
+    ensures won { IfSome result (λ held. Wins route.now held.chunk (W.view table.old seat.old) (W.view table.new seat.new)) }
+    ensures begun { IfSome result (λ held. IsBegun (W.setup table.old) held.chunk next_id held) }
+    ensures none { IfNone result (FindsNone (W.setup table.old) route.now (W.view table.old seat.old) (W.view table.new seat.new)) }
+    ensures work { IsWork W.setup W.sits W.place W.view W.serves W.service_view H.needs H.helps route.now help.old table.old seat.old (refuses route.now.spec.policy (not (is_some result))) help.new table.new seat.new }
+    ensures few_steps { route.now.spec.policy ≡ Drops → steps.new ≤ steps.old + route.now.arbiter.chunks + 1 }
+{
+    match route.spec.policy {
+        WriterPolicy::Drops => claim_over(&route.arbiter, table, seat, next_id, steps),
+        WriterPolicy::Stalls => claim_asking(route, table, seat, help, next_id, steps),
+    }
+}

@@ -1,0 +1,99 @@
+//! A helper that takes the complete chunks of one writer and lets them go, as a service does.
+ghost use Rattle.std.specs.Prelude.{◌≡◌, ℕ, ◌+◌, ◌-◌, ◌*◌, ◌<◌, ◌≤◌, true, length};
+ghost use Rattle.std.proofs.Common.{ap, sym, subst, ◌∙◌};
+ghost use Rattle.chunk_plain.specs.Setup.{Setup};
+ghost use Rattle.chunk_plain.specs.Views.{ServiceView, taken_of};
+ghost use Rattle.trace_writer.specs.Helping.{LeavesWriters};
+
+use crate::helper::HelperOn;
+use chunk_plain::{ChunkRange, PlainService, PlainTable, Taken, Words};
+use commit_body::Patch;
+use page_geometry::ChunkHeader;
+
+/// What a chunk had: its header, the first bytes of its payload, and how many patches came with it.
+#[derive(Clone, Copy, Debug, PartialEq, Eq)]
+pub(crate) struct Image {
+    pub header: ChunkHeader,
+    pub front: [u8; 16],
+    pub patches: usize,
+    pub first_patch: Option<Patch>,
+}
+
+impl Image {
+    fn of(taken: &Taken) -> Image {
+        let mut front = [0; 16];
+        for i in 0..16 {
+            if let Some(byte) = taken.body.payload.get(i) {
+                front[i] = *byte;
+            }
+        }
+        Image {
+            header: taken.header,
+            front,
+            patches: taken.body.patches.len(),
+            first_patch: taken.body.patches.first().copied(),
+        }
+    }
+}
+
+/// The service's seat, with the chunks of the producer.
+#[derive(Drop)]
+pub(crate) struct Collector {
+    pub service: PlainService,
+    pub range: ChunkRange,
+    /// Chunks that were taken of the first writer.
+    pub taken: u32,
+    /// The newest four of them, by the rest of their ids.
+    pub images: [Option<Image>; 4],
+}
+
+impl Collector {
+    /// Takes the chunk where it is the next one, and lets it go.
+    fn try_one(&mut self, table: &mut PlainTable, chunk: u32)
+        requires needs { ⟦<Collector as HelperOn<PlainTable>>⟧.needs self.old table.old }
+        requires chunk { chunk < self.old.range.first + self.old.range.count }
+        ensures needs { ⟦<Collector as HelperOn<PlainTable>>⟧.needs self.new table.new }
+        ensures range { self.new.range ≡ self.old.range }
+        ensures grows { self.old.taken ≤ self.new.taken }
+        ensures leaves { LeavesWriters ⟦<PlainTable as Words>⟧.setup ⟦<PlainTable as Words>⟧.sits ⟦<PlainTable as Words>⟧.view table.old table.new }
+    {
+        let Some(more) = self.taken.checked_add(1) else {
+            return;
+        };
+        let Ok(token) = table.take(&mut self.service, chunk, 1, self.taken) else {
+            return;
+        };
+        self.images[self.taken as usize % 4] = Some(Image::of(&token));
+        self.taken = more;
+        table.release(&mut self.service, token);
+    }
+}
+
+impl HelperOn<PlainTable> for Collector {
+    ghost turns = { λ collector. 4294967296 - collector.taken };
+
+    // the chunks are there, and it counted what was taken of the first writer
+    ghost needs = { λ collector table. (collector.range.first + collector.range.count ≤ length (⟦<PlainTable as Words>⟧.setup table).spots)
+        × (1 ≤ length (⟦<PlainTable as Words>⟧.setup table).writers)
+        × (0 < length (⟦<PlainTable as Words>⟧.service_view table collector.service).taken)
+        × (collector.taken ≡ (taken_of (⟦<PlainTable as Words>⟧.service_view table collector.service) 0).count) };
+
+    ghost helps = { λ helper table producer answer after left. Unit {0} };
+
+    ghost needs_stay = { λ helper old new seat after step needs.
+        let same = (step.service_stays helper.service tt).1 in (
+          subst (λ (s : Setup). helper.range.first + helper.range.count ≤ length s.spots) (sym step.setup_stays) needs.0,
+          subst (λ (s : Setup). 1 ≤ length s.writers) (sym step.setup_stays) needs.1,
+          subst (λ (v : ServiceView). 0 < length v.taken) (sym same) needs.2,
+          needs.3 ∙ ap (λ (v : ServiceView). (taken_of v 0).count) (sym same),
+        ) };
+
+    fn help(&mut self, table: &mut PlainTable, _producer: u16) -> bool {
+        let before = self.taken;
+        let range = self.range;
+        for chunk in range.first..range.first + range.count {
+            self.try_one(table, chunk);
+        }
+        before < self.taken
+    }
+}
