@@ -1,5 +1,5 @@
 //! A helper that takes the complete chunks of one writer and lets them go, as a service does.
-ghost use Rattle.std.specs.Prelude.{◌≡◌, ℕ, ◌+◌, ◌-◌, ◌*◌, ◌<◌, ◌≤◌, true, length};
+ghost use Rattle.std.specs.Prelude.{◌≡◌, ◌+◌, ◌-◌, ◌<◌, ◌≤◌, length};
 ghost use Rattle.std.proofs.Common.{ap, sym, subst, ◌∙◌};
 ghost use Rattle.chunk_plain.specs.Setup.{Setup};
 ghost use Rattle.chunk_plain.specs.Views.{ServiceView, taken_of};

@@ -1,5 +1,5 @@
 //! A table with one writer, and what is left of a script that the writer is played.
-ghost use Rattle.std.specs.Prelude.{◌≡◌, ℕ, ◌<◌, ◌≤◌, IfOk};
+ghost use Rattle.std.specs.Prelude.{IfOk};
 ghost use Rattle.chunk_plain.specs.Setup.{HasProducer};
 ghost use Rattle.trace_writer.specs.Core.{CoreAgrees};
 
