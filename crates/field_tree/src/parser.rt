@@ -51,15 +51,15 @@ fn make_room(bytes: &mut Vec<u8>) -> Result<(), AllocError>
     Ok(())
 }
 
-/// The same for the nodes of a text of this length. Each node but one of a nested message takes
-/// four bytes of text at least; such a message has two nodes. It stays a call, so that the loop
-/// over the bytes stays short.
+/// The same for the nodes of a text of this length: a field takes three bytes of text at least,
+/// and has two nodes where it is a message. It stays a call, so that the loop over the bytes
+/// stays short.
 #[inline(never)]
 fn make_node_room(nodes: &mut Vec<Node>, len: usize) -> Result<(), AllocError>
     ensures { OnOk result (nodes.new.items ≡ nodes.old.items) }
 {
     if nodes.is_empty() {
-        nodes.reserve_exact((len / 4 + 2).min(FIRST_NODES))?;
+        nodes.reserve_exact((len - len / 3).min(FIRST_NODES))?;
     }
     Ok(())
 }
