@@ -1,7 +1,7 @@
 #!/usr/bin/env python3
 """How many bytes of fields are read in a second, on one core.
 
-    bench/fields.py            builds crates/fields_speed where that is needed, and times it on four kinds of lines
+    bench/fields.py            builds crates/fields_speed where that is needed, and times it on five kinds of lines
 
 Each input has about 60 MB. The best of five runs counts, by processor time, so that other work on the machine matters
 little. The first number is that of the whole program, which also takes the input in and cuts it into lines. The second is
@@ -23,6 +23,7 @@ LINES = {
     'shortest': b'8:1\n',
     'events': b'8:1234567890 900{1:"scheduling" 2:42}\n',
     'numbers': b'8:1 11:300 12:18446744073709551615 1000:7\n',
+    'messages': b'1{1{}}\n',
     'texts': b'900{1:"' + b'a text of some length, ' * 20 + b'" 2:x\'' + b'00ff' * 50 + b'\'}\n',
 }
 
