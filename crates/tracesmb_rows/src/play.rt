@@ -1,10 +1,18 @@
 //! One call of the top call over objects in memory.
+ghost use Rattle.std.specs.Prelude.{◌≡◌, ◌≢◌, ◌↔◌, ◌⊎◌, ◌<◌, ◌≤◌, ℕ, List, [], length, map, Some, None, IfSome, IfOk};
+ghost use Rattle.std.specs.String.{string_bytes};
+ghost use Rattle.byte_io.specs.Bytes.{told, Faulted};
+ghost use Rattle.byte_io.specs.Memory.{mem_sink_taken, mem_sink_faults};
+ghost use Rattle.tracesmb_top.specs.Words.{HasWrittenForm};
+ghost use Rattle.tracesmb_top.specs.Refusals.{refusal_of};
+ghost use Rattle.tracesmb_top.specs.Answers.{Delivers, DeliversPart, Says, usage_line, memory_line, write_line, long_line};
+
 use byte_io::memory::{MemSink, MemSource};
 use byte_io::traits::{OpenGate, Sink, Source};
 use std::alloc::{AllocError, Global};
 use std::sync::Wait;
-use std::test::Fail;
 use std::thread::Threads;
+use trace_base::limits::MAX_INPUT;
 use tracesmb_top::trace_top;
 
 /// Room for everything that a test writes.
@@ -19,7 +27,9 @@ pub struct Played {
 }
 
 /// The words as owned texts.
-pub fn owned_words(alloc: Global, words: &[&str]) -> Result<Vec<String>, AllocError> {
+pub fn owned_words(alloc: Global, words: &[&str]) -> Result<Vec<String>, AllocError>
+    ensures { IfOk result (λ owned. map string_bytes owned.items ≡ map (λ word. word.now) words.now) }
+{
     let mut owned = Vec::new(alloc);
     for word in words {
         owned.push(String::from_str(alloc, word)?)?;
@@ -33,7 +43,13 @@ pub fn status_of<R: Threads + Wait + Sync + AllocGlobal, S: Source, T: Sink + Se
     input: &mut S,
     trace: &mut T,
     text: &mut O,
-) -> Result<u8, Fail> {
+) -> Result<u8, AllocError>
+    ensures plays { IfOk result (λ status. status ≢ 2) }
+    ensures delivers { IfOk result (λ status. status ≡ 0 → IfSome (S.left input.old) (λ given. Delivers given (T.taken trace.old) (T.taken trace.new))) }
+    ensures read_fault { IfOk result (λ status. (status ≡ 4 → Faulted (S.faults input.old) (S.faults input.new)) × (S.faults input.old < S.faults input.new → status ≡ 4)) }
+    ensures write_fault { IfOk result (λ status. (status ≡ 5 → Faulted (T.faults trace.old) (T.faults trace.new)) × (T.faults trace.old < T.faults trace.new → status ≡ 5)) }
+    ensures untouched { IfOk result (λ status. status ≢ 0 → status ≢ 5 → T.taken trace.new ≡ T.taken trace.old) }
+{
     let words = owned_words(rt.alloc(), &["replay"])?;
     Ok(trace_top(rt, rt.alloc(), &words, input, trace, text, &OpenGate))
 }
@@ -43,7 +59,22 @@ pub fn play<R: Threads + Wait + Sync + AllocGlobal>(
     rt: &R,
     words: &[&str],
     input: &[u8],
-) -> Result<Played, Fail> {
+) -> Result<Played, AllocError>
+    ensures known { IfOk result (λ played. (played.status ≤ 3) ⊎ (played.status ≡ 5) ⊎ (played.status ≡ 7)) }
+    ensures words { IfOk result (λ played. (played.status ≡ 2) ↔ (¬ (HasWrittenForm (map (λ word. word.now) words.now)))) }
+    ensures delivers { IfOk result (λ played. played.status ≡ 0 → Delivers input.now (told [] []) (told (mem_sink_taken played.trace) [])) }
+    ensures complete { IfOk result (λ played. HasWrittenForm (map (λ word. word.now) words.now) → length input.now ≤ MAX_INPUT → refusal_of input.now ≡ None → mem_sink_faults played.trace ≡ 0 → (played.status ≡ 0) ⊎ (played.status ≡ 1)) }
+    ensures refused { IfOk result (λ played. played.status ≡ 3 → (line : List ℕ) × (refusal_of input.now ≡ Some line) × Says (told [] []) (told (mem_sink_taken played.text) []) 0 (mem_sink_faults played.text) line) }
+    ensures refuses { IfOk result (λ played. HasWrittenForm (map (λ word. word.now) words.now) → length input.now ≤ MAX_INPUT → (line : List ℕ) → refusal_of input.now ≡ Some line → (played.status ≡ 3) ⊎ (played.status ≡ 1)) }
+    ensures part { IfOk result (λ played. played.status ≡ 5 → DeliversPart input.now (told [] []) (told (mem_sink_taken played.trace) [])) }
+    ensures says_memory { IfOk result (λ played. played.status ≡ 1 → Says (told [] []) (told (mem_sink_taken played.text) []) 0 (mem_sink_faults played.text) memory_line) }
+    ensures says_usage { IfOk result (λ played. played.status ≡ 2 → Says (told [] []) (told (mem_sink_taken played.text) []) 0 (mem_sink_faults played.text) usage_line) }
+    ensures says_write { IfOk result (λ played. played.status ≡ 5 → Says (told [] []) (told (mem_sink_taken played.text) []) 0 (mem_sink_faults played.text) write_line) }
+    ensures says_long { IfOk result (λ played. played.status ≡ 7 → Says (told [] []) (told (mem_sink_taken played.text) []) 0 (mem_sink_faults played.text) long_line) }
+    ensures quiet { IfOk result (λ played. played.status ≡ 0 → mem_sink_taken played.text ≡ []) }
+    ensures too_long { IfOk result (λ played. played.status ≡ 7 → MAX_INPUT < length input.now) }
+    ensures untouched { IfOk result (λ played. played.status ≢ 0 → played.status ≢ 5 → mem_sink_taken played.trace ≡ []) }
+{
     let words = owned_words(rt.alloc(), words)?;
     let mut source = MemSource::new(input.to_vec(rt.alloc())?);
     let mut trace = MemSink::with_room(rt.alloc(), AMPLE)?;
