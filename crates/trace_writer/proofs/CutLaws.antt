@@ -27,7 +27,8 @@ use Rattle.trace_writer.specs.Site.{Site, site_of}
 use Rattle.trace_writer.specs.Filled.{ShowsPages}
 use Rattle.trace_writer.specs.States.{InFragment, IsIdle, IsBehind, IsStuck}
 use Rattle.trace_writer.specs.Agreement.{StateAgrees}
-use Rattle.trace_writer.specs.Outcomes.{completed_images, completed_patches, held_image, fragment_payload, held_images, held_patches, AgreeingIsCut}
+use Rattle.trace_writer.specs.Outcomes.{completed_images, completed_patches, held_image, fragment_payload, held_images, held_patches}
+use Rattle.trace_writer.specs.Laws.{AgreeingIsCut}
 use Rattle.trace_writer.proofs.Finishing.{laid_all}
 use Rattle.trace_writer.proofs.Holes.{lasts_reverse}
 use Rattle.trace_writer.proofs.Idling.{ended_page}
@@ -188,4 +189,4 @@ state_is_cut setup place route view pending (Dropping next_id) w = idle_cut (sit
 state_is_cut setup place route view pending (Stalled next_id) w = stuck_cut (site_of setup place route) view w.1
 
 pub agreeing_is_cut : AgreeingIsCut
-agreeing_is_cut setup place view writer agrees = state_is_cut setup place writer.route view writer.pending writer.state agrees.state
+agreeing_is_cut setup place view writer agrees = state_is_cut setup place writer.route view writer.pending writer.state agrees.writes.state
