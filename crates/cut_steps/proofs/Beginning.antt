@@ -11,7 +11,7 @@ use Rattle.trace_model.specs.Sent.{SentPatch, sent_of, all_sent, open_chunks, op
 use Rattle.trace_model.specs.Cut.{IsFull, Begins, IsGivenUp, last_runs_on, length_places, all_end_well, all_go_on, is_fresh, is_same, begins_chunk, begins_well, all_begin_well, older_chains}
 use Rattle.cut_steps.specs.RawChains.{raw_chains, settled_piece, earlier_pieces, chains_before, offset_behind, current_piece, current_pieces, current_chain, start_of}
 use Rattle.cut_steps.specs.RawCut.{IsRawChainOf}
-use Rattle.cut_steps.specs.Pieces.{IsRoomy, BeginsAt, AllRunOn, ChainsEndBefore}
+use Rattle.cut_steps.specs.Pieces.{IsLarge, BeginsAt, AllRunOn, ChainsEndBefore}
 use Rattle.cut_steps.specs.Pending.{HasSent, sent_now, AllEndWithin, patches_so_far}
 use Rattle.cut_steps.specs.Growth.{HasBytes}
 use Rattle.cut_steps.specs.Writing.{IsWriting}
@@ -20,8 +20,8 @@ use Rattle.cut_steps.proofs.ChainLemmas.{earlier_pieces-same, chains_before-page
 
 -- Nothing was written yet
 
-pub between_first : (size : ℕ) → IsRoomy size → IsBetween size [] [] [] [] 4
-between_first size roomy = record {
+pub between_first : (size : ℕ) → IsLarge size → IsBetween size [] [] [] [] 4
+between_first size large = record {
   chains_are = tt;
   begins = refl;
   sends = record {
@@ -40,7 +40,7 @@ between_first size roomy = record {
   none_open = refl;
   four = tt;
   ends = tt;
-  roomy = roomy;
+  large = large;
   full = All-nil (IsFull size);
   flags = tt;
 }
@@ -71,7 +71,7 @@ between_lost size packet older pages chains unsent offset b k fresh =
       none_open = ap (λ (ps : List Packet). open_chunks ps chains) (sym same) ∙ b.none_open;
       four = b.four;
       ends = b.ends;
-      roomy = b.roomy;
+      large = b.large;
       full = b.full;
       flags = b.flags;
     }
@@ -123,7 +123,7 @@ changed_kept size packet later text older pages chains unsent offset k g kept fl
       none_open = ap (λ (ps : List Packet). open_chunks ps chains) theirs ∙ none chains;
       four = b.four;
       ends = b.ends;
-      roomy = b.roomy;
+      large = b.large;
       full = b.full;
       flags = b.flags;
     }
@@ -163,7 +163,7 @@ changed_lost size packet later older pages chains unsent offset k kept flush b =
       none_open = ap (λ (ps : List Packet). open_chunks ps chains) (sym same) ∙ b.none_open;
       four = b.four;
       ends = b.ends;
-      roomy = b.roomy;
+      large = b.large;
       full = b.full;
       flags = b.flags;
     }
@@ -233,7 +233,7 @@ writing_begun size packet older pages continues done front chains unsent b none 
       older_begin = subst (λ (cs : List Chain). IsTrue (all_begin_well size older cs)) (sym before) b.begins;
       older_end = subst (ChainsEndBefore (length pages) (offset_behind 4 done)) (sym before) b.ends;
       goes_on = subst (λ (earlier : List Piece). IsTrue (all_go_on earlier)) (sym none) refl;
-      roomy = b.roomy;
+      large = b.large;
       full = b.full;
       flags = b.flags;
       continues_is = continues_is;

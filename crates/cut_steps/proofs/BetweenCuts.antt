@@ -93,7 +93,7 @@ between_finished size packet older pages q done now unsent w fragments stays unm
             (begin_reaches earlier w.first w.first_offset offset piece w.begins_at w.bytes.chunk (omega (arith, offset_behind-last done 4 now)))
             w.older_end,
       );
-      roomy = w.roomy;
+      large = w.large;
       full = w.full;
       flags = w.flags;
     })
@@ -118,7 +118,7 @@ between_completed size packets pages q chains unsent offset b continues stays se
       none_open = b.none_open;
       four = subst AllHaveFour (sym same) b.four;
       ends = chains_end_before-more chains (length pages) offset (length all) 4 (inl (omega (arith, longer))) b.ends;
-      roomy = b.roomy;
+      large = b.large;
       full = All-push (IsFull size) pages q b.full full;
       flags = flags-one pages false q b.flags continues;
     }

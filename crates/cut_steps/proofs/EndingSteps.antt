@@ -167,7 +167,7 @@ writing_ended_here size packet older pages continues done now unsent hole holes 
       older_begin = w.older_begin;
       older_end = w.older_end;
       goes_on = w.goes_on;
-      roomy = w.roomy;
+      large = w.large;
       full = w.full;
       flags = w.flags;
       continues_is = w.continues_is;
@@ -249,7 +249,7 @@ writing_ended_later size packet older pages continues done now unsent hole holes
       older_begin = w.older_begin;
       older_end = w.older_end;
       goes_on = w.goes_on;
-      roomy = w.roomy;
+      large = w.large;
       full = w.full;
       flags = w.flags;
       continues_is = w.continues_is;

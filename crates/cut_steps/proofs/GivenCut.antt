@@ -112,7 +112,7 @@ given_between size packet next older pages page done now unused unsent text leve
           (IsGivenUp (bytes_of (map (settled_piece patches) after)))) (sym given) given_bytes;
       ends = subst (λ (o : Option Text). IsTrue (all_end_well size (length_places (unwrap_or o next.text)) 0 after)) (sym given)
           (all_end_well-one earlier size (length_places text) 0 piece g.ends (ends_anywhere size (length_places text) (0 + length (bytes_of earlier) + length (now ++ unused)) piece stays));
-      goes_on = goes_on-here pages page.continues done piece (marked_byte size page done (now ++ unused) g.roomy full holds dropped) g.goes_on;
+      goes_on = goes_on-here pages page.continues done piece (marked_byte size page done (now ++ unused) g.large full holds dropped) g.goes_on;
       lengths = subst (λ (o : Option Text). IsTrue (list_all (is_in_one after) (open_in after (unwrap_or o next.text)))) (sym given)
           (subst (λ (ats : List ℕ). IsTrue (list_all (is_in_one after) ats)) open_same
           (sym (in_one-same (open_places text.levels) (length (bytes_of before)) before after same) ∙ g.lengths));
@@ -136,7 +136,7 @@ given_between size packet next older pages page done now unused unsent text leve
         all_end_before-last earlier g.first end piece g.bytes.follows g.bytes.chunk (omega arith),
         chains_end_before-more chains g.first g.first_offset (length pages) end (begin_reaches earlier g.first g.first_offset end old g.begins_at g.bytes.chunk (omega arith)) g.older_end,
       );
-      roomy = g.roomy;
+      large = g.large;
       full = All-push (IsFull size) pages page g.full full;
       flags = flags-one pages false page g.flags g.continues_is;
     })

@@ -69,7 +69,7 @@ giving_from size packet older pages continues done now unsent holes coming text 
       older_end = w.older_end;
       goes_on = w.goes_on;
       lengths = lengths_in_one pieces text (open_places (w.level ∷ w.outer)) loses.opened w.bytes.stand;
-      roomy = w.roomy;
+      large = w.large;
       full = w.full;
       flags = w.flags;
       continues_is = w.continues_is;

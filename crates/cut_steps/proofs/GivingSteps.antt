@@ -106,7 +106,7 @@ giving_here size packet older pages continues done now unsent hole holes text le
       goes_on = g.goes_on;
       lengths = subst (λ (n : ℕ). IsTrue (list_all (is_in_one after) (inside n (open_places text.levels)))) as_long
           (sym (in_one-same (open_places text.levels) (length (bytes_of before)) before after same) ∙ g.lengths);
-      roomy = g.roomy;
+      large = g.large;
       full = g.full;
       flags = g.flags;
       continues_is = g.continues_is;
@@ -175,7 +175,7 @@ giving_later size packet older pages continues done now unsent hole holes text l
       older_end = g.older_end;
       goes_on = g.goes_on;
       lengths = g.lengths;
-      roomy = g.roomy;
+      large = g.large;
       full = g.full;
       flags = g.flags;
       continues_is = g.continues_is;

@@ -130,8 +130,8 @@ writing_run_on size packet older pages page done now unsent holes coming holds r
       older_begin = subst (λ (cs : List Chain). IsTrue (all_begin_well size older cs)) same_chains w.older_begin;
       older_end = subst (ChainsEndBefore w.first w.first_offset) same_chains w.older_end;
       goes_on = subst (λ (ps : List Piece). IsTrue (all_go_on ps)) same_pieces
-          (goes_on-here pages page.continues done ended (filled_byte size pages page.continues done now w.roomy few) w.goes_on);
-      roomy = w.roomy;
+          (goes_on-here pages page.continues done ended (filled_byte size pages page.continues done now w.large few) w.goes_on);
+      large = w.large;
       full = All-push (IsFull size) pages page w.full full;
       flags = flags-one pages false page w.flags w.continues_is;
       continues_is = sym (last_runs_on-one pages false page ∙ runs);

@@ -10,7 +10,7 @@ use Rattle.trace_model.specs.Row.{Piece, bytes_of}
 use Rattle.trace_model.specs.Sent.{chunk_at, open_in, is_in_one}
 use Rattle.trace_model.specs.Cut.{IsFull, left_behind, has_byte, all_go_on}
 use Rattle.cut_steps.specs.RawChains.{earlier_pieces, offset_behind, current_piece}
-use Rattle.cut_steps.specs.Pieces.{StandsIn, AllStandIn, IsRoomy, ContinuesWithByte}
+use Rattle.cut_steps.specs.Pieces.{StandsIn, AllStandIn, IsLarge, ContinuesWithByte}
 use Rattle.cut_steps.proofs.Places.{chunk_at-here, chunk_at-behind, stands-here, stands-behind}
 use Rattle.cut_steps.proofs.GrowingPlaces.{SamePlacesBelow}
 use Rattle.cut_steps.proofs.ZeroPatches.{inside, inside-standing}
@@ -32,21 +32,21 @@ goes_on-here pages true (first ∷ others) piece some before = refl
 goes_on-here pages false done piece some before = refl
 
 -- where less than four bytes are left the fragment has a byte
-pub filled_byte : (size : ℕ) (pages : List Page) (continues : Bool) (done : List (List ℕ)) (now : List ℕ) → IsRoomy size
+pub filled_byte : (size : ℕ) (pages : List Page) (continues : Bool) (done : List (List ℕ)) (now : List ℕ) → IsLarge size
     → left_behind size (current_piece pages done now) < 4 → ContinuesWithByte continues done now
-filled_byte size pages continues done now roomy left goes first = omega (arith, roomy, left, ap (offset_behind 4) first)
+filled_byte size pages continues done now large left goes first = omega (arith, large, left, ap (offset_behind 4) first)
 
 -- and so has the last one of a full page with the drop mark
-pub marked_byte : (size : ℕ) (page : Page) (done : List (List ℕ)) (bytes : List ℕ) → IsRoomy size → IsFull size page → page.fragments ≡ done ++ bytes ∷ []
+pub marked_byte : (size : ℕ) (page : Page) (done : List (List ℕ)) (bytes : List ℕ) → IsLarge size → IsFull size page → page.fragments ≡ done ++ bytes ∷ []
     → page.dropped ≡ true → ContinuesWithByte page.continues done bytes
-marked_byte size page done bytes roomy full holds dropped goes first =
+marked_byte size page done bytes large full holds dropped goes first =
     let fragments : page.fragments ≡ bytes ∷ [] = holds ∙ ap (λ (before : List (List ℕ)). before ++ bytes ∷ []) first in
     let whole : length (laid true (bytes ∷ []) []) ≡ size =
     ap (λ (b : Bool). length (laid b (bytes ∷ []) [])) (sym dropped)
     ∙ ap (λ (all : List (List ℕ)). length (laid page.dropped all [])) (sym fragments)
     ∙ ap (λ (rest : List ℕ). length (laid page.dropped page.fragments rest)) (sym (full.dropped dropped).1)
     ∙ full.whole in
-    omega (arith, roomy, whole, length-append bytes [])
+    omega (arith, large, whole, length-append bytes [])
 
 -- Lengths in one chunk
 

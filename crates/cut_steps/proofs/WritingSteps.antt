@@ -91,7 +91,7 @@ writing_coming size packet older pages continues done now unsent holes coming w 
       older_begin = w.older_begin;
       older_end = w.older_end;
       goes_on = w.goes_on;
-      roomy = w.roomy;
+      large = w.large;
       full = w.full;
       flags = w.flags;
       continues_is = w.continues_is;
@@ -141,7 +141,7 @@ writing_more size packet older pages continues done now bytes unsent holes comin
       older_begin = w.older_begin;
       older_end = w.older_end;
       goes_on = w.goes_on;
-      roomy = w.roomy;
+      large = w.large;
       full = w.full;
       flags = w.flags;
       continues_is = w.continues_is;
@@ -208,7 +208,7 @@ writing_nested size packet older pages continues done now unsent holes coming on
       older_begin = w.older_begin;
       older_end = w.older_end;
       goes_on = w.goes_on;
-      roomy = w.roomy;
+      large = w.large;
       full = w.full;
       flags = w.flags;
       continues_is = w.continues_is;

@@ -12,7 +12,7 @@ use Rattle.commit_body.specs.declared.hole.Hole.{Hole}
 use Rattle.commit_body.specs.Patches.{hole_chunks}
 use Rattle.cut_steps.specs.RawChains.{earlier_pieces, chains_before, current_piece, current_pieces, current_chain}
 use Rattle.cut_steps.specs.RawCut.{IsRawChainOf}
-use Rattle.cut_steps.specs.Pieces.{IsRoomy, BeginsAt, ChainsEndBefore, AllRunOn}
+use Rattle.cut_steps.specs.Pieces.{IsLarge, BeginsAt, ChainsEndBefore, AllRunOn}
 use Rattle.cut_steps.specs.Pending.{HasSent, sent_now, hole_at, patches_so_far, AllEndWithin, AllHaveFour}
 use Rattle.cut_steps.specs.Growth.{HasBytes}
 
@@ -58,7 +58,7 @@ pub record IsGivingUp (size : ℕ) (packet : Packet) (older : List Packet) (page
   pub older_end : ChainsEndBefore first first_offset (chains_before pages continues done)
   pub goes_on : IsTrue (all_go_on (earlier_pieces pages continues done))
   pub lengths : IsTrue (list_all (is_in_one (current_pieces pages continues done now)) (open_in (current_pieces pages continues done now) text))
-  pub roomy : IsRoomy size
+  pub large : IsLarge size
   pub full : All (IsFull size) pages
   pub flags : FlagsAgree false pages
   pub continues_is : continues ≡ last_runs_on false pages

@@ -23,8 +23,8 @@ AllStandIn pieces [] = ⊤
 AllStandIn pieces (at ∷ others) = StandsIn pieces at × AllStandIn pieces others
 
 -- a payload has room for a fragment's size, for the less than four bytes that may be left, and for a byte more
-abbrev pub IsRoomy : ℕ → Type 0
-IsRoomy size = 7 < size
+abbrev pub IsLarge : ℕ → Type 0
+IsLarge size = 7 < size
 
 -- the fragment behind these has a byte, where it continues a packet of the page before
 abbrev pub ContinuesWithByte : Bool → List (List ℕ) → List ℕ → Type 0
