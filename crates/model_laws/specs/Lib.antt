@@ -1,2 +1,4 @@
-pub mod Starts
+pub mod Losses
 pub mod OutcomeLaws
+pub mod Starts
+pub mod UnreadableLaws

@@ -6,4 +6,7 @@
 
 mod laws;
 
-pub use laws::{counts_are_balanced, counts_are_of_outcomes, fixed_places_are_starts};
+pub use laws::{
+    counts_are_balanced, counts_are_of_outcomes, fixed_places_are_starts, losses_change_no_shape,
+    unreadable_is_first,
+};
