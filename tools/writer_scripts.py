@@ -288,10 +288,11 @@ def cut_proof(size, packets, pages, pages_term):
     return record(
         full=f'All-from_recursion (IsFull {size}) {pages_term} {full}', flags=refls,
         last='λ h. refl' if goes_on else 'λ h. absurd (cc)',
-        chains=nested(record(marked='refl', bytes=bytes_proof(packet, chain), ends='refl')
+        chains=nested(record(marked='refl', bytes=bytes_proof(packet, chain), ends='refl', goes_on='refl',
+                             lengths='refl')
                       for packet, chain in zip(kept, chains)),
         patches=record(sent=refls, lasts=nested('refl' for page in pages for _ in page.patches), awaits=refls,
-                       placed='refl'),
+                       placed='refl', behind=nested(nested('omega arith' for _ in page.patches) for page in pages)),
         begins='refl')
 
 

@@ -9,7 +9,7 @@ use Rattle.trace_model.specs.Reading.{Reading, Fragments, Unreadable, reading_of
 use Rattle.trace_model.specs.Sequences.{Cursor, Sequence, sequence_in, is_known, changed_at, unread_starts}
 use Rattle.trace_model.specs.Buffers.{Buffer, BufferRecord, meets, with_losses, packets_lost, empty_buffer}
 use Rattle.trace_model.specs.Arrivals.{Arrived, Kept, Rewritten, Duplicate, Discarded, TooFar, BadChunk, arrival_of, partial_arrival_of, with_arrived, with_discarded, with_arrival, with_image, once_read}
-use Rattle.trace_model.specs.Patches.{with_patch, with_patches, closed_sequence, with_close}
+use Rattle.trace_model.specs.Patches.{with_patch, with_patches, closed_sequence, closed_buffer, with_close}
 use Rattle.trace_model.specs.Row.{Link, row_from_cursor}
 use Rattle.trace_model.specs.Reads.{Turn, Delivers, Counts, Skips, Ends, Cause, Dropped, Lost, Cut, delivers, counts_under, passed_by, sequence_after, with_read}
 use Rattle.trace_model.specs.History.{Event, Arrives, ArrivesInPart, Patched, Committed, Closed, Read, event_sequence, after, state_after}
@@ -233,6 +233,16 @@ counted_once_read : (q p chunk_id flags : ℕ) (reading : Reading) (b : Buffer) 
 counted_once_read q p chunk_id flags (Fragments fragments) b known owner = counted_complete q p b chunk_id (whole_chunk flags fragments) known owner (arrival_of b p chunk_id)
 counted_once_read q p chunk_id flags (Unreadable number) b known owner = counted_none (sequence_in b.sequences q) (sequence_in b.sequences q) (same_counts (sequence_in b.sequences q))
 
+same_closed : (closed : Bool) (q p : ℕ) (b : Buffer) → is_known b.sequences q ≡ true
+    → SameCounts (sequence_in b.sequences q) (sequence_in (cond closed b (closed_buffer b p)).sequences q)
+same_closed true q p b known = same_counts (sequence_in b.sequences q)
+same_closed false q p b known =
+    same_changed p q (closed_sequence b.live) (λ s. refl) (λ s. record { delivered = refl; dropped = refl; lost = refl; cut = refl }) b.sequences known
+
+known_closed : (closed : Bool) (q p : ℕ) (b : Buffer) → is_known b.sequences q ≡ true → is_known (cond closed b (closed_buffer b p)).sequences q ≡ true
+known_closed true q p b known = known
+known_closed false q p b known = known_changed p q (closed_sequence b.live) (λ t. refl) b.sequences ∙ known
+
 counted_event : (q : ℕ) (b : Buffer) (event : Event) → is_known b.sequences q ≡ true → is_known b.sequences (event_sequence event) ≡ true
     → Counted (sequence_in b.sequences q) (sequence_in (after b event).sequences q) (fixed_by b (sequence_in b.sequences q) event)
 counted_event q b (Arrives p chunk_id chunk) known owner = counted_complete q p b chunk_id chunk known owner (arrival_of b p chunk_id)
@@ -244,9 +254,7 @@ counted_event q b (Committed image patches) known owner =
     subst (λ (ss : List Sequence). Counted (sequence_in b.sequences q) (sequence_in ss q) (fixed_by b (sequence_in b.sequences q) (Committed image patches)))
     (sym (patched_sequences patches (with_image b image) image.sequence))
     (counted_once_read q image.sequence image.chunk_id image.flags (reading_of image.count image.payload) b known owner)
-counted_event q b (Closed p) known owner =
-    counted_none (sequence_in b.sequences q) (sequence_in (with_close b p).sequences q)
-    (same_changed p q (closed_sequence b.live) (λ s. refl) (λ s. record { delivered = refl; dropped = refl; lost = refl; cut = refl }) b.sequences known)
+counted_event q b (Closed p) known owner = counted_none (sequence_in b.sequences q) (sequence_in (with_close b p).sequences q) (same_closed (sequence_in b.sequences p).closed q p b known)
 counted_event q b (Read p limit) known owner = counted_read q p limit b known
 
 -- whatever happens, a buffer knows its sequences
@@ -282,7 +290,7 @@ known_after q b (Patched p patches) known = ap (λ (ss : List Sequence). is_know
 known_after q b (Committed image patches) known =
     ap (λ (ss : List Sequence). is_known ss q) (patched_sequences patches (with_image b image) image.sequence)
     ∙ known_once_read q image.sequence image.chunk_id image.flags (reading_of image.count image.payload) b known
-known_after q b (Closed p) known = known_changed p q (closed_sequence b.live) (λ t. refl) b.sequences ∙ known
+known_after q b (Closed p) known = known_closed (sequence_in b.sequences p).closed q p b known
 known_after q b (Read p limit) known = known_changed p q (sequence_after (passed_by limit (row_from_cursor b (sequence_in b.sequences p)))) (λ t. refl) b.sequences ∙ known
 
 counted_all : (events : List Event) (q : ℕ) (b : Buffer) → is_known b.sequences q ≡ true

@@ -7,7 +7,7 @@ use Rattle.trace_model.specs.Reading.{Reading, Fragments, Unreadable, reading_of
 use Rattle.trace_model.specs.Sequences.{sequence_in, is_known}
 use Rattle.trace_model.specs.Buffers.{Buffer, BufferRecord, is_of, made_room, empty_buffer}
 use Rattle.trace_model.specs.Arrivals.{Arrived, Kept, Rewritten, Duplicate, Discarded, TooFar, BadChunk, arrival_of, partial_arrival_of, image_arrival_of, settled, arrival_noted, with_arrival, with_image, with_record, with_rewritten, discarded_buffer, once_read, outcome_of}
-use Rattle.trace_model.specs.Patches.{with_patch, with_patches, with_close, awaits_at, patched_chunk}
+use Rattle.trace_model.specs.Patches.{with_patch, with_patches, closed_buffer, awaits_at, patched_chunk}
 use Rattle.trace_model.specs.Reads.{with_read}
 use Rattle.trace_model.specs.History.{Event, Arrives, ArrivesInPart, Patched, Committed, Closed, Read, event_sequence, after, buffer_after, state_after}
 use Rattle.trace_model.specs.PlaceLaws.{Interval, interval_of, placed_interval, placed_where, placed_by, placed_sizes, LiveAreUnmet}
@@ -126,6 +126,10 @@ moves_read : (b : Buffer) (sequence chunk_id flags : ℕ) (reading : Reading)
 moves_read b sequence chunk_id flags (Fragments fragments) = moves_arrival b sequence chunk_id (whole_chunk flags fragments)
 moves_read b sequence chunk_id flags (Unreadable number) = moves_none b b (stays_same b)
 
+moves_close : (closed : Bool) (b : Buffer) (sequence : ℕ) → Moves b (cond closed b (closed_buffer b sequence)) []
+moves_close true b sequence = moves_none b b (stays_same b)
+moves_close false b sequence = moves_none b (closed_buffer b sequence) (record { live = refl; room = refl; next = refl })
+
 moves_event : (b : Buffer) (event : Event) → Moves b (after b event) (placed_by b event)
 moves_event b (Arrives sequence chunk_id chunk) = moves_arrival b sequence chunk_id chunk
 moves_event b (ArrivesInPart sequence chunk_id chunk) =
@@ -136,7 +140,7 @@ moves_event b (Committed image patches) =
     (placed_where (image_arrival_of b image) (sequence_in b.sequences image.sequence).size)
     (moves_read b image.sequence image.chunk_id image.flags (reading_of image.count image.payload))
     (stays_all_patched patches (with_image b image) image.sequence)
-moves_event b (Closed sequence) = moves_none b (with_close b sequence) (record { live = refl; room = refl; next = refl })
+moves_event b (Closed sequence) = moves_close (sequence_in b.sequences sequence).closed b sequence
 moves_event b (Read sequence limit) = moves_none b (with_read b sequence limit) (record { live = refl; room = refl; next = refl })
 
 moves_known : (known : Bool) (b : Buffer) (event : Event) → Moves b (cond known (after b event) b) (cond known (placed_by b event) [])

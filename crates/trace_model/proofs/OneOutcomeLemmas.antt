@@ -2,13 +2,13 @@
 use Rattle.std.proofs.Common.{◌≡◌, ◌∙◌, ℕ, zero, suc, ◌-◌, Bool, true, false, not, ◌&&◌, ◌||◌, List, [], ◌∷◌, ◌++◌, length, refl, sym, ap, subst, inl, inr}
 use Rattle.std.specs.Prelude.{cond, ◌⊎◌, ◌==◌, find, Option, Some, None, is_some}
 use Rattle.std.specs.List.{flat_map}
-use Rattle.std.proofs.lemmas.Bool.{cases_eq, and_parts, eq-eqb, ne_eqb, false≢true}
+use Rattle.std.proofs.lemmas.Bool.{cases_eq, and_parts, eqb-true, eq-eqb, ne_eqb, false≢true}
 use Rattle.trace_model.specs.Images.{Patch, whole_chunk, last_holds}
 use Rattle.trace_model.specs.Reading.{Reading, Fragments, Unreadable, reading_of}
 use Rattle.trace_model.specs.Sequences.{Cursor, Sequence, has_arrived, sequence_in, is_known, is_among}
 use Rattle.trace_model.specs.Buffers.{Buffer, BufferRecord, is_of, live_at, empty_buffer}
 use Rattle.trace_model.specs.Arrivals.{arrival_of, partial_arrival_of, with_arrival, once_read, with_image}
-use Rattle.trace_model.specs.Patches.{with_patch, with_patches, awaits_at, patched_chunk, closed_sequence, with_close}
+use Rattle.trace_model.specs.Patches.{with_patch, with_patches, awaits_at, patched_chunk, closed_sequence, closed_buffer, with_close}
 use Rattle.trace_model.specs.Row.{slot_from, slots_of, horizon, Link, row_from_cursor}
 use Rattle.trace_model.specs.Reads.{passed_by, cursor_after, sequence_after, with_read}
 use Rattle.trace_model.specs.History.{Event, Arrives, ArrivesInPart, Patched, Committed, Closed, Read, event_sequence, after, buffer_after}
@@ -65,37 +65,53 @@ steps_patched patches q closed b p old new h =
 later_closed : (live : List BufferRecord) (s : Sequence) → Later s (closed_sequence live s)
 later_closed live s = record { cursor = same_up_to s.cursor; arrived = λ i h. h; closed = λ h. refl }
 
-holds_closed : (q p : ℕ) (closed : Bool) (b : Buffer) (fixed : List Fixed) → Holds q closed b.sequences b.live fixed
-    → Holds q (closed || (p == q)) (with_close b p).sequences (with_close b p).live fixed
-holds_closed q p closed b fixed h = step (cases_eq p q)
+holds_closing : (q p : ℕ) (closed : Bool) (b : Buffer) (fixed : List Fixed) → Holds q closed b.sequences b.live fixed
+    → Holds q (closed || (p == q)) (closed_buffer b p).sequences (closed_buffer b p).live fixed
+holds_closing q p closed b fixed h = step (cases_eq p q)
   where
-    step : ((p ≡ q) ⊎ (p ≡ q → ⊥)) → Holds q (closed || (p == q)) (with_close b p).sequences (with_close b p).live fixed
+    step : ((p ≡ q) ⊎ (p ≡ q → ⊥)) → Holds q (closed || (p == q)) (closed_buffer b p).sequences (closed_buffer b p).live fixed
     step (inr d) =
-        let same : sequence_in (with_close b p).sequences q ≡ sequence_in b.sequences q =
+        let same : sequence_in (closed_buffer b p).sequences q ≡ sequence_in b.sequences q =
         changed_other p q (closed_sequence b.live) (λ s. refl) b.sequences h.known d in
-        subst (λ (x : Bool). Holds q x (with_close b p).sequences b.live fixed) (sym (ap (λ (x : Bool). closed || x) (ne_eqb p q d) ∙ or_false closed))
-        (holds_turned q closed b.sequences (with_close b p).sequences b.live fixed
+        subst (λ (x : Bool). Holds q x (closed_buffer b p).sequences b.live fixed) (sym (ap (λ (x : Bool). closed || x) (ne_eqb p q d) ∙ or_false closed))
+        (holds_turned q closed b.sequences (closed_buffer b p).sequences b.live fixed
         (record {
           known = known_changed p q (closed_sequence b.live) (λ s. refl) b.sequences ∙ h.known;
           later = subst (λ (t : Sequence). Later (sequence_in b.sequences q) t) (sym same) (later_same (sequence_in b.sequences q));
           closed = ap (λ (t : Sequence). t.closed) same;
         }) h)
     step (inl e) =
-        let same : sequence_in (with_close b p).sequences q ≡ closed_sequence b.live (sequence_in b.sequences q) =
-        subst (λ (n : ℕ). sequence_in (with_close b n).sequences q ≡ closed_sequence b.live (sequence_in b.sequences q)) (sym e)
+        let same : sequence_in (closed_buffer b p).sequences q ≡ closed_sequence b.live (sequence_in b.sequences q) =
+        subst (λ (n : ℕ). sequence_in (closed_buffer b n).sequences q ≡ closed_sequence b.live (sequence_in b.sequences q)) (sym e)
         (changed_here q (closed_sequence b.live) (λ s. refl) b.sequences h.known) in
-        let later : Later (sequence_in b.sequences q) (sequence_in (with_close b p).sequences q) =
+        let later : Later (sequence_in b.sequences q) (sequence_in (closed_buffer b p).sequences q) =
         subst (λ (t : Sequence). Later (sequence_in b.sequences q) t) (sym same) (later_closed b.live (sequence_in b.sequences q)) in
         record {
           known = known_changed p q (closed_sequence b.live) (λ s. refl) b.sequences ∙ h.known;
           once = h.once;
           come = each-then (λ (r : BufferRecord). (r.sequence == q) ≡ true → r.chunk.partial ≡ false → has_arrived (sequence_in b.sequences q) r.chunk_id ≡ true)
-              (λ (r : BufferRecord). (r.sequence == q) ≡ true → r.chunk.partial ≡ false → has_arrived (sequence_in (with_close b p).sequences q) r.chunk_id ≡ true)
+              (λ (r : BufferRecord). (r.sequence == q) ≡ true → r.chunk.partial ≡ false → has_arrived (sequence_in (closed_buffer b p).sequences q) r.chunk_id ≡ true)
               (λ r k e p. later.arrived r.chunk_id (k e p)) b.live h.come;
           shut = ap (λ (t : Sequence). t.closed) same ∙ sym (ap (λ (x : Bool). closed || x) (eq-eqb p q e) ∙ or_true closed);
-          before = each-then (IsFixed q (sequence_in b.sequences q) b.live) (IsFixed q (sequence_in (with_close b p).sequences q) b.live)
-              (λ f k. fixed_later q (sequence_in b.sequences q) (sequence_in (with_close b p).sequences q) b.live b.live f later (λ i n e. n) k) fixed h.before;
+          before = each-then (IsFixed q (sequence_in b.sequences q) b.live) (IsFixed q (sequence_in (closed_buffer b p).sequences q) b.live)
+              (λ f k. fixed_later q (sequence_in b.sequences q) (sequence_in (closed_buffer b p).sequences q) b.live b.live f later (λ i n e. n) k) fixed h.before;
         }
+
+holds_closed : (q p : ℕ) (closed : Bool) (b : Buffer) (fixed : List Fixed) → Holds q closed b.sequences b.live fixed
+    → Holds q (closed || (p == q)) (with_close b p).sequences (with_close b p).live fixed
+holds_closed q p closed b fixed h = step (sequence_in b.sequences p).closed refl
+  where
+    same : (p == q) ≡ true → (sequence_in b.sequences p).closed ≡ true → closed ≡ true
+    same e is = sym h.shut ∙ subst (λ (n : ℕ). (sequence_in b.sequences n).closed ≡ true) (eqb-true p q e) is
+
+    stays : (x : Bool) → (x ≡ true → closed ≡ true) → (closed || x) ≡ closed
+    stays true k = or_true closed ∙ sym (k refl)
+    stays false k = or_false closed
+
+    step : (x : Bool) → (sequence_in b.sequences p).closed ≡ x
+        → Holds q (closed || (p == q)) (cond x b (closed_buffer b p)).sequences (cond x b (closed_buffer b p)).live fixed
+    step true is = subst (λ (x : Bool). Holds q x b.sequences b.live fixed) (sym (stays (p == q) (λ e. same e is))) h
+    step false is = holds_closing q p closed b fixed h
 
 -- Reads
 

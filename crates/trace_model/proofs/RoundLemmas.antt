@@ -18,8 +18,8 @@ flushed_cut = record {
   );
   flags = (refl, tt);
   last = λ h. absurd (cc);
-  chains = (record { marked = refl; bytes = refl; ends = refl }, tt);
-  patches = record { sent = (refl, tt); lasts = tt; awaits = (refl, tt); placed = refl };
+  chains = (record { marked = refl; bytes = refl; ends = refl; goes_on = refl; lengths = refl }, tt);
+  patches = record { sent = (refl, tt); lasts = tt; awaits = (refl, tt); placed = refl; behind = (tt, tt) };
   begins = refl;
 }
 
@@ -32,8 +32,8 @@ first_cut = record {
   );
   flags = (refl, tt);
   last = λ h. absurd (cc);
-  chains = (record { marked = refl; bytes = refl; ends = refl }, tt);
-  patches = record { sent = (refl, tt); lasts = tt; awaits = (refl, tt); placed = refl };
+  chains = (record { marked = refl; bytes = refl; ends = refl; goes_on = refl; lengths = refl }, tt);
+  patches = record { sent = (refl, tt); lasts = tt; awaits = (refl, tt); placed = refl; behind = (tt, tt) };
   begins = refl;
 }
 
@@ -46,8 +46,8 @@ second_cut = record {
   );
   flags = (refl, tt);
   last = λ h. absurd (cc);
-  chains = (record { marked = refl; bytes = refl; ends = refl }, tt);
-  patches = record { sent = (refl, tt); lasts = tt; awaits = (refl, tt); placed = refl };
+  chains = (record { marked = refl; bytes = refl; ends = refl; goes_on = refl; lengths = refl }, tt);
+  patches = record { sent = (refl, tt); lasts = tt; awaits = (refl, tt); placed = refl; behind = (tt, tt) };
   begins = refl;
 }
 
@@ -58,7 +58,7 @@ lost_cut = record {
   flags = tt;
   last = λ h. absurd (cc);
   chains = tt;
-  patches = record { sent = tt; lasts = tt; awaits = tt; placed = refl };
+  patches = record { sent = tt; lasts = tt; awaits = tt; placed = refl; behind = tt };
   begins = refl;
 }
 

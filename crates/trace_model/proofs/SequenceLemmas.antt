@@ -1,8 +1,8 @@
 -- One sequence among those of a buffer, once they have changed.
 use Rattle.std.proofs.Common.{◌≡◌, ◌∙◌, ℕ, Bool, true, false, ◌||◌, List, [], ◌∷◌, ◌++◌, map, refl, sym, ap}
-use Rattle.std.specs.Prelude.{cond, ◌==◌}
-use Rattle.std.proofs.lemmas.Bool.{eqb-true, eq-eqb, ne_eqb, false≢true}
-use Rattle.trace_model.specs.Sequences.{Sequence, sequence_in, is_known, changed_at, is_among}
+use Rattle.std.specs.Prelude.{cond, ◌==◌, nat_lt}
+use Rattle.std.proofs.lemmas.Bool.{eqb-true, eq-eqb, ne_eqb, or_right, false≢true}
+use Rattle.trace_model.specs.Sequences.{Sequence, sequence_in, is_known, changed_at, is_among, with_number}
 
 module _ (f : Sequence → Sequence) (keeps : (s : Sequence) → (f s).number ≡ s.number) where
   pub sequence_in-map : (ss : List Sequence) (q : ℕ) → is_known ss q ≡ true → sequence_in (map f ss) q ≡ f (sequence_in ss q)
@@ -56,20 +56,28 @@ pub known_changed : (p q : ℕ) (f : Sequence → Sequence) → ((s : Sequence) 
     → is_known (changed_at p f ss) q ≡ is_known ss q
 known_changed p q f keeps ss = known-map (change_of p f) (change_keeps p f keeps) ss q
 
--- numbers among a list with one more
-pub among_more : (i j : ℕ) (numbers : List ℕ) → is_among i numbers ≡ true → is_among i (numbers ++ j ∷ []) ≡ true
+-- numbers among a rising list with one more
+pub among_more : (i j : ℕ) (numbers : List ℕ) → is_among i numbers ≡ true → is_among i (with_number j numbers) ≡ true
 among_more i j [] h = absurd (false≢true h)
-among_more i j (n ∷ numbers) h = step (n == i) h (among_more i j numbers)
+among_more i j (n ∷ numbers) h = step (nat_lt j n) (j == n) (among_more i j numbers)
   where
-    step : (b : Bool) → (b || is_among i numbers) ≡ true → (is_among i numbers ≡ true → is_among i (numbers ++ j ∷ []) ≡ true)
-        → (b || is_among i (numbers ++ j ∷ [])) ≡ true
-    step true h k = refl
-    step false h k = k h
+    later : (here : Bool) → (here || is_among i numbers) ≡ true → (is_among i numbers ≡ true → is_among i (with_number j numbers) ≡ true)
+        → (here || is_among i (with_number j numbers)) ≡ true
+    later true h k = refl
+    later false h k = k h
 
-pub among_new : (i : ℕ) (numbers : List ℕ) → is_among i (numbers ++ i ∷ []) ≡ true
+    step : (below same : Bool) → (is_among i numbers ≡ true → is_among i (with_number j numbers) ≡ true)
+        → is_among i (cond below (j ∷ n ∷ numbers) (cond same (n ∷ numbers) (n ∷ with_number j numbers))) ≡ true
+    step true same k = or_right (j == i) (is_among i (n ∷ numbers)) h
+    step false true k = h
+    step false false k = later (n == i) h k
+
+pub among_new : (i : ℕ) (numbers : List ℕ) → is_among i (with_number i numbers) ≡ true
 among_new i [] = ap (λ (b : Bool). b || false) (eq-eqb i i refl)
-among_new i (n ∷ numbers) = step (n == i) (among_new i numbers)
+among_new i (n ∷ numbers) = step (nat_lt i n) (i == n) refl (among_new i numbers)
   where
-    step : (b : Bool) → is_among i (numbers ++ i ∷ []) ≡ true → (b || is_among i (numbers ++ i ∷ [])) ≡ true
-    step true k = refl
-    step false k = k
+    step : (below same : Bool) → (i == n) ≡ same → is_among i (with_number i numbers) ≡ true
+        → is_among i (cond below (i ∷ n ∷ numbers) (cond same (n ∷ numbers) (n ∷ with_number i numbers))) ≡ true
+    step true same e k = ap (λ (b : Bool). b || is_among i (n ∷ numbers)) (eq-eqb i i refl)
+    step false true e k = ap (λ (b : Bool). b || is_among i numbers) (eq-eqb n i (sym (eqb-true i n e)))
+    step false false e k = or_right (n == i) (is_among i (with_number i numbers)) k

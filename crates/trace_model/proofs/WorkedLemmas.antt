@@ -18,8 +18,8 @@ small = record {
     );
     flags = (refl, tt);
     last = λ h. absurd (cc);
-    chains = (record { marked = refl; bytes = refl; ends = refl }, tt);
-    patches = record { sent = (refl, tt); lasts = tt; awaits = (refl, tt); placed = refl };
+    chains = (record { marked = refl; bytes = refl; ends = refl; goes_on = refl; lengths = refl }, tt);
+    patches = record { sent = (refl, tt); lasts = tt; awaits = (refl, tt); placed = refl; behind = (tt, tt) };
     begins = refl;
   };
   played = record { trace_is = refl; counts_are = refl };
@@ -36,8 +36,8 @@ empty = record {
     );
     flags = (refl, tt);
     last = λ h. absurd (cc);
-    chains = (record { marked = refl; bytes = refl; ends = refl }, tt);
-    patches = record { sent = (refl, tt); lasts = tt; awaits = (refl, tt); placed = refl };
+    chains = (record { marked = refl; bytes = refl; ends = refl; goes_on = refl; lengths = refl }, tt);
+    patches = record { sent = (refl, tt); lasts = tt; awaits = (refl, tt); placed = refl; behind = (tt, tt) };
     begins = refl;
   };
   played = record { trace_is = refl; counts_are = refl };
@@ -57,8 +57,8 @@ long = record {
     );
     flags = (refl, (refl, tt));
     last = λ h. absurd (cc);
-    chains = (record { marked = refl; bytes = refl; ends = refl }, tt);
-    patches = record { sent = (refl, (refl, tt)); lasts = tt; awaits = (refl, (refl, tt)); placed = refl };
+    chains = (record { marked = refl; bytes = refl; ends = refl; goes_on = refl; lengths = refl }, tt);
+    patches = record { sent = (refl, (refl, tt)); lasts = tt; awaits = (refl, (refl, tt)); placed = refl; behind = (tt, (tt, tt)) };
     begins = refl;
   };
   played = record { trace_is = refl; counts_are = refl };
@@ -78,8 +78,8 @@ patched = record {
     );
     flags = (refl, (refl, tt));
     last = λ h. absurd (cc);
-    chains = (record { marked = refl; bytes = refl; ends = refl }, tt);
-    patches = record { sent = (refl, (refl, tt)); lasts = (refl, tt); awaits = (refl, (refl, tt)); placed = refl };
+    chains = (record { marked = refl; bytes = refl; ends = refl; goes_on = refl; lengths = refl }, tt);
+    patches = record { sent = (refl, (refl, tt)); lasts = (refl, tt); awaits = (refl, (refl, tt)); placed = refl; behind = (tt, ((omega arith, tt), tt)) };
     begins = refl;
   };
   played = record { trace_is = refl; counts_are = refl };
@@ -99,8 +99,8 @@ moved = record {
     );
     flags = (refl, (refl, tt));
     last = λ h. absurd (cc);
-    chains = (record { marked = refl; bytes = refl; ends = refl }, tt);
-    patches = record { sent = (refl, (refl, tt)); lasts = tt; awaits = (refl, (refl, tt)); placed = refl };
+    chains = (record { marked = refl; bytes = refl; ends = refl; goes_on = refl; lengths = refl }, tt);
+    patches = record { sent = (refl, (refl, tt)); lasts = tt; awaits = (refl, (refl, tt)); placed = refl; behind = (tt, (tt, tt)) };
     begins = refl;
   };
   played = record { trace_is = refl; counts_are = refl };
@@ -124,7 +124,7 @@ given_up = record {
     flags = (refl, (refl, (refl, tt)));
     last = λ h. absurd (cc);
     chains = (
-      record { marked = refl; bytes = refl; ends = refl },
+      record { marked = refl; bytes = refl; ends = refl; goes_on = refl; lengths = refl },
       (
         record {
           marked = refl;
@@ -139,11 +139,13 @@ given_up = record {
             next = λ h. absurd (omega arith);
           };
           ends = refl;
+          goes_on = refl;
+          lengths = refl;
         },
-        (record { marked = refl; bytes = refl; ends = refl }, tt),
+        (record { marked = refl; bytes = refl; ends = refl; goes_on = refl; lengths = refl }, tt),
       ),
     );
-    patches = record { sent = (refl, (refl, (refl, tt))); lasts = (refl, tt); awaits = (refl, (refl, (refl, tt))); placed = refl };
+    patches = record { sent = (refl, (refl, (refl, tt))); lasts = (refl, tt); awaits = (refl, (refl, (refl, tt))); placed = refl; behind = (tt, ((omega arith, tt), (tt, tt))) };
     begins = refl;
   };
   played = record { trace_is = refl; counts_are = refl };
@@ -175,8 +177,8 @@ drops = record {
     );
     flags = (refl, (refl, tt));
     last = λ h. absurd (cc);
-    chains = (record { marked = refl; bytes = refl; ends = refl }, (record { marked = refl; bytes = refl; ends = refl }, tt));
-    patches = record { sent = (refl, (refl, tt)); lasts = tt; awaits = (refl, (refl, tt)); placed = refl };
+    chains = (record { marked = refl; bytes = refl; ends = refl; goes_on = refl; lengths = refl }, (record { marked = refl; bytes = refl; ends = refl; goes_on = refl; lengths = refl }, tt));
+    patches = record { sent = (refl, (refl, tt)); lasts = tt; awaits = (refl, (refl, tt)); placed = refl; behind = (tt, (tt, tt)) };
     begins = refl;
   };
   played = record { trace_is = refl; counts_are = refl };
@@ -214,8 +216,8 @@ halved = record {
     );
     flags = (refl, (refl, tt));
     last = λ h. absurd (cc);
-    chains = (record { marked = refl; bytes = refl; ends = refl }, (record { marked = refl; bytes = refl; ends = refl }, tt));
-    patches = record { sent = (refl, (refl, tt)); lasts = tt; awaits = (refl, (refl, tt)); placed = refl };
+    chains = (record { marked = refl; bytes = refl; ends = refl; goes_on = refl; lengths = refl }, (record { marked = refl; bytes = refl; ends = refl; goes_on = refl; lengths = refl }, tt));
+    patches = record { sent = (refl, (refl, tt)); lasts = tt; awaits = (refl, (refl, tt)); placed = refl; behind = (tt, (tt, tt)) };
     begins = refl;
   };
   played = record { trace_is = refl; counts_are = refl };

@@ -6,7 +6,7 @@ use Rattle.trace_model.specs.Counts.{raised}
 use Rattle.trace_model.specs.Images.{Image, Chunk, whole_chunk, partial_chunk, complete_chunk}
 use Rattle.trace_model.specs.Places.{place_after, padding_before}
 use Rattle.trace_model.specs.Reading.{Reading, Fragments, Unreadable, reading_of}
-use Rattle.trace_model.specs.Sequences.{Sequence, base_of, has_arrived, unread_of, unread_starts, sequence_in, changed_at}
+use Rattle.trace_model.specs.Sequences.{Sequence, base_of, has_arrived, unread_of, unread_starts, sequence_in, changed_at, with_number}
 use Rattle.trace_model.specs.Buffers.{Buffer, BufferRecord, discards, is_of, live_at, meets, is_unread, made_room}
 
 -- a record in a new place, what it meets being gone
@@ -84,7 +84,7 @@ partial_arrival_of buffer sequence chunk_id count =
 -- the id has arrived: where the cursor has passed all fragments of the chunk it moves to the next id
 abbrev pub with_arrived : ℕ → ℕ → Sequence → Sequence
 with_arrived chunk_id count state = record state {
-  arrived = state.arrived ++ chunk_id ∷ [];
+  arrived = with_number chunk_id state.arrived;
   cursor = if (state.cursor.chunk_id == chunk_id) && nat_le count state.cursor.passed
       then record { chunk_id = suc chunk_id; passed = 0 }
       else state.cursor;

@@ -2,6 +2,7 @@
 use Rattle.std.specs.Prelude.{◌≡◌, ℕ, ◌+◌, ◌-◌, Bool, true, false, List, [], ◌∷◌, count_by, reverse, unwrap_or, if◌then◌else◌}
 use Rattle.trace_base.specs.declared.policy.FullPolicy.{FullPolicy}
 use Rattle.trace_model.specs.Calls.{Call}
+use Rattle.trace_model.specs.Counts.{raised}
 use Rattle.trace_model.specs.Packets.{Packet, packets_of, begun_count, dropped_at_begin}
 use Rattle.trace_model.specs.Pages.{Page}
 use Rattle.trace_model.specs.Row.{Chain}
@@ -23,16 +24,22 @@ pub record PacketCounts : Type 0 where
 pub record IsBalanced (counts : PacketCounts) : Type 0 where
   pub sum : counts.begun ≡ counts.delivered + counts.dropped + counts.overwritten + counts.discarded + counts.cut
 
+-- How many packets have a cause at the end: those that losses and reads counted, and those dropped at their begin.
+abbrev pub counted_packets : List Call → Sequence → ℕ
+counted_packets calls state =
+    state.delivered + raised state.dropped (dropped_at_begin calls) + state.lost + state.cut
+
 -- The counts of a sequence at the end, from its writer's calls and what losses and reads counted of it: a packet that is
--- still without a cause is cut.
+-- still without a cause is cut, beside those that reads passed as cut. They stay at the last value, as those of a buffer
+-- do. Where more packets had been counted than were begun, the sum would tell.
 abbrev pub counts_of : FullPolicy → List Call → Sequence → PacketCounts
 counts_of policy calls state = record {
-  begun = begun_count calls;
+  begun = raised 0 (begun_count calls);
   delivered = state.delivered;
-  dropped = dropped_at_begin calls + state.dropped;
+  dropped = raised state.dropped (dropped_at_begin calls);
   overwritten = if discards policy then 0 else state.lost;
   discarded = if discards policy then state.lost else 0;
-  cut = begun_count calls - (state.delivered + (dropped_at_begin calls + state.dropped) + state.lost);
+  cut = raised state.cut (begun_count calls - counted_packets calls state);
 }
 
 -- The same packet by packet

@@ -11,7 +11,7 @@ use Rattle.trace_model.specs.Packets.{Packet, Text, NestedLength, flat, open_pla
 use Rattle.trace_model.specs.Pages.{Page, laid, images_from, patches_of}
 use Rattle.trace_model.specs.Row.{Piece, Chain, Fate, Marked, bytes_of}
 use Rattle.trace_model.specs.Sequences.{is_among}
-use Rattle.trace_model.specs.Sent.{SentPatch, text_of, all_sent, open_chunks, PatchesAre, LastsAre, AwaitsAre, is_placed}
+use Rattle.trace_model.specs.Sent.{SentPatch, text_of, all_sent, open_in, open_chunks, is_in_one, PatchesAre, LastsAre, AwaitsAre, Behind, is_placed}
 use Rattle.trace_model.specs.Written.{chains_of}
 
 -- Pages
@@ -82,6 +82,14 @@ all_end_well size lengths at (piece ∷ pieces) =
     ends_well size lengths (at + length piece.fragment.bytes) piece
     && all_end_well size lengths (at + length piece.fragment.bytes) pieces
 
+-- Each fragment but the first has a byte: a packet that ends at the payload's end doesn't run on.
+abbrev pub has_byte : Piece → Bool
+has_byte piece = nat_lt 0 (length piece.fragment.bytes)
+
+abbrev pub all_go_on : List Piece → Bool
+all_go_on [] = true
+all_go_on (piece ∷ pieces) = list_all has_byte pieces
+
 abbrev pub is_marked_fate : Fate → Bool
 is_marked_fate Marked = true
 is_marked_fate other = false
@@ -91,6 +99,9 @@ pub record IsChainOf (size : ℕ) (packet : Packet) (chain : Chain) : Type 0 whe
   pub marked : is_marked_fate chain.fate ≡ is_some packet.given_up
   pub bytes : AreBytesOf packet (bytes_of chain.pieces)
   pub ends : IsTrue (all_end_well size (length_places (text_of packet)) 0 chain.pieces)
+  pub goes_on : IsTrue (all_go_on chain.pieces)
+  -- the four bytes of an open length stand in one chunk
+  pub lengths : IsTrue (list_all (is_in_one chain.pieces) (open_in chain.pieces (text_of packet)))
 
 -- Where packets begin
 
@@ -152,6 +163,7 @@ pub record PatchesAgree (packets : List Packet) (chains : List Chain) (pages : L
   pub awaits :
       AwaitsAre (map (λ (one : SentPatch). one.chunk_id) (all_sent packets chains) ++ open_chunks packets chains) 0 pages
   pub placed : IsTrue (list_all (is_placed pages) (patches_of pages))
+  pub behind : Behind 0 pages
 
 -- The pages are a cut of the packets, which stand the newest first.
 pub record CutsInto (size : ℕ) (packets : List Packet) (pages : List Page) : Type 0 where

@@ -1,6 +1,5 @@
--- When chunks and buffer bytes are enough, so that no packet is absent where no producer is closed early. The numbers don't
--- depend on the schedule.
-use Rattle.std.specs.Prelude.{ℕ, ◌+◌, ◌-◌, ◌*◌, ◌/◌, Bool, true, false, ◌||◌, nat_le, ◌==◌, IsTrue, List, length, filter, sum_by, Option, Some, None, slice_get}
+-- When chunks and buffer bytes are enough, so that no packet is absent. The numbers don't depend on the schedule.
+use Rattle.std.specs.Prelude.{◌≡◌, ℕ, ◌+◌, ◌-◌, ◌*◌, ◌/◌, Bool, true, false, ◌||◌, nat_le, ◌==◌, IsTrue, List, [], length, filter, sum_by, Option, Some, None, slice_get}
 use Rattle.std.specs.List.{list_all, enumerate_from}
 use Rattle.trace_base.specs.declared.policy.WriterPolicy.{WriterPolicy}
 use Rattle.trace_base.specs.declared.policy.WriterPolicy.TheVariants.{Stalls}
@@ -58,6 +57,10 @@ has_bytes_enough buffers producers loads =
     (λ buffer. nat_le (sum_by (most_bytes producers) (filter (λ load. load.spec.buffer == buffer.0) loads)) buffer.1)
     (enumerate_from 1 buffers)
 
-pub record IsEnough (buffers : List ℕ) (producers : List ChunkRoom) (loads : List WriterLoad) : Type 0 where
+-- Of buffers with these sizes, these producers, of which those in `closed` are closed before the end, and their writers with
+-- all that they emit.
+pub record IsEnough (closed : List ℕ) (buffers : List ℕ) (producers : List ChunkRoom) (loads : List WriterLoad) : Type 0 where
+  -- what a writer of a closed producer holds isn't taken any more
+  pub none_closed : closed ≡ []
   pub chunks : IsTrue (has_chunks_enough producers loads)
   pub bytes : IsTrue (has_bytes_enough buffers producers loads)

@@ -1,5 +1,6 @@
 -- Images of chunks: as the service takes them, and as their fragments tell them. After the shared memory ABI of the
--- tracing service: a chunk has a header and a payload, and the payload holds fragments of packets.
+-- tracing service: a chunk has a header and a payload, and the payload holds fragments of packets. A chunk's id is its
+-- position in its sequence: the first chunk of a writer has the id 0, and the others follow.
 use Rattle.std.specs.Prelude.{ℕ, ◌+◌, ◌-◌, ◌/◌, ◌%◌, Bool, true, false, ◌&&◌, nat_le, ◌==◌, List, [], ◌∷◌, ◌++◌, length, take, drop}
 
 -- A fragment of a packet. Its place is that of its first byte in the payload, behind its size.

@@ -2,7 +2,7 @@
 use Rattle.std.specs.Prelude.{ℕ, Bool, true, ◌&&◌, not, ◌==◌, List, [], ◌∷◌, map, filter, find, count_by, Option, Some, None, if◌then◌else◌}
 use Rattle.trace_model.specs.Counts.{raised}
 use Rattle.trace_model.specs.Images.{Chunk, Patch, patched_last, last_holds}
-use Rattle.trace_model.specs.Sequences.{Sequence, changed_at}
+use Rattle.trace_model.specs.Sequences.{Sequence, sequence_in, changed_at, rising}
 use Rattle.trace_model.specs.Buffers.{Buffer, BufferRecord, is_of}
 
 pub data PatchAnswer : Type 0 where
@@ -47,15 +47,21 @@ with_patches buffer sequence (patch ∷ others) = with_patches (with_patch buffe
 abbrev pub closed_sequence : List BufferRecord → Sequence → Sequence
 closed_sequence live state = record state {
   closed = true;
-  final = map
+  final = rising
+      (map
       (λ (stored : BufferRecord). stored.chunk_id)
-      (filter (λ stored. (stored.sequence == state.number) && stored.chunk.partial) live);
+      (filter (λ stored. (stored.sequence == state.number) && stored.chunk.partial) live));
 }
 
-abbrev pub with_close : Buffer → ℕ → Buffer
-with_close buffer sequence = record buffer {
+abbrev pub closed_buffer : Buffer → ℕ → Buffer
+closed_buffer buffer sequence = record buffer {
   unpatched =
       raised buffer.unpatched
       (count_by (λ stored. (stored.sequence == sequence) && stored.chunk.awaits) buffer.live);
   sequences = changed_at sequence (closed_sequence buffer.live) buffer.sequences;
 }
+
+-- a sequence that is closed already stays as it is
+abbrev pub with_close : Buffer → ℕ → Buffer
+with_close buffer sequence =
+    if (sequence_in buffer.sequences sequence).closed then buffer else closed_buffer buffer sequence

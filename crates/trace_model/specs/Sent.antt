@@ -1,5 +1,5 @@
 -- The patches that a writer's images bring: which there are, in which commit body, and in which order.
-use Rattle.std.specs.Prelude.{◌≡◌, ℕ, suc, ◌+◌, ◌-◌, Bool, not, ◌&&◌, ◌||◌, ◌==◌, nat_lt, nat_le, List, [], ◌∷◌, ◌++◌, length, map, filter, Option, Some, None, is_some, unwrap_or, slice_get, if◌then◌else◌, ⊤, false}
+use Rattle.std.specs.Prelude.{◌≡◌, ℕ, suc, ◌+◌, ◌-◌, ◌<◌, Bool, not, ◌&&◌, ◌||◌, ◌==◌, nat_lt, nat_le, List, [], ◌∷◌, ◌++◌, length, map, filter, Option, Some, None, is_some, unwrap_or, slice_get, if◌then◌else◌, ⊤, false}
 use Rattle.wire_varint.specs.Varint.{redundant}
 use Rattle.trace_model.specs.Images.{Patch, last_holds}
 use Rattle.trace_model.specs.Packets.{Packet, Text, NestedLength, open_places}
@@ -53,6 +53,10 @@ sent_for pieces nested = record {
 abbrev pub open_in : List Piece → Text → List ℕ
 open_in pieces text = filter (λ at. nat_le (at + 4) (length (bytes_of pieces))) (open_places text.levels)
 
+-- the four bytes of a length stand in one chunk
+abbrev pub is_in_one : List Piece → ℕ → Bool
+is_in_one pieces at = chunk_at pieces at == chunk_at pieces (at + 3)
+
 -- for a length that was open when its packet was given up the patch gives 0, and comes with the chunk of the drop mark
 abbrev pub sent_at_drop : List Piece → ℕ → SentPatch
 sent_at_drop pieces at = record {
@@ -93,6 +97,15 @@ abbrev pub PatchesAre : List SentPatch → ℕ → List Page → Type 0
 PatchesAre sent chunk_id [] = ⊤
 PatchesAre sent chunk_id (page ∷ pages) =
     (map (as_sent chunk_id) page.patches ≡ filter (λ one. one.by == chunk_id) sent) × PatchesAre sent (suc chunk_id) pages
+
+-- A patch comes behind the chunk that it is for: each page brings patches for earlier chunks alone.
+abbrev pub AllChunksBelow : ℕ → List Patch → Type 0
+AllChunksBelow bound [] = ⊤
+AllChunksBelow bound (patch ∷ patches) = (patch.chunk_id < bound) × AllChunksBelow bound patches
+
+abbrev pub Behind : ℕ → List Page → Type 0
+Behind chunk_id [] = ⊤
+Behind chunk_id (page ∷ pages) = AllChunksBelow chunk_id page.patches × Behind (suc chunk_id) pages
 
 -- `last` stands where no later patch is for the same chunk and none of that chunk's lengths is open.
 abbrev pub chunks_of : List Patch → List ℕ

@@ -14,12 +14,12 @@ pub record Sequence : Type 0 where
   pub number : ℕ
   -- the size of each of its records
   pub size : ℕ
-  -- the ids that arrived complete, in the order of their arrival
+  -- the ids that arrived complete, rising
   pub arrived : List ℕ
   -- what a reader has passed
   pub cursor : Cursor
   pub closed : Bool
-  -- the ids that had a live partial record when it was closed
+  -- the ids that had a live partial record when it was closed, rising
   pub final : List ℕ
   -- something was passed since the last delivery
   pub missing : Bool
@@ -51,6 +51,17 @@ fresh number size = record {
 
 abbrev pub is_among : ℕ → List ℕ → Bool
 is_among n numbers = list_any (λ m. m == n) numbers
+
+-- a number put into a rising list at its place, where the list doesn't have it yet
+abbrev pub with_number : ℕ → List ℕ → List ℕ
+with_number n [] = n ∷ []
+with_number n (m ∷ numbers) =
+    if nat_lt n m then n ∷ m ∷ numbers else if n == m then m ∷ numbers else m ∷ with_number n numbers
+
+-- these numbers as a rising list
+abbrev pub rising : List ℕ → List ℕ
+rising [] = []
+rising (n ∷ numbers) = with_number n (rising numbers)
 
 abbrev pub has_arrived : Sequence → ℕ → Bool
 has_arrived state chunk_id = is_among chunk_id state.arrived

@@ -1,0 +1,12 @@
+pub mod LossLemmas
+pub mod MarkLemmas
+pub mod PlaceCounts
+pub mod ReportLemmas
+pub mod RisingLemmas
+pub mod RowEnds
+pub mod SpoiltLemmas
+pub mod StartLemmas
+pub mod StopLemmas
+pub mod UnreadableLemmas
+pub mod WorkedReportLemmas
+pub mod WrittenStarts
