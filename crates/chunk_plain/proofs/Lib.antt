@@ -1,16 +1,2 @@
-pub mod EntrySteps
-pub mod Holding
-pub mod Kept
-pub mod KeptService
-pub mod KeptWriter
-pub mod Known
-pub mod LayingLemmas
 pub mod Lists
-pub mod MadeLemmas
-pub mod Owned
-pub mod OwnershipLemmas
-pub mod PageSteps
-pub mod SeatSteps
-pub mod ServiceSteps
-pub mod Shown
-pub mod WriterSteps
+pub mod Sealing
