@@ -2,9 +2,10 @@
 use Rattle.std.proofs.Common.{◌≡◌, ℕ, zero, suc, ◌+◌, ◌-◌, ◌*◌, ◌/◌, ◌%◌, ◌<◌, ◌≤◌, List, [], ◌∷◌, ◌++◌, length, set, get_or, subst, sym, refl, ap, ◌∙◌, arith, length-append}
 use Rattle.std.proofs.lemmas.List.{get_or-set_same, get_or-set_other, get_or_append_left}
 use Rattle.std.proofs.Math.Seq.{get_or-append_seam}
+use Rattle.std.proofs.lemmas.Bool.Decides.{nat_tests}
 use native.Mathlib.Decide.{dec_le, ℕ_discrete}
 use mathlib.Core.Logic.{dite}
-use Rattle.chunk_plain.specs.Payload.{byte_of, byte_at, byte_in, first_bytes, size_at, IsFragment, start_of, sealed_to, HasFragments, end_after, ends_from}
+use Rattle.chunk_plain.specs.Payload.{byte_of, byte_at, byte_in, first_bytes, size_at, size_bytes, IsFragment, start_of, sealed_to, HasFragments, end_after, ends_from}
 
 -- a size depends on its own bytes alone
 size_at_same : (b c : ℕ → ℕ) (at n : ℕ) → ((j : ℕ) → j < at + n → b j ≡ c j) → size_at b at n ≡ size_at c at n
@@ -13,14 +14,43 @@ size_at_same b c at (suc n) same =
     ap (λ x. x % 128 + 128 * size_at b (at + 1) n) (same at (omega arith))
     ∙ ap (λ s. c at % 128 + 128 * s) (size_at_same b c (at + 1) n (λ j below. same j (omega arith)))
 
+-- how long a size is, by its bytes
+one_byte : (b : ℕ → ℕ) (at : ℕ) → b at < 128 → size_bytes b at ≡ 1
+one_byte b at first = grind (arith, nat_tests)
+
+two_bytes : (b : ℕ → ℕ) (at : ℕ) → 128 ≤ b at → b (at + 1) < 128 → size_bytes b at ≡ 2
+two_bytes b at first second = grind (arith, nat_tests)
+
+three_bytes : (b : ℕ → ℕ) (at : ℕ) → 128 ≤ b at → 128 ≤ b (at + 1) → b (at + 2) < 128 → size_bytes b at ≡ 3
+three_bytes b at first second third = grind (arith, nat_tests)
+
+pub four_bytes : (b : ℕ → ℕ) (at : ℕ) → 128 ≤ b at → 128 ≤ b (at + 1) → 128 ≤ b (at + 2) → size_bytes b at ≡ 4
+four_bytes b at first second third = grind (arith, nat_tests)
+
+size_bytes_same : (b c : ℕ → ℕ) (at : ℕ) → ((j : ℕ) → j < at + size_bytes b at → b j ≡ c j) → (1 ≤ size_bytes b at) × (size_bytes b at ≡ size_bytes c at)
+size_bytes_same b c at same =
+    dite (dec_le (b at + 1) 128)
+    (λ low. let n = one_byte b at (omega arith) in let first = same at (omega arith) in (omega arith, n ∙ sym (one_byte c at (omega arith))))
+    (λ high. dite (dec_le (b (at + 1) + 1) 128)
+    (λ low. let n = two_bytes b at (omega arith) (omega arith) in let first = same at (omega arith) in let second = same (at + 1) (omega arith) in
+    (omega arith, n ∙ sym (two_bytes c at (omega arith) (omega arith))))
+    (λ higher. dite (dec_le (b (at + 2) + 1) 128)
+    (λ low. let n = three_bytes b at (omega arith) (omega arith) (omega arith) in
+    let first = same at (omega arith) in let second = same (at + 1) (omega arith) in let third = same (at + 2) (omega arith) in
+    (omega arith, n ∙ sym (three_bytes c at (omega arith) (omega arith) (omega arith))))
+    (λ highest. let n = four_bytes b at (omega arith) (omega arith) (omega arith) in
+    let first = same at (omega arith) in let second = same (at + 1) (omega arith) in let third = same (at + 2) (omega arith) in
+    (omega arith, n ∙ sym (four_bytes c at (omega arith) (omega arith) (omega arith))))))
+
 fragment_same : (b c : ℕ → ℕ) (from to : ℕ) → ((j : ℕ) → j < to → b j ≡ c j) → IsFragment b from to → IsFragment c from to
 fragment_same b c from to same f =
+    let end = f.end in
+    let sizes = size_bytes_same b c from (λ j below. same j (omega arith)) in
+    let n = size_bytes b from in
+    let some : 1 ≤ n = sizes.0 in
     record {
-      more = f.more;
-      few = f.few;
-      high = λ i below. subst (λ x. 128 ≤ x) (same (from + i) (let end = f.end in omega arith)) (f.high i below);
-      low = subst (λ x. x < 128) (same (from + f.more) (let end = f.end in omega arith)) f.low;
-      end = f.end ∙ ap (λ s. from + (f.more + 1) + s) (size_at_same b c from (f.more + 1) (λ j below. same j (let end = f.end in omega arith)));
+      low = subst (λ m. c (from + m - 1) < 128) sizes.1 (subst (λ x. x < 128) (same (from + n - 1) (omega arith)) f.low);
+      end = end ∙ (ap (λ s. from + n + s) (size_at_same b c from n (λ j below. same j (omega arith))) ∙ ap (λ m. from + m + size_at c from m) sizes.1);
     }
 
 -- fragments depend on the bytes before the last end alone
@@ -31,13 +61,7 @@ reads_same b c ends same reads = λ k below.
 
 -- at one place begins one fragment
 fragment_one : (b : ℕ → ℕ) (from to other : ℕ) → IsFragment b from to → IsFragment b from other → to ≡ other
-fragment_one b from to other f g =
-    let same : f.more ≡ g.more = dite (dec_le (f.more + 1) g.more)
-    (λ less. absurd (let low = f.low in let high = g.high f.more (omega arith) in omega arith))
-    (λ apart. dite (dec_le (g.more + 1) f.more)
-    (λ less. absurd (let low = g.low in let high = f.high g.more (omega arith) in omega arith))
-    (λ other_apart. omega arith)) in
-    f.end ∙ (ap (λ n. from + (n + 1) + size_at b from (n + 1)) same ∙ sym g.end)
+fragment_one b from to other f g = f.end ∙ sym g.end
 
 same_end : (b : ℕ → ℕ) (old new : List ℕ) (k : ℕ) → HasFragments b old → HasFragments b new → k < length old → k < length new → get_or old k 0 ≡ get_or new k 0
 same_end b old new zero before after inside_old inside_new = fragment_one b 0 (get_or old 0 0) (get_or new 0 0) (before 0 inside_old).0 (after 0 inside_new).0

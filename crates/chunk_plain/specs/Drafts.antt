@@ -1,7 +1,7 @@
 -- What a chunk that is written has finished, and how that stays: while it is written, once it is complete, and where the service has found it.
-use Rattle.std.specs.Prelude.{◌≡◌, ◌≢◌, ℕ, ◌+◌, ◌-◌, ◌%◌, ◌<◌, ◌≤◌, List, length, slice_index_or}
+use Rattle.std.specs.Prelude.{◌≡◌, ◌≢◌, ℕ, ◌-◌, ◌%◌, ◌<◌, ◌≤◌, List, length, slice_index_or}
 use Rattle.chunk_plain.specs.Payload.{byte_at, byte_in, sealed_to, HasFragments, ends_from}
-use Rattle.chunk_plain.specs.Views.{At, Head, no_head, Draft, no_draft, Content, Begun, Held, Completed, WriterView, Found}
+use Rattle.chunk_plain.specs.Views.{At, Head, Draft, no_draft, Content, Begun, Held, Completed, WriterView, Found}
 
 -- A header may be stored over another where the count doesn't fall, and, once it isn't 0, flag 1 stays.
 pub record MayFollow (old new : Head) : Type 0 where

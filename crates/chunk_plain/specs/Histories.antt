@@ -1,5 +1,5 @@
 -- From views to what the model speaks of: a writer's images, and the history of the service.
-use Rattle.std.specs.Prelude.{ℕ, ◌-◌, Bool, false, ◌&&◌, ◌==◌, Option, Some, None, List, [], ◌∷◌, ◌++◌, length, slice_get, if◌then◌else◌}
+use Rattle.std.specs.Prelude.{ℕ, ◌-◌, Bool, false, ◌&&◌, ◌==◌, Option, Some, None, List, [], ◌∷◌, length, slice_get, if◌then◌else◌}
 use Rattle.std.specs.List.{flat_map}
 use Rattle.trace_base.specs.declared.limits.TheConstants.{FIRST_SEQUENCE}
 use Rattle.trace_model.specs.Images.{Image, Chunk, Patch, whole_chunk}

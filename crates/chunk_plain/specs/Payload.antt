@@ -21,19 +21,23 @@ abbrev pub first_bytes : (ℕ → ℕ) → ℕ → List ℕ
 first_bytes byte zero = []
 first_bytes byte (suc n) = first_bytes byte n ++ byte n ∷ []
 
--- the number that a varint of so many bytes from this place on has
+-- the number that the low seven bits of so many bytes from this place on have
 abbrev pub size_at : (ℕ → ℕ) → ℕ → ℕ → ℕ
 size_at byte at zero = 0
 size_at byte at (suc n) = byte at % 128 + 128 * size_at byte (at + 1) n
 
--- A fragment stands from one place up to another: its size as a varint, of which each byte but the last has its high bit set, and so many bytes.
+-- how many bytes the size has that stands at this place: it ends with the first one whose high bit is clear, and has four at most
+abbrev pub size_bytes : (ℕ → ℕ) → ℕ → ℕ
+size_bytes byte at = if nat_lt (byte at) 128 then 1 else if nat_lt (byte (at + 1)) 128 then 2 else if nat_lt (byte (at + 2)) 128 then 3 else 4
+
+-- the place behind the fragment that begins at this one: behind its size and so many bytes
+abbrev pub end_after : (ℕ → ℕ) → ℕ → ℕ
+end_after byte at = at + size_bytes byte at + size_at byte at (size_bytes byte at)
+
+-- a fragment stands from one place up to another: the high bit of the last byte of its size is clear, and it ends where its size says
 pub record IsFragment (byte : ℕ → ℕ) (from to : ℕ) : Type 0 where
-  -- the bytes of the size but for the last one
-  pub more : ℕ
-  pub few : more < 4
-  pub high : (i : ℕ) → i < more → 128 ≤ byte (from + i)
-  pub low : byte (from + more) < 128
-  pub end : to ≡ from + (more + 1) + size_at byte from (more + 1)
+  pub low : byte (from + size_bytes byte from - 1) < 128
+  pub end : to ≡ end_after byte from
 
 -- where the fragment with this number begins, where the fragments before it end at these places
 abbrev pub start_of : List ℕ → ℕ → ℕ
@@ -47,14 +51,6 @@ sealed_to ends = slice_index_or ends (length ends - 1) 0
 -- the bytes read as fragments that end at these places
 abbrev pub HasFragments : (ℕ → ℕ) → List ℕ → Type 0
 HasFragments byte ends = (k : ℕ) → k < length ends → IsFragment byte (start_of ends k) (slice_index_or ends k 0) × (slice_index_or ends k 0 ≤ sealed_to ends)
-
--- how many bytes the size has that stands at this place
-abbrev pub size_bytes : (ℕ → ℕ) → ℕ → ℕ
-size_bytes byte at = if nat_lt (byte at) 128 then 1 else if nat_lt (byte (at + 1)) 128 then 2 else if nat_lt (byte (at + 2)) 128 then 3 else 4
-
--- the place behind the fragment that begins at this one
-abbrev pub end_after : (ℕ → ℕ) → ℕ → ℕ
-end_after byte at = at + size_bytes byte at + size_at byte at (size_bytes byte at)
 
 -- the ends of the fragments from this place on, so many
 abbrev pub ends_from : (ℕ → ℕ) → ℕ → ℕ → List ℕ

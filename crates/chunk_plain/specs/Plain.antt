@@ -1,5 +1,5 @@
 -- The table of one thread: what each of its steps does to its world, and what it keeps from step to step.
-use Rattle.std.specs.Prelude.{◌≡◌, ℕ, true, false, Option, Some, None, List, [], length, map, vec_len}
+use Rattle.std.specs.Prelude.{◌≡◌, ℕ, true, false, Option, Some, None, List, length, map, vec_len}
 use Rattle.page_geometry.specs.Header.{packed}
 use Rattle.commit_body.specs.declared.body.CommitBody.{CommitBody}
 use Rattle.chunk_plain.specs.declared.step.Step.{Step}

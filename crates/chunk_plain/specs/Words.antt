@@ -18,9 +18,9 @@ use Rattle.chunk_plain.specs.declared.notes.ServiceEvent.TheVariants as event
 use Rattle.chunk_plain.specs.declared.tokens.Held.{Held as HeldToken}
 use Rattle.chunk_plain.specs.declared.tokens.Taken.{Taken as TakenToken}
 use Rattle.chunk_plain.specs.declared.tokens.NotComplete.{NotComplete}
-use Rattle.chunk_plain.specs.Setup.{Setup, spot, producer_of, IsChunkOf, id_at, sequence_of}
+use Rattle.chunk_plain.specs.Setup.{Setup, spot, producer_of, IsChunkOf, id_at}
 use Rattle.chunk_plain.specs.Payload.{byte_at, byte_in, sealed_to}
-use Rattle.chunk_plain.specs.Views.{At, Ask, Head, Draft, Content, Begun, Held, Completed, WriterView, Found, Look, ServiceView, taken_of, Noted, Arrive, Partial, Patched, Closed, Read, Committed}
+use Rattle.chunk_plain.specs.Views.{At, Ask, Content, Begun, Held, Completed, WriterView, Found, Look, ServiceView, taken_of, Noted, Arrive, Partial, Patched, Closed, Read, Committed}
 use Rattle.chunk_plain.specs.Steps.{claims, stamps, begins, redrafts, looks_at, takes_in, learns}
 use Rattle.chunk_plain.specs.Owned.{times}
 use Rattle.chunk_plain.specs.Drafts.{MayFollow, IsFound, head_of, draft_at, head_at, published}

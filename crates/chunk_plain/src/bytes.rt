@@ -1,5 +1,5 @@
 //! Payload bytes in words, eight a word, the lowest first.
-ghost use Rattle.std.specs.Prelude.{◌≡◌, ℕ, ◌+◌, ◌*◌, ◌<◌, ◌≤◌, length};
+ghost use Rattle.std.specs.Prelude.{◌≡◌, ℕ, ◌+◌, ◌*◌, ◌/◌, ◌<◌, ◌≤◌, length};
 ghost use Rattle.chunk_plain.specs.Payload.{byte_of, byte_at, byte_in};
 
 /// The word with the bytes from a place on, and zeros behind the last of them.
@@ -16,6 +16,19 @@ pub fn pack(from: &[u8], at: usize) -> u64
         eight[m] = rest[m];
     }
     u64::from_le_bytes(eight)
+}
+
+/// The place behind the last word that has a byte of this range; where it has none, its first word's.
+pub fn word_end(from: u32, to: u32) -> usize
+    ensures least { from / 8 ≤ result }
+    ensures some { from < to → (to ≤ 8 * result) × (8 * result < to + 8) }
+    ensures none { to ≤ from → result ≡ from / 8 }
+{
+    if from < to {
+        (to as usize - 1) / 8 + 1
+    } else {
+        from as usize / 8
+    }
 }
 
 /// Fills the bytes from the words.

@@ -89,11 +89,12 @@ impl Layout {
         let mut spots = Vec::new(alloc);
         let mut ranges = Vec::new(alloc);
         let pages = add_producers(&mut spots, &mut ranges, producers)?;
+        let sizes = payload_sizes(alloc, producers)?;
         Ok(Layout {
             pages,
             spots,
             ranges,
-            sizes: payload_sizes(alloc, producers)?,
+            sizes,
             writers: writers.to_vec(alloc)?,
         })
     }

@@ -23,6 +23,7 @@ ghost use Rattle.chunk_plain.specs.Plain.{IsLent, StandsWhole, world_after};
 
 use crate::bytes::unpack;
 use crate::plain::PlainTable;
+use crate::slots::{body_of, put_body, put_word, take_body, words_of};
 use crate::step::Step;
 use crate::tokens::Seen;
 use crate::worlds::make_step;
@@ -67,11 +68,10 @@ impl PlainTable {
         let page = spot.page as usize;
         let found = self.words[page];
         self.words[page] = found | begin_mask(spot.place);
-        let words = &self.slots[chunk as usize].words;
         let step = Step::Begin {
             place,
             chunk,
-            words,
+            words: words_of(&self.slots, chunk),
         };
         let world = &self.world;
         make_step(&world.shared, &mut self.seat, &step);
@@ -86,10 +86,7 @@ impl PlainTable {
         ensures words { (stored_at self.new.slots.items chunk).words ≡ (stored_at self.old.slots.items chunk).words }
         ensures world { self.new.seat.me.0 ≡ self.old.seat.me.0 }
     {
-        let Some(body) = self.slots[chunk as usize].body.take() else {
-            unreachable!()
-        };
-        body
+        take_body(&mut self.slots, chunk)
     }
 
     /// Puts the body of a chunk back that is being written or read.
@@ -99,7 +96,7 @@ impl PlainTable {
         ensures layout { self.new.layout ≡ self.old.layout }
         ensures world { self.new.seat.me.0 ≡ self.old.seat.me.0 }
     {
-        self.slots[chunk as usize].body = Some(body);
+        put_body(&mut self.slots, chunk, body);
     }
 
     /// Stores a payload word of a held chunk.
@@ -113,7 +110,7 @@ impl PlainTable {
         ensures index { index < length (draft_at (writer self.old.seat.me.0 place) id).words }
         ensures world { self.new.seat.me.0 ≡ world_after self.old.seat.me.0 (Publish place chunk id index word) }
     {
-        self.slots[chunk as usize].words[index] = word;
+        put_word(&mut self.slots, chunk, index, word);
         let step = Step::Publish {
             place,
             chunk,
@@ -141,14 +138,11 @@ impl PlainTable {
         let page = spot.page as usize;
         let found = self.words[page];
         self.words[page] = found | complete_mask(spot.place);
-        let Some(body) = &self.slots[chunk as usize].body else {
-            unreachable!()
-        };
         let step = Step::Complete {
             place,
             chunk,
             id,
-            body,
+            body: body_of(&self.slots, chunk),
         };
         let world = &self.world;
         make_step(&world.shared, &mut self.seat, &step);
@@ -218,7 +212,7 @@ impl PlainTable {
         ensures size { length into.new ≡ length into.old }
         ensures bytes { (j : ℕ) → j < length into.new → byte_in into.new j ≡ byte_at (stored_at self.now.slots.items chunk).words j }
     {
-        unpack(&self.slots[chunk as usize].words, into);
+        unpack(words_of(&self.slots, chunk), into);
     }
 
     /// Notes the content of the chunk that was taken last of a writer.

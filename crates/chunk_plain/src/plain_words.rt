@@ -12,10 +12,11 @@ ghost use Rattle.chunk_plain.specs.World.{World, writer, nowhere};
 ghost use Rattle.chunk_plain.specs.Owned.{IsOwned};
 ghost use Rattle.chunk_plain.specs.Words.{IsAtRest, IsServing};
 
-use crate::bytes::{pack, unpack};
+use crate::bytes::{pack, unpack, word_end};
 use crate::notes::{ServiceEvent, WriterCall};
 use crate::plain::PlainTable;
 use crate::plain_seats::{PlainService, PlainWriter};
+use crate::slots::words_of;
 use crate::step::Step;
 use crate::tokens::{Claimed, Held, NotComplete, Seen, Taken};
 use crate::words::Words;
@@ -101,11 +102,7 @@ impl Words for PlainTable {
 
     fn publish(&mut self, seat: &mut PlainWriter, held: &mut Held, from: u32, to: u32) {
         let first = from as usize / 8;
-        let end = if from < to {
-            (to as usize - 1) / 8 + 1
-        } else {
-            first
-        };
+        let end = word_end(from, to);
         for index in first..end {
             let word = pack(&held.body.payload, 8 * index);
             self.store_word(seat.place, held.chunk, held.id, index, word);
@@ -147,7 +144,7 @@ impl Words for PlainTable {
     }
 
     fn load(&mut self, _seat: &mut PlainService, chunk: u32, into: &mut [u8]) {
-        unpack(&self.slots[chunk as usize].words, into);
+        unpack(words_of(&self.slots, chunk), into);
     }
 
     fn take(

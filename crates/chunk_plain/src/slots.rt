@@ -1,6 +1,7 @@
 //! What a table of one thread keeps of a chunk beside its page and header word.
-ghost use Rattle.std.specs.Prelude.{length, IfOk};
+ghost use Rattle.std.specs.Prelude.{◌≡◌, ◌<◌, Some, None, slice_set, vec_len, length, IsSome, IfOk};
 ghost use Rattle.chunk_plain.specs.Made.{IsFreeSlot, HasFreeSlots};
+ghost use Rattle.chunk_plain.specs.Stored.{stored_at};
 
 use crate::setup::Spot;
 use arrayvec::ArrayVec;
@@ -43,9 +44,64 @@ fn free_slot(alloc: Global, payload_size: u32) -> Result<Slot, AllocError>
         patches: Box::new(alloc, ArrayVec::new())?,
         target: 0,
     };
-    let words = vec![in alloc; 0; (payload_size as usize).div_ceil(8)]?;
+    let words = vec![in alloc; 0; (payload_size as usize + 7) / 8]?;
     Ok(Slot {
         words,
         body: Some(body),
     })
+}
+
+/// Takes the body of a chunk out.
+pub fn take_body(slots: &mut Vec<Slot>, chunk: u32) -> CommitBody
+    requires inside { chunk < vec_len slots.old }
+    requires there { IsSome (stored_at slots.old.items chunk).body }
+    ensures body { (stored_at slots.old.items chunk).body ≡ Some result }
+    ensures rest { slots.new.items ≡ slice_set slots.old.items chunk (record (stored_at slots.old.items chunk) { body = None }) }
+    ensures len { vec_len slots.new ≡ vec_len slots.old }
+{
+    let Some(body) = slots[chunk as usize].body.take() else {
+        unreachable!()
+    };
+    body
+}
+
+/// Puts the body of a chunk back.
+pub fn put_body(slots: &mut Vec<Slot>, chunk: u32, body: CommitBody)
+    requires { chunk < vec_len slots.old }
+    ensures rest { slots.new.items ≡ slice_set slots.old.items chunk (record (stored_at slots.old.items chunk) { body = Some body }) }
+    ensures len { vec_len slots.new ≡ vec_len slots.old }
+{
+    slots[chunk as usize].body = Some(body);
+}
+
+/// Stores a payload word of a chunk.
+pub fn put_word(slots: &mut Vec<Slot>, chunk: u32, index: usize, word: u64)
+    requires inside { chunk < vec_len slots.old }
+    requires within { index < length (stored_at slots.old.items chunk).words }
+    ensures rest { slots.new.items ≡ slice_set slots.old.items chunk (record (stored_at slots.old.items chunk) { words = slice_set (stored_at slots.old.items chunk).words index word }) }
+    ensures len { vec_len slots.new ≡ vec_len slots.old }
+{
+    slots[chunk as usize].words[index] = word;
+}
+
+/// The payload words of a chunk.
+pub fn words_of(slots: &[Slot], chunk: u32) -> &[u64]
+    requires { chunk < length slots.now }
+    ensures { result.now ≡ (stored_at slots.now chunk).words }
+{
+    let slot = &slots[chunk as usize];
+    &slot.words
+}
+
+/// The body of a chunk that is there.
+pub fn body_of(slots: &[Slot], chunk: u32) -> &CommitBody
+    requires inside { chunk < length slots.now }
+    requires there { IsSome (stored_at slots.now chunk).body }
+    ensures { (stored_at slots.now chunk).body ≡ Some result.now }
+{
+    let slot = &slots[chunk as usize];
+    let Some(body) = &slot.body else {
+        unreachable!()
+    };
+    body
 }
