@@ -15,7 +15,7 @@ size_at_same b c at (suc n) same =
     ∙ ap (λ s. c at % 128 + 128 * s) (size_at_same b c (at + 1) n (λ j below. same j (omega arith)))
 
 -- how long a size is, by its bytes
-one_byte : (b : ℕ → ℕ) (at : ℕ) → b at < 128 → size_bytes b at ≡ 1
+pub one_byte : (b : ℕ → ℕ) (at : ℕ) → b at < 128 → size_bytes b at ≡ 1
 one_byte b at first = grind (arith, nat_tests)
 
 two_bytes : (b : ℕ → ℕ) (at : ℕ) → 128 ≤ b at → b (at + 1) < 128 → size_bytes b at ≡ 2

@@ -16,6 +16,8 @@ mod plain_words;
 mod setup;
 mod slots;
 mod step;
+#[cfg(test)]
+mod tests;
 mod tokens;
 mod words;
 mod worlds;
