@@ -13,7 +13,7 @@ pub length-redundant : (n : ℕ) → length (redundant n) ≡ 4
 unfolding redundant
 length-redundant n = refl
 
-length-bytes_field : (field : ℕ) (text : List ℕ) (times : ℕ)
+pub length-bytes_field : (field : ℕ) (text : List ℕ) (times : ℕ)
     → length (bytes_field field text times) ≡ length (bytes_head field (times * length text)) + times * length text
 unfolding bytes_field
 length-bytes_field field text times =
