@@ -1,7 +1,7 @@
 //! Texts and what is said of them, and the parts of a scenario. The expected lines come from a
 //! reading of the grammar in another language.
-use super::*;
 use arrayvec::ArrayVec;
+use scenario_text::{LineKind, ProducerLine, ScenarioFault, read_scenario, refusal_line};
 use std::alloc::{AllocError, Global};
 use std::process::Abort;
 use trace_base::limits::MAX_INPUT;

@@ -1,6 +1,6 @@
 //! Columns, refusals and trees that were worked from the grammar by hand and by a reading of it in
 //! another language.
-use super::*;
+use field_tree::{FieldError, FieldFault, FieldNode, parse_fields};
 use std::alloc::Global;
 use std::process::Abort;
 use trace_base::limits::MAX_INPUT;
