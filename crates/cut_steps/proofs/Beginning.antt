@@ -1,17 +1,17 @@
 -- Packets begin behind the chains that are there, or are dropped there.
 use Rattle.std.proofs.Common.{◌≡◌, ◌∙◌, ℕ, ◌==◌, Bool, true, false, not, ◌&&◌, ◌||◌, IsTrue, List, [], ◌∷◌, ◌++◌, map, length, Option, Some, None, is_some, unwrap_or, MatchOption, MatchBool, cond, refl, sym, ap, subst, arith, append-nil}
-use Rattle.std.specs.List.{AllZip}
+use Rattle.std.specs.List.{AllZip, list_all}
 use Rattle.std.proofs.lemmas.Bool.{and_from, ne_eqb, true≢false}
 use Rattle.std.proofs.lemmas.List.Elements.{All-nil}
 use Rattle.trace_model.specs.Images.{Patch}
 use Rattle.trace_model.specs.Packets.{Packet, Text, NestedLength, flat, open_length, body_of, kept_of, is_lost}
 use Rattle.trace_model.specs.Pages.{Page}
 use Rattle.trace_model.specs.Row.{Piece, Chain, bytes_of}
-use Rattle.trace_model.specs.Sent.{SentPatch, sent_of, all_sent, open_chunks}
-use Rattle.trace_model.specs.Cut.{IsFull, Begins, IsGivenUp, last_runs_on, length_places, all_end_well, is_fresh, is_same, begins_chunk, begins_well, all_begin_well, older_chains}
+use Rattle.trace_model.specs.Sent.{SentPatch, sent_of, all_sent, open_chunks, open_in, is_in_one}
+use Rattle.trace_model.specs.Cut.{IsFull, Begins, IsGivenUp, last_runs_on, length_places, all_end_well, all_go_on, is_fresh, is_same, begins_chunk, begins_well, all_begin_well, older_chains}
 use Rattle.cut_steps.specs.RawChains.{raw_chains, settled_piece, earlier_pieces, chains_before, offset_behind, current_piece, current_pieces, current_chain, start_of}
 use Rattle.cut_steps.specs.RawCut.{IsRawChainOf}
-use Rattle.cut_steps.specs.Pieces.{BeginsAt, AllRunOn, ChainsEndBefore}
+use Rattle.cut_steps.specs.Pieces.{IsLarge, BeginsAt, AllRunOn, ChainsEndBefore}
 use Rattle.cut_steps.specs.Pending.{HasSent, sent_now, AllEndWithin, patches_so_far}
 use Rattle.cut_steps.specs.Growth.{HasBytes}
 use Rattle.cut_steps.specs.Writing.{IsWriting}
@@ -20,8 +20,8 @@ use Rattle.cut_steps.proofs.ChainLemmas.{earlier_pieces-same, chains_before-page
 
 -- Nothing was written yet
 
-pub between_first : (size : ℕ) → IsBetween size [] [] [] [] 4
-between_first size = record {
+pub between_first : (size : ℕ) → IsLarge size → IsBetween size [] [] [] [] 4
+between_first size large = record {
   chains_are = tt;
   begins = refl;
   sends = record {
@@ -35,10 +35,12 @@ between_first size = record {
     awaits = tt;
     sent_placed = refl;
     unsent_placed = refl;
+    behind = tt;
   };
   none_open = refl;
   four = tt;
   ends = tt;
+  large = large;
   full = All-nil (IsFull size);
   flags = tt;
 }
@@ -69,6 +71,7 @@ between_lost size packet older pages chains unsent offset b k fresh =
       none_open = ap (λ (ps : List Packet). open_chunks ps chains) (sym same) ∙ b.none_open;
       four = b.four;
       ends = b.ends;
+      large = b.large;
       full = b.full;
       flags = b.flags;
     }
@@ -94,6 +97,9 @@ same_chain size patches packet later text chain g e h =
           (subst (λ (o : Option Text). MatchOption o (MatchBool packet.finished (bytes ≡ body_of packet) (Begins bytes (body_of packet))) (IsGivenUp bytes)) g h.bytes);
       ends = subst (λ (o : Option Text). IsTrue (all_end_well size (length_places (unwrap_or o later.text)) 0 chain.pieces)) (sym given)
           (subst (λ (o : Option Text). IsTrue (all_end_well size (length_places (unwrap_or o packet.text)) 0 chain.pieces)) g h.ends);
+      goes_on = h.goes_on;
+      lengths = subst (λ (o : Option Text). IsTrue (list_all (is_in_one chain.pieces) (open_in chain.pieces (unwrap_or o later.text)))) (sym given)
+          (subst (λ (o : Option Text). IsTrue (list_all (is_in_one chain.pieces) (open_in chain.pieces (unwrap_or o packet.text)))) g h.lengths);
     }
 
 same_sent : (packet later : Packet) (text : Text) (chain : Chain) → packet.given_up ≡ Some text → later.given_up ≡ packet.given_up → sent_of later chain ≡ sent_of packet chain
@@ -117,6 +123,7 @@ changed_kept size packet later text older pages chains unsent offset k g kept fl
       none_open = ap (λ (ps : List Packet). open_chunks ps chains) theirs ∙ none chains;
       four = b.four;
       ends = b.ends;
+      large = b.large;
       full = b.full;
       flags = b.flags;
     }
@@ -156,6 +163,7 @@ changed_lost size packet later older pages chains unsent offset k kept flush b =
       none_open = ap (λ (ps : List Packet). open_chunks ps chains) (sym same) ∙ b.none_open;
       four = b.four;
       ends = b.ends;
+      large = b.large;
       full = b.full;
       flags = b.flags;
     }
@@ -224,6 +232,8 @@ writing_begun size packet older pages continues done front chains unsent b none 
       older_chains = subst (AllZip (IsRawChainOf size patches) (kept_of older)) (sym before) b.chains_are;
       older_begin = subst (λ (cs : List Chain). IsTrue (all_begin_well size older cs)) (sym before) b.begins;
       older_end = subst (ChainsEndBefore (length pages) (offset_behind 4 done)) (sym before) b.ends;
+      goes_on = subst (λ (earlier : List Piece). IsTrue (all_go_on earlier)) (sym none) refl;
+      large = b.large;
       full = b.full;
       flags = b.flags;
       continues_is = continues_is;

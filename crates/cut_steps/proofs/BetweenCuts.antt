@@ -13,7 +13,7 @@ use Rattle.trace_model.specs.Cut.{IsFull, last_runs_on}
 use Rattle.commit_body.specs.Patches.{with_lasts}
 use Rattle.cut_steps.specs.RawChains.{current_chain, raw_chains, earlier_pieces, chains_before, offset_behind, current_piece}
 use Rattle.cut_steps.specs.RawCut.{IsRawChainOf, CutsRaw}
-use Rattle.cut_steps.specs.Pieces.{Follows, EndsBefore, AllEndBefore, ChainsEndBefore, BeginsAt}
+use Rattle.cut_steps.specs.Pieces.{Follows, EndsBefore, AllEndBefore, ChainsEndBefore, BeginsAt, ContinuesWithByte}
 use Rattle.cut_steps.specs.Pending.{HasSent, sent_chunks, patches_so_far, AllHaveFour}
 use Rattle.cut_steps.specs.Writing.{IsWriting}
 use Rattle.cut_steps.specs.Between.{IsBetween}
@@ -68,9 +68,9 @@ offset_behind-last (bytes ∷ others) at now = offset_behind-last others (at + l
 -- the packet is finished in the held chunk
 pub between_finished : (size : ℕ) (packet : Packet) (older : List Packet) (pages : List Page) (q : Page) (done : List (List ℕ)) (now : List ℕ)
     (unsent : List Patch) → IsWriting size packet older pages q.continues done now unsent [] []
-    → q.fragments ≡ done ++ now ∷ [] → q.runs_on ≡ false → q.dropped ≡ false
+    → q.fragments ≡ done ++ now ∷ [] → q.runs_on ≡ false → q.dropped ≡ false → ContinuesWithByte q.continues done now
     → IsBetween size (finished_packet packet ∷ older) pages (raw_chains (pages ++ q ∷ [])) unsent (offset_behind 4 (done ++ now ∷ []))
-between_finished size packet older pages q done now unsent w fragments stays unmarked =
+between_finished size packet older pages q done now unsent w fragments stays unmarked some =
     let later : Packet = finished_packet packet in
     let earlier : List Piece = earlier_pieces pages q.continues done in
     let piece : Piece = current_piece pages done now in
@@ -80,7 +80,7 @@ between_finished size packet older pages q done now unsent w fragments stays unm
     let sent : List SentPatch = sent_by_now packet older pages q.continues done now in
     let patches : List Patch = patches_so_far pages [] unsent in
     let s : IsSealed size later older (pages ++ q ∷ []) patches [] sent chains =
-    sealed size packet later older pages q done now unsent [] w fragments stays unmarked refl refl refl w.given_up in
+    sealed size packet later older pages q done now unsent [] w fragments stays unmarked some refl refl refl w.given_up in
     subst (λ (cs : List Chain). IsBetween size (later ∷ older) pages cs unsent offset) (sym s.raw) (record {
       chains_are = subst (λ (ps : List Packet). AllZip (IsRawChainOf size patches) ps chains) (sym s.kept) s.chains_are;
       begins = s.begins;
@@ -93,6 +93,7 @@ between_finished size packet older pages q done now unsent w fragments stays unm
             (begin_reaches earlier w.first w.first_offset offset piece w.begins_at w.bytes.chunk (omega (arith, offset_behind-last done 4 now)))
             w.older_end,
       );
+      large = w.large;
       full = w.full;
       flags = w.flags;
     })
@@ -117,6 +118,7 @@ between_completed size packets pages q chains unsent offset b continues stays se
       none_open = b.none_open;
       four = subst AllHaveFour (sym same) b.four;
       ends = chains_end_before-more chains (length pages) offset (length all) 4 (inl (omega (arith, longer))) b.ends;
+      large = b.large;
       full = All-push (IsFull size) pages q b.full full;
       flags = flags-one pages false q b.flags continues;
     }

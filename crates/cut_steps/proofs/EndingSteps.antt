@@ -166,6 +166,8 @@ writing_ended_here size packet older pages continues done now unsent hole holes 
           (so_far_alike pages (hole ∷ holes) holes unsent) w.older_chains;
       older_begin = w.older_begin;
       older_end = w.older_end;
+      goes_on = w.goes_on;
+      large = w.large;
       full = w.full;
       flags = w.flags;
       continues_is = w.continues_is;
@@ -246,6 +248,8 @@ writing_ended_later size packet older pages continues done now unsent hole holes
       older_chains = chains-later (kept_of older) (chains_before pages continues done) size patches patch more w.first w.first_offset later w.four behind w.older_end w.older_chains;
       older_begin = w.older_begin;
       older_end = w.older_end;
+      goes_on = w.goes_on;
+      large = w.large;
       full = w.full;
       flags = w.flags;
       continues_is = w.continues_is;

@@ -2,7 +2,7 @@
 -- unused. Its pages are a cut.
 use Rattle.std.proofs.Common.{◌≡◌, ◌∙◌, ℕ, ◌+◌, ◌<◌, ◌≤◌, Bool, true, false, not, ◌&&◌, ◌||◌, cond, List, [], ◌∷◌, ◌++◌, length, map, refl, sym, ap, subst, arith, append_assoc, length-append, inl, Some, Option}
 use Rattle.std.specs.Prelude.{IsTrue, ◌==◌, nat_lt, is_some, MatchOption, MatchBool, unwrap_or}
-use Rattle.std.specs.List.{AllZip}
+use Rattle.std.specs.List.{AllZip, list_all}
 use Rattle.std.proofs.lemmas.List.{append-nil, map-append}
 use Rattle.std.proofs.lemmas.List.Elements.{All-push}
 use Rattle.std.proofs.lemmas.Bool.{and_from, or_left}
@@ -11,7 +11,7 @@ use Rattle.trace_model.specs.Packets.{Packet, Text, open_places, body_of, kept_o
 use Rattle.trace_model.specs.Pages.{Page}
 use Rattle.trace_model.specs.Sequences.{is_among}
 use Rattle.trace_model.specs.Row.{Piece, Chain, Marked, Open, Whole, bytes_of}
-use Rattle.trace_model.specs.Sent.{SentPatch, all_sent, open_chunks, open_in, last_chunk, chunk_at}
+use Rattle.trace_model.specs.Sent.{SentPatch, all_sent, open_chunks, open_in, is_in_one, last_chunk, chunk_at}
 use Rattle.trace_model.specs.Cut.{IsFull, Begins, IsGivenUp, length_places, all_end_well, ends_well, left_behind, is_marked_fate, begins_well, all_begin_well}
 use Rattle.commit_body.specs.Patches.{with_lasts}
 use Rattle.cut_steps.specs.RawChains.{offset_behind, raw_chains, earlier_pieces, chains_before, piece_behind, current_piece, current_chain, chain_to, settled_piece}
@@ -28,6 +28,7 @@ use Rattle.cut_steps.proofs.Sending.{sends_done}
 use Rattle.cut_steps.proofs.Growing.{long_bytes}
 use Rattle.cut_steps.proofs.RunningOn.{so_far-one, so_far_below}
 use Rattle.cut_steps.proofs.StepLemmas.{begins_well-same, start_of-same, all_end_well-one, flags-one, last_runs_on-one}
+use Rattle.cut_steps.proofs.StrictPieces.{goes_on-here, marked_byte, in_one-same}
 use Rattle.cut_steps.proofs.ZeroPatches.{last_chunk-one, inside-more, below-inside, zero_patches-same, sent_of-given}
 
 -- the piece with the drop mark, of which the patches of earlier chunks change nothing
@@ -111,6 +112,10 @@ given_between size packet next older pages page done now unused unsent text leve
           (IsGivenUp (bytes_of (map (settled_piece patches) after)))) (sym given) given_bytes;
       ends = subst (λ (o : Option Text). IsTrue (all_end_well size (length_places (unwrap_or o next.text)) 0 after)) (sym given)
           (all_end_well-one earlier size (length_places text) 0 piece g.ends (ends_anywhere size (length_places text) (0 + length (bytes_of earlier) + length (now ++ unused)) piece stays));
+      goes_on = goes_on-here pages page.continues done piece (marked_byte size page done (now ++ unused) g.large full holds dropped) g.goes_on;
+      lengths = subst (λ (o : Option Text). IsTrue (list_all (is_in_one after) (open_in after (unwrap_or o next.text)))) (sym given)
+          (subst (λ (ats : List ℕ). IsTrue (list_all (is_in_one after) ats)) open_same
+          (sym (in_one-same (open_places text.levels) (length (bytes_of before)) before after same) ∙ g.lengths));
     } in
     let raw : chain ∷ chains ≡ raw_chains further =
     sym (chains_end size pages page done (now ++ unused) g.full g.flags holds g.continues_is (λ e. stays)) in
@@ -131,6 +136,7 @@ given_between size packet next older pages page done now unused unsent text leve
         all_end_before-last earlier g.first end piece g.bytes.follows g.bytes.chunk (omega arith),
         chains_end_before-more chains g.first g.first_offset (length pages) end (begin_reaches earlier g.first g.first_offset end old g.begins_at g.bytes.chunk (omega arith)) g.older_end,
       );
+      large = g.large;
       full = All-push (IsFull size) pages page g.full full;
       flags = flags-one pages false page g.flags g.continues_is;
     })

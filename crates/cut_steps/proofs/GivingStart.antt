@@ -20,6 +20,7 @@ use Rattle.cut_steps.specs.GivingUp.{IsGivingUp, AllClearOf, zero_patches}
 use Rattle.cut_steps.proofs.Places.{flat_written, flat_begun, open_places-innermost}
 use Rattle.cut_steps.proofs.Growing.{long_bytes}
 use Rattle.cut_steps.proofs.StepLemmas.{all_end_well-more, open_places-written, came}
+use Rattle.cut_steps.proofs.StrictPieces.{lengths_in_one}
 use Rattle.cut_steps.proofs.ZeroPatches.{inside, inside-standing, inside-behind, clear-standing}
 
 -- What is lost of the packet: the text goes on with these bytes, and its open lengths are those that stand, or come behind.
@@ -66,6 +67,9 @@ giving_from size packet older pages continues done now unsent holes coming text 
       older_chains = w.older_chains;
       older_begin = w.older_begin;
       older_end = w.older_end;
+      goes_on = w.goes_on;
+      lengths = lengths_in_one pieces text (open_places (w.level ∷ w.outer)) loses.opened w.bytes.stand;
+      large = w.large;
       full = w.full;
       flags = w.flags;
       continues_is = w.continues_is;

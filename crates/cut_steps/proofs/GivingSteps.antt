@@ -1,13 +1,14 @@
 -- A packet that is given up: its holes are closed with 0, one after another, in the held chunk or in an earlier one.
 use Rattle.std.proofs.Common.{◌≡◌, ◌≢◌, ◌∙◌, ℕ, ◌+◌, ◌-◌, ◌≤◌, Bool, List, [], ◌∷◌, ◌++◌, length, map, refl, sym, ap, subst, arith, append_assoc}
 use Rattle.std.specs.Prelude.{IsTrue}
+use Rattle.std.specs.List.{list_all}
 use Rattle.wire_varint.specs.Varint.{redundant}
 use Rattle.wire_varint.proofs.Lengths.{length-redundant}
 use Rattle.trace_model.specs.Images.{Patch, with_bytes}
 use Rattle.trace_model.specs.Packets.{Packet, Text, flat, open_length, open_places, kept_of}
 use Rattle.trace_model.specs.Pages.{Page}
 use Rattle.trace_model.specs.Row.{Piece, bytes_of}
-use Rattle.trace_model.specs.Sent.{SentPatch, as_sent, sent_at_drop, last_chunk, all_sent, chunk_at, offset_at, is_placed, open_in}
+use Rattle.trace_model.specs.Sent.{SentPatch, as_sent, sent_at_drop, last_chunk, all_sent, chunk_at, offset_at, is_placed, open_in, is_in_one}
 use Rattle.commit_body.specs.declared.hole.Hole.{Hole}
 use Rattle.commit_body.specs.Patches.{hole_chunks}
 use Rattle.commit_body.specs.Pending.{patch_for}
@@ -23,6 +24,7 @@ use Rattle.cut_steps.proofs.PlacedPatches.{placed_earlier, is_among-here}
 use Rattle.cut_steps.proofs.OpenLengths.{StandsHere, StandsEarlier, stands_here, stands_earlier, length_put_here}
 use Rattle.cut_steps.proofs.StepLemmas.{begins_at-grown, begins_well-same, start_of-same}
 use Rattle.cut_steps.proofs.EndingSteps.{Holes, holes_from}
+use Rattle.cut_steps.proofs.StrictPieces.{in_one-same}
 use Rattle.cut_steps.proofs.ZeroPatches.{last_chunk-one, inside, below-standing, below-inside, zero_patches-same, zero_patches-earlier, zero_patches-here}
 
 -- the hole in the held chunk lies in its fragment
@@ -101,6 +103,10 @@ giving_here size packet older pages continues done now unsent hole holes text le
           (so_far_alike pages (hole ∷ holes) holes unsent) g.older_chains;
       older_begin = g.older_begin;
       older_end = g.older_end;
+      goes_on = g.goes_on;
+      lengths = subst (λ (n : ℕ). IsTrue (list_all (is_in_one after) (inside n (open_places text.levels)))) as_long
+          (sym (in_one-same (open_places text.levels) (length (bytes_of before)) before after same) ∙ g.lengths);
+      large = g.large;
       full = g.full;
       flags = g.flags;
       continues_is = g.continues_is;
@@ -167,6 +173,9 @@ giving_later size packet older pages continues done now unsent hole holes text l
       older_chains = chains-later (kept_of older) (chains_before pages continues done) size patches patch more g.first g.first_offset later g.four behind g.older_end g.older_chains;
       older_begin = g.older_begin;
       older_end = g.older_end;
+      goes_on = g.goes_on;
+      lengths = g.lengths;
+      large = g.large;
       full = g.full;
       flags = g.flags;
       continues_is = g.continues_is;

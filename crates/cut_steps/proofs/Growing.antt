@@ -5,11 +5,11 @@ use Rattle.std.proofs.lemmas.List.{append-nil, map-append}
 use Rattle.trace_model.specs.Images.{Patch, with_bytes}
 use Rattle.trace_model.specs.Packets.{flat, open_places, open_length}
 use Rattle.trace_model.specs.Row.{Piece, bytes_of}
-use Rattle.trace_model.specs.Sent.{chunk_at, offset_at}
+use Rattle.trace_model.specs.Sent.{chunk_at, offset_at, AllChunksBelow}
 use Rattle.cut_steps.specs.RawChains.{settled_piece}
 use Rattle.cut_steps.specs.Pieces.{Follows, StandsIn, AllStandIn}
 use Rattle.cut_steps.specs.Growth.{HasBytes, settled_bytes}
-use Rattle.cut_steps.specs.Pending.{AllHaveFour, AllChunksBelow}
+use Rattle.cut_steps.specs.Pending.{AllHaveFour}
 use Rattle.cut_steps.proofs.Places.{with_bytes_left, with_bytes_right, length_with_bytes, flat_written, flat_begun, flat_closed, open_places-innermost, bytes_of-patched, stands_within}
 use Rattle.cut_steps.proofs.GrowingPlaces.{bytes_of-one, length_bytes-one, all_stand-grown, all_stand-before, stands-last}
 use Rattle.cut_steps.proofs.SamePlaces.{SamePlaces, chunk_at-places, offset_at-places}

@@ -8,7 +8,7 @@ use Rattle.trace_model.specs.Images.{Patch, holds_patch, patched_fragment}
 use Rattle.trace_model.specs.Packets.{Packet}
 use Rattle.trace_model.specs.Pages.{Page, patches_of}
 use Rattle.trace_model.specs.Row.{Piece, Chain, bytes_of}
-use Rattle.trace_model.specs.Sent.{chunk_at, offset_at}
+use Rattle.trace_model.specs.Sent.{chunk_at, offset_at, AllChunksBelow}
 use Rattle.trace_model.specs.Cut.{AreBytesOf}
 use Rattle.commit_body.specs.declared.hole.Hole.{Hole}
 use Rattle.commit_body.specs.Patches.{hole_chunks, with_lasts}
@@ -16,7 +16,7 @@ use Rattle.cut_steps.specs.RawChains.{patched_piece, settled_piece}
 use Rattle.cut_steps.specs.RawCut.{IsRawChainOf}
 use Rattle.cut_steps.specs.Pieces.{Follows, StandsIn, EndsBefore, AllEndBefore, ChainsEndBefore, BeginsAt}
 use Rattle.cut_steps.specs.Growth.{settled_bytes}
-use Rattle.cut_steps.specs.Pending.{patches_so_far, AllHaveFour, AllChunksBelow}
+use Rattle.cut_steps.specs.Pending.{patches_so_far, AllHaveFour}
 use Rattle.cut_steps.proofs.SamePlaces.{SameShape, SamePlaces}
 use Rattle.cut_steps.proofs.Places.{length_with_bytes, patched_elsewhere, chunk_at-here, chunk_at-behind, offset_at-here, chunk_at-from, stands-behind, stands_within}
 
@@ -203,7 +203,7 @@ unchanged (piece ∷ pieces) a patch b chunk_id offset later four behind before 
 raw_chain-same : (size : ℕ) (a b : List Patch) (packet : Packet) (chain : Chain) → settled_bytes b chain.pieces ≡ settled_bytes a chain.pieces
     → IsRawChainOf size a packet chain → IsRawChainOf size b packet chain
 raw_chain-same size a b packet chain same is =
-    record { marked = is.marked; bytes = subst (AreBytesOf packet) (sym same) is.bytes; ends = is.ends }
+    record { marked = is.marked; bytes = subst (AreBytesOf packet) (sym same) is.bytes; ends = is.ends; goes_on = is.goes_on; lengths = is.lengths }
 
 -- patches that act alike leave chains alike
 pub chains-alike : (packets : List Packet) (chains : List Chain) (size : ℕ) (a b : List Patch) → SettleAlike a b

@@ -26,6 +26,7 @@ pub mod Settling
 pub mod StalledCuts
 pub mod StateLaws
 pub mod StepLemmas
+pub mod StrictPieces
 pub mod WorkedSteps
 pub mod WritingSteps
 pub mod ZeroPatches

@@ -11,10 +11,10 @@ use Rattle.std.proofs.lemmas.Bool.{eq-eqb, ne_eqb, and_parts, and_from, false≢
 use Rattle.trace_model.specs.Images.{Patch, Fragment, last_holds}
 use Rattle.trace_model.specs.Pages.{Page, patches_of, chunk_of}
 use Rattle.trace_model.specs.Sequences.{is_among}
-use Rattle.trace_model.specs.Sent.{SentPatch, PatchesAre, AwaitsAre, as_sent, chunks_of, is_last_patch, is_placed, is_placed_in}
+use Rattle.trace_model.specs.Sent.{SentPatch, PatchesAre, AwaitsAre, as_sent, chunks_of, is_last_patch, is_placed, is_placed_in, AllChunksBelow, Behind}
 use Rattle.commit_body.specs.Patches.{with_lasts}
 use Rattle.commit_body.proofs.PatchLemmas.{chunks_of-with_lasts}
-use Rattle.cut_steps.specs.Pending.{AllChunksBelow, AllSentBy, AllSentFor, sent_chunks}
+use Rattle.cut_steps.specs.Pending.{AllSentBy, AllSentFor, sent_chunks}
 
 -- Chunks among others
 
@@ -169,6 +169,11 @@ awaits_are-one [] crossing first last page e before here =
     (subst (λ (n : ℕ). page.awaits ≡ (page.runs_on && is_among n crossing)) same here, tt)
 awaits_are-one (one ∷ pages) crossing first last page e before here =
     (before.0, awaits_are-one pages crossing (suc first) last page (omega (arith, e)) before.1 here)
+
+pub behind-one : (pages : List Page) (first last : ℕ) (page : Page) → first + length pages ≡ last → Behind first pages → AllChunksBelow last page.patches
+    → Behind first (pages ++ page ∷ [])
+behind-one [] first last page e before here = (subst (λ (n : ℕ). AllChunksBelow n page.patches) (omega (arith, e)) here, tt)
+behind-one (one ∷ pages) first last page e before here = (before.0, behind-one pages (suc first) last page (omega (arith, e)) before.1 here)
 
 -- Placed patches
 

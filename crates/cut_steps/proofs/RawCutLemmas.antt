@@ -14,7 +14,7 @@ use Rattle.cut_steps.specs.RawChains.{placeless, raw_chains, settled_piece, sett
 use Rattle.cut_steps.specs.RawCut.{IsRawChainOf, CutsRaw}
 use Rattle.cut_steps.proofs.LaterPatches.{settled_shape, settled-places}
 use Rattle.cut_steps.proofs.SettledFragments.{settled-piece}
-use Rattle.cut_steps.proofs.SamePlaces.{SameShape, SameChains, SamePlaces-refl, all_sent-places, open_chunks-places, all_begin_well-places}
+use Rattle.cut_steps.proofs.SamePlaces.{SameShape, SameChains, SamePlaces-refl, all_go_on-places, lengths-places, all_sent-places, open_chunks-places, all_begin_well-places}
 use Rattle.cut_steps.proofs.Settling.{chains_of-settled, all_placed-four}
 
 placeless-same : (chains : List Chain) → SameChains (map placeless chains) chains
@@ -54,6 +54,8 @@ chains-settled size (packet ∷ packets) (chain ∷ chains) patches four h = (
     marked = h.0.marked;
     bytes = h.0.bytes;
     ends = settled-ends patches chain.pieces size 0 (length_places (text_of packet)) four ∙ h.0.ends;
+    goes_on = all_go_on-places (map (settled_piece patches) chain.pieces) chain.pieces (settled-places patches chain.pieces four) ∙ h.0.goes_on;
+    lengths = lengths-places (map (settled_piece patches) chain.pieces) chain.pieces (text_of packet) (settled-places patches chain.pieces four) ∙ h.0.lengths;
   },
   chains-settled size packets chains patches four h.1,
 )
@@ -63,7 +65,7 @@ chains-placed size [] [] h = tt
 chains-placed size [] (chain ∷ chains) h = absurd h
 chains-placed size (packet ∷ packets) [] h = absurd h
 chains-placed size (packet ∷ packets) (chain ∷ chains) h =
-    (record { marked = h.0.marked; bytes = h.0.bytes; ends = h.0.ends }, chains-placed size packets chains h.1)
+    (record { marked = h.0.marked; bytes = h.0.bytes; ends = h.0.ends; goes_on = h.0.goes_on; lengths = h.0.lengths }, chains-placed size packets chains h.1)
 
 pub raw_cut_is_cut : (size : ℕ) (packets : List Packet) (pages : List Page) → CutsRaw size packets pages → CutsInto size packets pages
 raw_cut_is_cut size packets pages cut =
@@ -96,6 +98,7 @@ raw_cut_is_cut size packets pages cut =
         awaits = subst (λ (ns : List ℕ). AwaitsAre (map (λ (one : SentPatch). one.chunk_id) (all_sent kept (chains_of pages)) ++ ns) 0 pages) open_ones
             (subst (λ (xs : List SentPatch). AwaitsAre (map (λ (one : SentPatch). one.chunk_id) xs ++ open_chunks kept raw) 0 pages) sent cut.patches.awaits);
         placed = cut.patches.placed;
+        behind = cut.patches.behind;
       };
       begins = sym begins ∙ cut.begins;
     }

@@ -10,14 +10,14 @@ use Rattle.trace_model.specs.Packets.{Packet, flat, open_length, open_places, bo
 use Rattle.trace_model.specs.Pages.{Page, patches_of}
 use Rattle.trace_model.specs.Sequences.{is_among}
 use Rattle.trace_model.specs.Row.{Piece, Chain, bytes_of}
-use Rattle.trace_model.specs.Sent.{SentPatch, all_sent}
-use Rattle.trace_model.specs.Cut.{IsFull, left_behind, length_places, all_end_well, begins_well, all_begin_well}
+use Rattle.trace_model.specs.Sent.{SentPatch, all_sent, AllChunksBelow}
+use Rattle.trace_model.specs.Cut.{IsFull, left_behind, length_places, all_end_well, all_go_on, begins_well, all_begin_well}
 use Rattle.commit_body.specs.declared.hole.Hole.{Hole}
 use Rattle.commit_body.specs.Patches.{hole_chunks, with_lasts}
 use Rattle.cut_steps.specs.RawChains.{earlier_pieces, chains_before, piece_behind, current_piece, current_pieces, current_chain, start_of}
 use Rattle.cut_steps.specs.RawCut.{IsRawChainOf}
 use Rattle.cut_steps.specs.Pieces.{BeginsAt, ChainsEndBefore, AllRunOn}
-use Rattle.cut_steps.specs.Pending.{HasSent, sent_now, sent_chunks, hole_at, patches_so_far, AllEndWithin, AllHaveFour, AllChunksBelow}
+use Rattle.cut_steps.specs.Pending.{HasSent, sent_now, sent_chunks, hole_at, patches_so_far, AllEndWithin, AllHaveFour}
 use Rattle.cut_steps.specs.Growth.{HasBytes}
 use Rattle.cut_steps.specs.Writing.{IsWriting}
 use Rattle.cut_steps.proofs.ChainLemmas.{earlier_pieces-run_on, chains_before-run_on}
@@ -26,6 +26,7 @@ use Rattle.cut_steps.proofs.Marks.{is_among-append, none_sent, patches_of-one, c
 use Rattle.cut_steps.proofs.Sending.{sends_done}
 use Rattle.cut_steps.proofs.Growing.{long_bytes, bytes_run}
 use Rattle.cut_steps.proofs.PlacedPatches.{all_run_on-one}
+use Rattle.cut_steps.proofs.StrictPieces.{goes_on-here, filled_byte}
 use Rattle.cut_steps.proofs.StepLemmas.{begins_at-grown, begins_at-more, begins_well-same, start_of-run, all_end_well-one, ends_well-from, flags-one, last_runs_on-one}
 
 -- a page that runs on has no drop mark
@@ -84,6 +85,10 @@ writing_run_on size packet older pages page done now unsent holes coming holds r
     ∙ ap (λ (b : Bool). b || is_among (length pages) (hole_chunks holes)) (sym (none_sent (sent ++ sent_now before packet.text.closed) (length pages) w.sends.for))
     ∙ sym (is_among-append (length pages) (sent_chunks (sent ++ sent_now before packet.text.closed)) (hole_chunks holes))
     ∙ ap (λ (b : Bool). b && is_among (length pages) (sent_chunks (sent ++ sent_now before packet.text.closed) ++ hole_chunks holes)) (sym runs) in
+    let few : left_behind size old < 4 = elim left [
+      | inl none ↦ omega (arith, none)
+      | inr some ↦ some.0
+    ] in
     let sends : HasSent further (sent ++ sent_now after packet.text.closed) [] (hole_chunks holes) =
     subst (λ (ss : List SentPatch). HasSent further (sent ++ ss) [] (hole_chunks holes)) (sent_now-same packet.text.closed (length (bytes_of before)) before after within same)
     (sends_done pages (sent ++ sent_now before packet.text.closed) unsent (hole_chunks holes) page brings waits w.sends) in
@@ -124,6 +129,9 @@ writing_run_on size packet older pages page done now unsent holes coming holds r
           (subst (AllZip (IsRawChainOf size patches) (kept_of older)) same_chains w.older_chains);
       older_begin = subst (λ (cs : List Chain). IsTrue (all_begin_well size older cs)) same_chains w.older_begin;
       older_end = subst (ChainsEndBefore w.first w.first_offset) same_chains w.older_end;
+      goes_on = subst (λ (ps : List Piece). IsTrue (all_go_on ps)) same_pieces
+          (goes_on-here pages page.continues done ended (filled_byte size pages page.continues done now w.large few) w.goes_on);
+      large = w.large;
       full = All-push (IsFull size) pages page w.full full;
       flags = flags-one pages false page w.flags w.continues_is;
       continues_is = sym (last_runs_on-one pages false page ∙ runs);

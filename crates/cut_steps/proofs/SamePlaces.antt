@@ -1,14 +1,15 @@
 -- What is sent for a chain, and where a packet may begin behind it, depend on the places and lengths of its pieces alone.
 use Rattle.std.proofs.Common.{◌≡◌, ◌∙◌, ℕ, ◌+◌, ◌-◌, ◌==◌, Bool, true, false, not, ◌&&◌, ◌||◌, nat_lt, nat_le, List, [], ◌∷◌, ◌++◌, map, filter, length, cond, is_some, refl, sym, ap, length-append}
 use Rattle.std.specs.Prelude.{⊤}
+use Rattle.std.specs.List.{list_all}
 use Rattle.std.proofs.lemmas.List.Elements.{filter_agree}
 use Rattle.trace_base.specs.declared.limits.TheConstants.{MAX_FRAGMENTS}
 use Rattle.wire_varint.specs.Varint.{redundant}
 use Rattle.trace_model.specs.Packets.{Packet, Text, NestedLength, open_places, is_lost}
 use Rattle.trace_model.specs.Sequences.{Cursor}
 use Rattle.trace_model.specs.Row.{Piece, Chain, bytes_of}
-use Rattle.trace_model.specs.Sent.{SentPatch, text_of, chunk_at, offset_at, last_chunk, crosses, sent_for, open_in, sent_at_drop, sent_of, all_sent, open_chunks}
-use Rattle.trace_model.specs.Cut.{left_behind, last_piece, is_end, newest_piece, is_fresh, begins_chunk, begins_well, all_begin_well, older_chains, is_same}
+use Rattle.trace_model.specs.Sent.{SentPatch, text_of, chunk_at, offset_at, last_chunk, crosses, sent_for, open_in, sent_at_drop, sent_of, all_sent, open_chunks, is_in_one}
+use Rattle.trace_model.specs.Cut.{has_byte, all_go_on, left_behind, room_to_begin, last_piece, is_end, newest_piece, is_fresh, begins_chunk, begins_well, all_begin_well, older_chains, is_same}
 
 pub map_same : {X Y : Type 0} (f g : X → Y) → ((x : X) → f x ≡ g x) → (xs : List X) → map f xs ≡ map g xs
 map_same f g h [] = refl
@@ -110,6 +111,34 @@ sent_at_drop-places pieces others at s =
 pub open_in-places : (pieces others : List Piece) (text : Text) → SamePlaces pieces others → open_in pieces text ≡ open_in others text
 open_in-places pieces others text s = ap (λ (n : ℕ). filter (λ at. nat_le (at + 4) n) (open_places text.levels)) (length-places pieces others s)
 
+-- Strict pieces
+
+have_bytes-places : (pieces others : List Piece) → SamePlaces pieces others → list_all has_byte pieces ≡ list_all has_byte others
+have_bytes-places [] [] s = refl
+have_bytes-places [] (other ∷ others) s = absurd s
+have_bytes-places (piece ∷ pieces) [] s = absurd s
+have_bytes-places (piece ∷ pieces) (other ∷ others) s =
+    ap (λ (n : ℕ). nat_lt 0 n && list_all has_byte pieces) s.0.long
+    ∙ ap (λ (b : Bool). has_byte other && b) (have_bytes-places pieces others s.1)
+
+pub all_go_on-places : (pieces others : List Piece) → SamePlaces pieces others → all_go_on pieces ≡ all_go_on others
+all_go_on-places [] [] s = refl
+all_go_on-places [] (other ∷ others) s = absurd s
+all_go_on-places (piece ∷ pieces) [] s = absurd s
+all_go_on-places (piece ∷ pieces) (other ∷ others) s = have_bytes-places pieces others s.1
+
+in_one-places : (places : List ℕ) (pieces others : List Piece) → SamePlaces pieces others → list_all (is_in_one pieces) places ≡ list_all (is_in_one others) places
+in_one-places [] pieces others s = refl
+in_one-places (at ∷ places) pieces others s =
+    ap (λ (n : ℕ). (n == chunk_at pieces (at + 3)) && list_all (is_in_one pieces) places) (chunk_at-places pieces others at s)
+    ∙ ap (λ (n : ℕ). (chunk_at others at == n) && list_all (is_in_one pieces) places) (chunk_at-places pieces others (at + 3) s)
+    ∙ ap (λ (b : Bool). is_in_one others at && b) (in_one-places places pieces others s)
+
+pub lengths-places : (pieces others : List Piece) (text : Text) → SamePlaces pieces others
+    → list_all (is_in_one pieces) (open_in pieces text) ≡ list_all (is_in_one others) (open_in others text)
+lengths-places pieces others text s =
+    ap (list_all (is_in_one pieces)) (open_in-places pieces others text s) ∙ in_one-places (open_in others text) pieces others s
+
 -- What is sent
 
 closed-places : (pieces others : List Piece) (closed : List NestedLength) → SamePlaces pieces others
@@ -163,9 +192,9 @@ is_end-places size [] [] s = refl
 is_end-places size [] (other ∷ others) s = absurd s
 is_end-places size (piece ∷ pieces) [] s = absurd s
 is_end-places size (piece ∷ []) (other ∷ []) s =
-    ap (λ (n : ℕ). nat_lt (size - (n + length piece.fragment.bytes)) 12 || (piece.at.passed + 1 == MAX_FRAGMENTS)) s.0.offset
-    ∙ ap (λ (n : ℕ). nat_lt (size - (other.fragment.offset + n)) 12 || (piece.at.passed + 1 == MAX_FRAGMENTS)) s.0.long
-    ∙ ap (λ (c : Cursor). nat_lt (left_behind size other) 12 || (c.passed + 1 == MAX_FRAGMENTS)) s.0.at
+    ap (λ (n : ℕ). nat_lt (size - (n + length piece.fragment.bytes)) room_to_begin || (piece.at.passed + 1 == MAX_FRAGMENTS)) s.0.offset
+    ∙ ap (λ (n : ℕ). nat_lt (size - (other.fragment.offset + n)) room_to_begin || (piece.at.passed + 1 == MAX_FRAGMENTS)) s.0.long
+    ∙ ap (λ (c : Cursor). nat_lt (left_behind size other) room_to_begin || (c.passed + 1 == MAX_FRAGMENTS)) s.0.at
 is_end-places size (piece ∷ []) (other ∷ following ∷ others) s = absurd s.1
 is_end-places size (piece ∷ next ∷ pieces) (other ∷ []) s = absurd s.1
 is_end-places size (piece ∷ next ∷ pieces) (other ∷ following ∷ others) s = is_end-places size (next ∷ pieces) (following ∷ others) s.1

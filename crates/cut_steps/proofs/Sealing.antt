@@ -1,6 +1,6 @@
 -- While a packet is written its pages are a cut, with the held chunk as the last of them.
 use Rattle.std.proofs.Common.{◌≡◌, ◌∙◌, ℕ, ◌+◌, ◌==◌, Bool, true, false, not, ◌&&◌, ◌||◌, nat_lt, nat_le, IsTrue, List, [], ◌∷◌, ◌++◌, map, filter, length, All, Option, None, is_some, unwrap_or, MatchOption, MatchBool, cond, refl, sym, ap, subst, append-nil}
-use Rattle.std.specs.List.{AllZip}
+use Rattle.std.specs.List.{AllZip, list_all}
 use Rattle.std.proofs.lemmas.Bool.{and_from, le-leb, true≢false}
 use Rattle.std.proofs.lemmas.List.{map-append}
 use Rattle.std.proofs.lemmas.List.Elements.{All-push}
@@ -10,14 +10,14 @@ use Rattle.trace_model.specs.Packets.{Packet, Text, flat, open_length, open_plac
 use Rattle.trace_model.specs.Pages.{Page, patches_of}
 use Rattle.trace_model.specs.Row.{Piece, Chain, bytes_of}
 use Rattle.trace_model.specs.Sequences.{is_among}
-use Rattle.trace_model.specs.Sent.{SentPatch, all_sent, sent_of, open_chunks, open_in, chunk_at, PatchesAre, LastsAre, AwaitsAre}
+use Rattle.trace_model.specs.Sent.{SentPatch, text_of, all_sent, sent_of, open_chunks, open_in, is_in_one, chunk_at, PatchesAre, LastsAre, AwaitsAre}
 use Rattle.trace_model.specs.Cut.{IsFull, FlagsAgree, last_runs_on, newest_goes_on, Begins, IsGivenUp, AreBytesOf, length_places, left_behind, ends_well, all_end_well, begins_well, all_begin_well, PatchesAgree}
 use Rattle.commit_body.specs.declared.hole.Hole.{Hole}
 use Rattle.commit_body.specs.Patches.{hole_chunks, with_lasts}
 use Rattle.commit_body.proofs.PatchLemmas.{with_lasts_are}
 use Rattle.cut_steps.specs.RawChains.{raw_chains, settled_piece, earlier_pieces, chains_before, piece_behind, current_piece, current_pieces, current_chain, chain_to}
 use Rattle.cut_steps.specs.RawCut.{IsRawChainOf, CutsRaw}
-use Rattle.cut_steps.specs.Pieces.{AllStandIn}
+use Rattle.cut_steps.specs.Pieces.{AllStandIn, ContinuesWithByte}
 use Rattle.cut_steps.specs.Pending.{HasSent, sent_now, sent_chunks, hole_at, patches_so_far}
 use Rattle.cut_steps.specs.Growth.{settled_bytes}
 use Rattle.cut_steps.specs.Writing.{IsWriting}
@@ -27,6 +27,7 @@ use Rattle.cut_steps.proofs.LaterPatches.{settled-newer}
 use Rattle.cut_steps.proofs.Places.{stands_within}
 use Rattle.cut_steps.proofs.RunningOn.{so_far-one, so_far_below}
 use Rattle.cut_steps.proofs.Sending.{sends_done}
+use Rattle.cut_steps.proofs.StrictPieces.{goes_on-here, lengths_in_one}
 use Rattle.cut_steps.proofs.StepLemmas.{begins_well-same, all_end_well-one, flags-one, last_runs_on-one}
 
 -- What was sent
@@ -42,6 +43,7 @@ agree packets chains pages sent open_ones h s o =
       awaits = subst (λ (xs : List SentPatch). AwaitsAre (sent_chunks xs ++ open_chunks packets chains) 0 pages) (sym s)
           (subst (λ (ns : List ℕ). AwaitsAre (sent_chunks sent ++ ns) 0 pages) (sym o) h.awaits);
       placed = h.sent_placed;
+      behind = h.behind;
     }
 
 -- The newest packet
@@ -102,11 +104,11 @@ sent_by_now packet older pages continues done now =
 -- A packet as it stands, finished or not, whose fragment doesn't run on.
 pub sealed : (size : ℕ) (packet later : Packet) (older : List Packet) (pages : List Page) (q : Page) (done : List (List ℕ)) (now : List ℕ)
     (unsent : List Patch) (holes : List Hole) → IsWriting size packet older pages q.continues done now unsent holes []
-    → q.fragments ≡ done ++ now ∷ [] → q.runs_on ≡ false → q.dropped ≡ false
+    → q.fragments ≡ done ++ now ∷ [] → q.runs_on ≡ false → q.dropped ≡ false → ContinuesWithByte q.continues done now
     → later.kept ≡ packet.kept → later.follows_flush ≡ packet.follows_flush → later.text ≡ packet.text → later.given_up ≡ None
     → IsSealed size later older (pages ++ q ∷ []) (patches_so_far pages holes unsent) (hole_chunks holes) (sent_by_now packet older pages q.continues done now)
     (current_chain pages q.continues done now ∷ chains_before pages q.continues done)
-sealed size packet later older pages q done now unsent holes w fragments stays unmarked kept flush text given =
+sealed size packet later older pages q done now unsent holes w fragments stays unmarked some kept flush text given =
     let earlier : List Piece = earlier_pieces pages q.continues done in
     let before : List Chain = chains_before pages q.continues done in
     let piece : Piece = current_piece pages done now in
@@ -122,13 +124,19 @@ sealed size packet later older pages q done now unsent holes w fragments stays u
     ∙ ap (λ (one : Piece). settled_bytes patches earlier ++ one.fragment.bytes) untouched
     ∙ w.bytes.exact
     ∙ ap (flat open_length) (sym levels) in
+    let text_is : text_of later ≡ packet.text = ap (λ (o : Option Text). unwrap_or o later.text) given ∙ text in
+    let standing : open_in pieces later.text ≡ open_places (w.level ∷ w.outer) =
+    open_in-all pieces later.text (subst (λ (ls : List (List ℕ)). AllStandIn pieces (open_places ls)) (sym levels) w.bytes.stand) ∙ ap open_places levels in
     let ends : IsTrue (all_end_well size (length_places packet.text) 0 pieces) =
     all_end_well-one earlier size (length_places packet.text) 0 piece w.ends
     (ends_anywhere size (0 + length (bytes_of earlier) + length now) (length_places packet.text) piece refl) in
     let newest : IsRawChainOf size patches later chain = record {
       marked = sym (ap (λ (o : Option Text). is_some o) given);
       bytes = are_bytes-whole later (bytes_of (map (settled_piece patches) pieces)) given bytes;
-      ends = subst (λ (t : Text). IsTrue (all_end_well size (length_places t) 0 pieces)) (sym (ap (λ (o : Option Text). unwrap_or o later.text) given ∙ text)) ends;
+      ends = subst (λ (t : Text). IsTrue (all_end_well size (length_places t) 0 pieces)) (sym text_is) ends;
+      goes_on = goes_on-here pages q.continues done piece some w.goes_on;
+      lengths = subst (λ (t : Text). IsTrue (list_all (is_in_one pieces) (open_in pieces t))) (sym (ap (λ (o : Option Text). unwrap_or o later.text) given))
+          (lengths_in_one pieces later.text (open_places (w.level ∷ w.outer)) standing w.bytes.stand);
     } in
     record {
       raw = chains_end size pages q done now w.full w.flags fragments w.continues_is (λ e. absurd (true≢false (sym e ∙ unmarked)))
@@ -139,7 +147,7 @@ sealed size packet later older pages q done now unsent holes w fragments stays u
       sent_is = ap (λ (xs : List SentPatch). all_sent (kept_of older) before ++ xs)
           (sent_of-kept later chain given ∙ ap (λ (t : Text). sent_now pieces t.closed) text);
       open_is = open_chunks-kept later (kept_of older) chain before given
-          ∙ ap (map (chunk_at pieces)) (open_in-all pieces later.text (subst (λ (ls : List (List ℕ)). AllStandIn pieces (open_places ls)) (sym levels) w.bytes.stand) ∙ ap open_places levels)
+          ∙ ap (map (chunk_at pieces)) standing
           ∙ sym (ap hole_chunks w.holes_are ∙ map-map (λ (hole : Hole). hole.chunk_id) (hole_at pieces) (open_places (w.level ∷ w.outer)));
       begins = and_from (begins_well size later older (chain ∷ before)) (all_begin_well size older (cond later.kept before (chain ∷ before)))
           (begins_well-same size packet later older chain chain before w.kept is_kept (sym flush) refl w.begins)
@@ -168,18 +176,18 @@ sealed_cut size packet older pages open_ones sent chains s full flags last h =
 -- The held chunk, as it stands, is the last page.
 pub writing_cut : (size : ℕ) (packet later : Packet) (older : List Packet) (pages : List Page) (q : Page) (done : List (List ℕ)) (now : List ℕ)
     (unsent : List Patch) (holes : List Hole) → IsWriting size packet older pages q.continues done now unsent holes []
-    → q.fragments ≡ done ++ now ∷ [] → q.runs_on ≡ false → q.dropped ≡ false → q.awaits ≡ false
+    → q.fragments ≡ done ++ now ∷ [] → q.runs_on ≡ false → q.dropped ≡ false → q.awaits ≡ false → ContinuesWithByte q.continues done now
     → q.patches ≡ with_lasts (hole_chunks holes) unsent → IsFull size q
     → later.kept ≡ packet.kept → later.follows_flush ≡ packet.follows_flush → later.text ≡ packet.text → later.given_up ≡ None
     → CutsRaw size (later ∷ older) (pages ++ q ∷ [])
-writing_cut size packet later older pages q done now unsent holes w fragments stays unmarked settled brings full kept flush text given =
+writing_cut size packet later older pages q done now unsent holes w fragments stays unmarked settled some brings full kept flush text given =
     let all : List Page = pages ++ q ∷ [] in
     let sent : List SentPatch = sent_by_now packet older pages q.continues done now in
     let chains : List Chain = current_chain pages q.continues done now ∷ chains_before pages q.continues done in
     let so_far : patches_so_far pages holes unsent ≡ patches_of all = sym (so_far-one pages q holes unsent brings) ∙ append-nil (patches_of all) in
     sealed_cut size later older all (hole_chunks holes) sent chains
     (subst (λ (ps : List Patch). IsSealed size later older all ps (hole_chunks holes) sent chains) so_far
-    (sealed size packet later older pages q done now unsent holes w fragments stays unmarked kept flush text given))
+    (sealed size packet later older pages q done now unsent holes w fragments stays unmarked some kept flush text given))
     (All-push (IsFull size) pages q w.full full) (flags-one pages false q w.flags w.continues_is)
     (λ e. absurd (true≢false (sym e ∙ last_runs_on-one pages false q ∙ stays)))
     (sends_done pages sent unsent (hole_chunks holes) q brings

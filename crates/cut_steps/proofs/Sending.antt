@@ -7,11 +7,11 @@ use Rattle.std.proofs.lemmas.Bool.{and_from}
 use Rattle.trace_model.specs.Images.{Patch}
 use Rattle.trace_model.specs.Pages.{Page, patches_of}
 use Rattle.trace_model.specs.Sequences.{is_among}
-use Rattle.trace_model.specs.Sent.{SentPatch, AwaitsAre, as_sent, chunks_of, is_placed}
+use Rattle.trace_model.specs.Sent.{SentPatch, AwaitsAre, as_sent, chunks_of, is_placed, AllChunksBelow}
 use Rattle.commit_body.specs.Patches.{with_lasts}
 use Rattle.commit_body.proofs.PatchLemmas.{chunks_of-with_lasts}
-use Rattle.cut_steps.specs.Pending.{HasSent, AllChunksBelow, sent_chunks}
-use Rattle.cut_steps.proofs.Marks.{is_among-held, patches_of-one, with_lasts-append, with_lasts-same, with_lasts-twice, sent-with_lasts, chunks_below-append, chunks_below-more, chunks_below-with_lasts, sent_by-append, sent_by-more, sent_for-append, sent_for-more, none_by, patches_are-one, patches_are-later, filter_by-one, awaits_are-same, awaits_are-one, all_placed-more, all_placed-append, all_placed-with_lasts}
+use Rattle.cut_steps.specs.Pending.{HasSent, sent_chunks}
+use Rattle.cut_steps.proofs.Marks.{is_among-held, patches_of-one, with_lasts-append, with_lasts-same, with_lasts-twice, sent-with_lasts, chunks_below-append, chunks_below-more, chunks_below-with_lasts, sent_by-append, sent_by-more, sent_for-append, sent_for-more, none_by, patches_are-one, patches_are-later, filter_by-one, awaits_are-same, awaits_are-one, behind-one, all_placed-more, all_placed-append, all_placed-with_lasts}
 
 -- a length is opened in the held chunk
 pub sends_open : (pages : List Page) (sent : List SentPatch) (unsent : List Patch) (open_ones : List ℕ)
@@ -32,6 +32,7 @@ sends_open pages sent unsent open_ones h =
           (λ n below. sym (is_among-held held n (sent_chunks sent) open_ones below)) h.awaits;
       sent_placed = h.sent_placed;
       unsent_placed = h.unsent_placed;
+      behind = h.behind;
     }
 
 -- its message ends, and its bytes are still there
@@ -53,6 +54,7 @@ sends_here pages sent unsent open_ones h =
           (λ n below. is_among-held held n (sent_chunks sent) open_ones below) h.awaits;
       sent_placed = h.sent_placed;
       unsent_placed = h.unsent_placed;
+      behind = h.behind;
     }
 
 -- a message ends whose length is in an earlier chunk: its patch is kept
@@ -79,6 +81,7 @@ sends_later pages sent unsent open_ones patch below placed h =
       awaits = subst (λ (xs : List ℕ). AwaitsAre xs 0 pages) (sym sends) h.awaits;
       sent_placed = h.sent_placed;
       unsent_placed = all_placed-append pages unsent (patch ∷ []) h.unsent_placed (and_from (is_placed pages patch) true placed refl);
+      behind = h.behind;
     }
 
 -- the held chunk is completed with the patches that weren't sent
@@ -113,4 +116,6 @@ sends_done pages sent unsent open_ones page brings awaits h =
           (all_placed-more (patches_of pages) pages (page ∷ []) h.sent_placed)
           (all_placed-with_lasts (pages ++ page ∷ []) open_ones unsent ∙ all_placed-more unsent pages (page ∷ []) h.unsent_placed));
       unsent_placed = refl;
+      behind = behind-one pages 0 held page (omega arith) h.behind
+          (subst (AllChunksBelow held) (sym brings) (chunks_below-with_lasts open_ones held unsent h.unsent_below));
     }

@@ -1,17 +1,17 @@
 -- A packet whose last fragment ran on waits for a chunk: its pages are a cut as they are.
 use Rattle.std.proofs.Common.{not, ◌&&◌, ◌||◌, ◌⊎◌, ◌+◌, ◌<◌, None, MatchOption, MatchBool, filter, nat_le, ⊎_elim, ◌≡◌, ◌∙◌, ℕ, Bool, true, false, IsTrue, List, [], ◌∷◌, ◌++◌, map, length, Option, is_some, unwrap_or, cond, refl, sym, ap, subst, arith, append-nil}
-use Rattle.std.specs.List.{AllZip}
-use Rattle.std.proofs.lemmas.Bool.{and_from, lt-leb, true≢false}
+use Rattle.std.specs.List.{AllZip, list_all}
+use Rattle.std.proofs.lemmas.Bool.{and_from, and_right, lt-leb, true≢false}
 use Rattle.std.proofs.lemmas.List.Elements.{filter-append}
 use Rattle.std.proofs.lemmas.Simd.{map-map}
 use Rattle.trace_model.specs.Images.{Patch}
-use Rattle.trace_model.specs.Packets.{Packet, Text, NestedLength, flat, open_length, open_places, body_of, kept_of}
+use Rattle.trace_model.specs.Packets.{Packet, Text, NestedLength, flat, open_length, open_places, body_of, kept_of, is_lost, is_writing}
 use Rattle.trace_model.specs.Pages.{Page, patches_of}
 use Rattle.trace_model.specs.Row.{Piece, Chain, Fate, Whole, Marked, IntoLost, CutOff, Open, bytes_of}
 use Rattle.trace_model.specs.RowLaws.{is_open}
 use Rattle.trace_model.specs.Sequences.{Cursor, is_among}
-use Rattle.trace_model.specs.Sent.{SentPatch, text_of, all_sent, chunk_at, open_in}
-use Rattle.trace_model.specs.Cut.{IsFull, Begins, IsGivenUp, AreBytesOf, left_behind, newest_goes_on, length_places, all_end_well, begins_well, all_begin_well, is_marked_fate}
+use Rattle.trace_model.specs.Sent.{SentPatch, text_of, all_sent, chunk_at, open_in, is_in_one}
+use Rattle.trace_model.specs.Cut.{IsFull, Begins, IsGivenUp, AreBytesOf, left_behind, last_runs_on, newest_goes_on, length_places, all_end_well, begins_well, all_begin_well, is_marked_fate}
 use Rattle.commit_body.specs.declared.hole.Hole.{Hole}
 use Rattle.commit_body.specs.Patches.{hole_chunks, with_lasts}
 use Rattle.cut_steps.specs.RawChains.{earlier_pieces, chains_before, current_piece, current_chain, start_of}
@@ -27,8 +27,9 @@ use Rattle.cut_steps.proofs.GrowingPlaces.{length_bytes-one, same_more, stands-e
 use Rattle.cut_steps.proofs.Growing.{long_bytes}
 use Rattle.cut_steps.proofs.Places.{stands_within}
 use Rattle.cut_steps.proofs.Sealing.{open_in-all, sent_of-kept, open_chunks-kept, sent_by_now, IsSealed, sealed_cut}
+use Rattle.cut_steps.proofs.StrictPieces.{lengths_in_one}
 use Rattle.cut_steps.proofs.RunningOn.{writing_run_on}
-use Rattle.cut_steps.proofs.StepLemmas.{begins_well-same, all_end_well-more, is_among-of_append, is_among-left, is_among-right}
+use Rattle.cut_steps.proofs.StepLemmas.{begins_well-same, last_runs_on-one, all_end_well-more, is_among-of_append, is_among-left, is_among-right}
 
 -- The packet's bytes
 
@@ -120,11 +121,18 @@ stalled_sealed size packet later older pages holes coming w g r =
     ∙ sym (append-nil (settled_bytes (patches_so_far pages holes []) earlier))
     ∙ w.bytes.exact
     ∙ ap (flat open_length) (sym w.levels) in
+    let standing : open_in earlier later.text ≡ open_places levels =
+    open_in-further earlier packet later coming g long
+    ∙ open_in-all earlier packet.text (subst (λ (ls : List (List ℕ)). AllStandIn earlier (open_places ls)) (sym w.levels) stand)
+    ∙ ap open_places w.levels in
     let newest : IsRawChainOf size (patches_of pages) later chain = record {
       marked = unmarked r.chain.fate r.open_end ∙ sym (ap (λ (o : Option Text). is_some o) g.given_up);
       bytes = subst (AreBytesOf later) (sym bytes) (are_bytes-part later (flat open_length packet.text.levels) g.given_up g.finished g.bytes);
       ends = subst (λ (t : Text). IsTrue (all_end_well size (length_places t) 0 earlier)) (sym text)
           (all_end_well-more earlier size (coming ++ length_places packet.text) (length_places later.text) 0 (λ n. more_among n packet later coming g) w.ends);
+      goes_on = w.goes_on;
+      lengths = subst (λ (t : Text). IsTrue (list_all (is_in_one earlier) (open_in earlier t))) (sym text)
+          (lengths_in_one earlier later.text (open_places levels) standing stand);
     } in
     record {
       raw = r.raw;
@@ -135,10 +143,7 @@ stalled_sealed size packet later older pages holes coming w g r =
           ∙ sent_now-same packet.text.closed (length (bytes_of earlier)) earlier pieces
           (subst (λ (n : ℕ). AllEndWithin n packet.text.closed) (sym whole) w.closed_in) (same_more earlier (current ∷ [])));
       open_is = open_chunks-kept later (kept_of older) chain before g.given_up
-          ∙ ap (map (chunk_at earlier))
-          (open_in-further earlier packet later coming g long
-          ∙ open_in-all earlier packet.text (subst (λ (ls : List (List ℕ)). AllStandIn earlier (open_places ls)) (sym w.levels) stand)
-          ∙ ap open_places w.levels)
+          ∙ ap (map (chunk_at earlier)) standing
           ∙ sym (map-map (λ (hole : Hole). hole.chunk_id) (hole_at earlier) (open_places levels))
           ∙ ap hole_chunks (holes-same (open_places levels) earlier pieces stand (same_more earlier (current ∷ [])) ∙ sym w.holes_are);
       begins = and_from (begins_well size later older (chain ∷ before)) (all_begin_well size older (cond later.kept before (chain ∷ before)))
@@ -155,6 +160,18 @@ stalled_cut size packet later older pages holes coming w g =
     (record r.chain { pieces = earlier_pieces pages true [] } ∷ chains_before pages true [])
     (stalled_sealed size packet later older pages holes coming w g r) w.full w.flags (λ e. goes_on later older (g.kept ∙ w.kept) g.given_up g.finished) w.sends
 
+-- and the last of them runs on, as the packet goes on
+pub stalled_runs : (size : ℕ) (packet later : Packet) (older : List Packet) (pages : List Page) (holes : List Hole) (coming : List ℕ)
+    → IsWriting size packet older pages true [] [] [] holes coming → GoesOn packet later coming → last_runs_on false pages ≡ newest_goes_on (later ∷ older)
+stalled_runs size packet later older pages holes coming w g =
+    sym w.continues_is ∙ sym (goes_on later older (g.kept ∙ w.kept) g.given_up g.finished)
+
+-- between two packets no packet goes on, and no last page runs on
+pub idle_runs : (packets : List Packet) (pages : List Page) → is_writing packets ≡ false → last_runs_on false pages ≡ false
+    → last_runs_on false pages ≡ newest_goes_on packets
+idle_runs [] pages between stays = stays
+idle_runs (packet ∷ older) pages between stays = stays ∙ sym (and_right (not (is_lost packet)) (not packet.finished) between)
+
 -- the same where the page was just completed
 pub writing_stalled_cut : (size : ℕ) (packet later : Packet) (older : List Packet) (pages : List Page) (q : Page) (done : List (List ℕ)) (now : List ℕ)
     (unsent : List Patch) (holes : List Hole) (coming : List ℕ)
@@ -167,3 +184,11 @@ pub writing_stalled_cut : (size : ℕ) (packet later : Packet) (older : List Pac
 writing_stalled_cut size packet later older pages q done now unsent holes coming fragments runs full brings awaits left w g =
     stalled_cut size packet later older (pages ++ q ∷ []) holes coming
     (writing_run_on size packet older pages q done now unsent holes coming fragments runs full brings awaits left w) g
+
+-- a page that was just completed runs on, and the packet goes on
+pub writing_stalled_runs : (size : ℕ) (packet later : Packet) (older : List Packet) (pages : List Page) (q : Page) (done : List (List ℕ)) (now : List ℕ)
+    (unsent : List Patch) (holes : List Hole) (coming : List ℕ) → q.runs_on ≡ true
+    → IsWriting size packet older pages q.continues done now unsent holes coming → GoesOn packet later coming
+    → last_runs_on false (pages ++ q ∷ []) ≡ newest_goes_on (later ∷ older)
+writing_stalled_runs size packet later older pages q done now unsent holes coming runs w g =
+    last_runs_on-one pages false q ∙ runs ∙ sym (goes_on later older (g.kept ∙ w.kept) g.given_up g.finished)

@@ -58,7 +58,7 @@ runs =
     let tagged : Packet = with_more (8 ∷ 1 ∷ 18 ∷ []) begun in
     let nested : Packet = with_open tagged in
     let open_now : List ℕ = 8 ∷ 1 ∷ 18 ∷ 128 ∷ 128 ∷ 128 ∷ 0 ∷ [] in
-    let start = writing_begun_new 12 begun [] [] [] (between_first 12) refl refl refl refl refl refl refl in
+    let start = writing_begun_new 12 begun [] [] [] (between_first 12 (omega arith)) refl refl refl refl refl refl refl in
     let tag = writing_more 12 begun [] [] false [] [] (8 ∷ 1 ∷ 18 ∷ []) [] [] [] start in
     let length_begun = writing_nested 12 tagged [] [] false [] (8 ∷ 1 ∷ 18 ∷ []) [] [] [] (λ n e. absurd (false≢true e)) tag in
     let full = writing_more 12 nested [] [] false [] open_now (8 ∷ []) [] (first_hole ∷ []) [] length_begun in
@@ -89,7 +89,7 @@ finished_is_cut =
     let patches : List Patch = patch_for first_hole 2 ∷ [] in
     let ended =
     writing_ended_later 12 running [] (first_page ∷ []) true [] (1 ∷ []) [] first_hole [] [] (8 ∷ 1 ∷ []) (8 ∷ 1 ∷ 18 ∷ []) [] refl (λ e. absurd (omega (arith, e))) (omega arith) runs in
-    let between = between_finished 12 (with_nested_ended running) [] (first_page ∷ []) whole_page [] (1 ∷ []) patches ended refl refl refl in
+    let between = between_finished 12 (with_nested_ended running) [] (first_page ∷ []) whole_page [] (1 ∷ []) patches ended refl refl refl (λ goes first. omega arith) in
     raw_cut_is_cut 12 (last ∷ []) (first_page ∷ whole_page ∷ [])
     (between_held_cut 12 (last ∷ []) (first_page ∷ []) whole_page patches 9 between refl refl refl refl whole_full)
 

@@ -90,6 +90,8 @@ writing_coming size packet older pages continues done now unsent holes coming w 
       older_chains = w.older_chains;
       older_begin = w.older_begin;
       older_end = w.older_end;
+      goes_on = w.goes_on;
+      large = w.large;
       full = w.full;
       flags = w.flags;
       continues_is = w.continues_is;
@@ -138,6 +140,8 @@ writing_more size packet older pages continues done now bytes unsent holes comin
       older_chains = w.older_chains;
       older_begin = w.older_begin;
       older_end = w.older_end;
+      goes_on = w.goes_on;
+      large = w.large;
       full = w.full;
       flags = w.flags;
       continues_is = w.continues_is;
@@ -203,6 +207,8 @@ writing_nested size packet older pages continues done now unsent holes coming on
           (so_far_alike pages holes (hole ∷ holes) unsent) w.older_chains;
       older_begin = w.older_begin;
       older_end = w.older_end;
+      goes_on = w.goes_on;
+      large = w.large;
       full = w.full;
       flags = w.flags;
       continues_is = w.continues_is;

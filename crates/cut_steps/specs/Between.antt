@@ -8,7 +8,7 @@ use Rattle.trace_model.specs.Row.{Chain}
 use Rattle.trace_model.specs.Sent.{all_sent, open_chunks}
 use Rattle.trace_model.specs.Cut.{IsFull, FlagsAgree, all_begin_well}
 use Rattle.cut_steps.specs.RawCut.{IsRawChainOf}
-use Rattle.cut_steps.specs.Pieces.{ChainsEndBefore}
+use Rattle.cut_steps.specs.Pieces.{IsLarge, ChainsEndBefore}
 use Rattle.cut_steps.specs.Pending.{HasSent, patches_so_far, AllHaveFour}
 
 -- These pages are completed; these chains are there, those of the held chunk among them; these patches are not sent; and
@@ -21,5 +21,6 @@ pub record IsBetween (size : ℕ) (packets : List Packet) (pages : List Page) (c
   pub none_open : open_chunks (kept_of packets) chains ≡ []
   pub four : AllHaveFour (patches_so_far pages [] unsent)
   pub ends : ChainsEndBefore (length pages) offset chains
+  pub large : IsLarge size
   pub full : All (IsFull size) pages
   pub flags : FlagsAgree false pages

@@ -1,18 +1,18 @@
 -- What a writer's pages and packets are while a packet is given up: its holes are closed with 0, one after another.
 use Rattle.std.specs.Prelude.{◌≡◌, ℕ, ◌+◌, ◌<◌, ◌≤◌, ◌⊎◌, ⊤, not, ◌==◌, Bool, true, false, IsTrue, List, [], ◌∷◌, ◌++◌, length, map, filter, All}
-use Rattle.std.specs.List.{AllZip}
+use Rattle.std.specs.List.{AllZip, list_all}
 use Rattle.wire_varint.specs.Varint.{redundant}
 use Rattle.trace_model.specs.Images.{Patch}
 use Rattle.trace_model.specs.Packets.{Packet, Text, flat, open_length, open_places, kept_of}
 use Rattle.trace_model.specs.Pages.{Page}
 use Rattle.trace_model.specs.Row.{Piece}
-use Rattle.trace_model.specs.Sent.{SentPatch, all_sent, sent_at_drop, chunk_at, last_chunk, open_in}
-use Rattle.trace_model.specs.Cut.{IsFull, FlagsAgree, last_runs_on, length_places, all_end_well, begins_well, all_begin_well}
+use Rattle.trace_model.specs.Sent.{SentPatch, all_sent, sent_at_drop, chunk_at, last_chunk, open_in, is_in_one}
+use Rattle.trace_model.specs.Cut.{IsFull, FlagsAgree, last_runs_on, length_places, all_end_well, all_go_on, begins_well, all_begin_well}
 use Rattle.commit_body.specs.declared.hole.Hole.{Hole}
 use Rattle.commit_body.specs.Patches.{hole_chunks}
 use Rattle.cut_steps.specs.RawChains.{earlier_pieces, chains_before, current_piece, current_pieces, current_chain}
 use Rattle.cut_steps.specs.RawCut.{IsRawChainOf}
-use Rattle.cut_steps.specs.Pieces.{BeginsAt, ChainsEndBefore, AllRunOn}
+use Rattle.cut_steps.specs.Pieces.{IsLarge, BeginsAt, ChainsEndBefore, AllRunOn}
 use Rattle.cut_steps.specs.Pending.{HasSent, sent_now, hole_at, patches_so_far, AllEndWithin, AllHaveFour}
 use Rattle.cut_steps.specs.Growth.{HasBytes}
 
@@ -56,6 +56,9 @@ pub record IsGivingUp (size : ℕ) (packet : Packet) (older : List Packet) (page
   pub older_chains : AllZip (IsRawChainOf size (patches_so_far pages holes unsent)) (kept_of older) (chains_before pages continues done)
   pub older_begin : IsTrue (all_begin_well size older (chains_before pages continues done))
   pub older_end : ChainsEndBefore first first_offset (chains_before pages continues done)
+  pub goes_on : IsTrue (all_go_on (earlier_pieces pages continues done))
+  pub lengths : IsTrue (list_all (is_in_one (current_pieces pages continues done now)) (open_in (current_pieces pages continues done now) text))
+  pub large : IsLarge size
   pub full : All (IsFull size) pages
   pub flags : FlagsAgree false pages
   pub continues_is : continues ≡ last_runs_on false pages

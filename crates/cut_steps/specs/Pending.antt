@@ -5,7 +5,7 @@ use Rattle.trace_model.specs.Images.{Patch}
 use Rattle.trace_model.specs.Packets.{NestedLength}
 use Rattle.trace_model.specs.Pages.{Page, patches_of}
 use Rattle.trace_model.specs.Row.{Piece}
-use Rattle.trace_model.specs.Sent.{SentPatch, PatchesAre, AwaitsAre, as_sent, chunks_of, crosses, sent_for, chunk_at, offset_at, is_placed}
+use Rattle.trace_model.specs.Sent.{SentPatch, PatchesAre, AwaitsAre, AllChunksBelow, Behind, as_sent, chunks_of, crosses, sent_for, chunk_at, offset_at, is_placed}
 use Rattle.commit_body.specs.declared.hole.Hole.{Hole}
 use Rattle.commit_body.specs.Patches.{hole_chunks, with_lasts}
 
@@ -16,10 +16,6 @@ hole_at pieces at = record { chunk_id = chunk_at pieces at; offset = offset_at p
 -- all patches so far, as they would be if the held chunk were completed now; holes stand the inner ones first
 abbrev pub patches_so_far : List Page → List Hole → List Patch → List Patch
 patches_so_far pages holes unsent = patches_of pages ++ with_lasts (hole_chunks holes) unsent
-
-abbrev pub AllChunksBelow : ℕ → List Patch → Type 0
-AllChunksBelow bound [] = ⊤
-AllChunksBelow bound (patch ∷ patches) = (patch.chunk_id < bound) × AllChunksBelow bound patches
 
 abbrev pub AllHaveFour : List Patch → Type 0
 AllHaveFour [] = ⊤
@@ -59,3 +55,4 @@ pub record HasSent (pages : List Page) (sent : List SentPatch) (unsent : List Pa
   pub awaits : AwaitsAre (sent_chunks sent ++ open_ones) 0 pages
   pub sent_placed : IsTrue (list_all (is_placed pages) (patches_of pages))
   pub unsent_placed : IsTrue (list_all (is_placed pages) unsent)
+  pub behind : Behind 0 pages

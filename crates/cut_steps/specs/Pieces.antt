@@ -1,6 +1,6 @@
 -- The pieces of a chain: their chunks follow one another, four bytes of a nested length stand in one of them, and all but
 -- the last are the last fragments of their pages.
-use Rattle.std.specs.Prelude.{◌≡◌, ℕ, suc, ◌+◌, ◌-◌, ◌<◌, ◌≤◌, ◌⊎◌, true, List, [], ◌∷◌, length, nat_lt, MatchBool, Some, slice_get, ⊤}
+use Rattle.std.specs.Prelude.{◌≡◌, ℕ, suc, ◌+◌, ◌-◌, ◌<◌, ◌≤◌, ◌⊎◌, Bool, true, List, [], ◌∷◌, length, nat_lt, MatchBool, Some, slice_get, ⊤}
 use Rattle.trace_model.specs.Images.{Fragment}
 use Rattle.trace_model.specs.Pages.{Page, chunk_of}
 use Rattle.trace_model.specs.Row.{Piece, Chain}
@@ -21,6 +21,14 @@ StandsIn (piece ∷ pieces) at =
 abbrev pub AllStandIn : List Piece → List ℕ → Type 0
 AllStandIn pieces [] = ⊤
 AllStandIn pieces (at ∷ others) = StandsIn pieces at × AllStandIn pieces others
+
+-- a payload has room for a fragment's size, for the less than four bytes that may be left, and for a byte more
+abbrev pub IsLarge : ℕ → Type 0
+IsLarge size = 7 < size
+
+-- the fragment behind these has a byte, where it continues a packet of the page before
+abbrev pub ContinuesWithByte : Bool → List (List ℕ) → List ℕ → Type 0
+ContinuesWithByte continues done now = continues ≡ true → done ≡ [] → 0 < length now
 
 -- the last of some fragments is this one
 abbrev pub EndsWith : List Fragment → Fragment → Type 0

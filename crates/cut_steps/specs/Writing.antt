@@ -5,12 +5,12 @@ use Rattle.trace_model.specs.Images.{Patch}
 use Rattle.trace_model.specs.Packets.{Packet, flat, open_length, open_places, kept_of}
 use Rattle.trace_model.specs.Pages.{Page}
 use Rattle.trace_model.specs.Sent.{all_sent}
-use Rattle.trace_model.specs.Cut.{IsFull, FlagsAgree, last_runs_on, length_places, all_end_well, begins_well, all_begin_well}
+use Rattle.trace_model.specs.Cut.{IsFull, FlagsAgree, last_runs_on, length_places, all_end_well, all_go_on, begins_well, all_begin_well}
 use Rattle.commit_body.specs.declared.hole.Hole.{Hole}
 use Rattle.commit_body.specs.Patches.{hole_chunks}
 use Rattle.cut_steps.specs.RawChains.{earlier_pieces, chains_before, current_piece, current_pieces, current_chain}
 use Rattle.cut_steps.specs.RawCut.{IsRawChainOf}
-use Rattle.cut_steps.specs.Pieces.{BeginsAt, ChainsEndBefore, AllRunOn}
+use Rattle.cut_steps.specs.Pieces.{IsLarge, BeginsAt, ChainsEndBefore, AllRunOn}
 use Rattle.cut_steps.specs.Pending.{HasSent, sent_now, hole_at, patches_so_far, AllEndWithin, AllHaveFour}
 use Rattle.cut_steps.specs.Growth.{HasBytes}
 
@@ -43,6 +43,8 @@ pub record IsWriting (size : ℕ) (packet : Packet) (older : List Packet) (pages
   pub older_chains : AllZip (IsRawChainOf size (patches_so_far pages holes unsent)) (kept_of older) (chains_before pages continues done)
   pub older_begin : IsTrue (all_begin_well size older (chains_before pages continues done))
   pub older_end : ChainsEndBefore first first_offset (chains_before pages continues done)
+  pub goes_on : IsTrue (all_go_on (earlier_pieces pages continues done))
+  pub large : IsLarge size
   pub full : All (IsFull size) pages
   pub flags : FlagsAgree false pages
   pub continues_is : continues ≡ last_runs_on false pages

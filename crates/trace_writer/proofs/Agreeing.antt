@@ -211,6 +211,7 @@ stuck_seen site packets view new begun stuck = record {
   pages = stuck.pages;
   shown = subst (λ (xs : List _). ShowsPages site 0 xs stuck.pages) (sym begun) stuck.shown;
   cut = stuck.cut;
+  runs = stuck.runs;
 }
 
 -- a call stopped: its writer gave the packet up, or stalls

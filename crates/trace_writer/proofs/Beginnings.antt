@@ -98,6 +98,7 @@ stall_nowhere setup place view writer after next_id is stalls next idle agrees =
           pages = idle.pages;
           shown = idle.shown;
           cut = states_are_cuts.idle site.size packets idle.pages 4 idle.between idle.ended;
+          runs = states_are_cuts.stalled_between packets idle.pages agrees.between idle.ended;
         },
       );
       packet = none_in writer.packet agrees.none_begun;

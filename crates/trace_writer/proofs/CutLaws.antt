@@ -1,11 +1,12 @@
 -- The chunks of a writer that agrees with its view are a cut of its packets.
-use Rattle.std.proofs.Common.{◌≡◌, ◌∙◌, ℕ, suc, ◌+◌, Bool, false, List, [], ◌∷◌, ◌++◌, length, map, reverse, refl, sym, ap, subst, arith, append-nil, length-append}
+use Rattle.std.proofs.Common.{◌≡◌, ◌∙◌, ℕ, suc, ◌+◌, Bool, true, false, not, ◌&&◌, Option, Some, None, List, [], ◌∷◌, ◌++◌, length, map, reverse, refl, sym, ap, subst, arith, append-nil, length-append}
+use Rattle.std.proofs.lemmas.Bool.{and_right, false≢true}
 use Rattle.std.proofs.lemmas.List.{map-append}
 use Rattle.trace_model.specs.Images.{Image, Patch}
-use Rattle.trace_model.specs.Packets.{Packet, account_of}
+use Rattle.trace_model.specs.Packets.{Packet, account_of, is_lost}
 use Rattle.trace_model.specs.Pages.{Page, laid, image_of, images_from}
 use Rattle.trace_model.specs.Row.{Chain}
-use Rattle.trace_model.specs.Cut.{IsFull, IsCut, CutsInto}
+use Rattle.trace_model.specs.Cut.{IsFull, CutsInto, newest_goes_on}
 use Rattle.commit_body.specs.declared.hole.Hole.{Hole}
 use Rattle.commit_body.specs.Patches.{hole_chunks, with_lasts}
 use Rattle.commit_body.specs.Pending.{Pending}
@@ -19,19 +20,20 @@ use Rattle.cut_steps.proofs.BetweenCuts.{between_cut, between_held_cut}
 use Rattle.cut_steps.proofs.Sealing.{writing_cut}
 use Rattle.trace_writer.specs.declared.chunk.HeldChunk.{HeldChunk}
 use Rattle.trace_writer.specs.declared.fragment.OpenFragment.{OpenFragment}
+use Rattle.trace_writer.specs.declared.packet.OpenPacket.{OpenPacket}
 use Rattle.trace_writer.specs.declared.route.Route.{Route}
 use Rattle.trace_writer.specs.declared.state.State.{State}
 use Rattle.trace_writer.specs.declared.state.State.TheVariants.{Idle, Between, Writing, Dropping, Stalled}
 use Rattle.trace_writer.specs.Headers.{held_head}
 use Rattle.trace_writer.specs.Site.{Site, site_of}
-use Rattle.trace_writer.specs.Filled.{ShowsPages}
+use Rattle.trace_writer.specs.Filled.{ShowsPages, HasByte}
 use Rattle.trace_writer.specs.States.{InFragment, IsIdle, IsBehind, IsStuck}
-use Rattle.trace_writer.specs.Agreement.{StateAgrees}
-use Rattle.trace_writer.specs.Outcomes.{completed_images, completed_patches, held_image, fragment_payload, held_images, held_patches, AgreeingIsCut}
+use Rattle.trace_writer.specs.Agreement.{StateAgrees, IsInPacketOf, is_begun, is_inside}
+use Rattle.trace_writer.specs.Outcomes.{completed_images, completed_patches, held_image, fragment_payload, held_images, held_patches, HasCut, AgreeingIsCut}
 use Rattle.trace_writer.proofs.Finishing.{laid_all}
 use Rattle.trace_writer.proofs.Holes.{lasts_reverse}
 use Rattle.trace_writer.proofs.Idling.{ended_page}
-use Rattle.trace_writer.proofs.Payloads.{written_ended, full_run}
+use Rattle.trace_writer.proofs.Payloads.{written_ended, full_run, continues_with_byte}
 use Rattle.trace_writer.proofs.Seats.{content_is}
 
 abbrev patches_in : List Page → List (List Patch)
@@ -80,23 +82,29 @@ images_one sequence id (one ∷ pages) page =
 
 -- No chunk is held
 
-idle_cut : (site : Site) (view : WriterView) (pending : Pending) → IsIdle site (account_of view.calls) view pending
-    → IsCut site.size (site.place + 2) view.calls (completed_images view.begun ++ []) (completed_patches view.begun ++ [])
-idle_cut site view pending idle = record {
-  pages = idle.pages;
-  images_are = append-nil (completed_images view.begun) ∙ shown_images site 0 view.begun idle.pages idle.shown;
-  patches_are = append-nil (completed_patches view.begun) ∙ shown_patches site 0 view.begun idle.pages idle.shown;
-  cut = raw_cut_is_cut site.size (account_of view.calls).packets idle.pages
-      (between_cut site.size (account_of view.calls).packets idle.pages 4 idle.between idle.ended);
+idle_cut : (site : Site) (view : WriterView) (pending : Pending) → newest_goes_on (account_of view.calls).packets ≡ false → IsIdle site (account_of view.calls) view pending
+    → HasCut site.size (site.place + 2) view.calls (completed_images view.begun ++ []) (completed_patches view.begun ++ []) []
+idle_cut site view pending ended idle = record {
+  cut = record {
+    pages = idle.pages;
+    images_are = append-nil (completed_images view.begun) ∙ shown_images site 0 view.begun idle.pages idle.shown;
+    patches_are = append-nil (completed_patches view.begun) ∙ shown_patches site 0 view.begun idle.pages idle.shown;
+    cut = raw_cut_is_cut site.size (account_of view.calls).packets idle.pages
+        (between_cut site.size (account_of view.calls).packets idle.pages 4 idle.between idle.ended);
+  };
+  ends = λ none. idle.ended ∙ sym ended;
 }
 
 stuck_cut : (site : Site) (view : WriterView) → IsStuck site (account_of view.calls).packets view
-    → IsCut site.size (site.place + 2) view.calls (completed_images view.begun ++ []) (completed_patches view.begun ++ [])
+    → HasCut site.size (site.place + 2) view.calls (completed_images view.begun ++ []) (completed_patches view.begun ++ []) []
 stuck_cut site view stuck = record {
-  pages = stuck.pages;
-  images_are = append-nil (completed_images view.begun) ∙ shown_images site 0 view.begun stuck.pages stuck.shown;
-  patches_are = append-nil (completed_patches view.begun) ∙ shown_patches site 0 view.begun stuck.pages stuck.shown;
-  cut = stuck.cut;
+  cut = record {
+    pages = stuck.pages;
+    images_are = append-nil (completed_images view.begun) ∙ shown_images site 0 view.begun stuck.pages stuck.shown;
+    patches_are = append-nil (completed_patches view.begun) ∙ shown_patches site 0 view.begun stuck.pages stuck.shown;
+    cut = stuck.cut;
+  };
+  ends = λ none. stuck.runs;
 }
 
 -- A chunk is held: it is the last page
@@ -104,17 +112,20 @@ stuck_cut site view stuck = record {
 held_cut : (site : Site) (view : WriterView) (completed : List Begun) (pages : List Page) (page : Page) (chunk id : ℕ) (head : Head) (image : Image)
     → view.begun ≡ completed ++ Held chunk head ∷ [] → ShowsPages site 0 completed pages → id ≡ length pages → image ≡ image_of (site.place + 2) id page
     → CutsInto site.size (account_of view.calls).packets (pages ++ page ∷ [])
-    → IsCut site.size (site.place + 2) view.calls (completed_images view.begun ++ image ∷ []) (completed_patches view.begun ++ page.patches ∷ [])
+    → HasCut site.size (site.place + 2) view.calls (completed_images view.begun ++ image ∷ []) (completed_patches view.begun ++ page.patches ∷ []) (image ∷ [])
 held_cut site view completed pages page chunk id head image begun shown id_is image_is cut = record {
-  pages = pages ++ page ∷ [];
-  images_are = ap (λ (xs : List Begun). completed_images xs ++ image ∷ []) begun
-      ∙ ap (λ (images : List Image). images ++ image ∷ []) (images_held completed chunk head ∙ shown_images site 0 completed pages shown)
-      ∙ ap (λ (i : Image). images_from (site.place + 2) 0 pages ++ i ∷ []) (image_is ∙ ap (λ (i : ℕ). image_of (site.place + 2) i page) (omega (arith, id_is)))
-      ∙ sym (images_one (site.place + 2) 0 pages page);
-  patches_are = ap (λ (xs : List Begun). completed_patches xs ++ page.patches ∷ []) begun
-      ∙ ap (λ (lists : List (List Patch)). lists ++ page.patches ∷ []) (patches_held completed chunk head ∙ shown_patches site 0 completed pages shown)
-      ∙ sym (map-append (λ (p : Page). p.patches) pages (page ∷ []));
-  cut = cut;
+  cut = record {
+    pages = pages ++ page ∷ [];
+    images_are = ap (λ (xs : List Begun). completed_images xs ++ image ∷ []) begun
+        ∙ ap (λ (images : List Image). images ++ image ∷ []) (images_held completed chunk head ∙ shown_images site 0 completed pages shown)
+        ∙ ap (λ (i : Image). images_from (site.place + 2) 0 pages ++ i ∷ []) (image_is ∙ ap (λ (i : ℕ). image_of (site.place + 2) i page) (omega (arith, id_is)))
+        ∙ sym (images_one (site.place + 2) 0 pages page);
+    patches_are = ap (λ (xs : List Begun). completed_patches xs ++ page.patches ∷ []) begun
+        ∙ ap (λ (lists : List (List Patch)). lists ++ page.patches ∷ []) (patches_held completed chunk head ∙ shown_patches site 0 completed pages shown)
+        ∙ sym (map-append (λ (p : Page). p.patches) pages (page ∷ []));
+    cut = cut;
+  };
+  ends = λ none. absurd (cc);
 }
 
 -- its image, by what the page has
@@ -125,9 +136,10 @@ held_image_is site id count payload continues fragments rest patches count_is pa
     ap (λ (c : Content). c.image) (content_is site id count payload (ended_page continues fragments rest patches) count_is payload_is)
 
 between_is_cut : (site : Site) (view : WriterView) (pending : Pending) (chunk : HeldChunk) → IsBehind site (account_of view.calls) view pending chunk
-    → IsCut site.size (site.place + 2) view.calls
+    → HasCut site.size (site.place + 2) view.calls
     (completed_images view.begun ++ held_image site.place chunk.held.id chunk.count chunk.continues chunk.held.body.payload.items ∷ [])
     (completed_patches view.begun ++ with_lasts (hole_chunks pending.holes) pending.unsent ∷ [])
+    (held_image site.place chunk.held.id chunk.count chunk.continues chunk.held.body.payload.items ∷ [])
 between_is_cut site view pending chunk behind =
     let fragments : List (List ℕ) = behind.first ∷ behind.others in
     let patches : List Patch = with_lasts (hole_chunks pending.holes) pending.unsent in
@@ -153,11 +165,12 @@ between_is_cut site view pending chunk behind =
     behind.continues_is refl refl brings full))
 
 writing_is_cut : (site : Site) (view : WriterView) (pending : Pending) (fragment : OpenFragment) (packet : Packet) (older : List Packet)
-    → (account_of view.calls).packets ≡ packet ∷ older → InFragment site packet older view pending fragment []
-    → IsCut site.size (site.place + 2) view.calls
+    → (account_of view.calls).packets ≡ packet ∷ older → InFragment site packet older view pending fragment [] → HasByte fragment
+    → HasCut site.size (site.place + 2) view.calls
     (completed_images view.begun ++ held_image site.place fragment.held.id fragment.count fragment.continues (fragment_payload fragment) ∷ [])
     (completed_patches view.begun ++ with_lasts (hole_chunks pending.holes) pending.unsent ∷ [])
-writing_is_cut site view pending fragment packet older packets inside =
+    (held_image site.place fragment.held.id fragment.count fragment.continues (fragment_payload fragment) ∷ [])
+writing_is_cut site view pending fragment packet older packets inside byte =
     let fragments : List (List ℕ) = inside.done ++ inside.now ∷ [] in
     let patches : List Patch = with_lasts (hole_chunks pending.holes) pending.unsent in
     let page : Page = ended_page fragment.continues fragments inside.written.rest patches in
@@ -174,18 +187,33 @@ writing_is_cut site view pending fragment packet older packets inside =
     (subst (λ (ps : List Packet). CutsInto site.size ps (inside.pages ++ page ∷ [])) (sym packets)
     (raw_cut_is_cut site.size (packet ∷ older) (inside.pages ++ page ∷ [])
     (writing_cut site.size packet packet older inside.pages page inside.done inside.now pending.unsent (reverse pending.holes) inside.writing
-    refl refl refl refl (sym (lasts_reverse pending.holes pending.unsent)) full refl refl refl inside.writing.given_up)))
+    refl refl refl refl (continues_with_byte fragment payload inside.done inside.now inside.written byte)
+    (sym (lasts_reverse pending.holes pending.unsent)) full refl refl refl inside.writing.given_up)))
 
 -- Each state
 
-state_is_cut : (setup : Setup) (place : ℕ) (route : Route) (view : WriterView) (pending : Pending) (state : State)
+-- a writer that holds no chunk between two packets has none that goes on
+none_goes_on : (packets : List Packet) (packet : Option OpenPacket) → IsInPacketOf packets packet → is_begun packet ≡ false → newest_goes_on packets ≡ false
+none_goes_on [] packet inside none = refl
+none_goes_on (newest ∷ older) None inside none = and_right (not (is_lost newest)) (not newest.finished) inside
+none_goes_on (newest ∷ older) (Some open_one) inside none = absurd (false≢true (sym none))
+
+lost_goes_on : (packets : List Packet) (packet : Packet) (older : List Packet) → packets ≡ packet ∷ older → is_lost packet ≡ true → newest_goes_on packets ≡ false
+lost_goes_on packets packet older are lost = ap newest_goes_on are ∙ ap (λ (b : Bool). not b && not packet.finished) lost
+
+state_is_cut : (setup : Setup) (place : ℕ) (route : Route) (view : WriterView) (pending : Pending) (packet : Option OpenPacket) (state : State)
+    → IsInPacketOf (account_of view.calls).packets packet → is_inside packet state ≡ is_begun packet
     → StateAgrees (site_of setup place route) (account_of view.calls) view pending state
-    → IsCut route.payload_size (place + 2) view.calls (completed_images view.begun ++ held_images place state) (completed_patches view.begun ++ held_patches pending state)
-state_is_cut setup place route view pending (Idle next_id) w = idle_cut (site_of setup place route) view pending w.1
-state_is_cut setup place route view pending (Between chunk) w = between_is_cut (site_of setup place route) view pending chunk w
-state_is_cut setup place route view pending (Writing fragment) w = writing_is_cut (site_of setup place route) view pending fragment w.packet w.older w.packets w.inside
-state_is_cut setup place route view pending (Dropping next_id) w = idle_cut (site_of setup place route) view pending w.1.idle
-state_is_cut setup place route view pending (Stalled next_id) w = stuck_cut (site_of setup place route) view w.1
+    → HasCut route.payload_size (place + 2) view.calls (completed_images view.begun ++ held_images place state) (completed_patches view.begun ++ held_patches pending state) (held_images place state)
+state_is_cut setup place route view pending packet (Idle next_id) inside same w =
+    idle_cut (site_of setup place route) view pending (none_goes_on (account_of view.calls).packets packet inside (sym same)) w.1
+state_is_cut setup place route view pending packet (Between chunk) inside same w = between_is_cut (site_of setup place route) view pending chunk w
+state_is_cut setup place route view pending packet (Writing fragment) inside same w =
+    writing_is_cut (site_of setup place route) view pending fragment w.packet w.older w.packets w.inside w.byte
+state_is_cut setup place route view pending packet (Dropping next_id) inside same w =
+    idle_cut (site_of setup place route) view pending (lost_goes_on (account_of view.calls).packets w.1.packet w.1.older w.1.packets w.1.lost) w.1.idle
+state_is_cut setup place route view pending packet (Stalled next_id) inside same w = stuck_cut (site_of setup place route) view w.1
 
 pub agreeing_is_cut : AgreeingIsCut
-agreeing_is_cut setup place view writer agrees = state_is_cut setup place writer.route view writer.pending writer.state agrees.state
+agreeing_is_cut setup place view writer agrees =
+    state_is_cut setup place writer.route view writer.pending writer.packet writer.state agrees.packet agrees.inside agrees.state

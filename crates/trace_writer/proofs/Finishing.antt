@@ -31,9 +31,9 @@ use Rattle.trace_writer.specs.Headers.{held_head}
 use Rattle.trace_writer.specs.Site.{Site, site_of}
 use Rattle.trace_writer.specs.Agreement.{Agrees, StateAgrees, IsWritingInto, IsInPacketOf, is_begun, depth_of, counted}
 use Rattle.trace_writer.proofs.Accounts.{dropped_in, dropped-changed, account_one, on_newest-packets, begun_is, none_open as no_places_open}
-use Rattle.trace_writer.specs.Filled.{frames, IsFilled}
+use Rattle.trace_writer.specs.Filled.{frames, IsFilled, HasByte}
 use Rattle.trace_writer.specs.States.{InFragment, IsBehind, has_room}
-use Rattle.trace_writer.proofs.Payloads.{written_ended, written_offset}
+use Rattle.trace_writer.proofs.Payloads.{written_ended, written_offset, continues_with_byte}
 
 -- A list that ends with this element has a first one.
 pub record HasFirst {A : Type 0} (xs : List A) : Type 0 where
@@ -96,9 +96,9 @@ laid_all (bytes ∷ next ∷ others) rest =
 pub finished_behind : (site : Site) (packet : Packet) (older : List Packet) (view new : WriterView) (pending : Pending) (fragment : OpenFragment) (chunk : HeldChunk)
     → fragment.at ≤ vec_len fragment.held.body.payload → fragment.count ≤ 1023
     → open_places packet.text.levels ≡ [] → new.begun ≡ view.begun → IsEnded fragment chunk
-    → InFragment site packet older view pending fragment []
+    → InFragment site packet older view pending fragment [] → HasByte fragment
     → IsBehind site (record { packets = finished_packet packet ∷ older; flushed = false }) new pending chunk
-finished_behind site packet older view new pending fragment chunk within few no_lengths same ended inside =
+finished_behind site packet older view new pending fragment chunk within few no_lengths same ended inside byte =
     let pages : List Page = inside.pages in
     let done : List (List ℕ) = inside.done in
     let now : List ℕ = inside.now in
@@ -111,7 +111,8 @@ finished_behind site packet older view new pending fragment chunk within few no_
     let writing : IsWriting site.size packet older pages fragment.continues done now pending.unsent [] [] =
     subst (λ (holes : List Hole). IsWriting site.size packet older pages fragment.continues done now pending.unsent holes []) holes_none w in
     let between : IsBetween site.size (finished_packet packet ∷ older) pages (raw_chains (pages ++ page ∷ [])) pending.unsent (offset_behind 4 fragments) =
-    between_finished site.size packet older pages page done now pending.unsent writing refl refl refl in
+    between_finished site.size packet older pages page done now pending.unsent writing refl refl refl
+    (continues_with_byte fragment fragment.held.body.payload.items done now inside.written byte) in
     let chains : raw_chains (pages ++ page ∷ []) ≡ current_chain pages fragment.continues done now ∷ chains_before pages fragment.continues done =
     chains_end site.size pages page done now w.full w.flags refl w.continues_is (λ e. absurd (cc)) in
     let newest : newest_piece (raw_chains (pages ++ page ∷ [])) ≡ Some (current_piece pages done now) =
@@ -186,7 +187,7 @@ finish_writing setup place view new writer after fragment chunk within few state
     let calls : account_of new.calls ≡ later =
     ap (λ (v : WriterView). account_of v.calls) notes ∙ account_one view.calls Finished ∙ on_newest-packets finished_packet account w.packet w.older w.packets w.unflushed in
     let behind : IsBehind site later new writer.pending chunk =
-    finished_behind site w.packet w.older view new writer.pending fragment chunk within few no_lengths (ap (λ (v : WriterView). v.begun) notes) ended w.inside in
+    finished_behind site w.packet w.older view new writer.pending fragment chunk within few no_lengths (ap (λ (v : WriterView). v.begun) notes) ended w.inside w.byte in
     subst (Agrees setup place new) (sym is) (record {
       route = agrees.route;
       state = subst (λ (a : Account). IsBehind site a new writer.pending chunk) (sym calls) behind;

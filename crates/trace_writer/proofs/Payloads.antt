@@ -9,7 +9,9 @@ use Rattle.trace_model.specs.Cut.{IsFull}
 use Rattle.trace_model.proofs.EncodingLemmas.{length-redundant}
 use Rattle.cut_steps.specs.RawChains.{offset_behind}
 use Rattle.cut_steps.proofs.Places.{with_bytes_left, with_bytes_right, with_bytes_mid, length_with_bytes}
-use Rattle.trace_writer.specs.Filled.{frames, IsWritten}
+use Rattle.cut_steps.specs.Pieces.{ContinuesWithByte}
+use Rattle.trace_writer.specs.declared.fragment.OpenFragment.{OpenFragment}
+use Rattle.trace_writer.specs.Filled.{frames, IsWritten, HasByte}
 
 -- Fragments one behind another
 
@@ -182,3 +184,10 @@ full_lost payload start at count size done now continues patches w long few =
           ∙ long;
       dropped = λ marked. (refl, refl);
     }
+
+-- a fragment that continues a packet has a byte
+pub continues_with_byte : (fragment : OpenFragment) (payload : List ℕ) (done : List (List ℕ)) (now : List ℕ)
+    → IsWritten payload fragment.start fragment.at fragment.count done now → HasByte fragment → ContinuesWithByte fragment.continues done now
+continues_with_byte fragment payload done now written byte goes first =
+    let start : fragment.start ≡ 0 = written.start_is ∙ ap (λ (before : List (List ℕ)). length (frames before)) first in
+    omega (arith, byte goes start, written.at_is, start)

@@ -20,7 +20,7 @@ use Rattle.chunk_plain.specs.Words.{IsHolding, MayFollow, head_at}
 use Rattle.claim_arbiter.specs.Claiming.{AsksInVain, lost_asks}
 use Rattle.cut_steps.specs.RawChains.{earlier_pieces, current_piece, offset_behind}
 use Rattle.cut_steps.specs.Writing.{IsWriting}
-use Rattle.cut_steps.proofs.StepLemmas.{all_end_well-more, is_among-right}
+use Rattle.cut_steps.proofs.WritingSteps.{writing_coming}
 use Rattle.cut_steps.proofs.RunningOn.{writing_run_on}
 use Rattle.trace_writer.specs.declared.chunk.HeldChunk.{HeldChunk}
 use Rattle.trace_writer.specs.declared.fragment.OpenFragment.{OpenFragment}
@@ -306,38 +306,6 @@ in_next site packet older old new before after fragment next coming w least left
       room = omega (arith, w.few, same_holes, none, outside_most next.held.id after.holes);
       writing = subst (λ (p : Pending). IsWriting site.size packet older pages next.continues [] [] p.unsent (reverse p.holes) coming) (sym e.none_left)
           (subst (λ (c : Bool). IsWriting site.size packet older pages c [] [] [] (reverse before.holes) coming) (sym e.continues) runs);
-    }
-
--- a length may come anywhere
-pub writing_coming : (size : ℕ) (packet : Packet) (older : List Packet) (pages : List Page) (continues : Bool) (done : List (List ℕ)) (now : List ℕ)
-    (unsent : List Patch) (holes : List Hole) (coming : List ℕ)
-    → IsWriting size packet older pages continues done now unsent holes [] → IsWriting size packet older pages continues done now unsent holes coming
-writing_coming size packet older pages continues done now unsent holes coming w =
-    record {
-      kept = w.kept;
-      given_up = w.given_up;
-      finished = w.finished;
-      level = w.level;
-      outer = w.outer;
-      levels = w.levels;
-      first = w.first;
-      first_offset = w.first_offset;
-      begins_at = w.begins_at;
-      bytes = w.bytes;
-      earlier_run_on = w.earlier_run_on;
-      sends = w.sends;
-      holes_are = w.holes_are;
-      closed_in = w.closed_in;
-      ends = all_end_well-more (earlier_pieces pages continues done) size (length_places packet.text) (coming ++ length_places packet.text) 0
-          (λ n. is_among-right n coming (length_places packet.text)) w.ends;
-      four = w.four;
-      begins = w.begins;
-      older_chains = w.older_chains;
-      older_begin = w.older_begin;
-      older_end = w.older_end;
-      full = w.full;
-      flags = w.flags;
-      continues_is = w.continues_is;
     }
 
 pub left_is : (site : Site) (packet : Packet) (older : List Packet) (view : WriterView) (pending : Pending) (fragment : OpenFragment)

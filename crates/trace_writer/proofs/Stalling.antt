@@ -22,7 +22,8 @@ use Rattle.cut_steps.specs.GoesOn.{GoesOn}
 use Rattle.cut_steps.specs.Writing.{IsWriting, with_open}
 use Rattle.cut_steps.proofs.GoingOn.{goes_on-more, goes_on-nested}
 use Rattle.cut_steps.proofs.RawCutLemmas.{raw_cut_is_cut}
-use Rattle.cut_steps.proofs.StalledCuts.{writing_stalled_cut}
+use Rattle.cut_steps.proofs.StalledCuts.{writing_stalled_cut, writing_stalled_runs}
+use Rattle.cut_steps.proofs.WritingSteps.{writing_coming}
 use Rattle.trace_writer.specs.declared.chunk.HeldChunk.{HeldChunk}
 use Rattle.trace_writer.specs.declared.fragment.OpenFragment.{OpenFragment}
 use Rattle.trace_writer.specs.declared.route.Route.{Route}
@@ -33,7 +34,7 @@ use Rattle.trace_writer.specs.Headers.{held_head}
 use Rattle.trace_writer.specs.Site.{Site, site_of}
 use Rattle.trace_writer.specs.States.{InFragment, IsStuck}
 use Rattle.trace_writer.proofs.Holes.{among_reverse, lasts_reverse}
-use Rattle.trace_writer.proofs.RunOn.{Ends, run_content, run_completion, completed_before, page_run, page_full, page_shown, writing_coming, left_is}
+use Rattle.trace_writer.proofs.RunOn.{Ends, run_content, run_completion, completed_before, page_run, page_full, page_shown, left_is}
 use Rattle.trace_writer.proofs.Seats.{shows_long}
 use Rattle.trace_writer.proofs.SettingAside.{only_one}
 
@@ -66,6 +67,7 @@ stuck_with site packet later older old new before fragment coming w left writing
           (page_full site packet older old before fragment w) (sym (lasts_reverse before.holes before.unsent))
           (ap (λ (i : ℕ). is_among i (hole_chunks before.holes)) w.id ∙ sym (among_reverse (length w.pages) before.holes))
           left writing goes);
+      runs = writing_stalled_runs site.size packet later older w.pages page w.done w.now before.unsent (reverse before.holes) coming refl writing goes;
     }
 
 -- What was to come of the packet

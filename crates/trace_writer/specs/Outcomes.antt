@@ -5,7 +5,8 @@ use Rattle.trace_base.specs.declared.policy.WriterPolicy.{WriterPolicy}
 use Rattle.trace_base.specs.declared.policy.WriterPolicy.TheVariants.{Drops, Stalls}
 use Rattle.trace_model.specs.Calls.{Call, GivenUp}
 use Rattle.trace_model.specs.Images.{Image, Patch, with_bytes}
-use Rattle.trace_model.specs.Cut.{IsCut}
+use Rattle.trace_model.specs.Cut.{IsCut, last_runs_on, newest_goes_on}
+use Rattle.trace_model.specs.Packets.{packets_of}
 use Rattle.commit_body.specs.Patches.{hole_chunks, with_lasts}
 use Rattle.commit_body.specs.Pending.{Pending}
 use Rattle.chunk_plain.specs.Setup.{Setup}
@@ -86,10 +87,16 @@ images_so_far place view writer = completed_images view.begun ++ held_images pla
 abbrev pub patches_so_far : WriterView → Writer → List (List Patch)
 patches_so_far view writer = completed_patches view.begun ++ held_patches writer.pending writer.state
 
+-- These images, the last of which is that of the held chunk if there is one, are a cut of the packets. Where none is held
+-- the last of them runs on exactly where the newest packet goes on.
+pub record HasCut (size sequence : ℕ) (calls : List Call) (images : List Image) (patches : List (List Patch)) (held : List Image) : Type 0 where
+  pub cut : IsCut size sequence calls images patches
+  pub ends : held ≡ [] → last_runs_on false cut.pages ≡ newest_goes_on (packets_of calls)
+
 -- A writer that agrees with its view has cut its packets into its chunks.
 abbrev pub AgreeingIsCut : Type 0
 AgreeingIsCut = (setup : Setup) (place : ℕ) (view : WriterView) (writer : Writer) → Agrees setup place view writer
-    → IsCut writer.route.payload_size (place + 2) view.calls (images_so_far place view writer) (patches_so_far view writer)
+    → HasCut writer.route.payload_size (place + 2) view.calls (images_so_far place view writer) (patches_so_far view writer) (held_images place writer.state)
 
 -- A writer that drops packets never waits for ever.
 abbrev pub DropsNeverStall : Type 0

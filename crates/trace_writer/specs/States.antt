@@ -4,7 +4,7 @@ use Rattle.trace_base.specs.declared.limits.TheConstants.{MAX_FRAGMENTS, MAX_OPE
 use Rattle.trace_model.specs.Packets.{Packet, Account}
 use Rattle.trace_model.specs.Pages.{Page}
 use Rattle.trace_base.specs.declared.policy.WriterPolicy.TheVariants.{Stalls}
-use Rattle.trace_model.specs.Cut.{CutsInto, last_runs_on, is_fresh}
+use Rattle.trace_model.specs.Cut.{CutsInto, last_runs_on, newest_goes_on, is_fresh}
 use Rattle.commit_body.specs.Patches.{holes_outside}
 use Rattle.commit_body.specs.Pending.{Pending}
 use Rattle.chunk_plain.specs.Setup.{spot}
@@ -66,9 +66,11 @@ pub record IsBehind (site : Site) (account : Account) (view : WriterView) (pendi
   pub between : IsBetween site.size account.packets pages (raw_chains (pages ++ page_with chunk.continues (first ∷ others) ∷ [])) pending.unsent (offset_behind 4 (first ∷ others))
   pub fresh : is_fresh site.size account.flushed account.packets (raw_chains (pages ++ page_with chunk.continues (first ∷ others) ∷ [])) ≡ not (has_room site.size chunk)
 
--- A writer that stalls has no chunk for its newest packet, or for the next one. Its completed chunks are a cut of its packets.
+-- A writer that stalls has no chunk for its newest packet, or for the next one. Its completed chunks are a cut of its packets,
+-- and the last of them runs on exactly where the newest packet goes on.
 pub record IsStuck (site : Site) (packets : List Packet) (view : WriterView) : Type 0 where
   pub stalls : site.policy ≡ Stalls
   pub pages : List Page
   pub shown : ShowsPages site 0 view.begun pages
   pub cut : CutsInto site.size packets pages
+  pub runs : last_runs_on false pages ≡ newest_goes_on packets

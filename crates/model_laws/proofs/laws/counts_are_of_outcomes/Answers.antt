@@ -1,0 +1,5 @@
+use Rattle.model_laws.proofs.ReportLemmas.{counts_are_of_outcomes}
+use Rattle.model_laws.proofs.laws.counts_are_of_outcomes.Goals as goal
+
+pub returns : goal.returns
+returns c = counts_are_of_outcomes

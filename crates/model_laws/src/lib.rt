@@ -1,0 +1,9 @@
+//! Laws about the definitions of `trace_model` that stand beside it, so that it can stay as it is;
+//! there is no program code here.
+//! A layer above may cite them: they are public functions with empty bodies whose contracts are the
+//! statements.
+#![tactic(auto)]
+
+mod laws;
+
+pub use laws::{counts_are_balanced, counts_are_of_outcomes, fixed_places_are_starts};
