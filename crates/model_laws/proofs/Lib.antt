@@ -1,5 +1,10 @@
+pub mod LossLemmas
+pub mod MarkLemmas
 pub mod PlaceCounts
 pub mod ReportLemmas
 pub mod RowEnds
 pub mod StartLemmas
+pub mod StopLemmas
+pub mod UnreadableLemmas
+pub mod WorkedReportLemmas
 pub mod WrittenStarts

@@ -1,2 +1,7 @@
-pub mod Starts
+pub mod Losses
+pub mod MarkLaws
 pub mod OutcomeLaws
+pub mod Starts
+pub mod StopLaws
+pub mod UnreadableLaws
+pub mod WorkedReports

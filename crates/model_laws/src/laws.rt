@@ -1,5 +1,10 @@
 //! Laws about the definitions: each is the contract of a function with nothing to do.
+ghost use Rattle.model_laws.specs.Losses.{LossesChangeNoShape};
+ghost use Rattle.model_laws.specs.MarkLaws.{MarksTellWhatIsMissing};
 ghost use Rattle.model_laws.specs.OutcomeLaws.{CountsAreBalanced, CountsAreOfOutcomes, FixedPlacesAreStarts};
+ghost use Rattle.model_laws.specs.StopLaws.{StopPlacesAreFirst};
+ghost use Rattle.model_laws.specs.UnreadableLaws.{UnreadableIsFirst};
+ghost use Rattle.model_laws.specs.WorkedReports.{WorkedReport};
 
 /// Whatever a history fixes of a sequence, it fixes where a packet of its writer begins.
 pub fn fixed_places_are_starts()
@@ -14,4 +19,31 @@ pub fn counts_are_of_outcomes()
 /// Each packet that was begun is delivered, or absent under one cause, and the report's sum says so.
 pub fn counts_are_balanced()
     ensures { CountsAreBalanced }
+{}
+
+/// Losses change no shape: calls of which packets were dropped or given up emit what was asked, begin
+/// as many packets, and leave the newest as long and as deep.
+pub fn losses_change_no_shape()
+    ensures { LossesChangeNoShape }
+{}
+
+/// A chunk that can't be read is answered with the number of its first fragment that can't be.
+pub fn unreadable_is_first()
+    ensures { UnreadableIsFirst }
+{}
+
+/// A reader of an open sequence stops at the first chunk that stops it, of one that is closed at its
+/// end.
+pub fn stop_places_are_first()
+    ensures { StopPlacesAreFirst }
+{}
+
+/// A record of a sequence is unmarked exactly where what was passed right before it was delivered too.
+pub fn marks_tell_what_is_missing()
+    ensures { MarksTellWhatIsMissing }
+{}
+
+/// There is a history that meets all that the laws on reports ask for.
+pub fn worked_report()
+    ensures { WorkedReport }
 {}

@@ -1,0 +1,156 @@
+-- The fragment that reading stops at is the first that can't be read.
+use Rattle.std.proofs.Common.{◌≡◌, ◌∙◌, ℕ, zero, suc, ◌+◌, ◌-◌, ◌<◌, Bool, true, false, List, [], ◌∷◌, ◌++◌, length, drop, Option, Some, None, refl, sym, ap, subst, arith, length-append, inl, inr}
+use Rattle.std.specs.Prelude.{All, ◌==◌, ◌↔◌}
+use Rattle.std.proofs.lemmas.List.Elements.{All-drop}
+use Rattle.std.proofs.lemmas.Bool.{eqb-true, eq-eqb, false≢true}
+use Rattle.std.proofs.lemmas.Option.{none-some}
+use Rattle.trace_model.specs.Images.{Fragment}
+use Rattle.trace_model.specs.Fragments.{ReadsOne}
+use Rattle.trace_model.specs.Reading.{size_of, fragment_of, Reading, Fragments, Unreadable, behind, place_behind, read_on, reading_from, reading_of}
+use Rattle.trace_model.proofs.ReadingLemmas.{StandsFirst, read_kept, read_dropped, read_sound, drop-front}
+use Rattle.model_laws.specs.UnreadableLaws.{ReadsUpTo, NoneReads, IsFirstUnread, UnreadableIsFirst}
+
+-- the same of so many fragments, of which the first has the number
+record IsFirstFrom (left number at : ℕ) (bytes : List ℕ) (k : ℕ) : Type 0 where
+  below : k < number + left
+  before : List Fragment
+  many : number + length before ≡ k
+  place : ℕ
+  rest : List ℕ
+  reads : ReadsUpTo at bytes before place rest
+  none : NoneReads (suc k == number + left) place rest
+
+-- what a reading answers
+abbrev number_in : Reading → ℕ
+number_in (Fragments fragments) = 0
+number_in (Unreadable number) = number
+
+abbrev is_read : Reading → Bool
+is_read (Fragments fragments) = true
+is_read (Unreadable number) = false
+
+-- the rest behind a fragment
+rest_behind : (at : ℕ) (bytes : List ℕ) (fragment : Fragment) (rest : List ℕ) → ReadsOne at bytes fragment rest → drop (place_behind fragment - at) bytes ≡ rest
+rest_behind at bytes fragment rest reads =
+    ap (λ (n : ℕ). drop n bytes) (omega (arith, reads.offset, length-append reads.size fragment.bytes))
+    ∙ ap (drop (length (reads.size ++ fragment.bytes))) reads.cut
+    ∙ drop-front (reads.size ++ fragment.bytes) rest
+
+-- where nothing is read no fragment stands
+none_there : (left number at : ℕ) (bytes : List ℕ) → fragment_of (left == 0) at bytes (size_of 4 bytes) ≡ None → NoneReads (suc number == number + suc left) at bytes
+none_there left number at bytes none = record {
+  kept = λ fragment rest reads. none-some fragment (sym none ∙ read_kept (left == 0) at bytes fragment rest reads);
+  dropped = λ last fragment reads.
+      let zero_left : (left == 0) ≡ true = eq-eqb left 0 (omega (arith, eqb-true (suc number) (number + suc left) last)) in
+      none-some fragment (sym none ∙ ap (λ (b : Bool). fragment_of b at bytes (size_of 4 bytes)) zero_left ∙ read_dropped at bytes fragment reads);
+}
+
+unread_from : (left number at : ℕ) (bytes : List ℕ) (k : ℕ) → All (λ byte. byte < 256) bytes → reading_from left number at bytes ≡ Unreadable k → IsFirstFrom left number at bytes k
+unread_from zero number at bytes k below e = absurd (false≢true (sym (ap is_read e)))
+unread_from (suc left) number at bytes k below e = by_fragment (fragment_of (left == 0) at bytes (size_of 4 bytes)) refl e (unread_from left)
+  where
+    by_rest : (fragment : Fragment) → StandsFirst (left == 0) at bytes fragment → (r : Reading)
+        → reading_from left (suc number) (place_behind fragment) (drop (place_behind fragment - at) bytes) ≡ r → behind fragment r ≡ Unreadable k
+        → (reading_from left (suc number) (place_behind fragment) (drop (place_behind fragment - at) bytes) ≡ Unreadable k
+        → IsFirstFrom left (suc number) (place_behind fragment) (drop (place_behind fragment - at) bytes) k)
+        → IsFirstFrom (suc left) number at bytes k
+    by_rest fragment stands (Fragments others) f g rest = absurd (false≢true (sym (ap is_read g)))
+    by_rest fragment (inl dropped) (Unreadable n) f g rest =
+        let none : left ≡ 0 = eqb-true left 0 dropped.0 in
+        absurd (false≢true (sym (ap (λ (m : ℕ). is_read (reading_from m (suc number) (place_behind fragment) (drop (place_behind fragment - at) bytes))) (sym none) ∙ ap is_read f)))
+    by_rest fragment (inr reads) (Unreadable n) f g rest =
+        let first : IsFirstFrom left (suc number) (place_behind fragment) (drop (place_behind fragment - at) bytes) k = rest (f ∙ g) in
+        record {
+          below = omega (arith, first.below);
+          before = fragment ∷ first.before;
+          many = omega (arith, first.many);
+          place = first.place;
+          rest = first.rest;
+          reads = (drop (place_behind fragment - at) bytes, reads, first.reads);
+          none = subst (λ (m : ℕ). NoneReads (suc k == m) first.place first.rest) (omega arith) first.none;
+        }
+
+    by_fragment : (o : Option Fragment) → fragment_of (left == 0) at bytes (size_of 4 bytes) ≡ o
+        → read_on number (λ f. reading_from left (suc number) (place_behind f) (drop (place_behind f - at) bytes)) o ≡ Unreadable k
+        → ((n a : ℕ) (bs : List ℕ) (j : ℕ) → All (λ byte. byte < 256) bs → reading_from left n a bs ≡ Unreadable j → IsFirstFrom left n a bs j)
+        → IsFirstFrom (suc left) number at bytes k
+    by_fragment None f g rest =
+        let same : number ≡ k = ap number_in g in
+        subst (λ (m : ℕ). IsFirstFrom (suc left) number at bytes m) same (record {
+          below = omega arith;
+          before = [];
+          many = omega arith;
+          place = at;
+          rest = bytes;
+          reads = (refl, refl);
+          none = none_there left number at bytes f;
+        })
+    by_fragment (Some fragment) f g rest =
+        by_rest fragment (read_sound (left == 0) at bytes fragment below f)
+        (reading_from left (suc number) (place_behind fragment) (drop (place_behind fragment - at) bytes)) refl g
+        (rest (suc number) (place_behind fragment) (drop (place_behind fragment - at) bytes) k (All-drop (λ byte. byte < 256) (place_behind fragment - at) bytes below))
+
+-- where those before it can be read, and it can't, reading stops there
+stops_from : (before : List Fragment) (left number at : ℕ) (bytes : List ℕ) (place : ℕ) (rest : List ℕ) → All (λ byte. byte < 256) bytes
+    → number + length before < number + left → ReadsUpTo at bytes before place rest → NoneReads (suc (number + length before) == number + left) place rest
+    → reading_from left number at bytes ≡ Unreadable (number + length before)
+stops_from before zero number at bytes place rest below less reads none = absurd (omega (arith, less))
+stops_from [] (suc left) number at bytes place rest below less reads none =
+    by_fragment (fragment_of (left == 0) at bytes (size_of 4 bytes)) refl
+  where
+    by_fragment : (o : Option Fragment) → fragment_of (left == 0) at bytes (size_of 4 bytes) ≡ o
+        → read_on number (λ f. reading_from left (suc number) (place_behind f) (drop (place_behind f - at) bytes)) o ≡ Unreadable (number + 0)
+    by_fragment None f = ap Unreadable (omega arith)
+    by_fragment (Some fragment) f = absurd (stands (read_sound (left == 0) at bytes fragment below f))
+      where
+        here : NoneReads (suc (number + 0) == number + suc left) at bytes
+        here = subst (λ (p : ℕ). NoneReads (suc (number + 0) == number + suc left) p bytes) reads.0
+            (subst (λ (xs : List ℕ). NoneReads (suc (number + 0) == number + suc left) place xs) reads.1 none)
+
+        stands : StandsFirst (left == 0) at bytes fragment → ⊥
+        stands (inl dropped) = here.dropped (eq-eqb (suc (number + 0)) (number + suc left) (omega (arith, eqb-true left 0 dropped.0))) fragment dropped.1
+        stands (inr kept) = here.kept fragment (drop (place_behind fragment - at) bytes) kept
+stops_from (fragment ∷ before) (suc left) number at bytes place rest below less reads none =
+    let further : List ℕ = reads.0 in
+    let same : drop (place_behind fragment - at) bytes ≡ further = rest_behind at bytes fragment further reads.1 in
+    let go : Fragment → Reading = λ f. reading_from left (suc number) (place_behind f) (drop (place_behind f - at) bytes) in
+    let total : suc number + length before ≡ number + length (fragment ∷ before) = omega arith in
+    let later : NoneReads (suc (suc number + length before) == suc number + left) place rest =
+    subst (λ (m : ℕ). NoneReads (suc (suc number + length before) == m) place rest) (omega arith)
+    (subst (λ (m : ℕ). NoneReads (suc m == number + suc left) place rest) (sym total) none) in
+    ap (read_on number go) (read_kept (left == 0) at bytes fragment further reads.1)
+    ∙ ap (λ (xs : List ℕ). behind fragment (reading_from left (suc number) (place_behind fragment) xs)) same
+    ∙ ap (behind fragment)
+    (stops_from before left (suc number) (place_behind fragment) further place rest
+    (subst (λ (xs : List ℕ). All (λ byte. byte < 256) xs) same (All-drop (λ byte. byte < 256) (place_behind fragment - at) bytes below))
+    (omega (arith, less)) reads.2 later)
+    ∙ ap Unreadable total
+
+some_unread : (count : ℕ) (payload : List ℕ) (number : ℕ) → All (λ byte. byte < 256) payload → 0 < count
+    → (reading_of count payload ≡ Unreadable number) ↔ IsFirstUnread count payload number
+some_unread zero payload number below some = absurd (omega (arith, some))
+some_unread (suc more) payload number below some = (first, stops)
+  where
+    first : reading_of (suc more) payload ≡ Unreadable number → IsFirstUnread (suc more) payload number
+    first e =
+        let from : IsFirstFrom (suc more) 0 0 payload number = unread_from (suc more) 0 0 payload number below e in
+        record {
+          below = omega (arith, from.below);
+          before = from.before;
+          many = omega (arith, from.many);
+          place = from.place;
+          rest = from.rest;
+          reads = from.reads;
+          none = subst (λ (m : ℕ). NoneReads (suc number == m) from.place from.rest) (omega arith) from.none;
+        }
+
+    stops : IsFirstUnread (suc more) payload number → reading_of (suc more) payload ≡ Unreadable number
+    stops is =
+        let same : 0 + length is.before ≡ number = omega (arith, is.many) in
+        stops_from is.before (suc more) 0 0 payload is.place is.rest below (omega (arith, is.below, is.many)) is.reads
+        (subst (λ (m : ℕ). NoneReads (suc (0 + length is.before) == m) is.place is.rest) (omega arith)
+        (subst (λ (m : ℕ). NoneReads (suc m == suc more) is.place is.rest) (sym same) is.none))
+        ∙ ap Unreadable same
+
+pub unreadable_is_first : UnreadableIsFirst
+unreadable_is_first = record { some = some_unread; none = λ payload. refl }
