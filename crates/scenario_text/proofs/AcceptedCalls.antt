@@ -10,7 +10,8 @@ use Rattle.trace_model.specs.Encoding.{Fields, nested_tag, encoding_of, encoding
 use Rattle.trace_model.specs.Packets.{Packet, NestedLength, Account, open_length, flat, noted, begun_packet, is_lost, is_writing, newest_is_lost, front_of}
 use Rattle.trace_model.specs.Record.{mark_where}
 use Rattle.trace_model.proofs.CallLemmas.{at_text, Writes, writes_fields}
-use Rattle.trace_model.proofs.EncodingLemmas.{encoding_as_long, length-redundant}
+use Rattle.trace_model.proofs.EncodingLemmas.{encoding_as_long}
+use Rattle.wire_varint.proofs.Lengths.{length-redundant}
 use Rattle.field_tree.specs.Nodes.{IsField}
 use Rattle.scenario_text.specs.declared.open_packet.OpenPacket.{OpenPacket}
 use Rattle.scenario_text.specs.Effects.{grown}

@@ -9,7 +9,8 @@ use Rattle.trace_model.specs.Calls.{Call, Ended}
 use Rattle.trace_model.specs.Encoding.{Fields, NoFields, NumberField, BytesField, NestedField, number_field, bytes_head, bytes_field, nested_tag, encoding_of, encoding_len, depth_of, calls_of}
 use Rattle.trace_model.specs.Packets.{Packet, NestedLength, Account, open_length, flat, noted, front_of}
 use Rattle.trace_model.proofs.CallLemmas.{at_text, Writes, writes_fields}
-use Rattle.trace_model.proofs.EncodingLemmas.{encoding_as_long, length-redundant, length-bytes_field}
+use Rattle.trace_model.proofs.EncodingLemmas.{encoding_as_long, length-bytes_field}
+use Rattle.wire_varint.proofs.Lengths.{length-redundant}
 use Rattle.field_tree.specs.declared.node.FieldNode.TheVariants as node
 use Rattle.field_tree.specs.Nodes.{nodes_of, IsField}
 use Rattle.field_tree.specs.Refusals.{reserved_or, first_reserved}
