@@ -27,7 +27,7 @@ CUT = [
 ]
 
 ARRIVAL = [
-    ('leaves the cursor where an arrival passes it', 'Arrivals.antt', 'nat_le count state.cursor.passed', 'nat_lt count state.cursor.passed'),
+    ('leaves the cursor where an arrival passes it', 'Arrivals.antt', 'nat_le count state.cursor.passed', 'nat_le (suc count) state.cursor.passed'),
     ('takes a part that the cursor has passed', 'Arrivals.antt', '\n    || (unread_of (sequence_in buffer.sequences sequence) chunk_id count == 0))', ')'),
     ('counts a refused part as discarded', 'Arrivals.antt',
      'if chunk.partial then record buffer { shut = true } else discarded_buffer buffer sequence chunk_id chunk',
