@@ -2,6 +2,7 @@ pub mod LossLemmas
 pub mod MarkLemmas
 pub mod PlaceCounts
 pub mod ReportLemmas
+pub mod RisingLemmas
 pub mod RowEnds
 pub mod StartLemmas
 pub mod StopLemmas

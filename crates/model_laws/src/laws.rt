@@ -2,6 +2,7 @@
 ghost use Rattle.model_laws.specs.Losses.{LossesChangeNoShape};
 ghost use Rattle.model_laws.specs.MarkLaws.{MarksTellWhatIsMissing};
 ghost use Rattle.model_laws.specs.OutcomeLaws.{CountsAreBalanced, CountsAreOfOutcomes, FixedPlacesAreStarts};
+ghost use Rattle.model_laws.specs.RisingLaws.{RisingListsAreSets, SecondCloseChangesNothing};
 ghost use Rattle.model_laws.specs.StopLaws.{StopPlacesAreFirst};
 ghost use Rattle.model_laws.specs.UnreadableLaws.{UnreadableIsFirst};
 ghost use Rattle.model_laws.specs.WorkedReports.{WorkedReport};
@@ -41,6 +42,17 @@ pub fn stop_places_are_first()
 /// A record of a sequence is unmarked exactly where what was passed right before it was delivered too.
 pub fn marks_tell_what_is_missing()
     ensures { MarksTellWhatIsMissing }
+{}
+
+/// The ids that a buffer knows of a sequence are rising lists, which are the same where their members
+/// are.
+pub fn rising_lists_are_sets()
+    ensures { RisingListsAreSets }
+{}
+
+/// A second close of a sequence changes nothing.
+pub fn second_close_changes_nothing()
+    ensures { SecondCloseChangesNothing }
 {}
 
 /// There is a history that meets all that the laws on reports ask for.

@@ -8,5 +8,6 @@ mod laws;
 
 pub use laws::{
     counts_are_balanced, counts_are_of_outcomes, fixed_places_are_starts, losses_change_no_shape,
-    marks_tell_what_is_missing, stop_places_are_first, unreadable_is_first, worked_report,
+    marks_tell_what_is_missing, rising_lists_are_sets, second_close_changes_nothing,
+    stop_places_are_first, unreadable_is_first, worked_report,
 };
