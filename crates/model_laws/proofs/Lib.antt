@@ -4,6 +4,7 @@ pub mod PlaceCounts
 pub mod ReportLemmas
 pub mod RisingLemmas
 pub mod RowEnds
+pub mod SpoiltLemmas
 pub mod StartLemmas
 pub mod StopLemmas
 pub mod UnreadableLemmas

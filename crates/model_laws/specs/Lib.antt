@@ -2,6 +2,7 @@ pub mod Losses
 pub mod MarkLaws
 pub mod OutcomeLaws
 pub mod RisingLaws
+pub mod SpoiltCuts
 pub mod Starts
 pub mod StopLaws
 pub mod UnreadableLaws

@@ -3,6 +3,7 @@ ghost use Rattle.model_laws.specs.Losses.{LossesChangeNoShape};
 ghost use Rattle.model_laws.specs.MarkLaws.{MarksTellWhatIsMissing};
 ghost use Rattle.model_laws.specs.OutcomeLaws.{CountsAreBalanced, CountsAreOfOutcomes, FixedPlacesAreStarts};
 ghost use Rattle.model_laws.specs.RisingLaws.{RisingListsAreSets, SecondCloseChangesNothing};
+ghost use Rattle.model_laws.specs.SpoiltCuts.{SpoiltCutsAreRefused};
 ghost use Rattle.model_laws.specs.StopLaws.{StopPlacesAreFirst};
 ghost use Rattle.model_laws.specs.UnreadableLaws.{UnreadableIsFirst};
 ghost use Rattle.model_laws.specs.WorkedReports.{WorkedReport};
@@ -53,6 +54,12 @@ pub fn rising_lists_are_sets()
 /// A second close of a sequence changes nothing.
 pub fn second_close_changes_nothing()
     ensures { SecondCloseChangesNothing }
+{}
+
+/// Pages with the right bytes are no cut where a packet runs on to nothing, or an open length stands
+/// in two chunks.
+pub fn spoilt_cuts_are_refused()
+    ensures { SpoiltCutsAreRefused }
 {}
 
 /// There is a history that meets all that the laws on reports ask for.

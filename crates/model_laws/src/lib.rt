@@ -9,5 +9,5 @@ mod laws;
 pub use laws::{
     counts_are_balanced, counts_are_of_outcomes, fixed_places_are_starts, losses_change_no_shape,
     marks_tell_what_is_missing, rising_lists_are_sets, second_close_changes_nothing,
-    stop_places_are_first, unreadable_is_first, worked_report,
+    spoilt_cuts_are_refused, stop_places_are_first, unreadable_is_first, worked_report,
 };

@@ -1,11 +1,11 @@
 -- A writer agrees with its view behind a call that changes the packet that is begun.
-use Rattle.std.proofs.Common.{◌≡◌, ◌∙◌, ℕ, ◌+◌, ◌-◌, ◌<◌, ◌≤◌, inl, inr, Bool, true, false, not, ◌||◌, ◌&&◌, List, [], ◌∷◌, ◌++◌, length, map, reverse, Option, Some, is_some, refl, sym, ap, subst, arith, append_assoc}
+use Rattle.std.proofs.Common.{◌≡◌, ◌∙◌, ℕ, ◌+◌, ◌-◌, ◌<◌, ◌≤◌, Bool, true, false, not, ◌||◌, ◌&&◌, List, [], ◌∷◌, ◌++◌, length, map, reverse, Option, Some, None, is_some, refl, sym, ap, subst, arith, append_assoc}
 use Rattle.std.proofs.lemmas.Bool.{true≢false}
 use Rattle.std.proofs.lemmas.List.{length-map, length-reverse}
 use Rattle.trace_base.specs.declared.policy.WriterPolicy.{WriterPolicy}
 use Rattle.trace_base.specs.declared.policy.WriterPolicy.TheVariants.{Drops, Stalls}
 use Rattle.trace_model.specs.Calls.{Call, GivenUp}
-use Rattle.trace_model.specs.Packets.{Packet, Text, Account, account_of, noted, on_newest, is_lost, front_of, body_of, given_up_packet, open_places, with_more}
+use Rattle.trace_model.specs.Packets.{Packet, Text, Account, account_of, noted, on_newest, is_lost, front_of, body_of, given_up_packet, open_places, with_more, newest_is_lost}
 use Rattle.trace_model.specs.Record.{mark_where}
 use Rattle.cut_steps.specs.RawChains.{current_pieces}
 use Rattle.cut_steps.specs.Pending.{hole_at}
@@ -28,16 +28,17 @@ use Rattle.trace_writer.specs.Filled.{ShowsPages, HasByte}
 use Rattle.trace_writer.specs.Ids.{HasIds}
 use Rattle.trace_writer.specs.States.{InFragment, IsIdle, IsStuck}
 use Rattle.trace_writer.specs.Empty.{is_stalled}
+use Rattle.trace_writer.specs.Asked.{written_as}
 use Rattle.trace_writer.specs.Helping.{refuses}
-use Rattle.trace_writer.specs.Flows.{AsksInVainLast, StopsAs, Writes, is_stopped, with_loss}
+use Rattle.trace_writer.specs.Flows.{StopsAs, Writes, is_stopped, with_loss}
 use Rattle.trace_writer.specs.Agreement.{IsMeasured, IsWritingInto, IsThrownAway, StateAgrees, IsInPacketOf, is_inside, is_begun, counted, Agrees}
-use Rattle.trace_writer.specs.Outcomes.{StopsBehind, GoesBehind, Notes, StallsNow}
+use Rattle.trace_writer.specs.Outcomes.{StopsBehind, GoesBehind}
 use Rattle.trace_writer.proofs.Accounts.{dropped_in, dropped-changed, account_is as newest_account}
 use Rattle.trace_writer.proofs.Idling.{changed_idle}
 use Rattle.trace_writer.proofs.Changes.{account_changed, account_lost, newest_open, or_true}
 use Rattle.trace_writer.proofs.Measuring.{long_written, long_opened}
 use Rattle.trace_writer.proofs.RunOn.{inside_seen}
-use Rattle.trace_writer.proofs.Working.{refuses_none}
+use Rattle.trace_writer.proofs.Stopping.{refuses_none}
 
 -- Views that show the same chunks
 
@@ -285,63 +286,43 @@ agrees_behind setup place view mid new before after state pending fragment open_
     agrees_stopped before.route.spec.policy setup place view mid new before after state pending next_id open_one later_one w.packet w.older count change call a packet_is
     w.packets w.unflushed grows (measures w.packet is.some is.measured) noted_is writes.0.calls writes.1 (writes.0.stopped w.packet w.older w.inside) goes
 
-vain_seen : (setup : Setup) (route : Route) (old mid new : WriterView) → new.asked ≡ mid.asked → AsksInVainLast setup route old mid → AsksInVainLast setup route old new
-vain_seen setup route old mid new same vain =
-    record { before = vain.before; words = vain.words; count_is = vain.count_is; claimed = vain.claimed; asked = same ∙ vain.asked }
+-- what is noted, and whether the writer stalls
+noted_behind : (policy : WriterPolicy) (old after : Writer) (mid new : WriterView) (call : Call) (way : Flow) → old.route.spec.policy ≡ policy → GoesBehind old after mid new call way
+    → (new.calls ≡ mid.calls ++ written_as (is_stopped way) policy call) × (is_stalled after.state ≡ refuses policy (is_stopped way))
+noted_behind policy old after mid new call (flow.Going next) is goes =
+    (ap (λ (v : WriterView). v.calls) goes.1, ap (λ (one : Writer). is_stalled one.state) goes.0 ∙ sym (refuses_none policy))
+noted_behind Drops old after mid new call (flow.Stopped next_id) is goes =
+    let stops : StopsBehind Drops old after mid new call next_id = subst (λ (policy : WriterPolicy). StopsBehind policy old after mid new call next_id) is goes in
+    (ap (λ (v : WriterView). v.calls) stops.1 ∙ append_assoc mid.calls (call ∷ []) (GivenUp ∷ []), ap (λ (one : Writer). is_stalled one.state) stops.0)
+noted_behind Stalls old after mid new call (flow.Stopped next_id) is goes =
+    let stops : StopsBehind Stalls old after mid new call next_id = subst (λ (policy : WriterPolicy). StopsBehind policy old after mid new call next_id) is goes in
+    (ap (λ (v : WriterView). v.calls) stops.1, ap (λ (one : Writer). is_stalled one.state) stops.0)
 
--- the call stalls its writer exactly where it stops and the writer is one that stalls
+writes_calls : (setup : Setup) (place : ℕ) (route : Route) (view mid : WriterView) (before pending : Pending) (fragment : OpenFragment)
+    (count : ℕ) (change : Packet → Packet) (way : Flow) → Writes setup place route view mid before pending fragment count change way → mid.calls ≡ view.calls
+writes_calls setup place route view mid before pending fragment count change (flow.Going next) writes = writes.calls
+writes_calls setup place route view mid before pending fragment count change (flow.Stopped next_id) writes = writes.0.calls
+
 pub notes_behind : (setup : Setup) (place : ℕ) (view mid new : WriterView) (before : Writer) (old after : Writer) (pending : Pending) (fragment : OpenFragment)
-    (count : ℕ) (change : Packet → Packet) (call : Call) (way : Flow) → old.route ≡ before.route → refuses before.route.spec.policy (is_stopped way) ≡ false
+    (count : ℕ) (change : Packet → Packet) (call : Call) (way : Flow) → old.route ≡ before.route
     → Writes setup place before.route view mid before.pending pending fragment count change way → GoesBehind old after mid new call way
-    → Notes setup before.route call view new
-notes_behind setup place view mid new before old after pending fragment count change call (flow.Going next) route_is goes_on writes goes =
-    record { calls = inl (ap (λ (v : WriterView). v.calls) goes.1 ∙ ap (λ (calls : List Call). calls ++ call ∷ []) writes.calls) }
-notes_behind setup place view mid new before old after pending fragment count change call (flow.Stopped next_id) route_is goes_on writes goes =
-    either before.route.spec.policy refl goes_on
-    (subst (λ (route : Route). StopsBehind route.spec.policy old after mid new call next_id) route_is goes)
-  where
-    either : (policy : WriterPolicy) → before.route.spec.policy ≡ policy → refuses policy true ≡ false → StopsBehind policy old after mid new call next_id
-        → Notes setup before.route call view new
-    either Drops is none stops = record {
-      calls = inr (
-        ap (λ (v : WriterView). v.calls) stops.1
-            ∙ ap (λ (calls : List Call). (calls ++ call ∷ []) ++ GivenUp ∷ []) writes.0.calls
-            ∙ append_assoc view.calls (call ∷ []) (GivenUp ∷ []),
-        is,
-        vain_seen setup before.route view mid new (ap (λ (v : WriterView). v.asked) stops.1) writes.0.asked,
-      );
-    }
-    either Stalls is none stops = absurd (true≢false none)
-
-pub stalls_behind : (setup : Setup) (place : ℕ) (view mid new : WriterView) (before : Writer) (old after : Writer) (pending : Pending) (fragment : OpenFragment)
-    (count : ℕ) (change : Packet → Packet) (call : Call) (way : Flow) → old.route ≡ before.route → refuses before.route.spec.policy (is_stopped way) ≡ true
-    → Writes setup place before.route view mid before.pending pending fragment count change way → GoesBehind old after mid new call way
-    → (is_stalled after.state ≡ true) × StallsNow setup before.route (call ∷ []) view new
-stalls_behind setup place view mid new before old after pending fragment count change call (flow.Going next) route_is stops_now writes goes =
-    absurd (true≢false (sym stops_now ∙ refuses_none before.route.spec.policy))
-stalls_behind setup place view mid new before old after pending fragment count change call (flow.Stopped next_id) route_is stops_now writes goes =
-    either before.route.spec.policy refl stops_now
-    (subst (λ (route : Route). StopsBehind route.spec.policy old after mid new call next_id) route_is goes)
-  where
-    either : (policy : WriterPolicy) → before.route.spec.policy ≡ policy → refuses policy true ≡ true → StopsBehind policy old after mid new call next_id
-        → (is_stalled after.state ≡ true) × StallsNow setup before.route (call ∷ []) view new
-    either Drops is some stops = absurd (true≢false (sym some))
-    either Stalls is some stops = (
-      ap (λ (one : Writer). is_stalled one.state) stops.0,
-      record {
-        stalls = is;
-        calls = ap (λ (v : WriterView). v.calls) stops.1 ∙ ap (λ (calls : List Call). calls ++ call ∷ []) writes.0.calls;
-        vain = vain_seen setup before.route view mid new (ap (λ (v : WriterView). v.asked) stops.1) writes.0.asked;
-      },
+    → (new.calls ≡ view.calls ++ written_as (is_stopped way) before.route.spec.policy call) × (is_stalled after.state ≡ refuses before.route.spec.policy (is_stopped way))
+notes_behind setup place view mid new before old after pending fragment count change call way route_is writes goes =
+    let noted = noted_behind before.route.spec.policy old after mid new call way (ap (λ (route : Route). route.spec.policy) route_is) goes in (
+      noted.0 ∙ ap (λ (calls : List Call). calls ++ written_as (is_stopped way) before.route.spec.policy call)
+          (writes_calls setup place before.route view mid before.pending pending fragment count change way writes),
+      noted.1,
     )
 
-pub going_behind : (policy : WriterPolicy) (old after : Writer) (mid new : WriterView) (call : Call) (way : Flow) → old.route.spec.policy ≡ policy
-    → refuses policy (is_stopped way) ≡ false → GoesBehind old after mid new call way → is_stalled after.state ≡ false
-going_behind policy old after mid new call (flow.Going next) is none goes = ap (λ (one : Writer). is_stalled one.state) goes.0
-going_behind Drops old after mid new call (flow.Stopped next_id) is none goes =
-    let stops : StopsBehind Drops old after mid new call next_id = subst (λ (policy : WriterPolicy). StopsBehind policy old after mid new call next_id) is goes in
-    ap (λ (one : Writer). is_stalled one.state) stops.0
-going_behind Stalls old after mid new call (flow.Stopped next_id) is none goes = absurd (true≢false none)
+-- a packet that is written isn't lost
+pub not_lost : (packet : Packet) → packet.kept ≡ true → packet.given_up ≡ None → is_lost packet ≡ false
+not_lost packet kept none = ap (λ (b : Bool). not b || is_some packet.given_up) kept ∙ ap (λ (o : Option Text). is_some o) none
+
+pub writing_not_lost : (setup : Setup) (place : ℕ) (view : WriterView) (writer : Writer) (fragment : OpenFragment) → Agrees setup place view writer → writer.state ≡ Writing fragment
+    → newest_is_lost (account_of view.calls).packets ≡ false
+writing_not_lost setup place view writer fragment a was =
+    let w : IsWritingInto (site_of setup place writer.route) (account_of view.calls) view writer.pending fragment = writing_agrees setup place view writer fragment a was in
+    ap newest_is_lost w.packets ∙ not_lost w.packet w.inside.writing.kept w.inside.writing.given_up
 
 -- as many holes are open as messages
 pub as_many_holes : (setup : Setup) (place : ℕ) (view : WriterView) (writer : Writer) (fragment : OpenFragment) (open_one : OpenPacket)

@@ -1,91 +1,131 @@
--- Claims of a writer: what it asked for so far, and what the claim that won or the last one that didn't gives.
-use Rattle.std.proofs.Common.{◌≡◌, ◌∙◌, ℕ, true, List, [], ◌∷◌, ◌++◌, length, refl, sym, ap, subst, append_assoc, append-nil, Option, Some, None, IfNone}
-use Rattle.trace_base.specs.declared.policy.WriterPolicy.TheVariants.{Stalls}
+-- Claims of a writer: what the claim that won, or a round in vain, does to its table and its view.
+use Rattle.std.proofs.Common.{◌≡◌, ◌∙◌, ℕ, ◌+◌, ◌-◌, true, List, [], ◌∷◌, ◌++◌, length, Option, Some, None, IfNone, refl, sym, ap, subst, arith, length-append}
 use Rattle.chunk_plain.specs.declared.tokens.Held.{Held as HeldToken}
 use Rattle.chunk_plain.specs.Setup.{Setup}
-use Rattle.chunk_plain.specs.Views.{Ask, Begun, Held, WriterView}
-use Rattle.chunk_plain.specs.Steps.{no_head}
-use Rattle.claim_arbiter.specs.Claiming.{AsksInVain, ClaimsInTurn, lost_asks}
+use Rattle.chunk_plain.specs.Views.{Ask, Begun, Held, WriterView, ServiceView}
+use Rattle.chunk_plain.specs.World.{World, Unclaimed, Writing, status}
+use Rattle.chunk_plain.specs.Steps.{no_head, moved, noted}
+use Rattle.chunk_plain.specs.Words.{IsWriterStep}
+use Rattle.chunk_plain.proofs.SeatSteps.{steps_follow}
+use Rattle.claim_arbiter.specs.Claiming.{AsksInVain, ClaimsInTurn, NoneFree, lost_asks}
 use Rattle.trace_writer.specs.declared.route.Route.{Route}
-use Rattle.trace_writer.specs.Flows.{AsksMore}
-use Rattle.trace_writer.specs.Helping.{IsOutOfChunks}
 use Rattle.trace_writer.specs.Claims.{Wins, FindsNone}
+use Rattle.trace_writer.specs.OwnSteps.{KeepsChunks, NoneHeld, IsQuiet, GetsChunk, IsOutNow}
+use Rattle.trace_writer.proofs.KeptChunks.{keeps_same, frees_moved, writing_used}
 
--- chunks were asked for in vain, and nothing else of the view changed
-pub record AsksSoFar (old new : WriterView) : Type 0 where
-  pub begun : new.begun ≡ old.begun
-  pub calls : new.calls ≡ old.calls
-  pub asked : AsksMore old new
+pub none_yet : (view : WriterView) → FindsNone view view
+none_yet view = record { begun = refl; calls = refl }
 
-pub asks_first : (view : WriterView) → AsksSoFar view view
-asks_first view = record { begun = refl; calls = refl; asked = record { more = []; asked = sym (append-nil view.asked) } }
-
-pub asks_again : (setup : Setup) (route : Route) (old mid new : WriterView) → AsksSoFar old mid
-    → AsksInVain setup route.arbiter.first route.arbiter.chunks mid new → AsksSoFar old new
-asks_again setup route old mid new so_far vain =
-    let lost : List Ask = lost_asks (length mid.calls) route.arbiter.first vain.words in
-    record {
-      begun = ap (λ (v : WriterView). v.begun) vain.view ∙ so_far.begun;
-      calls = ap (λ (v : WriterView). v.calls) vain.view ∙ so_far.calls;
-      asked = record {
-        more = so_far.asked.more ++ lost;
-        asked = ap (λ (v : WriterView). v.asked) vain.view ∙ ap (λ (asks : List Ask). asks ++ lost) so_far.asked.asked
-            ∙ append_assoc old.asked so_far.asked.more lost;
-      };
-    }
-
--- a view that a help left as it was
-pub asks_kept : (old mid new : WriterView) → new ≡ mid → AsksSoFar old mid → AsksSoFar old new
-asks_kept old mid new same so_far = subst (λ (v : WriterView). AsksSoFar old v) (sym same) so_far
-
-pub asks_in_vain : (setup : Setup) (route : Route) (old mid new : WriterView) → AsksSoFar old mid
-    → AsksInVain setup route.arbiter.first route.arbiter.chunks mid new → FindsNone setup route old new
-asks_in_vain setup route old mid new so_far vain = record {
+pub none_again : (setup : Setup) (route : Route) (old mid new : WriterView) → FindsNone old mid
+    → AsksInVain setup route.arbiter.first route.arbiter.chunks mid new → FindsNone old new
+none_again setup route old mid new so_far vain = record {
   begun = ap (λ (v : WriterView). v.begun) vain.view ∙ so_far.begun;
   calls = ap (λ (v : WriterView). v.calls) vain.view ∙ so_far.calls;
-  asked = record {
-    before = so_far.asked.more;
-    words = vain.words;
-    count_is = vain.count_is;
-    claimed = vain.claimed;
-    asked = ap (λ (v : WriterView). v.asked) vain.view
-        ∙ ap (λ (asks : List Ask). asks ++ lost_asks (length mid.calls) route.arbiter.first vain.words) so_far.asked.asked
-        ∙ ap (λ (n : ℕ). (old.asked ++ so_far.asked.more) ++ lost_asks n route.arbiter.first vain.words) (ap length so_far.calls);
-  };
 }
 
 pub finds_none : (setup : Setup) (route : Route) (old new : WriterView) (found : Option HeldToken)
-    → IfNone found (AsksInVain setup route.arbiter.first route.arbiter.chunks old new) → IfNone found (FindsNone setup route old new)
-finds_none setup route old new None vain = asks_in_vain setup route old old new (asks_first old) vain
+    → IfNone found (AsksInVain setup route.arbiter.first route.arbiter.chunks old new) → IfNone found (FindsNone old new)
+finds_none setup route old new None vain = none_again setup route old old new (none_yet old) vain
 finds_none setup route old new (Some held) vain = vain
 
-pub is_out : (setup : Setup) (route : Route) (mid new : WriterView) → route.spec.policy ≡ Stalls
-    → AsksInVain setup route.arbiter.first route.arbiter.chunks mid new → IsOutOfChunks setup route new
-is_out setup route mid new stalls vain = record {
-  stalls = stalls;
-  before = mid.asked;
-  words = vain.words;
-  count_is = vain.count_is;
-  claimed = vain.claimed;
-  asked = ap (λ (v : WriterView). v.asked) vain.view
-      ∙ ap (λ (n : ℕ). mid.asked ++ lost_asks n route.arbiter.first vain.words) (sym (ap (λ (v : WriterView). length v.calls) vain.view));
+pub wins_in_turn : (setup : Setup) (route : Route) (chunk : ℕ) (old mid new : WriterView) → FindsNone old mid
+    → ClaimsInTurn setup route.arbiter.first route.arbiter.chunks chunk mid new → Wins route chunk old new
+wins_in_turn setup route chunk old mid new so_far claims = record {
+  least = claims.least;
+  below = claims.below;
+  begun = ap (λ (v : WriterView). v.begun) claims.view ∙ ap (λ (xs : List Begun). xs ++ Held chunk no_head ∷ []) so_far.begun;
+  calls = ap (λ (v : WriterView). v.calls) claims.view ∙ so_far.calls;
 }
 
-pub wins_in_turn : (setup : Setup) (route : Route) (chunk : ℕ) (old mid new : WriterView) → AsksSoFar old mid
-    → ClaimsInTurn setup route.arbiter.first route.arbiter.chunks chunk mid new → Wins route chunk old new
-wins_in_turn setup route chunk old mid new so_far claims =
-    let lost : List Ask = lost_asks (length mid.calls) route.arbiter.first claims.words in
-    let won : Ask = record { chunk = chunk; found = claims.found; won = true; calls = length mid.calls } in
-    record {
-      least = claims.least;
-      below = claims.below;
-      begun = ap (λ (v : WriterView). v.begun) claims.view ∙ ap (λ (xs : List Begun). xs ++ Held chunk no_head ∷ []) so_far.begun;
-      calls = ap (λ (v : WriterView). v.calls) claims.view ∙ so_far.calls;
-      asked = record {
-        more = so_far.asked.more ++ (lost ++ won ∷ []);
-        asked = ap (λ (v : WriterView). v.asked) claims.view
-            ∙ append_assoc mid.asked lost (won ∷ [])
-            ∙ ap (λ (asks : List Ask). asks ++ (lost ++ won ∷ [])) so_far.asked.asked
-            ∙ append_assoc old.asked so_far.asked.more (lost ++ won ∷ []);
-      };
-    }
+-- Steps
+
+pub length-lost_asks : (calls first : ℕ) (words : List ℕ) → length (lost_asks calls first words) ≡ length words
+length-lost_asks calls first [] = refl
+length-lost_asks calls first (found ∷ words) = let rest = length-lost_asks calls (first + 1) words in omega (arith, rest)
+
+-- each claim and each begin is a step
+pub won_counts : (setup : Setup) (first count chunk : ℕ) (old new : WriterView) (steps later : ℕ) → ClaimsInTurn setup first count chunk old new
+    → later ≡ steps + (chunk - first) + 2 → later + (length old.asked + length old.begun) ≡ steps + (length new.asked + length new.begun)
+won_counts setup first count chunk old new steps later claims is =
+    let won : Ask = record { chunk = chunk; found = claims.found; won = true; calls = length old.calls } in
+    let lost : List Ask = lost_asks (length old.calls) first claims.words in
+    let asks : length new.asked ≡ length (old.asked ++ lost ++ won ∷ []) = ap (λ (v : WriterView). length v.asked) claims.view in
+    let begun : length new.begun ≡ length (old.begun ++ Held chunk no_head ∷ []) = ap (λ (v : WriterView). length v.begun) claims.view in
+    omega (
+      arith,
+      is,
+      asks,
+      begun,
+      claims.count_is,
+      length-append (old.asked ++ lost) (won ∷ []),
+      length-append old.asked lost,
+      length-lost_asks (length old.calls) first claims.words,
+      length-append old.begun (Held chunk no_head ∷ []),
+    )
+
+pub lost_counts : (setup : Setup) (first count : ℕ) (old new : WriterView) (steps later : ℕ) → AsksInVain setup first count old new
+    → later ≡ steps + count → later + (length old.asked + length old.begun) ≡ steps + (length new.asked + length new.begun)
+lost_counts setup first count old new steps later vain is =
+    let lost : List Ask = lost_asks (length old.calls) first vain.words in
+    let asks : length new.asked ≡ length (old.asked ++ lost) = ap (λ (v : WriterView). length v.asked) vain.view in
+    let begun : length new.begun ≡ length old.begun = ap (λ (v : WriterView). length v.begun) vain.view in
+    omega (arith, is, asks, begun, vain.count_is, length-append old.asked lost, length-lost_asks (length old.calls) first vain.words)
+
+module _ {T W S : Type 0} (setup : T → Setup) (sits : T → W → Type 0) (place : W → ℕ) (view : T → W → WriterView)
+    (serves : T → S → Type 0) (service_view : T → S → ServiceView) (told : T → Option World) where
+  pub gets_chunk : (route : Route) (chunk id : ℕ) (old : T) (seat : W) (new : T) (after : W) → IsWriterStep setup sits place view serves service_view old seat new after
+      → ClaimsInTurn (setup old) route.arbiter.first route.arbiter.chunks chunk (view old seat) (view new after)
+      → ((world : World) → told old ≡ Some world → NoneFree world route.arbiter.first chunk × ∥ status world chunk ≡ Unclaimed ∥₁
+      × (told new ≡ Some (moved world (place seat) (view new after) chunk (Writing (place seat) id no_head))))
+      → GetsChunk setup sits place view serves service_view told route old seat new after
+  gets_chunk route chunk id old seat new after step claims tells = record {
+    step = step;
+    chunk = chunk;
+    claims = claims;
+    frees_none = frees_moved told old new (place seat) chunk (view new after) (Writing (place seat) id no_head) (writing_used (place seat) id no_head)
+        (λ world is. (tells world is).2);
+  }
+
+  pub out_now : (route : Route) (old : T) (seat : W) (new : T) (after : W) → IsWriterStep setup sits place view serves service_view old seat new after
+      → AsksInVain (setup old) route.arbiter.first route.arbiter.chunks (view old seat) (view new after) → NoneHeld (view old seat).begun
+      → ((world : World) → told old ≡ Some world → NoneFree world route.arbiter.first (route.arbiter.first + route.arbiter.chunks)
+      × (told new ≡ Some (noted world (place seat) (view new after))))
+      → IsOutNow setup sits place view serves service_view told route old seat new after
+  out_now route old seat new after step vain none tells =
+      let begun : (view new after).begun ≡ (view old seat).begun = ap (λ (v : WriterView). v.begun) vain.view in
+      record {
+        step = step;
+        words = vain.words;
+        count_is = vain.count_is;
+        all_claimed = vain.claimed;
+        asked = ap (λ (v : WriterView). v.asked) vain.view;
+        claimed = ap (λ (v : WriterView). v.claimed) vain.view;
+        stamped = ap (λ (v : WriterView). v.stamped) vain.view;
+        chunks = subst (λ (chunks : List Begun). KeepsChunks (view old seat).begun chunks) (sym begun) (keeps_same (view old seat).begun);
+        none_held = subst NoneHeld (sym begun) none;
+        none_free = λ world is. (noted world (place seat) (view new after), (tells world is).1, (tells world is).0);
+      }
+
+  -- the same where the writer still holds a chunk, and completes it behind the round
+  pub out_after : (route : Route) (old : T) (seat : W) (mid : T) (between : W) (new : T) (after : W) → IsWriterStep setup sits place view serves service_view old seat mid between
+      → AsksInVain (setup old) route.arbiter.first route.arbiter.chunks (view old seat) (view mid between)
+      → ((world : World) → told old ≡ Some world → NoneFree world route.arbiter.first (route.arbiter.first + route.arbiter.chunks)
+      × (told mid ≡ Some (noted world (place seat) (view mid between))))
+      → IsQuiet setup sits place view serves service_view told mid between new after → NoneHeld (view new after).begun
+      → IsOutNow setup sits place view serves service_view told route old seat new after
+  out_after route old seat mid between new after step vain tells quiet none =
+      record {
+        step = steps_follow setup sits place view serves service_view old seat mid between new after step quiet.step;
+        words = vain.words;
+        count_is = vain.count_is;
+        all_claimed = vain.claimed;
+        asked = quiet.asked ∙ ap (λ (v : WriterView). v.asked) vain.view;
+        claimed = quiet.claimed ∙ ap (λ (v : WriterView). v.claimed) vain.view;
+        stamped = quiet.stamped ∙ ap (λ (v : WriterView). v.stamped) vain.view;
+        chunks = subst (λ (begun : List Begun). KeepsChunks begun (view new after).begun) (ap (λ (v : WriterView). v.begun) vain.view) quiet.chunks;
+        none_held = none;
+        none_free = λ world is.
+            let found = tells world is in
+            let kept = quiet.frees_none (noted world (place seat) (view mid between)) found.1 in
+            (kept.0, kept.1, λ chunk least below free. found.0 chunk least below (kept.2 chunk free));
+      }

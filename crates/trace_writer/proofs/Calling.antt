@@ -14,7 +14,7 @@ use Rattle.trace_writer.specs.declared.route.Route.{Route}
 use Rattle.trace_writer.specs.Site.{Site, site_of}
 use Rattle.trace_writer.specs.Ids.{HasIds}
 use Rattle.trace_writer.specs.Flows.{PutsOn, StopsIn, Flows, SetsLength, WritesOn, CannotWrite, Writes, IsStopped}
-use Rattle.trace_writer.proofs.Putting.{puts_both, lost_behind, lost_within, vain_behind}
+use Rattle.trace_writer.proofs.Putting.{puts_both, lost_behind, lost_within}
 
 -- Bytes
 
@@ -27,10 +27,9 @@ puts_write site old new before after fragment next bytes count count_is puts = r
   byte = puts.byte;
 }
 
-lost_write : (site : Site) (setup : Setup) (route : Route) (old new : WriterView) (before after : Pending) (fragment : OpenFragment) (bytes : List ℕ)
-    → StopsIn site setup route old new before after fragment bytes → CannotWrite site setup route old new before after fragment (with_more bytes)
-lost_write site setup route old new before after fragment bytes lost = record {
-  asked = lost.asked;
+lost_write : (site : Site) (old new : WriterView) (before after : Pending) (fragment : OpenFragment) (bytes : List ℕ)
+    → StopsIn site old new before after fragment bytes → CannotWrite site old new before after fragment (with_more bytes)
+lost_write site old new before after fragment bytes lost = record {
   calls = lost.calls;
   stopped = λ packet older i.
       subst (λ (xs : List ℕ). IsStopped site (with_more xs packet) older new after) (append-nil bytes) (lost.stopped packet older [] i);
@@ -48,17 +47,17 @@ writes_behind setup place route old mid new before between after fragment now on
     puts_write (site_of setup place route) old new before after fragment next (one ++ two) count count_is
     (puts_both (site_of setup place route) old mid new before between after fragment now next one two first second)
 writes_behind setup place route old mid new before between after fragment now one two count (Stopped next_id) count_is first lost = (
-  lost_write (site_of setup place route) setup route old new before after fragment (one ++ two)
-      (lost_behind (site_of setup place route) setup route old mid new before between after fragment now one two [] (one ++ two)
+  lost_write (site_of setup place route) old new before after fragment (one ++ two)
+      (lost_behind (site_of setup place route) old mid new before between after fragment now one two [] (one ++ two)
       (ap (λ (xs : List ℕ). one ++ xs) (sym (append-nil two))) first lost.0),
   lost.1,
 )
 
 -- the first of them doesn't
-pub writes_lost : (site : Site) (setup : Setup) (route : Route) (old new : WriterView) (before after : Pending) (fragment : OpenFragment) (one two : List ℕ)
-    → StopsIn site setup route old new before after fragment one → CannotWrite site setup route old new before after fragment (with_more (one ++ two))
-writes_lost site setup route old new before after fragment one two lost =
-    lost_write site setup route old new before after fragment (one ++ two) (lost_within site setup route old new before after fragment one two lost)
+pub writes_lost : (site : Site) (old new : WriterView) (before after : Pending) (fragment : OpenFragment) (one two : List ℕ)
+    → StopsIn site old new before after fragment one → CannotWrite site old new before after fragment (with_more (one ++ two))
+writes_lost site old new before after fragment one two lost =
+    lost_write site old new before after fragment (one ++ two) (lost_within site old new before after fragment one two lost)
 
 -- A tag and a length
 
@@ -75,7 +74,6 @@ writes_nested setup place route old mid new before between after fragment now ta
 }
 writes_nested setup place route old mid new before between after fragment now tag (Stopped next_id) first lost = (
   record {
-    asked = vain_behind setup route old mid new first.asked first.calls lost.0.asked;
     calls = lost.0.calls ∙ first.calls;
     stopped = λ packet older i. lost.0.stopped (with_more tag packet) older (first.keeps packet older i);
   },
@@ -83,11 +81,10 @@ writes_nested setup place route old mid new before between after fragment now ta
 )
 
 -- the tag doesn't
-pub nested_lost : (site : Site) (setup : Setup) (route : Route) (old new : WriterView) (before after : Pending) (fragment : OpenFragment) (tag : List ℕ)
-    → StopsIn site setup route old new before after fragment tag
-    → CannotWrite site setup route old new before after fragment (λ (packet : Packet). with_open (with_more tag packet))
-nested_lost site setup route old new before after fragment tag lost = record {
-  asked = lost.asked;
+pub nested_lost : (site : Site) (old new : WriterView) (before after : Pending) (fragment : OpenFragment) (tag : List ℕ)
+    → StopsIn site old new before after fragment tag
+    → CannotWrite site old new before after fragment (λ (packet : Packet). with_open (with_more tag packet))
+nested_lost site old new before after fragment tag lost = record {
   calls = lost.calls;
   stopped = λ packet older i.
       subst (λ (xs : List ℕ). IsStopped site (with_open (with_more xs packet)) older new after) (append-nil tag) (lost.stopped_nested packet older [] i);

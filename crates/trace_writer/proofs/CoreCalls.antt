@@ -1,19 +1,14 @@
 -- What a call leaves of the packet that is begun, by the view of the writer's seat.
-use Rattle.std.proofs.Common.{◌≡◌, ◌∙◌, ℕ, ◌+◌, ◌<◌, Bool, true, false, not, inl, inr, if◌then◌else◌, List, [], ◌∷◌, ◌++◌, length, ◌⊎◌, Result, Ok, Err, IfOk, IfErr, refl, sym, ap, arith}
+use Rattle.std.proofs.Common.{◌≡◌, ◌∙◌, ℕ, ◌+◌, ◌<◌, Bool, true, false, not, true≢false, if◌then◌else◌, List, [], ◌∷◌, ◌++◌, length, refl, sym, ap, arith}
 use Rattle.std.proofs.lemmas.List.Sums.{fold-append}
-use Rattle.trace_model.specs.Calls.{Call, Begun, Number, Bytes, Nested, Ended, GivenUp, Finished, Flushed}
-use Rattle.trace_model.specs.Encoding.{number_field, bytes_field}
-use Rattle.trace_model.specs.Packets.{Packet, Account, account_of, noted, nothing_yet, on_newest, with_more, with_nested, with_nested_ended, given_up_packet, finished_packet, written, closed_levels, open_places, is_writing}
-use Rattle.chunk_plain.specs.Setup.{Setup}
+use Rattle.trace_model.specs.Calls.{Call, Begun, Ended, GivenUp, Finished, Flushed}
+use Rattle.trace_model.specs.Packets.{Packet, Account, account_of, noted, nothing_yet, on_newest, with_more, with_nested_ended, given_up_packet, finished_packet, written, closed_levels, open_places, is_writing}
+use Rattle.trace_base.specs.declared.policy.WriterPolicy.{WriterPolicy}
+use Rattle.trace_base.specs.declared.policy.WriterPolicy.TheVariants.{Drops, Stalls}
 use Rattle.chunk_plain.specs.Views.{WriterView}
-use Rattle.trace_writer.specs.declared.route.Route.{Route}
+use Rattle.trace_writer.specs.Asked.{written_as, begun_as}
+use Rattle.trace_writer.specs.Helping.{refuses}
 use Rattle.trace_writer.specs.Core.{in_packet, newest_depth, open_depth}
-use Rattle.trace_writer.specs.declared.fault.CallFault.{CallFault}
-use Rattle.trace_writer.specs.declared.fault.CallFault.TheVariants as fault_of
-use Rattle.trace_writer.specs.declared.fault.Begun.{Begun as BegunPacket}
-use Rattle.trace_writer.specs.declared.fault.Begun.TheVariants.{Kept, Dropping}
-use Rattle.trace_writer.specs.Placing.{BeginsPacket}
-use Rattle.trace_writer.specs.Outcomes.{Notes, StallsNow}
 use Rattle.trace_writer.proofs.Accounts.{account_one}
 
 -- whether a packet is begun, and how deep it is, by an account
@@ -60,41 +55,46 @@ begun_in view new kept notes =
     let account : account_of new.calls ≡ noted (account_of view.calls) (Begun kept) = ap account_of notes ∙ account_one view.calls (Begun kept) in
     (ap (λ (a : Account). is_writing a.packets) account, ap (λ (a : Account). depth_in a.packets) account)
 
-pub begins_in : (setup : Setup) (route : Route) (view new : WriterView) (answer : Result BegunPacket CallFault)
-    → IfOk answer (λ begun. BeginsPacket setup route view new begun) → IfOk answer (λ _. in_packet new ≡ true) × IfOk answer (λ _. open_depth new ≡ 0)
-begins_in setup route view new (Ok Kept) begins = begun_in view new true begins
-begins_in setup route view new (Ok Dropping) begins = begun_in view new false begins.0
-begins_in setup route view new (Err fault) begins = (begins, begins)
+pub begins_in : (view new : WriterView) (policy : WriterPolicy) (stopped stalled : Bool) → new.calls ≡ view.calls ++ begun_as stopped policy
+    → stalled ≡ refuses policy stopped → stalled ≡ false → (in_packet new ≡ true) × (open_depth new ≡ 0)
+begins_in view new policy false stalled notes is goes = begun_in view new true notes
+begins_in view new Drops true stalled notes is goes = begun_in view new false notes
+begins_in view new Stalls true stalled notes is goes = absurd (true≢false (sym is ∙ goes))
 
--- a field call leaves it begun, whether it is given up or not
-pub goes_on : (setup : Setup) (route : Route) (view new : WriterView) (call : Call) (change : Packet → Packet)
+-- a field call leaves it begun, whether it is given up or not, and as deep where it opens no message
+written_one : (view new : WriterView) (call : Call) (change : Packet → Packet) → ((account : Account) → noted account call ≡ on_newest change account)
+    → ((packet : Packet) → (change packet).finished ≡ packet.finished) → new.calls ≡ view.calls ++ call ∷ [] → in_packet new ≡ in_packet view
+written_one view new call change is same notes =
+    ap (λ (a : Account). is_writing a.packets) (ap account_of notes ∙ account_one view.calls call ∙ is (account_of view.calls))
+    ∙ writing_changed change (account_of view.calls).packets (account_of view.calls).flushed same
+
+pub written_in : (view new : WriterView) (call : Call) (change : Packet → Packet) (policy : WriterPolicy) (stopped : Bool)
     → ((account : Account) → noted account call ≡ on_newest change account) → ((packet : Packet) → (change packet).finished ≡ packet.finished)
-    → Notes setup route call view new → in_packet view ≡ true → in_packet new ≡ true
-goes_on setup route view new call change is same notes writes =
-    let first : is_writing (noted (account_of view.calls) call).packets ≡ true =
-    ap (λ (a : Account). is_writing a.packets) (is (account_of view.calls)) ∙ writing_changed change (account_of view.calls).packets (account_of view.calls).flushed same ∙ writes in
-    elim notes.calls [
-      | inl e ↦ ap (λ (a : Account). is_writing a.packets) (ap account_of e ∙ account_one view.calls call) ∙ first
-      | inr e ↦
-          ap (λ (a : Account). is_writing a.packets) (ap account_of e.0 ∙ account_two view.calls call GivenUp)
-          ∙ writing_changed given_up_packet (noted (account_of view.calls) call).packets (noted (account_of view.calls) call).flushed (λ packet. refl)
-          ∙ first
-    ]
+    → new.calls ≡ view.calls ++ written_as stopped policy call → in_packet new ≡ in_packet view
+written_in view new call change policy false is same notes = written_one view new call change is same notes
+written_in view new call change Drops true is same notes =
+    ap (λ (a : Account). is_writing a.packets) (ap account_of notes ∙ account_two view.calls call GivenUp)
+    ∙ writing_changed given_up_packet (noted (account_of view.calls) call).packets (noted (account_of view.calls) call).flushed (λ packet. refl)
+    ∙ ap (λ (a : Account). is_writing a.packets) (is (account_of view.calls))
+    ∙ writing_changed change (account_of view.calls).packets (account_of view.calls).flushed same
+written_in view new call change Stalls true is same notes = written_one view new call change is same notes
 
--- and as deep, where it opens no message
-pub stays_deep : (setup : Setup) (route : Route) (view new : WriterView) (call : Call) (change : Packet → Packet)
+deep_one : (view new : WriterView) (call : Call) (change : Packet → Packet) → ((account : Account) → noted account call ≡ on_newest change account) → KeepsOpen change
+    → new.calls ≡ view.calls ++ call ∷ [] → open_depth new ≡ open_depth view
+deep_one view new call change is keeps notes =
+    ap (λ (a : Account). depth_in a.packets) (ap account_of notes ∙ account_one view.calls call ∙ is (account_of view.calls))
+    ∙ depth_changed change (account_of view.calls).packets (account_of view.calls).flushed keeps
+
+pub written_deep : (view new : WriterView) (call : Call) (change : Packet → Packet) (policy : WriterPolicy) (stopped : Bool)
     → ((account : Account) → noted account call ≡ on_newest change account) → KeepsOpen change
-    → Notes setup route call view new → open_depth new ≡ open_depth view
-stays_deep setup route view new call change is keeps notes =
-    let first : depth_in (noted (account_of view.calls) call).packets ≡ open_depth view =
-    ap (λ (a : Account). depth_in a.packets) (is (account_of view.calls)) ∙ depth_changed change (account_of view.calls).packets (account_of view.calls).flushed keeps in
-    elim notes.calls [
-      | inl e ↦ ap (λ (a : Account). depth_in a.packets) (ap account_of e ∙ account_one view.calls call) ∙ first
-      | inr e ↦
-          ap (λ (a : Account). depth_in a.packets) (ap account_of e.0 ∙ account_two view.calls call GivenUp)
-          ∙ depth_changed given_up_packet (noted (account_of view.calls) call).packets (noted (account_of view.calls) call).flushed given_up_keeps
-          ∙ first
-    ]
+    → new.calls ≡ view.calls ++ written_as stopped policy call → open_depth new ≡ open_depth view
+written_deep view new call change policy false is keeps notes = deep_one view new call change is keeps notes
+written_deep view new call change Drops true is keeps notes =
+    ap (λ (a : Account). depth_in a.packets) (ap account_of notes ∙ account_two view.calls call GivenUp)
+    ∙ depth_changed given_up_packet (noted (account_of view.calls) call).packets (noted (account_of view.calls) call).flushed given_up_keeps
+    ∙ ap (λ (a : Account). depth_in a.packets) (is (account_of view.calls))
+    ∙ depth_changed change (account_of view.calls).packets (account_of view.calls).flushed keeps
+written_deep view new call change Stalls true is keeps notes = deep_one view new call change is keeps notes
 
 -- the innermost message ends
 ended_depth : (packets : List Packet) (flushed : Bool) → 0 < depth_in packets
@@ -150,34 +150,3 @@ finished_out view new notes =
 
 pub flushed_out : (view new : WriterView) → new.calls ≡ view.calls ++ Flushed ∷ [] → in_packet new ≡ in_packet view
 flushed_out view new notes = ap (λ (a : Account). is_writing a.packets) (ap account_of notes ∙ account_one view.calls Flushed)
-
--- A number or a text
-pub number_in : (setup : Setup) (route : Route) (view new : WriterView) (field value : ℕ) → Notes setup route (Number field value) view new → in_packet view ≡ true
-    → (in_packet new ≡ true) × (open_depth new ≡ open_depth view)
-number_in setup route view new field value notes writes = (
-  goes_on setup route view new (Number field value) (with_more (number_field field value)) (λ account. refl) (λ packet. refl) notes writes,
-  stays_deep setup route view new (Number field value) (with_more (number_field field value)) (λ account. refl) (more_keeps (number_field field value)) notes,
-)
-
-pub bytes_in : (setup : Setup) (route : Route) (view new : WriterView) (field times : ℕ) (text : List ℕ) → Notes setup route (Bytes field text times) view new → in_packet view ≡ true
-    → (in_packet new ≡ true) × (open_depth new ≡ open_depth view)
-bytes_in setup route view new field times text notes writes = (
-  goes_on setup route view new (Bytes field text times) (with_more (bytes_field field text times)) (λ account. refl) (λ packet. refl) notes writes,
-  stays_deep setup route view new (Bytes field text times) (with_more (bytes_field field text times)) (λ account. refl) (more_keeps (bytes_field field text times)) notes,
-)
-
-pub nested_in : (setup : Setup) (route : Route) (view new : WriterView) (field : ℕ) → Notes setup route (Nested field) view new → in_packet view ≡ true → in_packet new ≡ true
-nested_in setup route view new field notes writes = goes_on setup route view new (Nested field) (with_nested field) (λ account. refl) (λ packet. refl) notes writes
-
--- A call of a writer that may stall: it is noted, or nothing was done
-
-noted_stalled : (setup : Setup) (route : Route) (call : Call) (view new : WriterView) → StallsNow setup route (call ∷ []) view new → Notes setup route call view new
-noted_stalled setup route call view new stalls = record { calls = inl stalls.calls }
-
-pub noted_or_same : {A : Type 0} (P : Type 0) (answer : Result A CallFault) (was : Bool) (setup : Setup) (route : Route) (call : Call) (view new : WriterView)
-    → IfOk answer (λ _. Notes setup route call view new) → (was ≡ true → new ≡ view)
-    → (was ≡ false → IfErr answer (λ fault. (fault ≡ fault_of.Stalled) × P × StallsNow setup route (call ∷ []) view new))
-    → Notes setup route call view new ⊎ (new ≡ view)
-noted_or_same P (Ok answer) was setup route call view new notes same stalls = inl notes
-noted_or_same P (Err fault) true setup route call view new notes same stalls = inr (same refl)
-noted_or_same P (Err fault) false setup route call view new notes same stalls = inl (noted_stalled setup route call view new (stalls refl).2)

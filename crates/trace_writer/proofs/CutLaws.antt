@@ -29,7 +29,8 @@ use Rattle.trace_writer.specs.Site.{Site, site_of}
 use Rattle.trace_writer.specs.Filled.{ShowsPages, HasByte}
 use Rattle.trace_writer.specs.States.{InFragment, IsIdle, IsBehind, IsStuck}
 use Rattle.trace_writer.specs.Agreement.{StateAgrees, IsInPacketOf, is_begun, is_inside}
-use Rattle.trace_writer.specs.Outcomes.{completed_images, completed_patches, held_image, fragment_payload, held_images, held_patches, HasCut, AgreeingIsCut}
+use Rattle.trace_writer.specs.Laws.{AgreeingIsCut}
+use Rattle.trace_writer.specs.Outcomes.{completed_images, completed_patches, held_image, fragment_payload, held_images, held_patches, HasCut}
 use Rattle.trace_writer.proofs.Finishing.{laid_all}
 use Rattle.trace_writer.proofs.Holes.{lasts_reverse}
 use Rattle.trace_writer.proofs.Idling.{ended_page}
@@ -216,4 +217,4 @@ state_is_cut setup place route view pending packet (Stalled next_id) inside same
 
 pub agreeing_is_cut : AgreeingIsCut
 agreeing_is_cut setup place view writer agrees =
-    state_is_cut setup place writer.route view writer.pending writer.packet writer.state agrees.packet agrees.inside agrees.state
+    state_is_cut setup place writer.route view writer.pending writer.packet writer.state agrees.writes.packet agrees.writes.inside agrees.writes.state

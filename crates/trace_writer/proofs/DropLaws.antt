@@ -8,7 +8,7 @@ use Rattle.trace_writer.specs.declared.state.State.{State}
 use Rattle.trace_writer.specs.declared.state.State.TheVariants.{Idle, Between, Writing, Dropping, Stalled}
 use Rattle.trace_writer.specs.Agreement.{StateAgrees}
 use Rattle.trace_writer.specs.Empty.{is_stalled}
-use Rattle.trace_writer.specs.Outcomes.{DropsNeverStall}
+use Rattle.trace_writer.specs.Laws.{DropsNeverStall}
 use Rattle.trace_writer.specs.Site.{Site, site_of}
 
 state_goes : (site : Site) (account : Account) (view : WriterView) (pending : Pending) (state : State)
@@ -21,4 +21,4 @@ state_goes site account view pending (Stalled next_id) agrees drops = absurd (cc
 
 pub drops_never_stall : DropsNeverStall
 drops_never_stall setup place view writer agrees drops =
-    state_goes (site_of setup place writer.route) (account_of view.calls) view writer.pending writer.state agrees.state drops
+    state_goes (site_of setup place writer.route) (account_of view.calls) view writer.pending writer.state agrees.writes.state drops

@@ -8,22 +8,20 @@ use Rattle.trace_model.specs.Images.{with_bytes}
 use Rattle.trace_model.specs.Packets.{Packet, with_more}
 use Rattle.commit_body.specs.Patches.{holes_outside}
 use Rattle.commit_body.specs.Pending.{Pending}
-use Rattle.chunk_plain.specs.Setup.{Setup, spot}
-use Rattle.chunk_plain.specs.Views.{Ask, Begun, Held, WriterView}
-use Rattle.claim_arbiter.specs.Claiming.{lost_asks}
+use Rattle.chunk_plain.specs.Setup.{spot}
+use Rattle.chunk_plain.specs.Views.{Begun, Held, WriterView}
 use Rattle.trace_model.proofs.EncodingLemmas.{length-repeat}
 use Rattle.cut_steps.specs.Writing.{with_open, IsWriting}
 use Rattle.cut_steps.proofs.Places.{with_bytes_right}
 use Rattle.cut_steps.proofs.WritingSteps.{writing_more, with_more-both, with_more-none}
 use Rattle.trace_writer.specs.declared.fragment.OpenFragment.{OpenFragment}
-use Rattle.trace_writer.specs.declared.route.Route.{Route}
 use Rattle.trace_writer.specs.Headers.{held_head}
 use Rattle.trace_writer.specs.Site.{Site}
 use Rattle.trace_writer.specs.Filled.{frames, IsWritten, HasByte}
 use Rattle.trace_writer.specs.Fragment.{IsPutInto}
 use Rattle.trace_writer.specs.Ids.{HasIds}
 use Rattle.trace_writer.specs.States.{InFragment}
-use Rattle.trace_writer.specs.Flows.{IsInPacket, AsksMore, AsksInVainLast, PutsOn, StopsIn, RunsOn, CannotRunOn, IsStopped}
+use Rattle.trace_writer.specs.Flows.{IsInPacket, PutsOn, StopsIn, RunsOn, StopsHere, IsStopped}
 use Rattle.trace_writer.proofs.Payloads.{written_moved}
 
 -- One fragment
@@ -139,7 +137,6 @@ pub record PutsSoFar (site : Site) (old new : WriterView) (before after : Pendin
   pub put : List ℕ
   pub piece_is : piece ≡ put ++ rest
   pub calls : new.calls ≡ old.calls
-  pub asked : AsksMore old new
   pub holes : length after.holes ≡ length before.holes
   pub keeps : (packet : Packet) (older : List Packet) → InFragment site packet older old before fragment []
       → InFragment site (with_more put packet) older new after next []
@@ -150,35 +147,12 @@ four_below : (count at end : ℕ) → end ≡ at + count → 4 ≤ at → (count
 four_below zero at end is low h = omega (arith, is, h refl)
 four_below (suc count) at end is low h = omega (arith, is, low)
 
-asks_none : (view : WriterView) → AsksMore view view
-asks_none view = record { more = []; asked = sym (append-nil view.asked) }
-
-pub asks_both : (old mid new : WriterView) → AsksMore old mid → AsksMore mid new → AsksMore old new
-asks_both old mid new one two = record {
-  more = one.more ++ two.more;
-  asked = two.asked ∙ ap (λ (asks : List Ask). asks ++ two.more) one.asked ∙ append_assoc old.asked one.more two.more;
-}
-
-pub vain_behind : (setup : Setup) (route : Route) (old mid new : WriterView) → AsksMore old mid → mid.calls ≡ old.calls
-    → AsksInVainLast setup route mid new → AsksInVainLast setup route old new
-vain_behind setup route old mid new one calls vain = record {
-  before = one.more ++ vain.before;
-  words = vain.words;
-  count_is = vain.count_is;
-  claimed = vain.claimed;
-  asked = vain.asked
-      ∙ ap (λ (asks : List Ask). (asks ++ vain.before) ++ lost_asks (length mid.calls) route.arbiter.first vain.words) one.asked
-      ∙ ap (λ (asks : List Ask). asks ++ lost_asks (length mid.calls) route.arbiter.first vain.words) (append_assoc old.asked one.more vain.before)
-      ∙ ap (λ (n : ℕ). (old.asked ++ (one.more ++ vain.before)) ++ lost_asks n route.arbiter.first vain.words) (ap length calls);
-}
-
 pub puts_none : (site : Site) (view : WriterView) (pending : Pending) (fragment : OpenFragment) (piece : List ℕ)
     → PutsSoFar site view view pending pending fragment fragment piece piece
 puts_none site view pending fragment piece = record {
   put = [];
   piece_is = refl;
   calls = refl;
-  asked = asks_none view;
   holes = refl;
   keeps = λ packet older i.
       subst (λ (p : Packet). InFragment site p older view pending fragment []) (sym (with_more-none packet)) i;
@@ -200,7 +174,6 @@ puts_part site old new before after fragment now next piece rest count count_is 
           ∙ ap (λ (xs : List ℕ). so_far.put ++ xs) (sym (take-append-drop count rest))
           ∙ sym (append_assoc so_far.put (take count rest) (drop count rest));
       calls = so_far.calls;
-      asked = so_far.asked;
       holes = so_far.holes;
       keeps = λ packet older i.
           subst (λ (p : Packet). InFragment site p older new after next []) (with_more-both packet so_far.put (take count rest))
@@ -235,7 +208,6 @@ puts_run site old mid new before between after fragment next later piece rest so
   put = so_far.put;
   piece_is = so_far.piece_is;
   calls = runs.calls ∙ so_far.calls;
-  asked = asks_both old mid new so_far.asked runs.asked;
   holes = ap length runs.holes ∙ so_far.holes;
   keeps = λ packet older i. runs.full full (with_more so_far.put packet) older (so_far.keeps packet older i);
   ids = λ further h. ids_next next later (length rest + further) runs.start runs.at runs.id (omega (arith, full, least)) (so_far.ids further h);
@@ -243,22 +215,21 @@ puts_run site old mid new before between after fragment next later piece rest so
 }
 
 -- or the packet stops
-pub puts_lost : (site : Site) (setup : Setup) (route : Route) (old mid new : WriterView) (before between after : Pending) (fragment next : OpenFragment)
-    (piece rest : List ℕ) → PutsSoFar site old mid before between fragment next piece rest → CannotRunOn site setup route mid new between after next
-    → next.at ≡ site.size → 0 < length rest → StopsIn site setup route old new before after fragment piece
-puts_lost site setup route old mid new before between after fragment next piece rest so_far cannot full left =
+pub puts_lost : (site : Site) (old mid new : WriterView) (before between after : Pending) (fragment next : OpenFragment)
+    (piece rest : List ℕ) → PutsSoFar site old mid before between fragment next piece rest → StopsHere site mid new between after next
+    → next.at ≡ site.size → 0 < length rest → StopsIn site old new before after fragment piece
+puts_lost site old mid new before between after fragment next piece rest so_far cannot full left =
     let whole : (packet : Packet) (more : List ℕ) → with_more (rest ++ more) (with_more so_far.put packet) ≡ with_more (piece ++ more) packet =
     λ packet more. with_more-both packet so_far.put (rest ++ more)
     ∙ ap (λ (xs : List ℕ). with_more xs packet) (sym (append_assoc so_far.put rest more) ∙ ap (λ (xs : List ℕ). xs ++ more) (sym so_far.piece_is)) in
     record {
-      asked = vain_behind setup route old mid new so_far.asked so_far.calls cannot.asked;
-      calls = cannot.stops.calls ∙ so_far.calls;
+      calls = cannot.calls ∙ so_far.calls;
       stopped = λ packet older more i.
           subst (λ (p : Packet). IsStopped site p older new after) (whole packet more)
-          (cannot.stops.full full (with_more so_far.put packet) older (rest ++ more) (omega (arith, length-append rest more, left)) (so_far.keeps packet older i));
+          (cannot.full full (with_more so_far.put packet) older (rest ++ more) (omega (arith, length-append rest more, left)) (so_far.keeps packet older i));
       stopped_nested = λ packet older more i.
           subst (λ (p : Packet). IsStopped site (with_open p) older new after) (whole packet more)
-          (cannot.stops.full_nested full (with_more so_far.put packet) older (rest ++ more) (so_far.keeps packet older i));
+          (cannot.full_nested full (with_more so_far.put packet) older (rest ++ more) (so_far.keeps packet older i));
     }
 
 -- all of it is written
@@ -268,7 +239,6 @@ puts_all site old new before after fragment next piece [] so_far none =
     let all : so_far.put ≡ piece = sym (so_far.piece_is ∙ append-nil so_far.put) in
     record {
       calls = so_far.calls;
-      asked = so_far.asked;
       holes = so_far.holes;
       keeps = λ packet older i. subst (λ (xs : List ℕ). InFragment site (with_more xs packet) older new after next []) all (so_far.keeps packet older i);
       ids = λ further h. subst (λ (n : ℕ). HasIds next n) (omega arith) (so_far.ids further h);
@@ -290,7 +260,6 @@ pub puts_both : (site : Site) (old mid new : WriterView) (before between after :
     → PutsOn site old new before after fragment next (one ++ two)
 puts_both site old mid new before between after fragment now next one two first second = record {
   calls = second.calls ∙ first.calls;
-  asked = asks_both old mid new first.asked second.asked;
   holes = second.holes ∙ first.holes;
   keeps = λ packet older i.
       subst (λ (p : Packet). InFragment site p older new after next []) (with_more-both packet one two)
@@ -301,17 +270,16 @@ puts_both site old mid new before between after fragment now next one two first 
 }
 
 -- a packet that stops in a piece behind another stops in the two, whatever comes behind them
-pub lost_behind : (site : Site) (setup : Setup) (route : Route) (old mid new : WriterView) (before between after : Pending) (fragment now : OpenFragment)
+pub lost_behind : (site : Site) (old mid new : WriterView) (before between after : Pending) (fragment now : OpenFragment)
     (one two later whole : List ℕ) → whole ≡ one ++ (two ++ later)
-    → PutsOn site old mid before between fragment now one → StopsIn site setup route mid new between after now two
-    → StopsIn site setup route old new before after fragment whole
-lost_behind site setup route old mid new before between after fragment now one two later whole whole_is first lost =
+    → PutsOn site old mid before between fragment now one → StopsIn site mid new between after now two
+    → StopsIn site old new before after fragment whole
+lost_behind site old mid new before between after fragment now one two later whole whole_is first lost =
     let all : (packet : Packet) (more : List ℕ) → with_more (two ++ (later ++ more)) (with_more one packet) ≡ with_more (whole ++ more) packet =
     λ packet more. with_more-both packet one (two ++ (later ++ more))
     ∙ ap (λ (xs : List ℕ). with_more xs packet)
     (ap (λ (xs : List ℕ). one ++ xs) (sym (append_assoc two later more)) ∙ sym (append_assoc one (two ++ later) more) ∙ ap (λ (xs : List ℕ). xs ++ more) (sym whole_is)) in
     record {
-      asked = vain_behind setup route old mid new first.asked first.calls lost.asked;
       calls = lost.calls ∙ first.calls;
       stopped = λ packet older more i.
           subst (λ (p : Packet). IsStopped site p older new after) (all packet more)
@@ -322,10 +290,9 @@ lost_behind site setup route old mid new before between after fragment now one t
     }
 
 -- a packet that stops in a piece stops in it and what comes behind
-pub lost_within : (site : Site) (setup : Setup) (route : Route) (old new : WriterView) (before after : Pending) (fragment : OpenFragment) (one later : List ℕ)
-    → StopsIn site setup route old new before after fragment one → StopsIn site setup route old new before after fragment (one ++ later)
-lost_within site setup route old new before after fragment one later lost = record {
-  asked = lost.asked;
+pub lost_within : (site : Site) (old new : WriterView) (before after : Pending) (fragment : OpenFragment) (one later : List ℕ)
+    → StopsIn site old new before after fragment one → StopsIn site old new before after fragment (one ++ later)
+lost_within site old new before after fragment one later lost = record {
   calls = lost.calls;
   stopped = λ packet older more i.
       subst (λ (xs : List ℕ). IsStopped site (with_more xs packet) older new after) (sym (append_assoc one later more)) (lost.stopped packet older (later ++ more) i);
@@ -337,7 +304,6 @@ lost_within site setup route old new before after fragment one later lost = reco
 pub puts_nothing : (site : Site) (view : WriterView) (pending : Pending) (fragment : OpenFragment) → PutsOn site view view pending pending fragment fragment []
 puts_nothing site view pending fragment = record {
   calls = refl;
-  asked = asks_none view;
   holes = refl;
   keeps = λ packet older i. subst (λ (p : Packet). InFragment site p older view pending fragment []) (sym (with_more-none packet)) i;
   ids = λ further h. subst (λ (n : ℕ). HasIds fragment n) (omega arith) h;
@@ -370,12 +336,12 @@ times_next site old mid new before between after fragment now next turn piece fi
     (sym (repeat-next turn piece))
     (puts_both site old mid new before between after fragment now next (repeat turn piece) piece first second)
 
-pub times_lost : (site : Site) (setup : Setup) (route : Route) (old mid new : WriterView) (before between after : Pending) (fragment now : OpenFragment)
+pub times_lost : (site : Site) (old mid new : WriterView) (before between after : Pending) (fragment now : OpenFragment)
     (turn times : ℕ) (piece : List ℕ) → turn < times
-    → PutsOn site old mid before between fragment now (repeat turn piece) → StopsIn site setup route mid new between after now piece
-    → StopsIn site setup route old new before after fragment (repeat times piece)
-times_lost site setup route old mid new before between after fragment now turn times piece earlier first lost =
-    lost_behind site setup route old mid new before between after fragment now (repeat turn piece) piece (repeat (times - (turn + 1)) piece) (repeat times piece)
+    → PutsOn site old mid before between fragment now (repeat turn piece) → StopsIn site mid new between after now piece
+    → StopsIn site old new before after fragment (repeat times piece)
+times_lost site old mid new before between after fragment now turn times piece earlier first lost =
+    lost_behind site old mid new before between after fragment now (repeat turn piece) piece (repeat (times - (turn + 1)) piece) (repeat times piece)
     (repeat-at turn times piece earlier) first lost
 
 pub times_ids : (site : Site) (old new : WriterView) (before after : Pending) (fragment now : OpenFragment) (turn times : ℕ) (piece : List ℕ) → turn < times

@@ -1,7 +1,9 @@
 -- A packet runs on: the next chunk is begun, the held one is completed, and the packet's next fragment is started.
-use Rattle.std.proofs.Common.{◌≡◌, ◌∙◌, ℕ, ◌+◌, ◌-◌, ◌<◌, ◌≤◌, ◌||◌, Bool, true, false, List, [], ◌∷◌, ◌++◌, length, reverse, vec_len, refl, sym, ap, subst, arith, length-append, append_assoc, append-nil, inl, inr}
+use Rattle.std.proofs.Common.{◌≡◌, ◌∙◌, ℕ, ◌+◌, ◌-◌, ◌<◌, ◌≤◌, ◌||◌, Bool, true, false, List, [], ◌∷◌, ◌++◌, length, reverse, vec_len, refl, sym, ap, subst, arith, length-append, append_assoc, inl, inr}
 use Rattle.std.specs.Prelude.{◌⊎◌, IsTrue}
 use Rattle.std.proofs.lemmas.Bool.{eq-eqb}
+use Rattle.trace_base.specs.declared.policy.WriterPolicy.{WriterPolicy}
+use Rattle.trace_base.specs.declared.policy.WriterPolicy.TheVariants.{Drops, Stalls}
 use Rattle.wire_varint.specs.Varint.{redundant}
 use Rattle.trace_model.specs.Images.{Patch, with_bytes}
 use Rattle.trace_model.specs.Packets.{Packet, body_of}
@@ -14,12 +16,12 @@ use Rattle.commit_body.specs.Pending.{Pending}
 use Rattle.chunk_plain.specs.declared.setup.ChunkRange.{ChunkRange}
 use Rattle.chunk_plain.specs.declared.tokens.Held.{Held as HeldToken}
 use Rattle.chunk_plain.specs.Setup.{Setup, spot}
-use Rattle.chunk_plain.specs.Views.{Ask, Begun, Held, Completed, Head, Content, WriterView}
+use Rattle.chunk_plain.specs.Views.{Begun, Held, Completed, Head, Content, WriterView}
 use Rattle.chunk_plain.specs.Steps.{no_head, restamps, completes}
 use Rattle.chunk_plain.specs.Words.{IsHolding, MayFollow, head_at}
-use Rattle.claim_arbiter.specs.Claiming.{AsksInVain, lost_asks}
+use Rattle.claim_arbiter.specs.Claiming.{AsksInVain}
 use Rattle.cut_steps.specs.RawChains.{earlier_pieces, current_piece, offset_behind}
-use Rattle.cut_steps.specs.Writing.{IsWriting}
+use Rattle.cut_steps.specs.Writing.{IsWriting, with_open}
 use Rattle.cut_steps.proofs.WritingSteps.{writing_coming}
 use Rattle.cut_steps.proofs.RunningOn.{writing_run_on}
 use Rattle.trace_writer.specs.declared.chunk.HeldChunk.{HeldChunk}
@@ -29,8 +31,10 @@ use Rattle.trace_writer.specs.Headers.{completed_chunk, flags_value, held_head}
 use Rattle.trace_writer.specs.Site.{Site, IsRoute, site_of}
 use Rattle.trace_writer.specs.Filled.{ShowsPages}
 use Rattle.trace_writer.specs.States.{InFragment}
+use Rattle.trace_writer.specs.OwnSteps.{NoneHeld}
 use Rattle.trace_writer.specs.Claims.{Wins}
-use Rattle.trace_writer.specs.Flows.{AsksMore, RunsOn, StopsHere, CannotRunOn}
+use Rattle.trace_writer.specs.Flows.{RunsOn, StopsHere, StopsAs}
+use Rattle.trace_writer.proofs.KeptChunks.{shown_none_held}
 use Rattle.trace_writer.proofs.Holes.{outside_most, among_reverse, lasts_reverse}
 use Rattle.trace_writer.proofs.Payloads.{written_moved, written_offset, written_ended, written_first, run_page, full_run}
 use Rattle.trace_writer.proofs.Seats.{shows_long, content_is, shows_one, completed_here, restamped_here, holds_here, head_here}
@@ -151,7 +155,6 @@ pub record BeginsNext (site : Site) (before : Pending) (fragment : OpenFragment)
       → fragment.held.id ≡ length completed
       → two.begun ≡ (completed ++ Completed fragment.held.chunk (run_content site before payload fragment.held.id fragment.count fragment.continues) ∷ []) ++ Held chunk no_head ∷ []
   pub calls : two.calls ≡ old.calls
-  pub asked : AsksMore old two
   pub sized : (spot site.setup chunk).payload_size ≡ site.size
 
 -- the chunk that was claimed has the payload size of all of the writer's
@@ -178,7 +181,6 @@ next_first setup place now_place chunk route old one two before fragment ended r
           (claimed_behind route chunk old one completed (Held fragment.held.chunk head) wins begun) id
           ∙ sym (append_assoc completed (Completed fragment.held.chunk content ∷ []) (Held chunk no_head ∷ []));
       calls = ap (λ (v : WriterView). v.calls) view ∙ wins.calls;
-      asked = record { more = wins.asked.more; asked = ap (λ (v : WriterView). v.asked) view ∙ wins.asked.asked };
       sized = claimed_size setup place chunk route old one r wins;
     }
 
@@ -193,7 +195,6 @@ next_last setup place chunk route old one two before fragment ended r wins e vie
           wins.begun
           ∙ ap (λ (xs : List Begun). xs ++ Held chunk no_head ∷ []) (completed_before place site old one before fragment ended completed [] e refl view begun id);
       calls = wins.calls ∙ ap (λ (v : WriterView). v.calls) view;
-      asked = record { more = wins.asked.more; asked = wins.asked.asked ∙ ap (λ (v : WriterView). v.asked ++ wins.asked.more) view };
       sized = claimed_size setup place chunk route one two r wins;
     }
 
@@ -229,7 +230,6 @@ started_follows site two fragment token started completed entry next s id begun 
 -- the held chunk is completed, and a fragment is started in the next one
 pub record GoesOnIn (site : Site) (old new : WriterView) (before after : Pending) (fragment next : OpenFragment) : Type 0 where
   pub calls : new.calls ≡ old.calls
-  pub asked : AsksMore old new
   pub none_left : after ≡ record before { unsent = [] }
   pub payload : List ℕ
   pub payload_is : payload ≡ with_bytes fragment.held.body.payload.items fragment.start (redundant (fragment.at - fragment.start - 4))
@@ -321,7 +321,6 @@ pub runs_on : (site : Site) (old new : WriterView) (before after : Pending) (fra
     → vec_len fragment.held.body.payload < fragment.at + 4 → GoesOnIn site old new before after fragment next → RunsOn site old new before after fragment next
 runs_on site old new before after fragment next least filled e = record {
   calls = e.calls;
-  asked = e.asked;
   holes = ap (λ (p : Pending). p.holes) e.none_left;
   start = e.start;
   at = e.at;
@@ -381,7 +380,6 @@ goes_on_in site old two new before after fragment ended started token next begin
     let stamped : new ≡ restamps two token.chunk token.id head = view ∙ ap (λ (t : HeldToken). restamps two t.chunk t.id head) s.held in
     record {
       calls = ap (λ (v : WriterView). v.calls) view ∙ begins.calls;
-      asked = record { more = begins.asked.more; asked = ap (λ (v : WriterView). v.asked) view ∙ begins.asked.asked };
       none_left = after_is;
       payload = payload;
       payload_is = e.payload;
@@ -435,21 +433,23 @@ stops_from site other old mid new before after fragment site_is begun calls othe
     }
 
 pub cannot_run_on : (setup now_setup : Setup) (place now_place : ℕ) (route : Route) (old mid new : WriterView) (before after : Pending) (fragment : OpenFragment)
-    → now_setup ≡ setup → now_place ≡ place → AsksInVain setup route.arbiter.first route.arbiter.chunks old mid → new.asked ≡ mid.asked
-    → StopsHere (site_of now_setup now_place route) mid new before after fragment → CannotRunOn (site_of setup place route) setup route old new before after fragment
-cannot_run_on setup now_setup place now_place route old mid new before after fragment setup_is place_is vain asked stops = record {
-  asked = record {
-    before = [];
-    words = vain.words;
-    count_is = vain.count_is;
-    claimed = vain.claimed;
-    asked = asked ∙ ap (λ (v : WriterView). v.asked) vain.view
-        ∙ ap (λ (asks : List Ask). asks ++ lost_asks (length old.calls) route.arbiter.first vain.words) (sym (append-nil old.asked));
-  };
-  stops = stops_from (site_of setup place route) (site_of now_setup now_place route) old mid new before after fragment
-      (ap (λ (x : Setup). site_of x now_place route) setup_is ∙ ap (λ (n : ℕ). site_of setup n route) place_is)
-      (ap (λ (v : WriterView). v.begun) vain.view) (ap (λ (v : WriterView). v.calls) vain.view) stops;
-}
+    → now_setup ≡ setup → now_place ≡ place → AsksInVain setup route.arbiter.first route.arbiter.chunks old mid
+    → StopsHere (site_of now_setup now_place route) mid new before after fragment → StopsHere (site_of setup place route) old new before after fragment
+cannot_run_on setup now_setup place now_place route old mid new before after fragment setup_is place_is vain stops =
+    stops_from (site_of setup place route) (site_of now_setup now_place route) old mid new before after fragment
+    (ap (λ (x : Setup). site_of x now_place route) setup_is ∙ ap (λ (n : ℕ). site_of setup n route) place_is)
+    (ap (λ (v : WriterView). v.begun) vain.view) (ap (λ (v : WriterView). v.calls) vain.view) stops
+
+-- where a packet stops its writer holds no chunk
+stopped_as : (policy : WriterPolicy) (site : Site) (packet : Packet) (older : List Packet) (view : WriterView) (pending : Pending) → StopsAs policy site packet older view pending
+    → NoneHeld view.begun
+stopped_as Drops site packet older view pending idle = shown_none_held site 0 view.begun idle.pages idle.shown
+stopped_as Stalls site packet older view pending stuck = shown_none_held site 0 view.begun stuck.pages stuck.shown
+
+pub stopped_holds_none : (site : Site) (packet : Packet) (older : List Packet) (old new : WriterView) (before after : Pending) (fragment : OpenFragment)
+    → InFragment site packet older old before fragment [] → StopsHere site old new before after fragment → NoneHeld new.begun
+stopped_holds_none site packet older old new before after fragment w stops =
+    stopped_as site.policy site (with_open packet) older new after (stops.length_next packet older w)
 
 pub next_id_after : (setup : Setup) (first count : ℕ) (site : Site) (packet : Packet) (older : List Packet) (old mid new : WriterView) (pending : Pending) (fragment : OpenFragment)
     → InFragment site packet older old pending fragment [] → AsksInVain setup first count old mid → length new.begun ≡ length mid.begun

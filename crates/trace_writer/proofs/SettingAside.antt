@@ -9,17 +9,16 @@ use Rattle.commit_body.specs.declared.hole.Hole.{Hole}
 use Rattle.commit_body.specs.Patches.{holes_outside}
 use Rattle.commit_body.specs.Pending.{Pending, AddsHole}
 use Rattle.commit_body.proofs.InnerFirst.{inner_first_added}
-use Rattle.chunk_plain.specs.Setup.{Setup, spot}
+use Rattle.chunk_plain.specs.Setup.{spot}
 use Rattle.chunk_plain.specs.Views.{WriterView}
 use Rattle.cut_steps.specs.RawChains.{offset_behind}
 use Rattle.cut_steps.specs.Writing.{with_open, IsWriting}
 use Rattle.cut_steps.proofs.WritingSteps.{writing_nested}
 use Rattle.trace_writer.specs.declared.fragment.OpenFragment.{OpenFragment}
-use Rattle.trace_writer.specs.declared.route.Route.{Route}
 use Rattle.trace_writer.specs.Site.{Site}
 use Rattle.trace_writer.specs.Fragment.{IsPutInto}
 use Rattle.trace_writer.specs.States.{InFragment}
-use Rattle.trace_writer.specs.Flows.{RunsOn, CannotRunOn, SetsAside, CannotSetAside}
+use Rattle.trace_writer.specs.Flows.{RunsOn, StopsHere, SetsAside, CannotSetAside}
 use Rattle.trace_writer.proofs.Holes.{outside_here}
 use Rattle.trace_writer.proofs.Payloads.{written_moved, written_offset}
 use Rattle.trace_writer.proofs.Putting.{written_more, held_same, ids_behind, ids_next}
@@ -107,10 +106,6 @@ sets_behind site old new before between after fragment now next runs low put at_
   byte = λ continues first. omega (arith, at_is, now.behind);
 }
 
-pub cannot_set : (site : Site) (setup : Setup) (route : Route) (old new : WriterView) (before after : Pending) (fragment : OpenFragment)
-    → CannotRunOn site setup route old new before after fragment → CannotSetAside site setup route old new before after fragment
-cannot_set site setup route old new before after fragment cannot = record {
-  asked = cannot.asked;
-  calls = cannot.stops.calls;
-  stopped = cannot.stops.length_next;
-}
+pub cannot_set : (site : Site) (old new : WriterView) (before after : Pending) (fragment : OpenFragment)
+    → StopsHere site old new before after fragment → CannotSetAside site old new before after fragment
+cannot_set site old new before after fragment stops = record { calls = stops.calls; stopped = stops.length_next }

@@ -14,8 +14,7 @@ use Rattle.trace_model.specs.Cut.{left_behind, length_places}
 use Rattle.commit_body.specs.Patches.{hole_chunks}
 use Rattle.commit_body.specs.Pending.{Pending}
 use Rattle.chunk_plain.specs.Setup.{Setup}
-use Rattle.claim_arbiter.specs.Claiming.{lost_asks, AllClaimed}
-use Rattle.chunk_plain.specs.Views.{Ask, Begun, Held, Completed, Head, Content, WriterView}
+use Rattle.chunk_plain.specs.Views.{Begun, Held, Completed, Head, Content, WriterView}
 use Rattle.chunk_plain.specs.Steps.{restamps, completes}
 use Rattle.cut_steps.specs.RawChains.{current_piece}
 use Rattle.cut_steps.specs.GoesOn.{GoesOn}
@@ -27,9 +26,8 @@ use Rattle.cut_steps.proofs.WritingSteps.{writing_coming}
 use Rattle.trace_writer.specs.declared.chunk.HeldChunk.{HeldChunk}
 use Rattle.trace_writer.specs.declared.fragment.OpenFragment.{OpenFragment}
 use Rattle.trace_writer.specs.declared.route.Route.{Route}
-use Rattle.trace_writer.specs.Claims.{FindsNone}
 use Rattle.trace_writer.specs.Filled.{ShowsPages}
-use Rattle.trace_writer.specs.Flows.{StopsAs, StopsHere, CannotRunOn}
+use Rattle.trace_writer.specs.Flows.{StopsAs, StopsHere}
 use Rattle.trace_writer.specs.Headers.{held_head}
 use Rattle.trace_writer.specs.Site.{Site, site_of}
 use Rattle.trace_writer.specs.States.{InFragment, IsStuck}
@@ -117,23 +115,6 @@ stops_stuck site old new before after fragment filled e =
         (goes_on-nested packet (with_open packet) level [] outer coming refl refl w.writing.given_up w.writing.finished refl w.writing.levels
         (ap (λ (levels : List (List ℕ)). [] ∷ levels) same)
         (λ m among. only_one m n among ∙ ap (λ (levels : List (List ℕ)). length (flat open_length levels)) same)) e
-
--- no chunk came free
-pub cannot_stall : (setup now_setup : Setup) (place : ℕ) (route : Route) (old mid new : WriterView) (before after : Pending) (fragment : OpenFragment)
-    → now_setup ≡ setup → mid.calls ≡ old.calls → mid.asked ≡ old.asked → FindsNone now_setup route mid new
-    → StopsHere (site_of setup place route) old new before after fragment → CannotRunOn (site_of setup place route) setup route old new before after fragment
-cannot_stall setup now_setup place route old mid new before after fragment setup_is calls asked none stops = record {
-  asked = record {
-    before = none.asked.before;
-    words = none.asked.words;
-    count_is = none.asked.count_is;
-    claimed = subst (λ (s : Setup). AllClaimed s route.arbiter.first none.asked.words) setup_is none.asked.claimed;
-    asked = none.asked.asked
-        ∙ ap (λ (asks : List Ask). (asks ++ none.asked.before) ++ lost_asks (length mid.calls) route.arbiter.first none.asked.words) asked
-        ∙ ap (λ (n : ℕ). (old.asked ++ none.asked.before) ++ lost_asks n route.arbiter.first none.asked.words) (ap length calls);
-  };
-  stops = stops;
-}
 
 -- as many chunks are begun once one of them is completed
 pub begun_many : (old new : WriterView) (chunk id : ℕ) (head : Head) (content : Content) → new ≡ completes (restamps old chunk id head) chunk id content

@@ -1,12 +1,9 @@
 -- A packet begins in a chunk: behind what the held one holds, or first in a new one.
-use Rattle.std.proofs.Common.{◌≡◌, ◌∙◌, ℕ, ◌+◌, ◌%◌, ◌<◌, ◌≤◌, Bool, true, false, not, ◌==◌, ◌&&◌, nat_le, nat_lt, List, [], ◌∷◌, ◌++◌, length, reverse, take, drop, vec_len, refl, sym, ap, subst, arith, append-nil, true≢false, inr, Result, Ok, Err, IfOk, IfErr}
+use Rattle.std.proofs.Common.{◌≡◌, ◌∙◌, ℕ, ◌+◌, ◌%◌, ◌<◌, ◌≤◌, Bool, true, false, not, ◌==◌, ◌&&◌, nat_le, nat_lt, List, [], ◌∷◌, ◌++◌, length, reverse, take, drop, vec_len, refl, sym, ap, subst, arith, true≢false, inr, Result, Option}
 use Rattle.std.proofs.lemmas.Bool.{ne_eqb}
 use Rattle.std.proofs.lemmas.Bool.Decides.{nat_tests}
 use Rattle.std.proofs.lemmas.List.{take-append-drop, length-take, length-append}
 use Rattle.trace_base.specs.declared.limits.TheConstants.{MAX_FRAGMENTS, MAX_OPEN_HOLES}
-use Rattle.trace_base.specs.declared.policy.WriterPolicy.{WriterPolicy}
-use Rattle.trace_base.specs.declared.policy.WriterPolicy.TheVariants.{Drops}
-use Rattle.trace_model.specs.Calls as call
 use Rattle.trace_model.specs.Calls.{Call}
 use Rattle.trace_model.specs.Images.{Patch}
 use Rattle.trace_model.specs.Row.{Chain}
@@ -19,20 +16,17 @@ use Rattle.commit_body.specs.Pending.{Pending}
 use Rattle.chunk_plain.specs.declared.tokens.Held.{Held as HeldToken}
 use Rattle.chunk_plain.specs.declared.setup.ChunkRange.{ChunkRange}
 use Rattle.chunk_plain.specs.Setup.{Setup, spot}
-use Rattle.chunk_plain.specs.Views.{Ask, Begun, Held, Head, WriterView, ServiceView}
+use Rattle.chunk_plain.specs.Views.{Begun, Held, Head, WriterView, ServiceView}
+use Rattle.chunk_plain.specs.World.{World}
 use Rattle.chunk_plain.specs.Steps.{no_head, restamps, completes}
 use Rattle.chunk_plain.specs.Words.{IsBegun, IsWriterStep, head_at}
-use Rattle.claim_arbiter.specs.Claiming.{lost_asks}
 use Rattle.cut_steps.specs.RawChains.{raw_chains, page_with, earlier_pieces, chains_before}
 use Rattle.cut_steps.specs.Writing.{IsWriting}
 use Rattle.cut_steps.proofs.Beginning.{writing_begun, writing_begun_new, begins_well-begun}
 use Rattle.trace_writer.specs.declared.begin.Place.{Place}
-use Rattle.trace_writer.specs.declared.begin.Place.TheVariants.{Behind, Nowhere}
 use Rattle.trace_writer.specs.declared.chunk.HeldChunk.{HeldChunk}
 use Rattle.trace_writer.specs.declared.fault.Begun.{Begun as BegunPacket}
-use Rattle.trace_writer.specs.declared.fault.Begun.TheVariants.{Kept, Dropping}
 use Rattle.trace_writer.specs.declared.fault.CallFault.{CallFault}
-use Rattle.trace_writer.specs.declared.fault.CallFault.TheVariants as fault_of
 use Rattle.trace_writer.specs.declared.fragment.OpenFragment.{OpenFragment}
 use Rattle.trace_writer.specs.declared.route.Route.{Route}
 use Rattle.trace_writer.specs.declared.state.State.{State}
@@ -43,14 +37,15 @@ use Rattle.trace_writer.specs.Site.{Site, IsRoute, site_of}
 use Rattle.trace_writer.specs.Filled.{frames, IsFilled, IsWritten, ShowsPages}
 use Rattle.trace_writer.specs.States.{InFragment, IsIdle, IsBehind, has_room}
 use Rattle.trace_writer.specs.Claims.{Wins}
-use Rattle.trace_writer.specs.Flows.{AsksInVainLast}
-use Rattle.trace_writer.specs.Helping.{IsWork, refuses, stalls_now}
-use Rattle.trace_writer.specs.Outcomes.{StallsNow}
-use Rattle.trace_writer.specs.Placing.{IsStarted, IsRoomy, IsPlace, BeginsAt, StallsAt, BeginsPacket, is_kept, is_behind}
+use Rattle.trace_writer.specs.Asked.{IsAsked, begun_as, stops_with}
+use Rattle.trace_writer.specs.Helping.{IsWork}
+use Rattle.trace_writer.specs.OwnSteps.{IsQuiet}
+use Rattle.trace_writer.specs.Placing.{IsStarted, IsRoomy, IsPlace, BeginsAt, is_behind}
 use Rattle.trace_writer.proofs.Idling.{completed_idle, behind_content}
 use Rattle.trace_writer.proofs.Payloads.{length-framed}
 use Rattle.trace_writer.proofs.Seats.{restamped_here, holds_here, head_here, shows_long}
-use Rattle.trace_writer.proofs.Working.{work_then, refuses_none}
+use Rattle.trace_writer.proofs.FewSteps.{work_few}
+use Rattle.trace_writer.proofs.Working.{work_then}
 
 -- four bytes are set aside for the size of a fragment behind these
 pub started_written : (payload : List ℕ) (at count : ℕ) (done : List (List ℕ)) → at + 4 ≤ length payload → IsFilled payload at count done
@@ -208,23 +203,6 @@ behind_roomy site account view pending chunk ids roomy behind =
     room_parts : (at size count : ℕ) → (nat_le (at + 12) size && nat_lt count MAX_FRAGMENTS) ≡ true → (at + 12 ≤ size) × (count < MAX_FRAGMENTS)
     room_parts at size count e = (grind (arith, nat_tests), grind (arith, nat_tests))
 
--- Where the writer first asked for chunks doesn't matter, as long as nothing else was asked or noted.
-pub place_from : (setup : Setup) (place : ℕ) (route : Route) (account : Account) (old mid new : WriterView) (pending : Pending) (found : Place)
-    → mid.asked ≡ old.asked → mid.calls ≡ old.calls → IsPlace setup place route account mid new pending found → IsPlace setup place route account old new pending found
-place_from setup place route account old mid new pending (Behind chunk) asked calls is = is
-place_from setup place route account old mid new pending (Nowhere next_id) asked calls is = (
-  is.0,
-  is.1,
-  record {
-    before = is.2.before;
-    words = is.2.words;
-    count_is = is.2.count_is;
-    claimed = is.2.claimed;
-    asked = is.2.asked ∙ ap (λ (asks : List Ask). (asks ++ is.2.before) ++ lost_asks (length mid.calls) route.arbiter.first is.2.words) asked
-        ∙ ap (λ (noted : List Call). (old.asked ++ is.2.before) ++ lost_asks (length noted) route.arbiter.first is.2.words) calls;
-  },
-)
-
 -- The held chunk was completed, since it has no room.
 pub behind_idle : (site : Site) (account : Account) (view new : WriterView) (pending after : Pending) (chunk : HeldChunk) (head : Head)
     → chunk.count ≤ 1023 → after ≡ record pending { unsent = [] }
@@ -245,131 +223,62 @@ idle_there setup there place moved route account view pending setup_is place_is 
     subst (λ (s : Setup). IsIdle (site_of s moved route) account view pending) (sym setup_is)
     (subst (λ (n : ℕ). IsIdle (site_of setup n route) account view pending) (sym place_is) idle)
 
-pub place_here : (setup there : Setup) (place moved : ℕ) (route : Route) (account : Account) (old new : WriterView) (pending : Pending) (found : Place)
-    → there ≡ setup → moved ≡ place → IsPlace there moved route account old new pending found → IsPlace setup place route account old new pending found
-place_here setup there place moved route account old new pending found setup_is place_is is =
-    subst (λ (s : Setup). IsPlace s place route account old new pending found) setup_is
-    (subst (λ (n : ℕ). IsPlace there n route account old new pending found) place_is is)
-
--- what became of the packet that was begun there
-
-in_vain_from : (setup : Setup) (route : Route) (old mid new : WriterView) → new.asked ≡ mid.asked → AsksInVainLast setup route old mid
-    → AsksInVainLast setup route old new
-in_vain_from setup route old mid new asked vain = record {
-  before = vain.before;
-  words = vain.words;
-  count_is = vain.count_is;
-  claimed = vain.claimed;
-  asked = asked ∙ vain.asked;
-}
-
-begins_from : (setup : Setup) (place : ℕ) (route : Route) (account : Account) (old mid new : WriterView) (pending : Pending) (found : Place) (begun : BegunPacket)
-    → IsPlace setup place route account old mid pending found → mid.calls ≡ old.calls → new.asked ≡ mid.asked
-    → BeginsAt route.spec.policy found begun mid.calls new.calls → BeginsPacket setup route old new begun
-begins_from setup place route account old mid new pending found Kept is same asked at =
-    at.calls ∙ ap (λ (noted : List Call). noted ++ call.Begun true ∷ []) same
-begins_from setup place route account old mid new pending (Behind chunk) Dropping is same asked at = absurd (true≢false (sym at.kept))
-begins_from setup place route account old mid new pending (Nowhere next_id) Dropping is same asked at = (
-  at.calls ∙ ap (λ (noted : List Call). noted ++ call.Begun false ∷ []) same,
-  at.drops refl,
-  in_vain_from setup route old mid new asked is.2,
-)
-
--- or of the writer that begins none
-stalls_from : (setup : Setup) (place : ℕ) (route : Route) (account : Account) (old mid new : WriterView) (pending : Pending) (found : Place) (fault : CallFault) (after : State)
-    → IsPlace setup place route account old mid pending found → mid.calls ≡ old.calls → new.asked ≡ mid.asked
-    → StallsAt route.spec.policy found fault mid.calls new.calls after → StallsNow setup route [] old new
-stalls_from setup place route account old mid new pending (Behind chunk) fault after is same asked at = absurd (true≢false at.nowhere)
-stalls_from setup place route account old mid new pending (Nowhere next_id) fault after is same asked at = record {
-  stalls = at.stalls;
-  calls = at.calls ∙ same ∙ sym (append-nil old.calls);
-  vain = in_vain_from setup route old mid new asked is.2;
-}
+pub place_here : (setup there : Setup) (place moved : ℕ) (route : Route) (account : Account) (view : WriterView) (pending : Pending) (found : Place)
+    → there ≡ setup → moved ≡ place → IsPlace (site_of there moved route) account view pending found → IsPlace (site_of setup place route) account view pending found
+place_here setup there place moved route account view pending found setup_is place_is is =
+    subst (λ (s : Setup). IsPlace (site_of s place route) account view pending found) setup_is
+    (subst (λ (n : ℕ). IsPlace (site_of there n route) account view pending found) place_is is)
 
 -- A place was found for the writer's next packet, and nothing else was noted.
 pub record HasFound {H T W S : Type 0} (setup : T → Setup) (sits : T → W → Type 0) (place : W → ℕ) (view : T → W → WriterView)
-    (serves : T → S → Type 0) (service_view : T → S → ServiceView) (needs : H → T → Type 0) (helps : H → T → ℕ → Bool → H → T → Type 0)
-    (before : Writer) (helper : H) (old : T) (seat : W) (writer : Writer) (left : H) (new : T) (after : W) (found : Place) : Type 0 where
+    (serves : T → S → Type 0) (service_view : T → S → ServiceView) (told : T → Option World) (needs : H → T → Type 0) (helps : H → T → ℕ → Bool → H → T → Type 0)
+    (before : Writer) (helper : H) (old : T) (seat : W) (steps : ℕ) (writer : Writer) (left : H) (new : T) (after : W) (later : ℕ) (found : Place) : Type 0 where
   pub route_is : writer.route ≡ before.route
   pub calls : (view new after).calls ≡ (view old seat).calls
-  pub at : IsPlace (setup old) (place seat) before.route (account_of (view old seat).calls) (view old seat) (view new after) writer.pending found
-  pub work : IsWork setup sits place view serves service_view needs helps before.route helper old seat (refuses before.route.spec.policy (not (is_behind found))) left new after
+  pub at : IsPlace (site_of (setup old) (place seat) before.route) (account_of (view old seat).calls) (view new after) writer.pending found
+  pub work : IsWork setup sits place view serves service_view told needs helps before.route helper old seat steps (not (is_behind found)) left new after later
 
 module _ {H T W S : Type 0} {setup : T → Setup} {sits : T → W → Type 0} {place : W → ℕ} {view : T → W → WriterView}
-    {serves : T → S → Type 0} {service_view : T → S → ServiceView} {needs : H → T → Type 0} {helps : H → T → ℕ → Bool → H → T → Type 0}
-    {before : Writer} {helper : H} {old : T} {seat : W} where
+    {serves : T → S → Type 0} {service_view : T → S → ServiceView} {told : T → Option World} {needs : H → T → Type 0} {helps : H → T → ℕ → Bool → H → T → Type 0}
+    {before : Writer} {helper : H} {old : T} {seat : W} {steps : ℕ} where
   -- the same under other names
-  pub found_there : {writer same_writer : Writer} {left same_left : H} {new same_new : T} {after same_after : W} {found same_found : Place}
-      → writer ≡ same_writer → left ≡ same_left → new ≡ same_new → after ≡ same_after → found ≡ same_found
-      → HasFound setup sits place view serves service_view needs helps before helper old seat same_writer same_left same_new same_after same_found
-      → HasFound setup sits place view serves service_view needs helps before helper old seat writer left new after found
-  found_there {writer} {same_writer} {left} {same_left} {new} {same_new} {after} {same_after} {found} {same_found} writer_is left_is new_is after_is found_is has =
-      subst (λ (w : Writer). HasFound setup sits place view serves service_view needs helps before helper old seat w left new after found) (sym writer_is)
-      (subst (λ (h : H). HasFound setup sits place view serves service_view needs helps before helper old seat same_writer h new after found) (sym left_is)
-      (subst (λ (t : T). HasFound setup sits place view serves service_view needs helps before helper old seat same_writer same_left t after found) (sym new_is)
-      (subst (λ (w : W). HasFound setup sits place view serves service_view needs helps before helper old seat same_writer same_left same_new w found) (sym after_is)
-      (subst (λ (p : Place). HasFound setup sits place view serves service_view needs helps before helper old seat same_writer same_left same_new same_after p) (sym found_is)
-      has))))
+  pub found_there : {writer same_writer : Writer} {left same_left : H} {new same_new : T} {after same_after : W} {later same_later : ℕ} {found same_found : Place}
+      → writer ≡ same_writer → left ≡ same_left → new ≡ same_new → after ≡ same_after → later ≡ same_later → found ≡ same_found
+      → HasFound setup sits place view serves service_view told needs helps before helper old seat steps same_writer same_left same_new same_after same_later same_found
+      → HasFound setup sits place view serves service_view told needs helps before helper old seat steps writer left new after later found
+  found_there {writer} {same_writer} {left} {same_left} {new} {same_new} {after} {same_after} {later} {same_later} {found} {same_found} writer_is left_is new_is after_is later_is found_is has =
+      subst (λ (w : Writer). HasFound setup sits place view serves service_view told needs helps before helper old seat steps w left new after later found) (sym writer_is)
+      (subst (λ (h : H). HasFound setup sits place view serves service_view told needs helps before helper old seat steps same_writer h new after later found) (sym left_is)
+      (subst (λ (t : T). HasFound setup sits place view serves service_view told needs helps before helper old seat steps same_writer same_left t after later found) (sym new_is)
+      (subst (λ (w : W). HasFound setup sits place view serves service_view told needs helps before helper old seat steps same_writer same_left same_new w later found) (sym after_is)
+      (subst (λ (n : ℕ). HasFound setup sits place view serves service_view told needs helps before helper old seat steps same_writer same_left same_new same_after n found) (sym later_is)
+      (subst (λ (p : Place). HasFound setup sits place view serves service_view told needs helps before helper old seat steps same_writer same_left same_new same_after same_later p) (sym found_is)
+      has)))))
 
-  module _ {writer : Writer} {left : H} {mid : T} {between : W} {found : Place} where
-    pub found_place : HasFound setup sits place view serves service_view needs helps before helper old seat writer left mid between found
-        → IsPlace (setup mid) (place between) writer.route (account_of (view mid between).calls) (view old seat) (view mid between) writer.pending found
+  module _ {writer : Writer} {left : H} {mid : T} {between : W} {later : ℕ} {found : Place} where
+    pub found_place : HasFound setup sits place view serves service_view told needs helps before helper old seat steps writer left mid between later found
+        → IsPlace (site_of (setup mid) (place between) writer.route) (account_of (view mid between).calls) (view mid between) writer.pending found
     found_place has =
-        subst (λ (s : Setup). IsPlace s (place between) writer.route (account_of (view mid between).calls) (view old seat) (view mid between) writer.pending found) (sym has.work.others.setup_stays)
-        (subst (λ (n : ℕ). IsPlace (setup old) n writer.route (account_of (view mid between).calls) (view old seat) (view mid between) writer.pending found) (sym has.work.others.place_stays)
-        (subst (λ (r : Route). IsPlace (setup old) (place seat) r (account_of (view mid between).calls) (view old seat) (view mid between) writer.pending found) (sym has.route_is)
-        (subst (λ (noted : List Call). IsPlace (setup old) (place seat) before.route (account_of noted) (view old seat) (view mid between) writer.pending found) (sym has.calls) has.at)))
+        subst (λ (s : Setup). IsPlace (site_of s (place between) writer.route) (account_of (view mid between).calls) (view mid between) writer.pending found) (sym has.work.others.setup_stays)
+        (subst (λ (n : ℕ). IsPlace (site_of (setup old) n writer.route) (account_of (view mid between).calls) (view mid between) writer.pending found) (sym has.work.others.place_stays)
+        (subst (λ (r : Route). IsPlace (site_of (setup old) (place seat) r) (account_of (view mid between).calls) (view mid between) writer.pending found) (sym has.route_is)
+        (subst (λ (noted : List Call). IsPlace (site_of (setup old) (place seat) before.route) (account_of noted) (view mid between) writer.pending found) (sym has.calls) has.at)))
 
     -- What became of the packet that was begun there.
-
-    pub found_begins : (new : WriterView) (result : Result BegunPacket CallFault)
-        → HasFound setup sits place view serves service_view needs helps before helper old seat writer left mid between found
-        → new.asked ≡ (view mid between).asked
-        → IfOk result (λ begun. BeginsAt writer.route.spec.policy found begun (view mid between).calls new.calls)
-        → IfOk result (λ begun. BeginsPacket (setup old) before.route (view old seat) new begun)
-    found_begins new (Err fault) has asked at = at
-    found_begins new (Ok begun) has asked at =
-        begins_from (setup old) (place seat) before.route (account_of (view old seat).calls) (view old seat) (view mid between) new writer.pending found begun has.at has.calls asked
-        (subst (λ (r : Route). BeginsAt r.spec.policy found begun (view mid between).calls new.calls) has.route_is at)
-
-    pub found_stalls : (new : WriterView) (state : State) (result : Result BegunPacket CallFault)
-        → HasFound setup sits place view serves service_view needs helps before helper old seat writer left mid between found
-        → new.asked ≡ (view mid between).asked
-        → IfErr result (λ fault. StallsAt writer.route.spec.policy found fault (view mid between).calls new.calls state)
-        → IfErr result (λ fault. (fault ≡ fault_of.Stalled) × (is_stalled state ≡ true) × StallsNow (setup old) before.route [] (view old seat) new)
-    found_stalls new state (Ok begun) has asked at = at
-    found_stalls new state (Err fault) has asked at = (
-      at.fault_is,
-      at.stalled,
-      stalls_from (setup old) (place seat) before.route (account_of (view old seat).calls) (view old seat) (view mid between) new writer.pending found fault state has.at has.calls asked
-          (subst (λ (r : Route). StallsAt r.spec.policy found fault (view mid between).calls new.calls state) has.route_is at),
-    )
-
-    pub found_work : (new : T) (after : W) (stalled : Bool) (state : State) (result : Result BegunPacket CallFault)
+    pub found_asked : (new : T) (after : W) (state : State) (result : Result BegunPacket CallFault)
         → ((helper : H) (old new : T) (seat after : W) → IsWriterStep setup sits place view serves service_view old seat new after → needs helper old → needs helper new)
-        → HasFound setup sits place view serves service_view needs helps before helper old seat writer left mid between found → stalled ≡ false
-        → IfOk result (λ begun. BeginsAt writer.route.spec.policy found begun (view mid between).calls (view new after).calls)
-        → IfErr result (λ fault. StallsAt writer.route.spec.policy found fault (view mid between).calls (view new after).calls state)
-        → IsWriterStep setup sits place view serves service_view mid between new after
-        → IsWork setup sits place view serves service_view needs helps before.route helper old seat (stalls_now stalled result) left new after
-    found_work new after stalled state result keeps has goes begins stalls step =
-        subst (λ (refused : Bool). IsWork setup sits place view serves service_view needs helps before.route helper old seat refused left new after)
-        (refused_is before.route.spec.policy result
-        (subst (λ (r : Route). IfOk result (λ begun. BeginsAt r.spec.policy found begun (view mid between).calls (view new after).calls)) has.route_is begins)
-        (subst (λ (r : Route). IfErr result (λ fault. StallsAt r.spec.policy found fault (view mid between).calls (view new after).calls state)) has.route_is stalls))
-        (work_then setup sits place view serves service_view needs helps before.route helper old seat (refuses before.route.spec.policy (not (is_behind found))) left mid between new after keeps has.work step)
-      where
-        kept_is : (policy : WriterPolicy) (begun : BegunPacket) → is_kept begun ≡ is_behind found → (is_kept begun ≡ false → policy ≡ Drops)
-            → refuses policy (not (is_behind found)) ≡ false
-        kept_is policy Kept kept drops = ap (λ (b : Bool). refuses policy (not b)) (sym kept) ∙ refuses_none policy
-        kept_is policy Dropping kept drops = ap (λ (p : WriterPolicy). refuses p (not (is_behind found))) (drops refl)
-
-        refused_is : (policy : WriterPolicy) (result : Result BegunPacket CallFault)
-            → IfOk result (λ begun. BeginsAt policy found begun (view mid between).calls (view new after).calls)
-            → IfErr result (λ fault. StallsAt policy found fault (view mid between).calls (view new after).calls state)
-            → refuses policy (not (is_behind found)) ≡ stalls_now stalled result
-        refused_is policy (Ok begun) at other = kept_is policy begun at.kept at.drops
-        refused_is policy (Err fault) other at =
-            ap (λ (p : WriterPolicy). refuses p (not (is_behind found))) at.stalls
-            ∙ ap not at.nowhere
-            ∙ sym (ap (λ (f : CallFault). stalls_now {A = BegunPacket} stalled (Err f)) at.fault_is ∙ ap not goes)
+        → HasFound setup sits place view serves service_view told needs helps before helper old seat steps writer left mid between later found
+        → BeginsAt writer.route.spec.policy found result (view mid between).calls (view new after).calls state
+        → IsQuiet setup sits place view serves service_view told mid between new after
+        → IsAsked setup sits place view serves service_view told needs helps before.route helper old seat steps (stops_with result) (begun_as (stops_with result) before.route.spec.policy)
+        (is_stalled state) left new after later
+    found_asked new after state result keeps has at quiet =
+        let work = work_then setup sits place view serves service_view told needs helps before.route helper old seat steps (not (is_behind found)) left mid between later new after keeps has.work quiet in
+        let begins = subst (λ (r : Route). BeginsAt r.spec.policy found result (view mid between).calls (view new after).calls state) has.route_is at in
+        subst (λ (stopped : Bool). IsAsked setup sits place view serves service_view told needs helps before.route helper old seat steps stopped (begun_as stopped before.route.spec.policy)
+        (is_stalled state) left new after later) (sym begins.stops) (record {
+          work = work;
+          notes = begins.calls ∙ ap (λ (calls : List Call). calls ++ begun_as (not (is_behind found)) before.route.spec.policy) has.calls;
+          stalls = begins.stalls;
+          few_steps = work_few setup sits place view serves service_view told needs helps before.route helper old seat steps (not (is_behind found)) left new after later work;
+        })

@@ -1,17 +1,21 @@
--- What a writer does with its helper: parts of it in a row are one.
-use Rattle.std.proofs.Common.{◌≡◌, ◌∙◌, ℕ, Bool, true, false, refl, sym, subst}
+-- What a writer does for a call: parts of it in a row are one.
+use Rattle.std.proofs.Common.{◌≡◌, ◌∙◌, ℕ, ◌+◌, Bool, true, false, length, Option, refl, sym, ap, subst, arith}
 use Rattle.std.proofs.lemmas.Bool.{true≢false}
 use Rattle.trace_base.specs.declared.policy.WriterPolicy.{WriterPolicy}
 use Rattle.trace_base.specs.declared.policy.WriterPolicy.TheVariants.{Drops, Stalls}
 use Rattle.chunk_plain.specs.Setup.{Setup}
 use Rattle.chunk_plain.specs.Views.{WriterView, ServiceView}
+use Rattle.chunk_plain.specs.World.{World}
 use Rattle.chunk_plain.specs.Words.{IsWriterStep}
 use Rattle.chunk_plain.proofs.SeatSteps.{stays, steps_follow}
 use Rattle.trace_writer.specs.declared.route.Route.{Route}
-use Rattle.trace_writer.specs.Helping.{LeavesWriters, LeavesOthers, IsOutOfChunks, Works, Alone, Helped, Refused, IsWork, refuses}
+use Rattle.trace_writer.specs.OwnSteps.{IsQuiet, GetsChunk, IsOutNow}
+use Rattle.trace_writer.specs.Helping.{LeavesWriters, LeavesOthers, Works, Done, Quiet, Gets, Helped, Refused, Lost, IsWork}
+use Rattle.trace_writer.proofs.KeptChunks.{keeps_long}
+use Rattle.trace_writer.proofs.QuietRows.{quiet_none, quiet_both, out_then}
 
 module _ {H T W S : Type 0} (setup : T → Setup) (sits : T → W → Type 0) (place : W → ℕ) (view : T → W → WriterView)
-    (serves : T → S → Type 0) (service_view : T → S → ServiceView) (needs : H → T → Type 0) (helps : H → T → ℕ → Bool → H → T → Type 0) where
+    (serves : T → S → Type 0) (service_view : T → S → ServiceView) (told : T → Option World) (needs : H → T → Type 0) (helps : H → T → ℕ → Bool → H → T → Type 0) where
   leaves_own : (old : T) (seat : W) (new : T) (after : W) → IsWriterStep setup sits place view serves service_view old seat new after
       → LeavesOthers setup sits place view old seat new after
   leaves_own old seat new after step =
@@ -38,159 +42,175 @@ module _ {H T W S : Type 0} (setup : T → Setup) (sits : T → W → Type 0) (p
     writers_stay = λ other stood differs. leaves.writers_stay other stood;
   }
 
-  module _ (out : T → W → Type 0) (asks : H → T → Bool → H → T → Type 0) where
-    own_before : {helper : H} {mid : T} {between : W} {refused : Bool} {left : H} {new : T} {after : W} → (old : T) (before : W)
-        → IsWriterStep setup sits place view serves service_view old before mid between
-        → Works (IsWriterStep setup sits place view serves service_view) out asks helper mid between refused left new after → Works (IsWriterStep setup sits place view serves service_view) out asks helper old before refused left new after
-    own_before old before step (Alone helper mid between new after own) =
-        Alone helper old before new after (steps_follow setup sits place view serves service_view old before mid between new after step own)
-    own_before old before step (Helped helper mid between asking asker helped freed refused left new after own is_out helps_ more) =
-        Helped helper old before asking asker helped freed refused left new after
-        (steps_follow setup sits place view serves service_view old before mid between asking asker step own) is_out helps_ more
-    own_before old before step (Refused helper mid between asking asker left kept new after own is_out helps_ last) =
-        Refused helper old before asking asker left kept new after
-        (steps_follow setup sits place view serves service_view old before mid between asking asker step own) is_out helps_ last
+  -- Parts in a row
 
-    works_both : {helper middle : H} {old mid : T} {before between : W} {first : Bool} (refused : Bool) (left : H) (new : T) (after : W)
-        → Works (IsWriterStep setup sits place view serves service_view) out asks helper old before first middle mid between → first ≡ false
-        → Works (IsWriterStep setup sits place view serves service_view) out asks middle mid between refused left new after → Works (IsWriterStep setup sits place view serves service_view) out asks helper old before refused left new after
-    works_both refused left new after (Alone helper old before mid between own) none rest = own_before old before own rest
-    works_both refused left new after (Helped helper old before asking asker helped freed first middle mid between own is_out helps_ more) none rest =
-        Helped helper old before asking asker helped freed refused left new after own is_out helps_ (works_both refused left new after more none rest)
-    works_both refused left new after (Refused helper old before asking asker middle kept mid between own is_out helps_ last) none rest = absurd (true≢false none)
+  module _ (policy : WriterPolicy) (route : Route) (asks : H → T → Bool → H → T → Type 0) where
+    works_both : {helper middle : H} {old mid : T} {before between : W} {first : Bool} (stopped : Bool) (left : H) (new : T) (after : W)
+        → Works policy (IsQuiet setup sits place view serves service_view told) (GetsChunk setup sits place view serves service_view told route) (IsOutNow setup sits place view serves service_view told route) asks helper old before first middle mid between
+        → first ≡ false
+        → Works policy (IsQuiet setup sits place view serves service_view told) (GetsChunk setup sits place view serves service_view told route) (IsOutNow setup sits place view serves service_view told route) asks middle mid between stopped left new after
+        → Works policy (IsQuiet setup sits place view serves service_view told) (GetsChunk setup sits place view serves service_view told route) (IsOutNow setup sits place view serves service_view told route) asks helper old before stopped left new after
+    works_both stopped left new after (Done helper old before) none rest = rest
+    works_both stopped left new after (Quiet helper old before next moved first middle mid between quiet more) none rest =
+        Quiet helper old before next moved stopped left new after quiet (works_both stopped left new after more none rest)
+    works_both stopped left new after (Gets helper old before next moved first middle mid between gets more) none rest =
+        Gets helper old before next moved stopped left new after gets (works_both stopped left new after more none rest)
+    works_both stopped left new after (Helped helper old before asking asker helped freed first middle mid between stalls out helps_ more) none rest =
+        Helped helper old before asking asker helped freed stopped left new after stalls out helps_ (works_both stopped left new after more none rest)
+    works_both stopped left new after (Refused helper old before asking asker middle kept mid between stalls out helps_ last) none rest = absurd (true≢false none)
+    works_both stopped left new after (Lost helper old before mid between drops out) none rest = absurd (true≢false none)
 
-    own_behind : {helper left : H} {old mid : T} {before between : W} {refused : Bool} (new : T) (after : W)
-        → Works (IsWriterStep setup sits place view serves service_view) out asks helper old before refused left mid between → IsWriterStep setup sits place view serves service_view mid between new after → Works (IsWriterStep setup sits place view serves service_view) out asks helper old before refused left new after
-    own_behind new after (Alone helper old before mid between own) step =
-        Alone helper old before new after (steps_follow setup sits place view serves service_view old before mid between new after own step)
-    own_behind new after (Helped helper old before asking asker helped freed refused left mid between own is_out helps_ more) step =
-        Helped helper old before asking asker helped freed refused left new after own is_out helps_ (own_behind new after more step)
-    own_behind new after (Refused helper old before asking asker left kept mid between own is_out helps_ last) step =
-        Refused helper old before asking asker left kept new after own is_out helps_
-        (steps_follow setup sits place view serves service_view kept asker mid between new after last step)
+    works_then : {helper left : H} {old mid : T} {before between : W} {stopped : Bool} (new : T) (after : W)
+        → Works policy (IsQuiet setup sits place view serves service_view told) (GetsChunk setup sits place view serves service_view told route) (IsOutNow setup sits place view serves service_view told route) asks helper old before stopped left mid between
+        → IsQuiet setup sits place view serves service_view told mid between new after
+        → Works policy (IsQuiet setup sits place view serves service_view told) (GetsChunk setup sits place view serves service_view told route) (IsOutNow setup sits place view serves service_view told route) asks helper old before stopped left new after
+    works_then new after (Done helper old before) quiet = Quiet helper old before new after false helper new after quiet (Done helper new after)
+    works_then new after (Quiet helper old before next moved stopped left mid between first more) quiet =
+        Quiet helper old before next moved stopped left new after first (works_then new after more quiet)
+    works_then new after (Gets helper old before next moved stopped left mid between gets more) quiet =
+        Gets helper old before next moved stopped left new after gets (works_then new after more quiet)
+    works_then new after (Helped helper old before asking asker helped freed stopped left mid between stalls out helps_ more) quiet =
+        Helped helper old before asking asker helped freed stopped left new after stalls out helps_ (works_then new after more quiet)
+    works_then new after (Refused helper old before asking asker left kept mid between stalls out helps_ last) quiet =
+        Refused helper old before asking asker left kept new after stalls out helps_ (quiet_both setup sits place view serves service_view told kept asker mid between new after last quiet)
+    works_then new after (Lost helper old before mid between drops out) quiet =
+        Lost helper old before new after drops (out_then setup sits place view serves service_view told route old before mid between new after out quiet)
 
-  pub work_own : (route : Route) (helper : H) (old : T) (seat : W) (new : T) (after : W)
+  quiet_counts : (old : T) (seat : W) (new : T) (after : W) → IsQuiet setup sits place view serves service_view told old seat new after
+      → length (view new after).asked + length (view new after).begun ≡ length (view old seat).asked + length (view old seat).begun
+  quiet_counts old seat new after quiet =
+      let asks = ap length quiet.asked in let chunks = keeps_long (view old seat).begun (view new after).begun quiet.chunks in omega (arith, asks, chunks)
+
+  pub work_own : (route : Route) (helper : H) (old : T) (seat : W) (new : T) (after : W) (steps : ℕ)
       → ((helper : H) (old new : T) (seat after : W) → IsWriterStep setup sits place view serves service_view old seat new after → needs helper old → needs helper new)
-      → needs helper old → IsWriterStep setup sits place view serves service_view old seat new after
-      → IsWork setup sits place view serves service_view needs helps route helper old seat false helper new after
-  work_own route helper old seat new after keeps needed step = record {
-    others = leaves_own old seat new after step;
-    works = Alone helper old seat new after step;
-    needed = keeps helper old new seat after step needed;
+      → needs helper old → IsQuiet setup sits place view serves service_view told old seat new after
+      → IsWork setup sits place view serves service_view told needs helps route helper old seat steps false helper new after steps
+  work_own route helper old seat new after steps keeps needed quiet = record {
+    others = leaves_own old seat new after quiet.step;
+    works = Quiet helper old seat new after false helper new after quiet (Done helper new after);
+    needed = keeps helper old new seat after quiet.step needed;
+    counts = ap (λ (n : ℕ). steps + n) (sym (quiet_counts old seat new after quiet));
   }
 
   -- nothing was done
-  pub work_none : (route : Route) (helper : H) (table : T) (seat : W) → sits table seat → needs helper table
-      → IsWork setup sits place view serves service_view needs helps route helper table seat false helper table seat
-  work_none route helper table seat there needed = record {
+  pub work_none : (route : Route) (helper : H) (table : T) (seat : W) (steps : ℕ) → sits table seat → needs helper table
+      → IsWork setup sits place view serves service_view told needs helps route helper table seat steps false helper table seat steps
+  work_none route helper table seat steps there needed = record {
     others = leaves_own table seat table seat (stays setup sits place view serves service_view table seat there);
-    works = Alone helper table seat table seat (stays setup sits place view serves service_view table seat there);
+    works = Done helper table seat;
     needed = needed;
+    counts = refl;
   }
 
-  pub work_behind : (route : Route) (helper : H) (old : T) (before : W) (middle : H) (mid : T) (between : W) (refused : Bool) (left : H) (new : T) (after : W)
-      → IsWork setup sits place view serves service_view needs helps route helper old before false middle mid between
-      → IsWork setup sits place view serves service_view needs helps route middle mid between refused left new after
-      → IsWork setup sits place view serves service_view needs helps route helper old before refused left new after
-  work_behind route helper old before middle mid between refused left new after one two = record {
+  pub work_behind : (route : Route) (helper : H) (old : T) (before : W) (steps : ℕ) (middle : H) (mid : T) (between : W) (half : ℕ) (stopped : Bool) (left : H) (new : T) (after : W) (later : ℕ)
+      → IsWork setup sits place view serves service_view told needs helps route helper old before steps false middle mid between half
+      → IsWork setup sits place view serves service_view told needs helps route middle mid between half stopped left new after later
+      → IsWork setup sits place view serves service_view told needs helps route helper old before steps stopped left new after later
+  work_behind route helper old before steps middle mid between half stopped left new after later one two = record {
     others = leaves_both old before mid between new after one.others two.others;
-    works = works_both (λ table asker. IsOutOfChunks (setup table) route (view table asker)) (λ asked table answer behind freed. helps asked table route.spec.producer answer behind freed)
-        refused left new after one.works refl two.works;
+    works = works_both route.spec.policy route (λ asked table answer behind freed. helps asked table route.spec.producer answer behind freed × LeavesWriters setup sits view table freed)
+        stopped left new after one.works refl two.works;
     needed = two.needed;
+    counts = let first = one.counts in let second = two.counts in omega (arith, first, second);
   }
 
-  -- steps of the writer's own come first
-  pub work_before : (route : Route) (helper : H) (old : T) (before : W) (mid : T) (between : W) (refused : Bool) (left : H) (new : T) (after : W)
-      → IsWriterStep setup sits place view serves service_view old before mid between
-      → IsWork setup sits place view serves service_view needs helps route helper mid between refused left new after
-      → IsWork setup sits place view serves service_view needs helps route helper old before refused left new after
-  work_before route helper old before mid between refused left new after step two = record {
-    others = leaves_both old before mid between new after (leaves_own old before mid between step) two.others;
-    works = own_before (λ table asker. IsOutOfChunks (setup table) route (view table asker)) (λ asked table answer behind freed. helps asked table route.spec.producer answer behind freed) old before step two.works;
+  -- quiet steps come first
+  pub work_before : (route : Route) (helper : H) (old : T) (before : W) (steps : ℕ) (mid : T) (between : W) (stopped : Bool) (left : H) (new : T) (after : W) (later : ℕ)
+      → IsQuiet setup sits place view serves service_view told old before mid between
+      → IsWork setup sits place view serves service_view told needs helps route helper mid between steps stopped left new after later
+      → IsWork setup sits place view serves service_view told needs helps route helper old before steps stopped left new after later
+  work_before route helper old before steps mid between stopped left new after later quiet two = record {
+    others = leaves_both old before mid between new after (leaves_own old before mid between quiet.step) two.others;
+    works = Quiet helper old before mid between stopped left new after quiet two.works;
     needed = two.needed;
+    counts = let first = quiet_counts old before mid between quiet in let second = two.counts in omega (arith, first, second);
   }
 
   -- or last
-  pub work_then : (route : Route) (helper : H) (old : T) (before : W) (refused : Bool) (left : H) (mid : T) (between : W) (new : T) (after : W)
+  pub work_then : (route : Route) (helper : H) (old : T) (before : W) (steps : ℕ) (stopped : Bool) (left : H) (mid : T) (between : W) (later : ℕ) (new : T) (after : W)
       → ((helper : H) (old new : T) (seat after : W) → IsWriterStep setup sits place view serves service_view old seat new after → needs helper old → needs helper new)
-      → IsWork setup sits place view serves service_view needs helps route helper old before refused left mid between
-      → IsWriterStep setup sits place view serves service_view mid between new after
-      → IsWork setup sits place view serves service_view needs helps route helper old before refused left new after
-  work_then route helper old before refused left mid between new after keeps one step = record {
-    others = leaves_both old before mid between new after one.others (leaves_own mid between new after step);
-    works = own_behind (λ table asker. IsOutOfChunks (setup table) route (view table asker)) (λ asked table answer behind freed. helps asked table route.spec.producer answer behind freed) new after one.works step;
-    needed = keeps left mid new between after step one.needed;
+      → IsWork setup sits place view serves service_view told needs helps route helper old before steps stopped left mid between later
+      → IsQuiet setup sits place view serves service_view told mid between new after
+      → IsWork setup sits place view serves service_view told needs helps route helper old before steps stopped left new after later
+  work_then route helper old before steps stopped left mid between later new after keeps one quiet = record {
+    others = leaves_both old before mid between new after one.others (leaves_own mid between new after quiet.step);
+    works = works_then route.spec.policy route (λ asked table answer behind freed. helps asked table route.spec.producer answer behind freed × LeavesWriters setup sits view table freed) new after one.works quiet;
+    needed = keeps left mid new between after quiet.step one.needed;
+    counts = let first = quiet_counts mid between new after quiet in let second = one.counts in omega (arith, first, second);
   }
 
-  -- the writer asked for a help that freed a chunk, and went on
-  pub work_helped : (route : Route) (helper : H) (old : T) (seat : W) (asking : T) (asker : W) (helped : H) (freed : T) (refused : Bool) (left : H) (new : T) (after : W)
-      → IsWriterStep setup sits place view serves service_view old seat asking asker → IsOutOfChunks (setup asking) route (view asking asker)
-      → helps helper asking route.spec.producer true helped freed → LeavesWriters setup sits view asking freed
-      → IsWork setup sits place view serves service_view needs helps route helped freed asker refused left new after
-      → IsWork setup sits place view serves service_view needs helps route helper old seat refused left new after
-  work_helped route helper old seat asking asker helped freed refused left new after own is_out helps_ leaves more = record {
-    others = leaves_both old seat asking asker new after (leaves_own old seat asking asker own)
-        (leaves_both asking asker freed asker new after (leaves_help asking asker freed own.seat_stays leaves) more.others);
-    works = Helped helper old seat asking asker helped freed refused left new after own is_out helps_ more.works;
-    needed = more.needed;
+  -- a chunk was claimed and begun
+  pub work_gets : (route : Route) (helper : H) (old : T) (seat : W) (steps : ℕ) (new : T) (after : W) (later : ℕ)
+      → ((helper : H) (old new : T) (seat after : W) → IsWriterStep setup sits place view serves service_view old seat new after → needs helper old → needs helper new)
+      → needs helper old → GetsChunk setup sits place view serves service_view told route old seat new after
+      → later + (length (view old seat).asked + length (view old seat).begun) ≡ steps + (length (view new after).asked + length (view new after).begun)
+      → IsWork setup sits place view serves service_view told needs helps route helper old seat steps false helper new after later
+  work_gets route helper old seat steps new after later keeps needed gets counts = record {
+    others = leaves_own old seat new after gets.step;
+    works = Gets helper old seat new after false helper new after gets (Done helper new after);
+    needed = keeps helper old new seat after gets.step needed;
+    counts = counts;
+  }
+
+  -- the writer asked for a help that freed a chunk
+  pub work_helped : (route : Route) (helper : H) (old : T) (seat : W) (steps : ℕ) (asking : T) (asker : W) (later : ℕ) (helped : H) (freed : T)
+      → route.spec.policy ≡ Stalls → IsOutNow setup sits place view serves service_view told route old seat asking asker
+      → helps helper asking route.spec.producer true helped freed → LeavesWriters setup sits view asking freed → needs helped freed
+      → later + (length (view old seat).asked + length (view old seat).begun) ≡ steps + (length (view asking asker).asked + length (view asking asker).begun)
+      → IsWork setup sits place view serves service_view told needs helps route helper old seat steps false helped freed asker later
+  work_helped route helper old seat steps asking asker later helped freed stalls out helps_ leaves needed counts = record {
+    others = leaves_both old seat asking asker freed asker (leaves_own old seat asking asker out.step) (leaves_help asking asker freed out.step.seat_stays leaves);
+    works = Helped helper old seat asking asker helped freed false helped freed asker stalls out (helps_, leaves) (Done helped freed asker);
+    needed = needed;
+    counts = subst (λ (v : WriterView). later + (length (view old seat).asked + length (view old seat).begun) ≡ steps + (length v.asked + length v.begun))
+        (sym (leaves.writers_stay asker out.step.seat_stays).1) counts;
   }
 
   -- or for one that freed none
-  pub work_refused : (route : Route) (helper : H) (old : T) (seat : W) (asking : T) (asker : W) (left : H) (new : T)
-      → IsWriterStep setup sits place view serves service_view old seat asking asker → IsOutOfChunks (setup asking) route (view asking asker)
+  pub work_refused : (route : Route) (helper : H) (old : T) (seat : W) (steps : ℕ) (asking : T) (asker : W) (later : ℕ) (left : H) (new : T)
+      → route.spec.policy ≡ Stalls → IsOutNow setup sits place view serves service_view told route old seat asking asker
       → helps helper asking route.spec.producer false left new → LeavesWriters setup sits view asking new → needs left new
-      → IsWork setup sits place view serves service_view needs helps route helper old seat true left new asker
-  work_refused route helper old seat asking asker left new own is_out helps_ leaves needed = record {
-    others = leaves_both old seat asking asker new asker (leaves_own old seat asking asker own) (leaves_help asking asker new own.seat_stays leaves);
-    works = Refused helper old seat asking asker left new new asker own is_out helps_
-        (stays setup sits place view serves service_view new asker (leaves.writers_stay asker own.seat_stays).0);
+      → later + (length (view old seat).asked + length (view old seat).begun) ≡ steps + (length (view asking asker).asked + length (view asking asker).begun)
+      → IsWork setup sits place view serves service_view told needs helps route helper old seat steps true left new asker later
+  work_refused route helper old seat steps asking asker later left new stalls out helps_ leaves needed counts = record {
+    others = leaves_both old seat asking asker new asker (leaves_own old seat asking asker out.step) (leaves_help asking asker new out.step.seat_stays leaves);
+    works = Refused helper old seat asking asker left new new asker stalls out (helps_, leaves) (quiet_none setup sits place view serves service_view told new asker (leaves.writers_stay asker out.step.seat_stays).0);
     needed = needed;
+    counts = subst (λ (v : WriterView). later + (length (view old seat).asked + length (view old seat).begun) ≡ steps + (length v.asked + length v.begun))
+        (sym (leaves.writers_stay asker out.step.seat_stays).1) counts;
+  }
+
+  -- a writer that drops has lost its packet
+  pub work_lost : (route : Route) (helper : H) (old : T) (seat : W) (steps : ℕ) (new : T) (after : W) (later : ℕ)
+      → ((helper : H) (old new : T) (seat after : W) → IsWriterStep setup sits place view serves service_view old seat new after → needs helper old → needs helper new)
+      → needs helper old → route.spec.policy ≡ Drops → IsOutNow setup sits place view serves service_view told route old seat new after
+      → later + (length (view old seat).asked + length (view old seat).begun) ≡ steps + (length (view new after).asked + length (view new after).begun)
+      → IsWork setup sits place view serves service_view told needs helps route helper old seat steps true helper new after later
+  work_lost route helper old seat steps new after later keeps needed drops out counts = record {
+    others = leaves_own old seat new after out.step;
+    works = Lost helper old seat new after drops out;
+    needed = keeps helper old new seat after out.step needed;
+    counts = counts;
   }
 
   -- a writer that drops asks for no help
-  pub work_alone : (route : Route) (helper : H) (old : T) (seat : W) (refused : Bool) (left : H) (new : T) (after : W)
-      → IsWork setup sits place view serves service_view needs helps route helper old seat refused left new after → route.spec.policy ≡ Drops
+  pub work_alone : (route : Route) (helper : H) (old : T) (seat : W) (steps : ℕ) (stopped : Bool) (left : H) (new : T) (after : W) (later : ℕ) → sits old seat
+      → IsWork setup sits place view serves service_view told needs helps route helper old seat steps stopped left new after later → route.spec.policy ≡ Drops
       → (left ≡ helper) × IsWriterStep setup sits place view serves service_view old seat new after
-  work_alone route helper old seat refused left new after work drops = either work.works
+  work_alone route helper old seat steps stopped left new after later there work drops = alone there work.works
     where
-      either : {helper left : H} {old new : T} {seat after : W} {refused : Bool}
-          → Works (IsWriterStep setup sits place view serves service_view) (λ table asker. IsOutOfChunks (setup table) route (view table asker))
-          (λ asked table answer behind freed. helps asked table route.spec.producer answer behind freed) helper old seat refused left new after
+      alone : {helper left : H} {old new : T} {seat after : W} {stopped : Bool} → sits old seat
+          → Works route.spec.policy (IsQuiet setup sits place view serves service_view told) (GetsChunk setup sits place view serves service_view told route)
+          (IsOutNow setup sits place view serves service_view told route) (λ asked table answer behind freed. helps asked table route.spec.producer answer behind freed × LeavesWriters setup sits view table freed)
+          helper old seat stopped left new after
           → (left ≡ helper) × IsWriterStep setup sits place view serves service_view old seat new after
-      either (Alone helper old seat new after own) = (refl, own)
-      either (Helped helper old seat asking asker helped freed refused left new after own is_out helps_ more) = absurd (let same : Drops ≡ Stalls = sym drops ∙ is_out.stalls in cc)
-      either (Refused helper old seat asking asker left kept new after own is_out helps_ last) = absurd (let same : Drops ≡ Stalls = sym drops ∙ is_out.stalls in cc)
-
--- a call that goes on ends with no help that freed nothing
-pub refuses_none : (policy : WriterPolicy) → refuses policy false ≡ false
-refuses_none Drops = refl
-refuses_none Stalls = refl
-
-module _ {H T W S : Type 0} (setup : T → Setup) (sits : T → W → Type 0) (place : W → ℕ) (view : T → W → WriterView)
-    (serves : T → S → Type 0) (service_view : T → S → ServiceView) (needs : H → T → Type 0) (helps : H → T → ℕ → Bool → H → T → Type 0) where
-  pub work_goes : (route : Route) (helper : H) (old : T) (before : W) (left : H) (new : T) (after : W)
-      → IsWork setup sits place view serves service_view needs helps route helper old before false left new after
-      → IsWork setup sits place view serves service_view needs helps route helper old before (refuses route.spec.policy false) left new after
-  work_goes route helper old before left new after work =
-      subst (λ (refused : Bool). IsWork setup sits place view serves service_view needs helps route helper old before refused left new after)
-      (sym (refuses_none route.spec.policy)) work
-
-  -- a call that goes on comes behind
-  pub work_on : (route : Route) (helper : H) (old : T) (before : W) (middle : H) (mid : T) (between : W) (left : H) (new : T) (after : W)
-      → IsWork setup sits place view serves service_view needs helps route helper old before false middle mid between
-      → IsWork setup sits place view serves service_view needs helps route middle mid between (refuses route.spec.policy false) left new after
-      → IsWork setup sits place view serves service_view needs helps route helper old before false left new after
-  work_on route helper old before middle mid between left new after one two =
-      work_behind setup sits place view serves service_view needs helps route helper old before middle mid between false left new after one
-      (subst (λ (refused : Bool). IsWork setup sits place view serves service_view needs helps route middle mid between refused left new after)
-      (refuses_none route.spec.policy) two)
-
-  -- a call comes behind one that goes on
-  pub work_next : (route : Route) (helper : H) (old : T) (before : W) (middle : H) (mid : T) (between : W) (refused : Bool) (left : H) (new : T) (after : W)
-      → IsWork setup sits place view serves service_view needs helps route helper old before (refuses route.spec.policy false) middle mid between
-      → IsWork setup sits place view serves service_view needs helps route middle mid between refused left new after
-      → IsWork setup sits place view serves service_view needs helps route helper old before refused left new after
-  work_next route helper old before middle mid between refused left new after one two =
-      work_behind setup sits place view serves service_view needs helps route helper old before middle mid between refused left new after
-      (subst (λ (none : Bool). IsWork setup sits place view serves service_view needs helps route helper old before none middle mid between)
-      (refuses_none route.spec.policy) one) two
+      alone there (Done helper old seat) = (refl, stays setup sits place view serves service_view old seat there)
+      alone there (Quiet helper old seat next moved stopped left new after quiet more) =
+          let rest = alone quiet.step.seat_stays more in
+          (rest.0, steps_follow setup sits place view serves service_view old seat next moved new after quiet.step rest.1)
+      alone there (Gets helper old seat next moved stopped left new after gets more) =
+          let rest = alone gets.step.seat_stays more in
+          (rest.0, steps_follow setup sits place view serves service_view old seat next moved new after gets.step rest.1)
+      alone there (Helped helper old seat asking asker helped freed stopped left new after stalls out helps_ more) = absurd (let same : Drops ≡ Stalls = sym drops ∙ stalls in cc)
+      alone there (Refused helper old seat asking asker left kept new after stalls out helps_ last) = absurd (let same : Drops ≡ Stalls = sym drops ∙ stalls in cc)
+      alone there (Lost helper old seat new after lost out) = (refl, out.step)

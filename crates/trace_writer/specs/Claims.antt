@@ -1,21 +1,49 @@
--- What a writer's claim does to the view of its seat, however often it asks for its producer's chunks.
-use Rattle.std.specs.Prelude.{◌≡◌, ℕ, ◌+◌, ◌<◌, ◌≤◌, [], ◌∷◌, ◌++◌}
-use Rattle.chunk_plain.specs.Setup.{Setup}
-use Rattle.chunk_plain.specs.Views.{Held, WriterView}
+-- What a writer's claim does to its chunks, however often it asks for those of its producer, and what it keeps of its claims.
+use Rattle.std.specs.Prelude.{◌≡◌, ℕ, ◌+◌, ◌<◌, ◌≤◌, ◌⊎◌, ⊤, None, List, [], ◌∷◌, ◌++◌, length, filter}
+use Rattle.trace_model.specs.Packets.{Packet, is_lost, packets_of}
+use Rattle.chunk_plain.specs.Setup.{Setup, producer_of, IsChunkOf}
+use Rattle.chunk_plain.specs.Views.{Ask, Begun, Held, Completed, WriterView}
 use Rattle.chunk_plain.specs.Steps.{no_head}
 use Rattle.trace_writer.specs.declared.route.Route.{Route}
-use Rattle.trace_writer.specs.Flows.{AsksMore, AsksInVainLast}
 
--- a chunk of the producer is claimed and begun, whatever was asked for before
+-- a chunk of the producer is begun
 pub record Wins (route : Route) (chunk : ℕ) (old new : WriterView) : Type 0 where
   pub least : route.arbiter.first ≤ chunk
   pub below : chunk < route.arbiter.first + route.arbiter.chunks
   pub begun : new.begun ≡ old.begun ++ Held chunk no_head ∷ []
   pub calls : new.calls ≡ old.calls
-  pub asked : AsksMore old new
 
--- no chunk was free, and nothing else of the view changed
-pub record FindsNone (setup : Setup) (route : Route) (old new : WriterView) : Type 0 where
+-- none was
+pub record FindsNone (old new : WriterView) : Type 0 where
   pub begun : new.begun ≡ old.begun
   pub calls : new.calls ≡ old.calls
-  pub asked : AsksInVainLast setup route old new
+
+-- each of these claims was for a chunk of the producer
+abbrev pub AreOwnAsks : Setup → ℕ → List Ask → Type 0
+AreOwnAsks setup producer [] = ⊤
+AreOwnAsks setup producer (ask ∷ asks) = IsChunkOf setup producer ask.chunk × AreOwnAsks setup producer asks
+
+-- and each of these chunks is one of the producer's
+abbrev pub AreOwnChunks : Setup → ℕ → List Begun → Type 0
+AreOwnChunks setup producer [] = ⊤
+AreOwnChunks setup producer (Held chunk head ∷ begun) = IsChunkOf setup producer chunk × AreOwnChunks setup producer begun
+AreOwnChunks setup producer (Completed chunk content ∷ begun) = IsChunkOf setup producer chunk × AreOwnChunks setup producer begun
+
+-- one of these claims was for the chunk
+abbrev pub HasAsked : List Ask → ℕ → Type 0
+HasAsked [] chunk = ⊥
+HasAsked (ask ∷ asks) chunk = (ask.chunk ≡ chunk) ⊎ HasAsked asks chunk
+
+-- how many packets were dropped, at their begin or later
+abbrev pub lost_count : List Packet → ℕ
+lost_count packets = length (filter is_lost packets)
+
+-- What a writer has of chunks between two calls: no claim is out, all that it asked for and all that it began are chunks of
+-- its producer, and where
+-- it lost a packet it has asked for each of these.
+pub record KeepsClaims (setup : Setup) (place : ℕ) (view : WriterView) : Type 0 where
+  pub unclaimed : view.claimed ≡ []
+  pub unstamped : view.stamped ≡ None
+  pub own_asks : AreOwnAsks setup (producer_of setup place) view.asked
+  pub own_chunks : AreOwnChunks setup (producer_of setup place) view.begun
+  pub vain : 0 < lost_count (packets_of view.calls) → (chunk : ℕ) → IsChunkOf setup (producer_of setup place) chunk → HasAsked view.asked chunk

@@ -5,8 +5,7 @@ use Rattle.trace_base.specs.declared.policy.WriterPolicy.TheVariants.{Drops, Sta
 use Rattle.trace_model.specs.Packets.{Packet, Account, with_more, given_up_packet, body_of}
 use Rattle.commit_body.specs.Pending.{Pending}
 use Rattle.chunk_plain.specs.Setup.{Setup}
-use Rattle.chunk_plain.specs.Views.{Ask, WriterView}
-use Rattle.claim_arbiter.specs.Claiming.{lost_asks, AllClaimed}
+use Rattle.chunk_plain.specs.Views.{WriterView}
 use Rattle.cut_steps.specs.Writing.{with_open}
 use Rattle.trace_writer.specs.declared.flow.Flow.{Flow}
 use Rattle.trace_writer.specs.declared.flow.Flow.TheVariants.{Going, Stopped}
@@ -22,19 +21,6 @@ pub record IsInPacket (site : Site) (view : WriterView) (pending : Pending) (fra
   pub packet : Packet
   pub older : List Packet
   pub inside : InFragment site packet older view pending fragment []
-
--- further claims stand behind those before
-pub record AsksMore (old new : WriterView) : Type 0 where
-  pub more : List Ask
-  pub asked : new.asked ≡ old.asked ++ more
-
--- every chunk of the producer was asked for in vain, last of all that was asked for
-pub record AsksInVainLast (setup : Setup) (route : Route) (old new : WriterView) : Type 0 where
-  pub before : List Ask
-  pub words : List ℕ
-  pub count_is : length words ≡ route.arbiter.chunks
-  pub claimed : AllClaimed setup route.arbiter.first words
-  pub asked : new.asked ≡ (old.asked ++ before) ++ lost_asks (length old.calls) route.arbiter.first words
 
 -- the newest packet is given up, with all that its writer was asked to write of it
 abbrev pub with_loss : Packet → List Packet → Account
@@ -53,7 +39,6 @@ IsStopped site packet older view pending = StopsAs site.policy site packet older
 -- The bytes were written to the packet.
 pub record PutsOn (site : Site) (old new : WriterView) (before after : Pending) (fragment next : OpenFragment) (bytes : List ℕ) : Type 0 where
   pub calls : new.calls ≡ old.calls
-  pub asked : AsksMore old new
   pub holes : length after.holes ≡ length before.holes
   pub keeps : (packet : Packet) (older : List Packet) → InFragment site packet older old before fragment []
       → InFragment site (with_more bytes packet) older new after next []
@@ -61,8 +46,7 @@ pub record PutsOn (site : Site) (old new : WriterView) (before after : Pending) 
   pub byte : HasByte fragment → HasByte next
 
 -- The packet stops before all these bytes were written, whatever its writer is asked to write behind them.
-pub record StopsIn (site : Site) (setup : Setup) (route : Route) (old new : WriterView) (before after : Pending) (fragment : OpenFragment) (bytes : List ℕ) : Type 0 where
-  pub asked : AsksInVainLast setup route old new
+pub record StopsIn (site : Site) (old new : WriterView) (before after : Pending) (fragment : OpenFragment) (bytes : List ℕ) : Type 0 where
   pub calls : new.calls ≡ old.calls
   pub stopped : (packet : Packet) (older : List Packet) (more : List ℕ) → InFragment site packet older old before fragment []
       → IsStopped site (with_more (bytes ++ more) packet) older new after
@@ -77,14 +61,13 @@ abbrev pub Flows : Setup → ℕ → Route → WriterView → WriterView → Pen
 Flows setup place route old new before after fragment bytes (Going next) =
     PutsOn (site_of setup place route) old new before after fragment next bytes
 Flows setup place route old new before after fragment bytes (Stopped next_id) =
-    StopsIn (site_of setup place route) setup route old new before after fragment bytes × (next_id ≡ length new.begun)
+    StopsIn (site_of setup place route) old new before after fragment bytes × (next_id ≡ length new.begun)
 
 -- The end of a chunk: all bytes of the payload are used, or a nested length comes next that doesn't fit
 
 -- the packet goes on in a next chunk
 pub record RunsOn (site : Site) (old new : WriterView) (before after : Pending) (fragment next : OpenFragment) : Type 0 where
   pub calls : new.calls ≡ old.calls
-  pub asked : AsksMore old new
   pub holes : after.holes ≡ before.holes
   pub start : next.start ≡ 0
   pub at : next.at ≡ 4
@@ -106,16 +89,11 @@ pub record StopsHere (site : Site) (old new : WriterView) (before after : Pendin
   pub length_next : (packet : Packet) (older : List Packet) → InFragment site packet older old before fragment []
       → IsStopped site (with_open packet) older new after
 
--- it stops since no chunk was free
-pub record CannotRunOn (site : Site) (setup : Setup) (route : Route) (old new : WriterView) (before after : Pending) (fragment : OpenFragment) : Type 0 where
-  pub asked : AsksInVainLast setup route old new
-  pub stops : StopsHere site old new before after fragment
-
 abbrev pub Continues : Setup → ℕ → Route → WriterView → WriterView → Pending → Pending → OpenFragment → Flow → Type 0
 Continues setup place route old new before after fragment (Going next) =
     RunsOn (site_of setup place route) old new before after fragment next
 Continues setup place route old new before after fragment (Stopped next_id) =
-    CannotRunOn (site_of setup place route) setup route old new before after fragment × (next_id ≡ length new.begun)
+    StopsHere (site_of setup place route) old new before after fragment × (next_id ≡ length new.begun)
 
 -- Nested lengths
 
@@ -129,8 +107,7 @@ pub record SetsAside (site : Site) (old new : WriterView) (before after : Pendin
   pub byte : HasByte next
 
 -- the packet stops with the length that was to come
-pub record CannotSetAside (site : Site) (setup : Setup) (route : Route) (old new : WriterView) (before after : Pending) (fragment : OpenFragment) : Type 0 where
-  pub asked : AsksInVainLast setup route old new
+pub record CannotSetAside (site : Site) (old new : WriterView) (before after : Pending) (fragment : OpenFragment) : Type 0 where
   pub calls : new.calls ≡ old.calls
   pub stopped : (packet : Packet) (older : List Packet) → InFragment site packet older old before fragment []
       → IsStopped site (with_open packet) older new after
@@ -139,7 +116,7 @@ abbrev pub SetsLength : Setup → ℕ → Route → WriterView → WriterView �
 SetsLength setup place route old new before after fragment (Going next) =
     SetsAside (site_of setup place route) old new before after fragment next
 SetsLength setup place route old new before after fragment (Stopped next_id) =
-    CannotSetAside (site_of setup place route) setup route old new before after fragment × (next_id ≡ length new.begun)
+    CannotSetAside (site_of setup place route) old new before after fragment × (next_id ≡ length new.begun)
 
 -- A call's part of a packet
 
@@ -152,8 +129,7 @@ pub record WritesOn (site : Site) (old new : WriterView) (before after : Pending
   pub byte : HasByte fragment → HasByte next
 
 -- the packet stops in the call
-pub record CannotWrite (site : Site) (setup : Setup) (route : Route) (old new : WriterView) (before after : Pending) (fragment : OpenFragment) (change : Packet → Packet) : Type 0 where
-  pub asked : AsksInVainLast setup route old new
+pub record CannotWrite (site : Site) (old new : WriterView) (before after : Pending) (fragment : OpenFragment) (change : Packet → Packet) : Type 0 where
   pub calls : new.calls ≡ old.calls
   pub stopped : (packet : Packet) (older : List Packet) → InFragment site packet older old before fragment []
       → IsStopped site (change packet) older new after
@@ -162,4 +138,4 @@ abbrev pub Writes : Setup → ℕ → Route → WriterView → WriterView → Pe
 Writes setup place route old new before after fragment count change (Going next) =
     WritesOn (site_of setup place route) old new before after fragment next count change
 Writes setup place route old new before after fragment count change (Stopped next_id) =
-    CannotWrite (site_of setup place route) setup route old new before after fragment change × (next_id ≡ length new.begun)
+    CannotWrite (site_of setup place route) old new before after fragment change × (next_id ≡ length new.begun)

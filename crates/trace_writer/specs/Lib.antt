@@ -1,4 +1,5 @@
 pub mod Agreement
+pub mod Asked
 pub mod Claims
 pub mod Core
 pub mod Empty
@@ -9,7 +10,9 @@ pub mod Headers
 pub mod Helping
 pub mod Ids
 pub mod InPlace
+pub mod Laws
 pub mod Outcomes
+pub mod OwnSteps
 pub mod Placing
 pub mod Refusals
 pub mod Site

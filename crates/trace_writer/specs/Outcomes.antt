@@ -1,5 +1,5 @@
 -- What a call of a writer does to the view of its seat, and the cut that the writer's chunks are.
-use Rattle.std.specs.Prelude.{◌≡◌, ℕ, ◌+◌, ◌-◌, Bool, false, List, [], ◌∷◌, ◌++◌, ◌⊎◌}
+use Rattle.std.specs.Prelude.{◌≡◌, ℕ, ◌+◌, ◌-◌, Bool, false, List, [], ◌∷◌, ◌++◌}
 use Rattle.wire_varint.specs.Varint.{redundant}
 use Rattle.trace_base.specs.declared.policy.WriterPolicy.{WriterPolicy}
 use Rattle.trace_base.specs.declared.policy.WriterPolicy.TheVariants.{Drops, Stalls}
@@ -9,20 +9,15 @@ use Rattle.trace_model.specs.Cut.{IsCut, last_runs_on, newest_goes_on}
 use Rattle.trace_model.specs.Packets.{packets_of}
 use Rattle.commit_body.specs.Patches.{hole_chunks, with_lasts}
 use Rattle.commit_body.specs.Pending.{Pending}
-use Rattle.chunk_plain.specs.Setup.{Setup}
 use Rattle.chunk_plain.specs.Views.{Begun as BegunChunk, Held, Completed, WriterView}
 use Rattle.chunk_plain.specs.Steps.{notes_call}
 use Rattle.trace_writer.specs.declared.flow.Flow.{Flow}
 use Rattle.trace_writer.specs.declared.flow.Flow.TheVariants as flow
 use Rattle.trace_writer.specs.declared.fragment.OpenFragment.{OpenFragment}
-use Rattle.trace_writer.specs.declared.route.Route.{Route}
 use Rattle.trace_writer.specs.declared.state.State.{State}
 use Rattle.trace_writer.specs.declared.state.State.TheVariants.{Idle, Between, Writing, Dropping, Stalled}
 use Rattle.trace_writer.specs.declared.state.Writer.{Writer}
-use Rattle.trace_writer.specs.Empty.{is_stalled}
 use Rattle.trace_writer.specs.Headers.{flags_value}
-use Rattle.trace_writer.specs.Flows.{AsksInVainLast}
-use Rattle.trace_writer.specs.Agreement.{Agrees}
 
 -- behind what was written for a call the call is noted, and that the packet was given up
 abbrev pub StopsBehind : WriterPolicy → Writer → Writer → WriterView → WriterView → Call → ℕ → Type 0
@@ -33,17 +28,6 @@ StopsBehind Stalls old new before after call next_id = (new ≡ record old { sta
 abbrev pub GoesBehind : Writer → Writer → WriterView → WriterView → Call → Flow → Type 0
 GoesBehind old new before after call (flow.Going fragment) = (new ≡ record old { state = Writing fragment }) × (after ≡ notes_call before call)
 GoesBehind old new before after call (flow.Stopped next_id) = StopsBehind old.route.spec.policy old new before after call next_id
-
--- The call was noted, and the packet went on; or it was given up, by a writer that drops, since a claim found no chunk free.
-pub record Notes (setup : Setup) (route : Route) (call : Call) (old new : WriterView) : Type 0 where
-  pub calls : (new.calls ≡ old.calls ++ call ∷ [])
-      ⊎ ((new.calls ≡ old.calls ++ call ∷ GivenUp ∷ []) × (route.spec.policy ≡ Drops) × AsksInVainLast setup route old new)
-
--- The call stalls its writer, which is one that stalls: a claim found no chunk free. These calls are noted.
-pub record StallsNow (setup : Setup) (route : Route) (noted : List Call) (old new : WriterView) : Type 0 where
-  pub stalls : route.spec.policy ≡ Stalls
-  pub calls : new.calls ≡ old.calls ++ noted
-  pub vain : AsksInVainLast setup route old new
 
 -- The images of a writer
 
@@ -92,13 +76,3 @@ patches_so_far view writer = completed_patches view.begun ++ held_patches writer
 pub record HasCut (size sequence : ℕ) (calls : List Call) (images : List Image) (patches : List (List Patch)) (held : List Image) : Type 0 where
   pub cut : IsCut size sequence calls images patches
   pub ends : held ≡ [] → last_runs_on false cut.pages ≡ newest_goes_on (packets_of calls)
-
--- A writer that agrees with its view has cut its packets into its chunks.
-abbrev pub AgreeingIsCut : Type 0
-AgreeingIsCut = (setup : Setup) (place : ℕ) (view : WriterView) (writer : Writer) → Agrees setup place view writer
-    → HasCut writer.route.payload_size (place + 2) view.calls (images_so_far place view writer) (patches_so_far view writer) (held_images place writer.state)
-
--- A writer that drops packets never waits for ever.
-abbrev pub DropsNeverStall : Type 0
-DropsNeverStall = (setup : Setup) (place : ℕ) (view : WriterView) (writer : Writer) → Agrees setup place view writer
-    → writer.route.spec.policy ≡ Drops → is_stalled writer.state ≡ false

@@ -1,12 +1,10 @@
 -- Where a packet can begin, and what its begin does to the view of the writer's seat.
-use Rattle.std.specs.Prelude.{◌≡◌, ℕ, ◌+◌, ◌-◌, ◌*◌, ◌<◌, ◌≤◌, Bool, true, false, None, List, [], ◌∷◌, ◌++◌, length, vec_len, ⊤}
+use Rattle.std.specs.Prelude.{◌≡◌, ◌+◌, ◌-◌, ◌*◌, ◌<◌, ◌≤◌, Bool, true, false, not, None, List, [], ◌∷◌, ◌++◌, length, vec_len, ⊤, Result, MatchResult}
 use Rattle.trace_base.specs.declared.limits.TheConstants.{MAX_FRAGMENTS, MAX_PACKET_LEN}
 use Rattle.trace_base.specs.declared.policy.WriterPolicy.{WriterPolicy}
-use Rattle.trace_base.specs.declared.policy.WriterPolicy.TheVariants.{Drops, Stalls}
 use Rattle.trace_model.specs.Calls as call
 use Rattle.trace_model.specs.Packets.{Packet, Account}
 use Rattle.commit_body.specs.Pending.{Pending}
-use Rattle.chunk_plain.specs.Setup.{Setup}
 use Rattle.chunk_plain.specs.Views.{WriterView}
 use Rattle.chunk_plain.specs.Steps.{restamps}
 use Rattle.chunk_plain.specs.Words.{IsHolding, MayFollow, head_at}
@@ -14,19 +12,18 @@ use Rattle.trace_writer.specs.declared.begin.Place.{Place}
 use Rattle.trace_writer.specs.declared.begin.Place.TheVariants.{Behind, Nowhere}
 use Rattle.trace_writer.specs.declared.chunk.HeldChunk.{HeldChunk}
 use Rattle.trace_writer.specs.declared.fault.Begun.{Begun}
-use Rattle.trace_writer.specs.declared.fault.Begun.TheVariants.{Kept, Dropping}
 use Rattle.trace_writer.specs.declared.fault.CallFault.{CallFault}
 use Rattle.trace_writer.specs.declared.fault.CallFault.TheVariants as fault_of
 use Rattle.trace_writer.specs.declared.fragment.OpenFragment.{OpenFragment}
-use Rattle.trace_writer.specs.declared.route.Route.{Route}
 use Rattle.trace_writer.specs.declared.state.State.{State}
 use Rattle.trace_writer.specs.declared.state.State.TheVariants.{Idle, Between, Writing, Dropping as Throwing, Stalled}
+use Rattle.trace_writer.specs.Asked.{begun_as, stops_with}
 use Rattle.trace_writer.specs.Empty.{is_stalled}
+use Rattle.trace_writer.specs.Helping.{refuses}
 use Rattle.trace_writer.specs.Headers.{held_head}
-use Rattle.trace_writer.specs.Site.{Site, site_of}
+use Rattle.trace_writer.specs.Site.{Site}
 use Rattle.trace_writer.specs.Ids.{last_id, least_filled}
 use Rattle.trace_writer.specs.States.{InFragment, IsIdle, has_room}
-use Rattle.trace_writer.specs.Flows.{AsksInVainLast}
 
 -- a packet as it begins, without its front mark
 pub record IsBare (account : Account) (packet : Packet) : Type 0 where
@@ -65,36 +62,18 @@ BeginsHere (Writing fragment) = ⊥
 BeginsHere (Throwing next_id) = ⊥
 BeginsHere (Stalled next_id) = ⊤
 
--- a packet can begin there; or nowhere, since every chunk was asked for in vain
-abbrev pub IsPlace : Setup → ℕ → Route → Account → WriterView → WriterView → Pending → Place → Type 0
-IsPlace setup place route account old new pending (Behind chunk) = IsRoomy (site_of setup place route) account new pending chunk
-IsPlace setup place route account old new pending (Nowhere next_id) =
-    (next_id ≡ length new.begun) × IsIdle (site_of setup place route) account new pending × AsksInVainLast setup route old new
-
-abbrev pub is_kept : Begun → Bool
-is_kept Kept = true
-is_kept Dropping = false
+-- a packet can begin there; or nowhere
+abbrev pub IsPlace : Site → Account → WriterView → Pending → Place → Type 0
+IsPlace site account view pending (Behind chunk) = IsRoomy site account view pending chunk
+IsPlace site account view pending (Nowhere next_id) = (next_id ≡ length view.begun) × IsIdle site account view pending
 
 abbrev pub is_behind : Place → Bool
 is_behind (Behind chunk) = true
 is_behind (Nowhere next_id) = false
 
--- a packet is begun at a place that was found; where none was it is dropped, by a writer that drops
-pub record BeginsAt (policy : WriterPolicy) (place : Place) (begun : Begun) (old new : List call.Call) : Type 0 where
-  pub calls : new ≡ old ++ call.Begun (is_kept begun) ∷ []
-  pub kept : is_kept begun ≡ is_behind place
-  pub drops : is_kept begun ≡ false → policy ≡ Drops
-
--- and a writer that stalls begins none
-pub record StallsAt (policy : WriterPolicy) (place : Place) (fault : CallFault) (old new : List call.Call) (after : State) : Type 0 where
-  pub fault_is : fault ≡ fault_of.Stalled
-  pub stalls : policy ≡ Stalls
-  pub nowhere : is_behind place ≡ false
-  pub calls : new ≡ old
-  pub stalled : is_stalled after ≡ true
-
--- A packet is begun. It is dropped only by a writer that drops, and only where a claim of this call found no chunk free.
-abbrev pub BeginsPacket : Setup → Route → WriterView → WriterView → Begun → Type 0
-BeginsPacket setup route old new Kept = new.calls ≡ old.calls ++ call.Begun true ∷ []
-BeginsPacket setup route old new Dropping =
-    (new.calls ≡ old.calls ++ call.Begun false ∷ []) × (route.spec.policy ≡ Drops) × AsksInVainLast setup route old new
+-- A packet is begun at a place that was found. Where none was it is dropped, by a writer that drops, and one that stalls begins none.
+pub record BeginsAt (policy : WriterPolicy) (place : Place) (answer : Result Begun CallFault) (old new : List call.Call) (after : State) : Type 0 where
+  pub stops : stops_with answer ≡ not (is_behind place)
+  pub calls : new ≡ old ++ begun_as (not (is_behind place)) policy
+  pub stalls : is_stalled after ≡ refuses policy (not (is_behind place))
+  pub answers : MatchResult answer (λ _. is_stalled after ≡ false) (λ fault. (fault ≡ fault_of.Stalled) × (is_stalled after ≡ true))

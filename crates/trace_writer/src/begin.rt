@@ -1,19 +1,18 @@
 //! Where a packet begins.
-ghost use Rattle.std.specs.Prelude.{◌≡◌, ℕ, ◌+◌, ◌<◌, ◌≤◌, true, false, [], ◌∷◌, ◌++◌, List, None, length, not, Ok, Err, IfOk, IfErr, vec_len};
+ghost use Rattle.std.specs.Prelude.{◌≡◌, ℕ, ◌+◌, ◌<◌, ◌≤◌, true, false, [], ◌∷◌, ◌++◌, List, None, length, not, Ok, Err, MatchResult, vec_len};
 ghost use Rattle.trace_model.specs.Packets.{Account, account_of};
 ghost use Rattle.commit_body.specs.Pending.{Pending};
-ghost use Rattle.chunk_plain.specs.Views.{WriterView};
 ghost use Rattle.trace_base.specs.declared.policy.WriterPolicy.TheVariants.{Drops, Stalls};
 ghost use Rattle.trace_writer.specs.declared.fault.CallFault.TheVariants as call_fault;
 ghost use Rattle.trace_writer.specs.Empty.{is_empty, is_stalled as is_stalled_state};
-ghost use Rattle.trace_writer.specs.Helping.{IsWork, refuses, stalls_now};
-ghost use Rattle.trace_writer.specs.Outcomes.{StallsNow};
+ghost use Rattle.trace_writer.specs.Asked.{IsAsked, begun_as, stops_with};
+ghost use Rattle.trace_writer.specs.Helping.{IsWork};
+ghost use Rattle.trace_writer.specs.OwnSteps.{IsQuiet, NoneHeld};
 ghost use Rattle.trace_model.specs.Calls as call;
-ghost use Rattle.chunk_plain.specs.Words.{IsWriterStep};
 ghost use Rattle.trace_writer.specs.Site.{IsRoute, site_of};
 ghost use Rattle.trace_writer.specs.Agreement.{Agrees, AgreesBetween, is_begun};
 ghost use Rattle.trace_writer.specs.States.{IsIdle, IsBehind, has_room};
-ghost use Rattle.trace_writer.specs.Placing.{BeginsHere, IsPlace, IsRoomy, BeginsAt, StallsAt, BeginsPacket, is_behind};
+ghost use Rattle.trace_writer.specs.Placing.{BeginsHere, IsPlace, IsRoomy, BeginsAt, is_behind};
 
 use crate::chunk::HeldChunk;
 use crate::claim::claim_next;
@@ -53,10 +52,13 @@ fn new_place<W: Words, L: Ledger, H: HelperOn<W>>(
     requires route { IsRoute (W.setup table.old) (W.place seat.old) route.now }
     requires next { next_id ≡ length (W.view table.old seat.old).begun }
     requires ids { next_id + 4096 ≤ 4294967295 }
+    requires none_held { NoneHeld (W.view table.old seat.old).begun }
     ensures calls { (W.view table.new seat.new).calls ≡ (W.view table.old seat.old).calls }
-    ensures place { (account : Account) (pending : Pending) → IsIdle (site_of (W.setup table.old) (W.place seat.old) route.now) account (W.view table.old seat.old) pending
-        → IsPlace (W.setup table.old) (W.place seat.old) route.now account (W.view table.old seat.old) (W.view table.new seat.new) pending result }
-    ensures work { IsWork W.setup W.sits W.place W.view W.serves W.service_view H.needs H.helps route.now help.old table.old seat.old (refuses route.now.spec.policy (not (is_behind result))) help.new table.new seat.new }
+    ensures place { (account : Account) (pending : Pending)
+        → IsIdle (site_of (W.setup table.old) (W.place seat.old) route.now) account (W.view table.old seat.old) pending
+        → IsPlace (site_of (W.setup table.old) (W.place seat.old) route.now) account (W.view table.new seat.new) pending result }
+    ensures work { IsWork W.setup W.sits W.place W.view W.serves W.service_view W.told H.needs H.helps
+        route.now help.old table.old seat.old steps.old (not (is_behind result)) help.new table.new seat.new steps.new }
     ensures few_steps { route.now.spec.policy ≡ Drops → steps.new ≤ steps.old + route.now.arbiter.chunks + 1 }
 {
     match claim_next(route, table, seat, help, next_id, steps) {
@@ -81,10 +83,12 @@ fn place_behind<W: Words, L: Ledger, H: HelperOn<W>>(
     requires behind { (account : Account) × IsBehind (site_of (W.setup table.old) (W.place seat.old) route.now) account (W.view table.old seat.old) pending.old chunk }
     requires ids { chunk.held.id + 4097 ≤ 4294967295 }
     ensures calls { (W.view table.new seat.new).calls ≡ (W.view table.old seat.old).calls }
-    ensures place { (account : Account) → IsBehind (site_of (W.setup table.old) (W.place seat.old) route.now) account (W.view table.old seat.old) pending.old chunk
-        → IsPlace (W.setup table.old) (W.place seat.old) route.now account (W.view table.old seat.old) (W.view table.new seat.new) pending.new result }
+    ensures place { (account : Account)
+        → IsBehind (site_of (W.setup table.old) (W.place seat.old) route.now) account (W.view table.old seat.old) pending.old chunk
+        → IsPlace (site_of (W.setup table.old) (W.place seat.old) route.now) account (W.view table.new seat.new) pending.new result }
     ensures asked { has_room (vec_len chunk.held.body.payload) chunk ≡ true → (W.view table.new seat.new).asked ≡ (W.view table.old seat.old).asked }
-    ensures work { IsWork W.setup W.sits W.place W.view W.serves W.service_view H.needs H.helps route.now help.old table.old seat.old (refuses route.now.spec.policy (not (is_behind result))) help.new table.new seat.new }
+    ensures work { IsWork W.setup W.sits W.place W.view W.serves W.service_view W.told H.needs H.helps
+        route.now help.old table.old seat.old steps.old (not (is_behind result)) help.new table.new seat.new steps.new }
     ensures few_steps { route.now.spec.policy ≡ Drops → steps.new ≤ steps.old + route.now.arbiter.chunks + 1 }
 {
     if chunk.has_room() {
@@ -105,8 +109,7 @@ fn begin_kept<W: Words>(writer: &mut Writer, table: &mut W, seat: &mut W::Writer
     ensures route { writer.new.route ≡ writer.old.route }
     ensures calls { (W.view table.new seat.new).calls ≡ (W.view table.old seat.old).calls ++ call.Begun true ∷ [] }
     ensures going { is_stalled_state writer.new.state ≡ false }
-    ensures asked { (W.view table.new seat.new).asked ≡ (W.view table.old seat.old).asked }
-    ensures step { IsWriterStep W.setup W.sits W.place W.view W.serves W.service_view table.old seat.old table.new seat.new }
+    ensures quiet { IsQuiet W.setup W.sits W.place W.view W.serves W.service_view W.told table.old seat.old table.new seat.new }
 {
     writer.begun = writer.begun.saturating_add(1);
     writer.packet = Some(OpenPacket::new());
@@ -129,8 +132,7 @@ fn begin_dropped<W: Words>(writer: &mut Writer, table: &mut W, seat: &mut W::Wri
     ensures route { writer.new.route ≡ writer.old.route }
     ensures calls { (W.view table.new seat.new).calls ≡ (W.view table.old seat.old).calls ++ call.Begun false ∷ [] }
     ensures going { is_stalled_state writer.new.state ≡ false }
-    ensures asked { (W.view table.new seat.new).asked ≡ (W.view table.old seat.old).asked }
-    ensures step { IsWriterStep W.setup W.sits W.place W.view W.serves W.service_view table.old seat.old table.new seat.new }
+    ensures quiet { IsQuiet W.setup W.sits W.place W.view W.serves W.service_view W.told table.old seat.old table.new seat.new }
 {
     writer.begun = writer.begun.saturating_add(1);
     writer.packet = Some(OpenPacket::new());
@@ -147,16 +149,13 @@ fn begin_at<W: Words>(
     place: Place,
 ) -> Result<Begun, CallFault>
     requires seat { W.sits table.old seat.old }
-    requires place { (before : WriterView) × IsPlace (W.setup table.old) (W.place seat.old) writer.old.route (account_of (W.view table.old seat.old).calls) before (W.view table.old seat.old) writer.old.pending place }
+    requires place { IsPlace (site_of (W.setup table.old) (W.place seat.old) writer.old.route) (account_of (W.view table.old seat.old).calls) (W.view table.old seat.old) writer.old.pending place }
     requires empty { is_empty writer.old.state ≡ true }
     requires agrees { AgreesBetween (W.setup table.old) (W.place seat.old) (W.view table.old seat.old) writer.old }
     ensures agrees { Agrees (W.setup table.old) (W.place seat.old) (W.view table.new seat.new) writer.new }
     ensures route { writer.new.route ≡ writer.old.route }
-    ensures going { IfOk result (λ _. is_stalled_state writer.new.state ≡ false) }
-    ensures begins { IfOk result (λ begun. BeginsAt writer.old.route.spec.policy place begun (W.view table.old seat.old).calls (W.view table.new seat.new).calls) }
-    ensures stalls { IfErr result (λ fault. StallsAt writer.old.route.spec.policy place fault (W.view table.old seat.old).calls (W.view table.new seat.new).calls writer.new.state) }
-    ensures asked { (W.view table.new seat.new).asked ≡ (W.view table.old seat.old).asked }
-    ensures step { IsWriterStep W.setup W.sits W.place W.view W.serves W.service_view table.old seat.old table.new seat.new }
+    ensures begins { BeginsAt writer.old.route.spec.policy place result (W.view table.old seat.old).calls (W.view table.new seat.new).calls writer.new.state }
+    ensures quiet { IsQuiet W.setup W.sits W.place W.view W.serves W.service_view W.told table.old seat.old table.new seat.new }
 {
     match place {
         Place::Behind(chunk) => {
@@ -191,12 +190,15 @@ pub(crate) fn begin<W: Words, L: Ledger, H: HelperOn<W>>(
     requires ids { length (W.view table.old seat.old).begun + 4096 ≤ 4294967295 }
     ensures agrees { Agrees (W.setup table.old) (W.place seat.old) (W.view table.new seat.new) writer.new }
     ensures route { writer.new.route ≡ writer.old.route }
-    ensures going { IfOk result (λ _. is_stalled_state writer.new.state ≡ false) }
-    ensures begins { IfOk result (λ begun. BeginsPacket (W.setup table.old) writer.old.route (W.view table.old seat.old) (W.view table.new seat.new) begun) }
-    ensures stays { is_stalled_state writer.old.state ≡ true → (result ≡ Err call_fault.Stalled) × (writer.new ≡ writer.old) × (table.new ≡ table.old) × (seat.new ≡ seat.old) × (help.new ≡ help.old) }
-    ensures stalls { is_stalled_state writer.old.state ≡ false → IfErr result (λ fault. (fault ≡ call_fault.Stalled) × (is_stalled_state writer.new.state ≡ true) × StallsNow (W.setup table.old) writer.old.route [] (W.view table.old seat.old) (W.view table.new seat.new)) }
+    ensures stays { is_stalled_state writer.old.state ≡ true
+        → (result ≡ Err call_fault.Stalled) × (writer.new ≡ writer.old) × (table.new ≡ table.old) × (seat.new ≡ seat.old) × (help.new ≡ help.old) }
+    ensures answers { is_stalled_state writer.old.state ≡ false
+        → MatchResult result (λ _. is_stalled_state writer.new.state ≡ false) (λ fault. (fault ≡ call_fault.Stalled) × (is_stalled_state writer.new.state ≡ true)) }
+    ensures done { is_stalled_state writer.old.state ≡ false
+        → IsAsked W.setup W.sits W.place W.view W.serves W.service_view W.told H.needs H.helps
+        writer.old.route help.old table.old seat.old steps.old (stops_with result) (begun_as (stops_with result) writer.old.route.spec.policy)
+        (is_stalled_state writer.new.state) help.new table.new seat.new steps.new }
     ensures asked { BeginsHere writer.old.state → (W.view table.new seat.new).asked ≡ (W.view table.old seat.old).asked }
-    ensures work { IsWork W.setup W.sits W.place W.view W.serves W.service_view H.needs H.helps writer.old.route help.old table.old seat.old (stalls_now (is_stalled_state writer.old.state) result) help.new table.new seat.new }
     ensures few_steps { writer.old.route.spec.policy ≡ Drops → steps.new ≤ steps.old + writer.old.route.arbiter.chunks + 1 }
 {
     if is_stalled(&writer.state) {

@@ -5,8 +5,9 @@ ghost use Rattle.trace_model.specs.Sequences.{is_among};
 ghost use Rattle.commit_body.specs.Patches.{hole_chunks, with_lasts};
 ghost use Rattle.chunk_plain.specs.Setup.{spot};
 ghost use Rattle.chunk_plain.specs.Steps.{restamps, completes};
-ghost use Rattle.chunk_plain.specs.Words.{IsWriterStep, IsHolding, MayFollow, head_at};
+ghost use Rattle.chunk_plain.specs.Words.{IsHolding, MayFollow, head_at};
 ghost use Rattle.trace_writer.specs.Headers.{flags_value, held_head, completed_chunk};
+ghost use Rattle.trace_writer.specs.OwnSteps.{IsQuiet};
 
 use crate::fragment::OpenFragment;
 use chunk_plain::{Held, Words};
@@ -93,7 +94,7 @@ impl HeldChunk {
         ensures count { result.count ≡ self.count + 1 }
         ensures continues { result.continues ≡ self.continues }
         ensures view { W.view table.new seat.new ≡ restamps (W.view table.old seat.old) self.held.chunk self.held.id (held_head (self.count + 1) self.continues) }
-        ensures step { IsWriterStep W.setup W.sits W.place W.view W.serves W.service_view table.old seat.old table.new seat.new }
+        ensures quiet { IsQuiet W.setup W.sits W.place W.view W.serves W.service_view W.told table.old seat.old table.new seat.new }
     {
         let HeldChunk {
             mut held,
@@ -132,7 +133,7 @@ impl HeldChunk {
         ensures pending { pending.new ≡ record pending.old { unsent = [] } }
         ensures view { W.view table.new seat.new ≡ completes (restamps (W.view table.old seat.old) self.held.chunk self.held.id (record { count = self.count; flags = flags_value self.continues runs_on (runs_on && is_among self.held.id (hole_chunks pending.old.holes)) })) self.held.chunk self.held.id
             (completed_chunk (W.place seat.old) self.held.id self.count (flags_value self.continues runs_on (runs_on && is_among self.held.id (hole_chunks pending.old.holes))) self.held.body.payload.items (with_lasts (hole_chunks pending.old.holes) pending.old.unsent) buffer) }
-        ensures step { IsWriterStep W.setup W.sits W.place W.view W.serves W.service_view table.old seat.old table.new seat.new }
+        ensures quiet { IsQuiet W.setup W.sits W.place W.view W.serves W.service_view W.told table.old seat.old table.new seat.new }
     {
         let HeldChunk {
             mut held,
@@ -145,5 +146,20 @@ impl HeldChunk {
         held.body.target = buffer;
         table.set_header(seat, &mut held, count, flags_of(continues, runs_on, awaits));
         table.complete(seat, held);
+    }
+
+    /// Lets go of the chunk, which is never completed then.
+    pub fn drop_chunk(self) {
+        let HeldChunk {
+            held,
+            at: _,
+            count: _,
+            continues: _,
+        } = self;
+        let Held {
+            chunk: _,
+            id: _,
+            body: _,
+        } = held;
     }
 }

@@ -3,7 +3,8 @@ ghost use Rattle.std.specs.Prelude.{◌≡◌, ◌+◌, ◌^◌, ◌-◌, ◌<�
 ghost use Rattle.trace_base.specs.declared.policy.WriterPolicy.TheVariants.{Drops, Stalls};
 ghost use Rattle.chunk_plain.specs.Words.{IsHolding, IsBegun};
 ghost use Rattle.trace_writer.specs.Claims.{Wins, FindsNone};
-ghost use Rattle.trace_writer.specs.Helping.{IsWork, refuses};
+ghost use Rattle.trace_writer.specs.Helping.{IsWork};
+ghost use Rattle.trace_writer.specs.OwnSteps.{NoneHeld};
 ghost use Rattle.trace_writer.specs.Site.{IsRoute};
 
 use crate::helper::HelperOn;
@@ -30,10 +31,12 @@ pub(crate) fn claim_asking<W: Words, L: Ledger, H: HelperOn<W>>(
     requires stalls { route.now.spec.policy ≡ Stalls }
     requires id { next_id ≡ length (W.view table.old seat.old).begun }
     requires id_fits { next_id < 2 ^ 32 - 1 }
+    requires none_held { NoneHeld (W.view table.old seat.old).begun }
     ensures won { IfSome result (λ held. Wins route.now held.chunk (W.view table.old seat.old) (W.view table.new seat.new)) }
     ensures begun { IfSome result (λ held. IsBegun (W.setup table.old) held.chunk next_id held) }
-    ensures none { IfNone result (FindsNone (W.setup table.old) route.now (W.view table.old seat.old) (W.view table.new seat.new)) }
-    ensures work { IsWork W.setup W.sits W.place W.view W.serves W.service_view H.needs H.helps route.now help.old table.old seat.old (not (is_some result)) help.new table.new seat.new }
+    ensures none { IfNone result (FindsNone (W.view table.old seat.old) (W.view table.new seat.new)) }
+    ensures work { IsWork W.setup W.sits W.place W.view W.serves W.service_view W.told H.needs H.helps
+        route.now help.old table.old seat.old steps.old (not (is_some result)) help.new table.new seat.new steps.new }
 {
     'claims: loop {
         if let Some(held) = claim_over(&route.arbiter, table, seat, next_id, steps) {
@@ -59,10 +62,12 @@ pub(crate) fn claim_next<W: Words, L: Ledger, H: HelperOn<W>>(
     requires route { IsRoute (W.setup table.old) (W.place seat.old) route.now }
     requires id { next_id ≡ length (W.view table.old seat.old).begun }
     requires id_fits { next_id < 2 ^ 32 - 1 }
+    requires none_held { NoneHeld (W.view table.old seat.old).begun }
     ensures won { IfSome result (λ held. Wins route.now held.chunk (W.view table.old seat.old) (W.view table.new seat.new)) }
     ensures begun { IfSome result (λ held. IsBegun (W.setup table.old) held.chunk next_id held) }
-    ensures none { IfNone result (FindsNone (W.setup table.old) route.now (W.view table.old seat.old) (W.view table.new seat.new)) }
-    ensures work { IsWork W.setup W.sits W.place W.view W.serves W.service_view H.needs H.helps route.now help.old table.old seat.old (refuses route.now.spec.policy (not (is_some result))) help.new table.new seat.new }
+    ensures none { IfNone result (FindsNone (W.view table.old seat.old) (W.view table.new seat.new)) }
+    ensures work { IsWork W.setup W.sits W.place W.view W.serves W.service_view W.told H.needs H.helps
+        route.now help.old table.old seat.old steps.old (not (is_some result)) help.new table.new seat.new steps.new }
     ensures few_steps { route.now.spec.policy ≡ Drops → steps.new ≤ steps.old + route.now.arbiter.chunks + 1 }
 {
     match route.spec.policy {

@@ -1,17 +1,17 @@
 //! The fields of a packet that is begun, and its nested messages.
-ghost use Rattle.std.specs.Prelude.{◌≡◌, ℕ, ◌+◌, ◌*◌, ◌<◌, ◌≤◌, true, false, [], ◌∷◌, ◌++◌, List, length, Ok, Err, IfOk, IfErr};
+ghost use Rattle.std.specs.Prelude.{◌≡◌, ℕ, ◌+◌, ◌*◌, ◌<◌, ◌≤◌, true, false, [], ◌∷◌, ◌++◌, List, length, Bool, Ok, Err, MatchResult};
 ghost use Rattle.std.specs.List.{repeat};
 ghost use Rattle.trace_base.specs.declared.limits.TheConstants.{MAX_PACKET_LEN, MAX_OPEN_HOLES};
 ghost use Rattle.trace_model.specs.Calls as call;
 ghost use Rattle.trace_model.specs.Encoding.{nested_tag};
-ghost use Rattle.trace_model.specs.Packets.{Account, noted, on_newest, with_more};
-ghost use Rattle.chunk_plain.specs.Words.{IsWriterStep, call_of};
+ghost use Rattle.trace_model.specs.Packets.{Account, noted, on_newest, with_more, packets_of, newest_is_lost};
+ghost use Rattle.chunk_plain.specs.Words.{call_of};
 ghost use Rattle.trace_writer.specs.Agreement.{Agrees, NeedsNoChunk, is_begun, len_of, depth_of};
 ghost use Rattle.trace_writer.specs.declared.fault.CallFault.TheVariants as call_fault;
-ghost use Rattle.trace_writer.specs.Flows.{is_stopped};
+ghost use Rattle.trace_writer.specs.Asked.{IsAsked, written_as};
 ghost use Rattle.trace_writer.specs.Empty.{is_empty, is_stalled as is_stalled_state};
-ghost use Rattle.trace_writer.specs.Helping.{IsWork, refuses, stalls_now};
-ghost use Rattle.trace_writer.specs.Outcomes.{Notes, GoesBehind, StallsNow};
+ghost use Rattle.trace_writer.specs.Outcomes.{GoesBehind};
+ghost use Rattle.trace_writer.specs.OwnSteps.{IsQuiet};
 
 use crate::fault::CallFault;
 use crate::flow::Flow;
@@ -45,12 +45,16 @@ pub(crate) fn write_field<W: Words, L: Ledger, H: HelperOn<W>>(
     requires call { (account : Account) → noted account (call_of call) ≡ on_newest (with_more (head.now ++ repeat times text.now)) account }
     ensures agrees { Agrees (W.setup table.old) (W.place seat.old) (W.view table.new seat.new) writer.new }
     ensures route { writer.new.route ≡ writer.old.route }
-    ensures notes { IfOk result (λ _. Notes (W.setup table.old) writer.old.route (call_of call.entry) (W.view table.old seat.old) (W.view table.new seat.new)) }
-    ensures going { IfOk result (λ _. is_stalled_state writer.new.state ≡ false) }
-    ensures stays { is_stalled_state writer.old.state ≡ true → (result ≡ Err call_fault.Stalled) × (writer.new ≡ writer.old) × (table.new ≡ table.old) × (seat.new ≡ seat.old) × (help.new ≡ help.old) }
-    ensures stalls { is_stalled_state writer.old.state ≡ false → IfErr result (λ fault. (fault ≡ call_fault.Stalled) × (is_stalled_state writer.new.state ≡ true) × StallsNow (W.setup table.old) writer.old.route ((call_of call.entry) ∷ []) (W.view table.old seat.old) (W.view table.new seat.new)) }
+    ensures stays { is_stalled_state writer.old.state ≡ true
+        → (result ≡ Err call_fault.Stalled) × (writer.new ≡ writer.old) × (table.new ≡ table.old) × (seat.new ≡ seat.old) × (help.new ≡ help.old) }
+    ensures answers { is_stalled_state writer.old.state ≡ false
+        → MatchResult result (λ _. is_stalled_state writer.new.state ≡ false) (λ fault. (fault ≡ call_fault.Stalled) × (is_stalled_state writer.new.state ≡ true)) }
+    ensures done { is_stalled_state writer.old.state ≡ false → (stopped : Bool)
+        × IsAsked W.setup W.sits W.place W.view W.serves W.service_view W.told H.needs H.helps
+        writer.old.route help.old table.old seat.old steps.old stopped (written_as stopped writer.old.route.spec.policy (call_of call.entry))
+        (is_stalled_state writer.new.state) help.new table.new seat.new steps.new
+        × (stopped ≡ true → newest_is_lost (packets_of (W.view table.old seat.old).calls) ≡ false) }
     ensures asked { NeedsNoChunk writer.old.state (length head.now + times * length text.now) → (W.view table.new seat.new).asked ≡ (W.view table.old seat.old).asked }
-    ensures work { IsWork W.setup W.sits W.place W.view W.serves W.service_view H.needs H.helps writer.old.route help.old table.old seat.old (stalls_now (is_stalled_state writer.old.state) result) help.new table.new seat.new }
 {
     if put_field_here(writer, head, text, times) {
         table.note_call(seat, call);
@@ -79,12 +83,16 @@ fn write_field_on<W: Words, L: Ledger, H: HelperOn<W>>(
     requires call { (account : Account) → noted account (call_of call) ≡ on_newest (with_more (head.now ++ repeat times text.now)) account }
     ensures agrees { Agrees (W.setup table.old) (W.place seat.old) (W.view table.new seat.new) writer.new }
     ensures route { writer.new.route ≡ writer.old.route }
-    ensures notes { IfOk result (λ _. Notes (W.setup table.old) writer.old.route (call_of call.entry) (W.view table.old seat.old) (W.view table.new seat.new)) }
-    ensures going { IfOk result (λ _. is_stalled_state writer.new.state ≡ false) }
-    ensures stays { is_stalled_state writer.old.state ≡ true → (result ≡ Err call_fault.Stalled) × (writer.new ≡ writer.old) × (table.new ≡ table.old) × (seat.new ≡ seat.old) × (help.new ≡ help.old) }
-    ensures stalls { is_stalled_state writer.old.state ≡ false → IfErr result (λ fault. (fault ≡ call_fault.Stalled) × (is_stalled_state writer.new.state ≡ true) × StallsNow (W.setup table.old) writer.old.route ((call_of call.entry) ∷ []) (W.view table.old seat.old) (W.view table.new seat.new)) }
+    ensures stays { is_stalled_state writer.old.state ≡ true
+        → (result ≡ Err call_fault.Stalled) × (writer.new ≡ writer.old) × (table.new ≡ table.old) × (seat.new ≡ seat.old) × (help.new ≡ help.old) }
+    ensures answers { is_stalled_state writer.old.state ≡ false
+        → MatchResult result (λ _. is_stalled_state writer.new.state ≡ false) (λ fault. (fault ≡ call_fault.Stalled) × (is_stalled_state writer.new.state ≡ true)) }
+    ensures done { is_stalled_state writer.old.state ≡ false → (stopped : Bool)
+        × IsAsked W.setup W.sits W.place W.view W.serves W.service_view W.told H.needs H.helps
+        writer.old.route help.old table.old seat.old steps.old stopped (written_as stopped writer.old.route.spec.policy (call_of call.entry))
+        (is_stalled_state writer.new.state) help.new table.new seat.new steps.new
+        × (stopped ≡ true → newest_is_lost (packets_of (W.view table.old seat.old).calls) ≡ false) }
     ensures asked { is_empty writer.old.state ≡ true → (W.view table.new seat.new).asked ≡ (W.view table.old seat.old).asked }
-    ensures work { IsWork W.setup W.sits W.place W.view W.serves W.service_view H.needs H.helps writer.old.route help.old table.old seat.old (stalls_now (is_stalled_state writer.old.state) result) help.new table.new seat.new }
 {
     if is_stalled(&writer.state) {
         return Err(CallFault::Stalled);
@@ -132,12 +140,16 @@ pub(crate) fn write_nested<W: Words, L: Ledger, H: HelperOn<W>>(
     requires depth { depth_of writer.old.packet < MAX_OPEN_HOLES }
     ensures agrees { Agrees (W.setup table.old) (W.place seat.old) (W.view table.new seat.new) writer.new }
     ensures route { writer.new.route ≡ writer.old.route }
-    ensures notes { IfOk result (λ _. Notes (W.setup table.old) writer.old.route (call.Nested field) (W.view table.old seat.old) (W.view table.new seat.new)) }
-    ensures going { IfOk result (λ _. is_stalled_state writer.new.state ≡ false) }
-    ensures stays { is_stalled_state writer.old.state ≡ true → (result ≡ Err call_fault.Stalled) × (writer.new ≡ writer.old) × (table.new ≡ table.old) × (seat.new ≡ seat.old) × (help.new ≡ help.old) }
-    ensures stalls { is_stalled_state writer.old.state ≡ false → IfErr result (λ fault. (fault ≡ call_fault.Stalled) × (is_stalled_state writer.new.state ≡ true) × StallsNow (W.setup table.old) writer.old.route ((call.Nested field) ∷ []) (W.view table.old seat.old) (W.view table.new seat.new)) }
+    ensures stays { is_stalled_state writer.old.state ≡ true
+        → (result ≡ Err call_fault.Stalled) × (writer.new ≡ writer.old) × (table.new ≡ table.old) × (seat.new ≡ seat.old) × (help.new ≡ help.old) }
+    ensures answers { is_stalled_state writer.old.state ≡ false
+        → MatchResult result (λ _. is_stalled_state writer.new.state ≡ false) (λ fault. (fault ≡ call_fault.Stalled) × (is_stalled_state writer.new.state ≡ true)) }
+    ensures done { is_stalled_state writer.old.state ≡ false → (stopped : Bool)
+        × IsAsked W.setup W.sits W.place W.view W.serves W.service_view W.told H.needs H.helps
+        writer.old.route help.old table.old seat.old steps.old stopped (written_as stopped writer.old.route.spec.policy (call.Nested field))
+        (is_stalled_state writer.new.state) help.new table.new seat.new steps.new
+        × (stopped ≡ true → newest_is_lost (packets_of (W.view table.old seat.old).calls) ≡ false) }
     ensures asked { NeedsNoChunk writer.old.state (length tag.now + 4) → (W.view table.new seat.new).asked ≡ (W.view table.old seat.old).asked }
-    ensures work { IsWork W.setup W.sits W.place W.view W.serves W.service_view H.needs H.helps writer.old.route help.old table.old seat.old (stalls_now (is_stalled_state writer.old.state) result) help.new table.new seat.new }
 {
     if put_nested_here(writer, tag) {
         table.note_call(seat, WriterCall::Nested { field });
@@ -165,12 +177,16 @@ fn write_nested_on<W: Words, L: Ledger, H: HelperOn<W>>(
     requires depth { depth_of writer.old.packet < MAX_OPEN_HOLES }
     ensures agrees { Agrees (W.setup table.old) (W.place seat.old) (W.view table.new seat.new) writer.new }
     ensures route { writer.new.route ≡ writer.old.route }
-    ensures notes { IfOk result (λ _. Notes (W.setup table.old) writer.old.route (call.Nested field) (W.view table.old seat.old) (W.view table.new seat.new)) }
-    ensures going { IfOk result (λ _. is_stalled_state writer.new.state ≡ false) }
-    ensures stays { is_stalled_state writer.old.state ≡ true → (result ≡ Err call_fault.Stalled) × (writer.new ≡ writer.old) × (table.new ≡ table.old) × (seat.new ≡ seat.old) × (help.new ≡ help.old) }
-    ensures stalls { is_stalled_state writer.old.state ≡ false → IfErr result (λ fault. (fault ≡ call_fault.Stalled) × (is_stalled_state writer.new.state ≡ true) × StallsNow (W.setup table.old) writer.old.route ((call.Nested field) ∷ []) (W.view table.old seat.old) (W.view table.new seat.new)) }
+    ensures stays { is_stalled_state writer.old.state ≡ true
+        → (result ≡ Err call_fault.Stalled) × (writer.new ≡ writer.old) × (table.new ≡ table.old) × (seat.new ≡ seat.old) × (help.new ≡ help.old) }
+    ensures answers { is_stalled_state writer.old.state ≡ false
+        → MatchResult result (λ _. is_stalled_state writer.new.state ≡ false) (λ fault. (fault ≡ call_fault.Stalled) × (is_stalled_state writer.new.state ≡ true)) }
+    ensures done { is_stalled_state writer.old.state ≡ false → (stopped : Bool)
+        × IsAsked W.setup W.sits W.place W.view W.serves W.service_view W.told H.needs H.helps
+        writer.old.route help.old table.old seat.old steps.old stopped (written_as stopped writer.old.route.spec.policy (call.Nested field))
+        (is_stalled_state writer.new.state) help.new table.new seat.new steps.new
+        × (stopped ≡ true → newest_is_lost (packets_of (W.view table.old seat.old).calls) ≡ false) }
     ensures asked { is_empty writer.old.state ≡ true → (W.view table.new seat.new).asked ≡ (W.view table.old seat.old).asked }
-    ensures work { IsWork W.setup W.sits W.place W.view W.serves W.service_view H.needs H.helps writer.old.route help.old table.old seat.old (stalls_now (is_stalled_state writer.old.state) result) help.new table.new seat.new }
 {
     if is_stalled(&writer.state) {
         return Err(CallFault::Stalled);
@@ -208,10 +224,9 @@ fn go_on<W: Words>(
 ) -> Result<(), CallFault>
     requires seat { W.sits table.old seat.old }
     requires empty { is_empty writer.old.state ≡ true }
-    ensures going { IfOk result (λ _. refuses writer.old.route.spec.policy (is_stopped flow) ≡ false) }
-    ensures stalls { IfErr result (λ fault. (fault ≡ call_fault.Stalled) × (refuses writer.old.route.spec.policy (is_stopped flow) ≡ true)) }
+    ensures answers { MatchResult result (λ _. is_stalled_state writer.new.state ≡ false) (λ fault. (fault ≡ call_fault.Stalled) × (is_stalled_state writer.new.state ≡ true)) }
     ensures goes { GoesBehind writer.old writer.new (W.view table.old seat.old) (W.view table.new seat.new) (call_of call.entry) flow }
-    ensures step { IsWriterStep W.setup W.sits W.place W.view W.serves W.service_view table.old seat.old table.new seat.new }
+    ensures quiet { IsQuiet W.setup W.sits W.place W.view W.serves W.service_view W.told table.old seat.old table.new seat.new }
 {
     table.note_call(seat, call);
     match flow {
@@ -246,7 +261,7 @@ pub(crate) fn end_message<W: Words>(writer: &mut Writer, table: &mut W, seat: &m
     ensures goes { is_stalled_state writer.new.state ≡ is_stalled_state writer.old.state }
     ensures notes { is_stalled_state writer.old.state ≡ false → (W.view table.new seat.new).calls ≡ (W.view table.old seat.old).calls ++ call.Ended ∷ [] }
     ensures others { record (W.view table.new seat.new) { calls = (W.view table.old seat.old).calls } ≡ W.view table.old seat.old }
-    ensures step { IsWriterStep W.setup W.sits W.place W.view W.serves W.service_view table.old seat.old table.new seat.new }
+    ensures quiet { IsQuiet W.setup W.sits W.place W.view W.serves W.service_view W.told table.old seat.old table.new seat.new }
 {
     if is_stalled(&writer.state) {
         return;

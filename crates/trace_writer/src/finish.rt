@@ -1,9 +1,9 @@
 //! The end of a packet, and of a chunk between two packets.
 ghost use Rattle.std.specs.Prelude.{◌≡◌, ℕ, ◌+◌, ◌<◌, ◌≤◌, true, false, [], ◌∷◌, ◌++◌, List, length};
 ghost use Rattle.trace_model.specs.Calls as call;
-ghost use Rattle.chunk_plain.specs.Words.{IsWriterStep};
 ghost use Rattle.trace_writer.specs.Agreement.{Agrees, is_begun, depth_of};
 ghost use Rattle.trace_writer.specs.Empty.{is_empty, is_stalled as is_stalled_state};
+ghost use Rattle.trace_writer.specs.OwnSteps.{IsQuiet};
 
 use crate::state::{State, Writer, is_stalled, put_state, take_state};
 use chunk_plain::{Words, WriterCall};
@@ -19,9 +19,10 @@ pub(crate) fn finish<W: Words>(writer: &mut Writer, table: &mut W, seat: &mut W:
     ensures stalled { is_stalled_state writer.old.state ≡ true → (writer.new ≡ writer.old) × (table.new ≡ table.old) × (seat.new ≡ seat.old) }
     ensures goes { is_stalled_state writer.new.state ≡ is_stalled_state writer.old.state }
     ensures ended { is_stalled_state writer.old.state ≡ false → is_begun writer.new.packet ≡ false }
+    ensures held { is_stalled_state writer.old.state ≡ false → is_empty writer.new.state ≡ writer.new.follows_loss }
     ensures notes { is_stalled_state writer.old.state ≡ false → (W.view table.new seat.new).calls ≡ (W.view table.old seat.old).calls ++ call.Finished ∷ [] }
     ensures others { record (W.view table.new seat.new) { calls = (W.view table.old seat.old).calls } ≡ W.view table.old seat.old }
-    ensures step { IsWriterStep W.setup W.sits W.place W.view W.serves W.service_view table.old seat.old table.new seat.new }
+    ensures quiet { IsQuiet W.setup W.sits W.place W.view W.serves W.service_view W.told table.old seat.old table.new seat.new }
 {
     if is_stalled(&writer.state) {
         return;
@@ -55,8 +56,7 @@ pub(crate) fn flush<W: Words>(writer: &mut Writer, table: &mut W, seat: &mut W::
     ensures none_begun { is_begun writer.new.packet ≡ false }
     ensures none_held { is_empty writer.new.state ≡ true }
     ensures notes { is_stalled_state writer.old.state ≡ false → (W.view table.new seat.new).calls ≡ (W.view table.old seat.old).calls ++ call.Flushed ∷ [] }
-    ensures asked { (W.view table.new seat.new).asked ≡ (W.view table.old seat.old).asked }
-    ensures step { IsWriterStep W.setup W.sits W.place W.view W.serves W.service_view table.old seat.old table.new seat.new }
+    ensures quiet { IsQuiet W.setup W.sits W.place W.view W.serves W.service_view W.told table.old seat.old table.new seat.new }
 {
     if is_stalled(&writer.state) {
         return;

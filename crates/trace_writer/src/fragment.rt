@@ -175,4 +175,20 @@ impl OpenFragment {
             continues,
         }
     }
+
+    /// Lets go of the chunk, which is never completed then.
+    pub fn drop_chunk(self) {
+        let OpenFragment {
+            held,
+            start: _,
+            at: _,
+            count: _,
+            continues: _,
+        } = self;
+        let Held {
+            chunk: _,
+            id: _,
+            body: _,
+        } = held;
+    }
 }

@@ -1,5 +1,5 @@
 //! Laws on writers. The functions do nothing: a caller's proof has their clauses.
-ghost use Rattle.trace_writer.specs.Outcomes.{AgreeingIsCut, DropsNeverStall};
+ghost use Rattle.trace_writer.specs.Laws.{AgreeingIsCut, DropsNeverStall, NewestIsHeld};
 
 /// A writer that agrees with its view has cut its packets into its chunks; where it holds none, the
 /// last one runs on exactly where its newest packet goes on.
@@ -10,4 +10,10 @@ pub fn agreeing_is_cut()
 /// A writer that drops packets never stalls.
 pub fn drops_never_stall()
     ensures { DropsNeverStall }
+{}
+
+/// A writer that isn't stalled holds the chunk that it began last exactly where its newest packet
+/// isn't lost and no flush came behind it.
+pub fn newest_is_held()
+    ensures { NewestIsHeld }
 {}

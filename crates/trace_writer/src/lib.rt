@@ -27,5 +27,5 @@ mod writer;
 
 pub use fault::{Begun, CallFault};
 pub use helper::{HelperOn, NoHelp};
-pub use laws::{agreeing_is_cut, drops_never_stall};
+pub use laws::{agreeing_is_cut, drops_never_stall, newest_is_held};
 pub use writer::WriterCore;

@@ -3,14 +3,14 @@
 ghost use Rattle.std.specs.Prelude.{◌≡◌, ℕ, ◌+◌, ◌-◌, ◌*◌, ◌<◌, ◌≤◌, ◌⊎◌, [], ◌∷◌, ◌++◌, length, vec_len};
 ghost use Rattle.std.specs.List.{repeat};
 ghost use Rattle.trace_base.specs.declared.limits.TheConstants.{MAX_OPEN_HOLES};
-ghost use Rattle.chunk_plain.specs.Words.{IsWriterStep};
 ghost use Rattle.trace_writer.specs.Site.{IsRoute, site_of};
 ghost use Rattle.trace_writer.specs.Filled.{HasByte};
 ghost use Rattle.trace_writer.specs.Ids.{HasIds};
 ghost use Rattle.trace_model.specs.Packets.{Packet, with_more};
 ghost use Rattle.cut_steps.specs.Writing.{with_open};
 ghost use Rattle.trace_base.specs.declared.policy.WriterPolicy.TheVariants.{Drops, Stalls};
-ghost use Rattle.trace_writer.specs.Helping.{IsWork, refuses};
+ghost use Rattle.trace_writer.specs.Helping.{IsWork};
+ghost use Rattle.trace_writer.specs.OwnSteps.{IsQuiet, MakesRound};
 ghost use Rattle.trace_writer.specs.Flows.{Flows, Continues, SetsLength, StopsHere, IsInPacket, Writes, is_stopped};
 
 use crate::chunk::HeldChunk;
@@ -44,7 +44,8 @@ pub(crate) fn run_on<W: Words, L: Ledger, H: HelperOn<W>>(
     requires filled { vec_len fragment.held.body.payload < fragment.at + 4 }
     requires ids { HasIds fragment 1 }
     ensures flow { Continues (W.setup table.old) (W.place seat.old) route.now (W.view table.old seat.old) (W.view table.new seat.new) pending.old pending.new fragment result }
-    ensures work { IsWork W.setup W.sits W.place W.view W.serves W.service_view H.needs H.helps route.now help.old table.old seat.old (refuses route.now.spec.policy (is_stopped result)) help.new table.new seat.new }
+    ensures work { IsWork W.setup W.sits W.place W.view W.serves W.service_view W.told H.needs H.helps
+        route.now help.old table.old seat.old steps.old (is_stopped result) help.new table.new seat.new steps.new }
 {
     match route.spec.policy {
         WriterPolicy::Drops => run_on_or_drop(route, table, seat, pending, fragment, steps),
@@ -68,8 +69,9 @@ fn run_on_or_drop<W: Words, L: Ledger>(
     requires filled { vec_len fragment.held.body.payload < fragment.at + 4 }
     requires ids { HasIds fragment 1 }
     ensures flow { Continues (W.setup table.old) (W.place seat.old) route.now (W.view table.old seat.old) (W.view table.new seat.new) pending.old pending.new fragment result }
-    ensures step { IsWriterStep W.setup W.sits W.place W.view W.serves W.service_view table.old seat.old table.new seat.new }
-    ensures few_steps { steps.new ≤ steps.old + route.now.arbiter.chunks + 1 }
+    ensures round { MakesRound W.setup W.sits W.place W.view W.serves W.service_view W.told route.now (is_stopped result) table.old seat.old table.new seat.new }
+    ensures counts { steps.new + (length (W.view table.old seat.old).asked + length (W.view table.old seat.old).begun)
+        ≡ steps.old + (length (W.view table.new seat.new).asked + length (W.view table.new seat.new).begun) }
 {
     let next_id = fragment.held.id + 1;
     let Some(next) = claim_over(&route.arbiter, table, seat, next_id, steps) else {
@@ -100,12 +102,12 @@ fn run_on_or_stall<W: Words, L: Ledger, H: HelperOn<W>>(
     requires filled { vec_len fragment.held.body.payload < fragment.at + 4 }
     requires ids { HasIds fragment 1 }
     ensures flow { Continues (W.setup table.old) (W.place seat.old) route.now (W.view table.old seat.old) (W.view table.new seat.new) pending.old pending.new fragment result }
-    ensures work { IsWork W.setup W.sits W.place W.view W.serves W.service_view H.needs H.helps route.now help.old table.old seat.old (is_stopped result) help.new table.new seat.new }
+    ensures work { IsWork W.setup W.sits W.place W.view W.serves W.service_view W.told H.needs H.helps
+        route.now help.old table.old seat.old steps.old (is_stopped result) help.new table.new seat.new steps.new }
 {
     let next_id = fragment.held.id + 1;
-    fragment
-        .end()
-        .complete(table, seat, pending, route.spec.buffer, true);
+    let chunk = fragment.end();
+    chunk.complete(table, seat, pending, route.spec.buffer, true);
     match claim_asking(route, table, seat, help, next_id, steps) {
         Some(next) => Flow::Going(HeldChunk::new(next, true).start_fragment(table, seat)),
         None => Flow::Stopped { next_id },
@@ -126,9 +128,7 @@ fn give_up<W: Words>(
     requires filled { vec_len fragment.held.body.payload < fragment.at + 4 }
     requires inside { IsInPacket (site_of (W.setup table.old) (W.place seat.old) route.now) (W.view table.old seat.old) pending.old fragment }
     ensures stops { StopsHere (site_of (W.setup table.old) (W.place seat.old) route.now) (W.view table.old seat.old) (W.view table.new seat.new) pending.old pending.new fragment }
-    ensures asked { (W.view table.new seat.new).asked ≡ (W.view table.old seat.old).asked }
-    ensures begun { length (W.view table.new seat.new).begun ≡ length (W.view table.old seat.old).begun }
-    ensures step { IsWriterStep W.setup W.sits W.place W.view W.serves W.service_view table.old seat.old table.new seat.new }
+    ensures quiet { IsQuiet W.setup W.sits W.place W.view W.serves W.service_view W.told table.old seat.old table.new seat.new }
 {
     let mut fragment = fragment;
     'holes: while pending.open_count() > 0 {
@@ -156,7 +156,8 @@ pub(crate) fn put_piece<W: Words, L: Ledger, H: HelperOn<W>>(
     requires inside { IsInPacket (site_of (W.setup table.old) (W.place seat.old) route.now) (W.view table.old seat.old) pending.old fragment }
     requires ids { HasIds fragment (length piece.now) }
     ensures flow { Flows (W.setup table.old) (W.place seat.old) route.now (W.view table.old seat.old) (W.view table.new seat.new) pending.old pending.new fragment piece.now result }
-    ensures work { IsWork W.setup W.sits W.place W.view W.serves W.service_view H.needs H.helps route.now help.old table.old seat.old (refuses route.now.spec.policy (is_stopped result)) help.new table.new seat.new }
+    ensures work { IsWork W.setup W.sits W.place W.view W.serves W.service_view W.told H.needs H.helps
+        route.now help.old table.old seat.old steps.old (is_stopped result) help.new table.new seat.new steps.new }
 {
     let mut fragment = fragment;
     let mut rest = piece;
@@ -191,7 +192,8 @@ pub(crate) fn put_times<W: Words, L: Ledger, H: HelperOn<W>>(
     requires inside { IsInPacket (site_of (W.setup table.old) (W.place seat.old) route.now) (W.view table.old seat.old) pending.old fragment }
     requires ids { HasIds fragment (times * length piece.now) }
     ensures flow { Flows (W.setup table.old) (W.place seat.old) route.now (W.view table.old seat.old) (W.view table.new seat.new) pending.old pending.new fragment (repeat times piece.now) result }
-    ensures work { IsWork W.setup W.sits W.place W.view W.serves W.service_view H.needs H.helps route.now help.old table.old seat.old (refuses route.now.spec.policy (is_stopped result)) help.new table.new seat.new }
+    ensures work { IsWork W.setup W.sits W.place W.view W.serves W.service_view W.told H.needs H.helps
+        route.now help.old table.old seat.old steps.old (is_stopped result) help.new table.new seat.new steps.new }
 {
     let mut fragment = fragment;
     for _turn in 0..times {
@@ -220,7 +222,8 @@ pub(crate) fn put_length<W: Words, L: Ledger, H: HelperOn<W>>(
     requires ids { HasIds fragment 4 }
     requires few { length pending.old.holes < MAX_OPEN_HOLES }
     ensures flow { SetsLength (W.setup table.old) (W.place seat.old) route.now (W.view table.old seat.old) (W.view table.new seat.new) pending.old pending.new fragment result }
-    ensures work { IsWork W.setup W.sits W.place W.view W.serves W.service_view H.needs H.helps route.now help.old table.old seat.old (refuses route.now.spec.policy (is_stopped result)) help.new table.new seat.new }
+    ensures work { IsWork W.setup W.sits W.place W.view W.serves W.service_view W.told H.needs H.helps
+        route.now help.old table.old seat.old steps.old (is_stopped result) help.new table.new seat.new steps.new }
 {
     let mut fragment = fragment;
     if fragment.put_hole(pending) {
@@ -255,7 +258,8 @@ pub(crate) fn put_field<W: Words, L: Ledger, H: HelperOn<W>>(
     requires inside { IsInPacket (site_of (W.setup table.old) (W.place seat.old) route.now) (W.view table.old seat.old) pending.old fragment }
     requires ids { HasIds fragment (length head.now + times * length text.now) }
     ensures flow { Writes (W.setup table.old) (W.place seat.old) route.now (W.view table.old seat.old) (W.view table.new seat.new) pending.old pending.new fragment (length head.now + times * length text.now) (with_more (head.now ++ repeat times text.now)) result }
-    ensures work { IsWork W.setup W.sits W.place W.view W.serves W.service_view H.needs H.helps route.now help.old table.old seat.old (refuses route.now.spec.policy (is_stopped result)) help.new table.new seat.new }
+    ensures work { IsWork W.setup W.sits W.place W.view W.serves W.service_view W.told H.needs H.helps
+        route.now help.old table.old seat.old steps.old (is_stopped result) help.new table.new seat.new steps.new }
 {
     match put_piece(route, table, seat, help, pending, fragment, head, steps) {
         Flow::Going(next) => put_times(route, table, seat, help, pending, next, text, times, steps),
@@ -281,7 +285,8 @@ pub(crate) fn put_nested<W: Words, L: Ledger, H: HelperOn<W>>(
     requires ids { HasIds fragment (length tag.now + 4) }
     requires few { length pending.old.holes < MAX_OPEN_HOLES }
     ensures flow { Writes (W.setup table.old) (W.place seat.old) route.now (W.view table.old seat.old) (W.view table.new seat.new) pending.old pending.new fragment (length tag.now + 4) (λ (packet : Packet). with_open (with_more tag.now packet)) result }
-    ensures work { IsWork W.setup W.sits W.place W.view W.serves W.service_view H.needs H.helps route.now help.old table.old seat.old (refuses route.now.spec.policy (is_stopped result)) help.new table.new seat.new }
+    ensures work { IsWork W.setup W.sits W.place W.view W.serves W.service_view W.told H.needs H.helps
+        route.now help.old table.old seat.old steps.old (is_stopped result) help.new table.new seat.new steps.new }
 {
     match put_piece(route, table, seat, help, pending, fragment, tag, steps) {
         Flow::Going(next) => put_length(route, table, seat, help, pending, next, steps),

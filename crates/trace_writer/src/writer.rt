@@ -1,24 +1,23 @@
 //! A writer with its seat: what its callers have.
-ghost use Rattle.std.specs.Prelude.{◌≡◌, ℕ, ◌+◌, ◌-◌, ◌*◌, ◌<◌, ◌≤◌, true, false, Some, None, [], ◌∷◌, ◌++◌, length, slice_get, IfOk, IfErr, Ok, Err};
+ghost use Rattle.std.specs.Prelude.{◌≡◌, ℕ, ◌+◌, ◌-◌, ◌*◌, ◌<◌, ◌≤◌, Bool, true, false, Some, None, [], ◌∷◌, ◌++◌, length, slice_get, IfOk, IfErr, MatchResult};
 ghost use Rattle.trace_base.specs.declared.limits.TheConstants.{MAX_FIELD, MAX_INPUT, MAX_OPEN_HOLES};
-ghost use Rattle.trace_writer.specs.Empty.{is_empty};
 ghost use Rattle.trace_base.specs.declared.policy.WriterPolicy.TheVariants.{Drops};
 ghost use Rattle.page_geometry.specs.Sizes.{payload_size};
 ghost use Rattle.trace_model.specs.Calls as call;
 ghost use Rattle.trace_model.specs.Encoding.{number_field, bytes_head, nested_tag};
 ghost use Rattle.trace_model.specs.Packets.{begun_count, dropped_at_begin};
 ghost use Rattle.chunk_plain.specs.Setup.{Setup, spot, range_of, producer_of, HasProducer, IsChunkOf};
-ghost use Rattle.chunk_plain.specs.Views.{WriterView};
+ghost use Rattle.chunk_plain.specs.Views.{WriterView, newcomer};
 ghost use Rattle.chunk_plain.specs.Words.{IsWriterStep};
 ghost use Rattle.claim_arbiter.specs.Claiming.{range_in};
-ghost use Rattle.trace_writer.specs.Agreement.{NeedsNoChunk, is_begun, len_of, depth_of, counted};
+ghost use Rattle.trace_writer.specs.Agreement.{is_begun, len_of, depth_of, counted};
+ghost use Rattle.trace_writer.specs.Asked.{IsAsked, LeavesAll, begun_as, written_as, stops_with};
 ghost use Rattle.trace_writer.specs.declared.fault.CallFault.TheVariants as call_fault;
-ghost use Rattle.trace_writer.specs.Helping.{IsWork, stalls_now};
-ghost use Rattle.trace_writer.specs.Outcomes.{Notes, StallsNow, completed_images};
-ghost use Rattle.trace_writer.specs.Placing.{BeginsHere, BeginsPacket};
+ghost use Rattle.trace_writer.specs.Helping.{LeavesOthers};
+ghost use Rattle.trace_writer.specs.Outcomes.{completed_images};
+ghost use Rattle.trace_writer.specs.OwnSteps.{IsQuiet};
 ghost use Rattle.trace_writer.specs.Refusals.{field_refusal, nested_refusal};
-ghost use Rattle.trace_writer.specs.Site.{IsRoute};
-ghost use Rattle.trace_writer.specs.Core.{CoreAgrees, IsNew, in_packet, open_depth, field_fault, nested_fault, holds_chunk, is_stalled};
+ghost use Rattle.trace_writer.specs.Core.{CoreAgrees, in_packet, open_depth, field_fault, nested_fault, bytes_size, holds_chunk, is_stalled, route_of, refusal_of, begins_here, FitsHere};
 
 use crate::begin::begin;
 use crate::fault::{Begun, CallFault};
@@ -50,12 +49,13 @@ impl<S> WriterCore<S> {
     /// A writer for a seat with which nothing was begun or noted.
     pub fn make(seat: S, spec: WriterSpec, arbiter: Arbiter, geometry: Geometry) -> WriterCore<S>
         ensures seat { result.seat ≡ seat }
-        ensures arbiter { result.writer.route.arbiter ≡ arbiter }
+        ensures spec { (route_of result).spec ≡ spec }
+        ensures arbiter { (route_of result).arbiter ≡ arbiter }
         ensures none_held { holds_chunk result ≡ false }
-        ensures agrees { (setup : Setup) (place : ℕ) (view : WriterView) → slice_get setup.writers place ≡ Some spec
+        ensures agrees { (setup : Setup) (place : ℕ) → slice_get setup.writers place ≡ Some spec
             → HasProducer setup spec.producer → range_of setup (producer_of setup place) ≡ range_in arbiter
             → ((chunk : ℕ) → IsChunkOf setup (producer_of setup place) chunk → (spot setup chunk).payload_size ≡ payload_size geometry.page_size geometry.chunks)
-            → IsNew view → CoreAgrees setup place view result }
+            → CoreAgrees setup place newcomer result }
     {
         let payload_size = geometry.payload_size();
         let writer = Writer {
@@ -87,17 +87,23 @@ impl<S> WriterCore<S> {
         requires none_begun { in_packet (W.view table.old self.old.seat) ≡ false }
         requires ids { length (W.view table.old self.old.seat).begun + 4096 ≤ 4294967295 }
         ensures agrees { CoreAgrees (W.setup table.old) (W.place self.old.seat) (W.view table.new self.new.seat) self.new }
-        ensures begins { IfOk result (λ begun. BeginsPacket (W.setup table.old) self.old.writer.route (W.view table.old self.old.seat) (W.view table.new self.new.seat) begun) }
+        ensures needs { H.needs help.new table.new }
+        ensures others { LeavesOthers W.setup W.sits W.place W.view table.old self.old.seat table.new self.new.seat }
+        ensures refused { (fault : CallFault) → refusal_of self.old None ≡ Some fault
+            → LeavesAll fault result self.old self.new table.old table.new help.old help.new }
+        ensures answers { refusal_of self.old None ≡ None
+            → MatchResult result (λ _. is_stalled self.new ≡ false) (λ fault. (fault ≡ call_fault.Stalled) × (is_stalled self.new ≡ true)) }
+        ensures done { refusal_of self.old None ≡ None →
+            IsAsked W.setup W.sits W.place W.view W.serves W.service_view W.told H.needs H.helps
+            (route_of self.old) help.old table.old self.old.seat steps.old (stops_with result) (begun_as (stops_with result) (route_of self.old).spec.policy)
+            (is_stalled self.new) help.new table.new self.new.seat steps.new }
+        ensures asked { begins_here self.old → (W.view table.new self.new.seat).asked ≡ (W.view table.old self.old.seat).asked }
         ensures in_packet { IfOk result (λ _. in_packet (W.view table.new self.new.seat) ≡ true) }
         ensures depth { IfOk result (λ _. open_depth (W.view table.new self.new.seat) ≡ 0) }
-        ensures going { IfOk result (λ _. is_stalled self.new ≡ false) }
-        ensures stays { is_stalled self.old ≡ true → (result ≡ Err call_fault.Stalled) × (self.new ≡ self.old) × (table.new ≡ table.old) × (help.new ≡ help.old) }
-        ensures stalls { is_stalled self.old ≡ false → IfErr result (λ fault. (fault ≡ call_fault.Stalled) × (is_stalled self.new ≡ true) × StallsNow (W.setup table.old) self.old.writer.route [] (W.view table.old self.old.seat) (W.view table.new self.new.seat)) }
-        ensures asked { BeginsHere self.old.writer.state → (W.view table.new self.new.seat).asked ≡ (W.view table.old self.old.seat).asked }
-        ensures route { self.new.writer.route ≡ self.old.writer.route }
-        ensures work { IsWork W.setup W.sits W.place W.view W.serves W.service_view H.needs H.helps self.old.writer.route help.old table.old self.old.seat (stalls_now (is_stalled self.old) result) help.new table.new self.new.seat }
-        ensures alone { self.old.writer.route.spec.policy ≡ Drops → (help.new ≡ help.old) × IsWriterStep W.setup W.sits W.place W.view W.serves W.service_view table.old self.old.seat table.new self.new.seat }
-        ensures few_steps { self.old.writer.route.spec.policy ≡ Drops → steps.new ≤ steps.old + self.old.writer.route.arbiter.chunks + 1 }
+        ensures route { route_of self.new ≡ route_of self.old }
+        ensures alone { (route_of self.old).spec.policy ≡ Drops → (help.new ≡ help.old)
+            × IsWriterStep W.setup W.sits W.place W.view W.serves W.service_view table.old self.old.seat table.new self.new.seat }
+        ensures few_steps { (route_of self.old).spec.policy ≡ Drops → steps.new ≤ steps.old + (route_of self.old).arbiter.chunks + 1 }
     {
         begin(&mut self.writer, table, &mut self.seat, help, steps)
     }
@@ -118,18 +124,22 @@ impl<S> WriterCore<S> {
         requires least { 1 ≤ field }
         requires most { field ≤ MAX_FIELD }
         ensures agrees { CoreAgrees (W.setup table.old) (W.place self.old.seat) (W.view table.new self.new.seat) self.new }
-        ensures refused { (fault : CallFault) → field_fault (W.view table.old self.old.seat) field (length (number_field field value)) ≡ Some fault → (result ≡ Err fault) × (self.new ≡ self.old) × (table.new ≡ table.old) × (help.new ≡ help.old) }
-        ensures accepted { IfOk result (λ _. field_fault (W.view table.old self.old.seat) field (length (number_field field value)) ≡ None) }
-        ensures asked { NeedsNoChunk self.old.writer.state (length (number_field field value)) → (W.view table.new self.new.seat).asked ≡ (W.view table.old self.old.seat).asked }
-        ensures notes { IfOk result (λ _. Notes (W.setup table.old) self.old.writer.route (call.Number field value) (W.view table.old self.old.seat) (W.view table.new self.new.seat)) }
-        ensures going { IfOk result (λ _. is_stalled self.new ≡ false) }
-        ensures stays { field_fault (W.view table.old self.old.seat) field (length (number_field field value)) ≡ None → is_stalled self.old ≡ true → (result ≡ Err call_fault.Stalled) × (self.new ≡ self.old) × (table.new ≡ table.old) × (help.new ≡ help.old) }
-        ensures stalls { field_fault (W.view table.old self.old.seat) field (length (number_field field value)) ≡ None → is_stalled self.old ≡ false → IfErr result (λ fault. (fault ≡ call_fault.Stalled) × (is_stalled self.new ≡ true) × StallsNow (W.setup table.old) self.old.writer.route (call.Number field value ∷ []) (W.view table.old self.old.seat) (W.view table.new self.new.seat)) }
+        ensures needs { H.needs help.new table.new }
+        ensures others { LeavesOthers W.setup W.sits W.place W.view table.old self.old.seat table.new self.new.seat }
+        ensures refused { (fault : CallFault) → refusal_of self.old (field_fault (W.view table.old self.old.seat) field (length (number_field field value))) ≡ Some fault
+            → LeavesAll fault result self.old self.new table.old table.new help.old help.new }
+        ensures answers { refusal_of self.old (field_fault (W.view table.old self.old.seat) field (length (number_field field value))) ≡ None
+            → MatchResult result (λ _. is_stalled self.new ≡ false) (λ fault. (fault ≡ call_fault.Stalled) × (is_stalled self.new ≡ true)) }
+        ensures done { refusal_of self.old (field_fault (W.view table.old self.old.seat) field (length (number_field field value))) ≡ None → (stopped : Bool) ×
+            IsAsked W.setup W.sits W.place W.view W.serves W.service_view W.told H.needs H.helps
+            (route_of self.old) help.old table.old self.old.seat steps.old stopped (written_as stopped (route_of self.old).spec.policy (call.Number field value))
+            (is_stalled self.new) help.new table.new self.new.seat steps.new }
+        ensures asked { FitsHere self.old (length (number_field field value)) → (W.view table.new self.new.seat).asked ≡ (W.view table.old self.old.seat).asked }
         ensures in_packet { in_packet (W.view table.new self.new.seat) ≡ true }
         ensures depth { open_depth (W.view table.new self.new.seat) ≡ open_depth (W.view table.old self.old.seat) }
-        ensures route { self.new.writer.route ≡ self.old.writer.route }
-        ensures work { IsWork W.setup W.sits W.place W.view W.serves W.service_view H.needs H.helps self.old.writer.route help.old table.old self.old.seat (stalls_now (is_stalled self.old) result) help.new table.new self.new.seat }
-        ensures alone { self.old.writer.route.spec.policy ≡ Drops → (help.new ≡ help.old) × IsWriterStep W.setup W.sits W.place W.view W.serves W.service_view table.old self.old.seat table.new self.new.seat }
+        ensures route { route_of self.new ≡ route_of self.old }
+        ensures alone { (route_of self.old).spec.policy ≡ Drops → (help.new ≡ help.old)
+            × IsWriterStep W.setup W.sits W.place W.view W.serves W.service_view table.old self.old.seat table.new self.new.seat }
     {
         let head = head_number(field, value);
         check_field(&self.writer.packet, field, head.as_slice().len() as u64)?;
@@ -164,18 +174,22 @@ impl<S> WriterCore<S> {
         requires most { field ≤ MAX_FIELD }
         requires text { length value.now ≤ MAX_INPUT }
         ensures agrees { CoreAgrees (W.setup table.old) (W.place self.old.seat) (W.view table.new self.new.seat) self.new }
-        ensures refused { (fault : CallFault) → field_fault (W.view table.old self.old.seat) field (length (bytes_head field (times * length value.now)) + times * length value.now) ≡ Some fault → (result ≡ Err fault) × (self.new ≡ self.old) × (table.new ≡ table.old) × (help.new ≡ help.old) }
-        ensures accepted { IfOk result (λ _. field_fault (W.view table.old self.old.seat) field (length (bytes_head field (times * length value.now)) + times * length value.now) ≡ None) }
-        ensures asked { NeedsNoChunk self.old.writer.state (length (bytes_head field (times * length value.now)) + times * length value.now) → (W.view table.new self.new.seat).asked ≡ (W.view table.old self.old.seat).asked }
-        ensures notes { IfOk result (λ _. Notes (W.setup table.old) self.old.writer.route (call.Bytes field value.now times) (W.view table.old self.old.seat) (W.view table.new self.new.seat)) }
-        ensures going { IfOk result (λ _. is_stalled self.new ≡ false) }
-        ensures stays { field_fault (W.view table.old self.old.seat) field (length (bytes_head field (times * length value.now)) + times * length value.now) ≡ None → is_stalled self.old ≡ true → (result ≡ Err call_fault.Stalled) × (self.new ≡ self.old) × (table.new ≡ table.old) × (help.new ≡ help.old) }
-        ensures stalls { field_fault (W.view table.old self.old.seat) field (length (bytes_head field (times * length value.now)) + times * length value.now) ≡ None → is_stalled self.old ≡ false → IfErr result (λ fault. (fault ≡ call_fault.Stalled) × (is_stalled self.new ≡ true) × StallsNow (W.setup table.old) self.old.writer.route (call.Bytes field value.now times ∷ []) (W.view table.old self.old.seat) (W.view table.new self.new.seat)) }
+        ensures needs { H.needs help.new table.new }
+        ensures others { LeavesOthers W.setup W.sits W.place W.view table.old self.old.seat table.new self.new.seat }
+        ensures refused { (fault : CallFault) → refusal_of self.old (field_fault (W.view table.old self.old.seat) field (bytes_size field times value.now)) ≡ Some fault
+            → LeavesAll fault result self.old self.new table.old table.new help.old help.new }
+        ensures answers { refusal_of self.old (field_fault (W.view table.old self.old.seat) field (bytes_size field times value.now)) ≡ None
+            → MatchResult result (λ _. is_stalled self.new ≡ false) (λ fault. (fault ≡ call_fault.Stalled) × (is_stalled self.new ≡ true)) }
+        ensures done { refusal_of self.old (field_fault (W.view table.old self.old.seat) field (bytes_size field times value.now)) ≡ None → (stopped : Bool) ×
+            IsAsked W.setup W.sits W.place W.view W.serves W.service_view W.told H.needs H.helps
+            (route_of self.old) help.old table.old self.old.seat steps.old stopped (written_as stopped (route_of self.old).spec.policy (call.Bytes field value.now times))
+            (is_stalled self.new) help.new table.new self.new.seat steps.new }
+        ensures asked { FitsHere self.old (bytes_size field times value.now) → (W.view table.new self.new.seat).asked ≡ (W.view table.old self.old.seat).asked }
         ensures in_packet { in_packet (W.view table.new self.new.seat) ≡ true }
         ensures depth { open_depth (W.view table.new self.new.seat) ≡ open_depth (W.view table.old self.old.seat) }
-        ensures route { self.new.writer.route ≡ self.old.writer.route }
-        ensures work { IsWork W.setup W.sits W.place W.view W.serves W.service_view H.needs H.helps self.old.writer.route help.old table.old self.old.seat (stalls_now (is_stalled self.old) result) help.new table.new self.new.seat }
-        ensures alone { self.old.writer.route.spec.policy ≡ Drops → (help.new ≡ help.old) × IsWriterStep W.setup W.sits W.place W.view W.serves W.service_view table.old self.old.seat table.new self.new.seat }
+        ensures route { route_of self.new ≡ route_of self.old }
+        ensures alone { (route_of self.old).spec.policy ≡ Drops → (help.new ≡ help.old)
+            × IsWriterStep W.setup W.sits W.place W.view W.serves W.service_view table.old self.old.seat table.new self.new.seat }
     {
         let len = u64::from(times) * value.len() as u64;
         // A longer one is refused, whatever stands before it.
@@ -217,17 +231,21 @@ impl<S> WriterCore<S> {
         requires least { 1 ≤ field }
         requires most { field ≤ MAX_FIELD }
         ensures agrees { CoreAgrees (W.setup table.old) (W.place self.old.seat) (W.view table.new self.new.seat) self.new }
-        ensures refused { (fault : CallFault) → nested_fault (W.view table.old self.old.seat) field ≡ Some fault → (result ≡ Err fault) × (self.new ≡ self.old) × (table.new ≡ table.old) × (help.new ≡ help.old) }
-        ensures accepted { IfOk result (λ _. nested_fault (W.view table.old self.old.seat) field ≡ None) }
-        ensures asked { NeedsNoChunk self.old.writer.state (length (nested_tag field) + 4) → (W.view table.new self.new.seat).asked ≡ (W.view table.old self.old.seat).asked }
-        ensures notes { IfOk result (λ _. Notes (W.setup table.old) self.old.writer.route (call.Nested field) (W.view table.old self.old.seat) (W.view table.new self.new.seat)) }
-        ensures going { IfOk result (λ _. is_stalled self.new ≡ false) }
-        ensures stays { nested_fault (W.view table.old self.old.seat) field ≡ None → is_stalled self.old ≡ true → (result ≡ Err call_fault.Stalled) × (self.new ≡ self.old) × (table.new ≡ table.old) × (help.new ≡ help.old) }
-        ensures stalls { nested_fault (W.view table.old self.old.seat) field ≡ None → is_stalled self.old ≡ false → IfErr result (λ fault. (fault ≡ call_fault.Stalled) × (is_stalled self.new ≡ true) × StallsNow (W.setup table.old) self.old.writer.route (call.Nested field ∷ []) (W.view table.old self.old.seat) (W.view table.new self.new.seat)) }
+        ensures needs { H.needs help.new table.new }
+        ensures others { LeavesOthers W.setup W.sits W.place W.view table.old self.old.seat table.new self.new.seat }
+        ensures refused { (fault : CallFault) → refusal_of self.old (nested_fault (W.view table.old self.old.seat) field) ≡ Some fault
+            → LeavesAll fault result self.old self.new table.old table.new help.old help.new }
+        ensures answers { refusal_of self.old (nested_fault (W.view table.old self.old.seat) field) ≡ None
+            → MatchResult result (λ _. is_stalled self.new ≡ false) (λ fault. (fault ≡ call_fault.Stalled) × (is_stalled self.new ≡ true)) }
+        ensures done { refusal_of self.old (nested_fault (W.view table.old self.old.seat) field) ≡ None → (stopped : Bool) ×
+            IsAsked W.setup W.sits W.place W.view W.serves W.service_view W.told H.needs H.helps
+            (route_of self.old) help.old table.old self.old.seat steps.old stopped (written_as stopped (route_of self.old).spec.policy (call.Nested field))
+            (is_stalled self.new) help.new table.new self.new.seat steps.new }
+        ensures asked { FitsHere self.old (length (nested_tag field) + 4) → (W.view table.new self.new.seat).asked ≡ (W.view table.old self.old.seat).asked }
         ensures in_packet { in_packet (W.view table.new self.new.seat) ≡ true }
-        ensures route { self.new.writer.route ≡ self.old.writer.route }
-        ensures work { IsWork W.setup W.sits W.place W.view W.serves W.service_view H.needs H.helps self.old.writer.route help.old table.old self.old.seat (stalls_now (is_stalled self.old) result) help.new table.new self.new.seat }
-        ensures alone { self.old.writer.route.spec.policy ≡ Drops → (help.new ≡ help.old) × IsWriterStep W.setup W.sits W.place W.view W.serves W.service_view table.old self.old.seat table.new self.new.seat }
+        ensures route { route_of self.new ≡ route_of self.old }
+        ensures alone { (route_of self.old).spec.policy ≡ Drops → (help.new ≡ help.old)
+            × IsWriterStep W.setup W.sits W.place W.view W.serves W.service_view table.old self.old.seat table.new self.new.seat }
     {
         let head = head_nested(field);
         let tag = head.as_slice();
@@ -255,8 +273,8 @@ impl<S> WriterCore<S> {
         ensures others { record (W.view table.new self.new.seat) { calls = (W.view table.old self.old.seat).calls } ≡ (W.view table.old self.old.seat) }
         ensures in_packet { in_packet (W.view table.new self.new.seat) ≡ true }
         ensures depth_falls { is_stalled self.old ≡ false → open_depth (W.view table.new self.new.seat) + 1 ≡ open_depth (W.view table.old self.old.seat) }
-        ensures route { self.new.writer.route ≡ self.old.writer.route }
-        ensures step { IsWriterStep W.setup W.sits W.place W.view W.serves W.service_view table.old self.old.seat table.new self.new.seat }
+        ensures route { route_of self.new ≡ route_of self.old }
+        ensures quiet { IsQuiet W.setup W.sits W.place W.view W.serves W.service_view W.told table.old self.old.seat table.new self.new.seat }
     {
         end_message(&mut self.writer, table, &mut self.seat);
     }
@@ -273,8 +291,8 @@ impl<S> WriterCore<S> {
         ensures notes { is_stalled self.old ≡ false → (W.view table.new self.new.seat).calls ≡ (W.view table.old self.old.seat).calls ++ call.Finished ∷ [] }
         ensures others { record (W.view table.new self.new.seat) { calls = (W.view table.old self.old.seat).calls } ≡ (W.view table.old self.old.seat) }
         ensures in_packet { is_stalled self.old ≡ false → in_packet (W.view table.new self.new.seat) ≡ false }
-        ensures route { self.new.writer.route ≡ self.old.writer.route }
-        ensures step { IsWriterStep W.setup W.sits W.place W.view W.serves W.service_view table.old self.old.seat table.new self.new.seat }
+        ensures route { route_of self.new ≡ route_of self.old }
+        ensures quiet { IsQuiet W.setup W.sits W.place W.view W.serves W.service_view W.told table.old self.old.seat table.new self.new.seat }
     {
         finish(&mut self.writer, table, &mut self.seat);
     }
@@ -289,10 +307,9 @@ impl<S> WriterCore<S> {
         ensures stalled { is_stalled self.old ≡ true → (self.new ≡ self.old) × (table.new ≡ table.old) }
         ensures goes { is_stalled self.new ≡ is_stalled self.old }
         ensures notes { is_stalled self.old ≡ false → (W.view table.new self.new.seat).calls ≡ (W.view table.old self.old.seat).calls ++ call.Flushed ∷ [] }
-        ensures asked { (W.view table.new self.new.seat).asked ≡ (W.view table.old self.old.seat).asked }
         ensures in_packet { in_packet (W.view table.new self.new.seat) ≡ false }
-        ensures route { self.new.writer.route ≡ self.old.writer.route }
-        ensures step { IsWriterStep W.setup W.sits W.place W.view W.serves W.service_view table.old self.old.seat table.new self.new.seat }
+        ensures route { route_of self.new ≡ route_of self.old }
+        ensures quiet { IsQuiet W.setup W.sits W.place W.view W.serves W.service_view W.told table.old self.old.seat table.new self.new.seat }
     {
         flush(&mut self.writer, table, &mut self.seat);
     }
@@ -359,6 +376,14 @@ impl<S> WriterCore<S> {
         requires { holds_chunk self ≡ false }
         ensures { result ≡ self.seat }
     {
+        self.give_up()
+    }
+
+    /// The seat, and nothing of what the writer still holds: for the way out after a fault. The chunk
+    /// that is held is never completed then.
+    pub fn give_up(self) -> S
+        ensures { result ≡ self.seat }
+    {
         let WriterCore { seat, writer } = self;
         let Writer {
             route: _,
@@ -374,15 +399,13 @@ impl<S> WriterCore<S> {
     }
 }
 
-/// Lets go of a state without a chunk.
-fn drop_state(state: State)
-    requires { is_empty state ≡ true }
-{
+/// Lets go of a state, and of its chunk.
+fn drop_state(state: State) {
     match state {
         State::Idle { next_id: _ } | State::Dropping { next_id: _ } => {}
         State::Stalled { next_id: _ } => {}
-        State::Between(_chunk) => unreachable!(),
-        State::Writing(_fragment) => unreachable!(),
+        State::Between(chunk) => chunk.drop_chunk(),
+        State::Writing(fragment) => fragment.drop_chunk(),
     }
 }
 

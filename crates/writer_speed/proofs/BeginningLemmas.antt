@@ -12,7 +12,7 @@ use Rattle.chunk_plain.specs.declared.setup.ProducerSpec.{ProducerSpec}
 use Rattle.chunk_plain.specs.declared.setup.Spot.{Spot}
 use Rattle.chunk_plain.specs.Setup.{Setup, no_spot, spot, range_of, producer_of, HasProducer, IsChunkOf}
 use Rattle.chunk_plain.specs.Laying.{setup_of, page_spots, spot_at}
-use Rattle.chunk_plain.specs.Views.{WriterView}
+use Rattle.chunk_plain.specs.Views.{WriterView, newcomer}
 use Rattle.chunk_plain.specs.World.{World, writer}
 use Rattle.chunk_plain.specs.Plain.{first_world}
 use Rattle.chunk_plain.specs.declared.plain_seats.PlainWriter.{PlainWriter}
@@ -20,7 +20,7 @@ use Rattle.chunk_plain.proofs.LayingLemmas.{length-page_spots}
 use Rattle.claim_arbiter.specs.declared.arbiter.Arbiter.{Arbiter}
 use Rattle.claim_arbiter.specs.Claiming.{range_in}
 use Rattle.trace_writer.specs.declared.writer.WriterCore.{WriterCore}
-use Rattle.trace_writer.specs.Core.{CoreAgrees, IsNew}
+use Rattle.trace_writer.specs.Core.{CoreAgrees, route_of}
 
 -- the chunks of a page have one size
 page_payload : (page : ℕ) (geometry : Geometry) (n c : ℕ) → c < n → (get_or (page_spots page geometry n) c no_spot).payload_size ≡ payload_size geometry.page_size geometry.chunks
@@ -53,22 +53,22 @@ fresh_payload geometry chunk inside =
 
 pub first_agrees : (setup : Setup) (world : World) (geometry : Geometry) (arbiter : Arbiter) (core : WriterCore PlainWriter)
     → setup ≡ fresh_setup geometry → world ≡ first_world (fresh_setup geometry) → range_of setup 1 ≡ range_in arbiter
-    → ((s : Setup) (place : ℕ) (view : WriterView) → slice_get s.writers place ≡ Some one_writer
+    → ((s : Setup) (place : ℕ) → slice_get s.writers place ≡ Some one_writer
     → HasProducer s one_writer.producer → range_of s (producer_of s place) ≡ range_in arbiter
     → ((chunk : ℕ) → IsChunkOf s (producer_of s place) chunk → (spot s chunk).payload_size ≡ payload_size geometry.page_size geometry.chunks)
-    → IsNew view → CoreAgrees s place view core)
+    → CoreAgrees s place newcomer core)
     → CoreAgrees setup 0 (writer world 0) core
 first_agrees setup world geometry arbiter core is world_is range agrees =
-    agrees setup 0 (writer world 0)
+    subst (λ (w : World). CoreAgrees setup 0 (writer w 0) core) (sym world_is)
+    (agrees setup 0
     (ap (λ (s : Setup). slice_get s.writers 0) is)
     (subst (λ (s : Setup). HasProducer s 1) (sym is) (record { least = omega arith; most = omega arith }))
     (ap (λ (s : Setup). range_of setup (producer_of s 0)) is ∙ range)
     (λ chunk inside. ap (λ (s : Setup). (spot s chunk).payload_size) is
-    ∙ fresh_payload geometry chunk (subst (λ (s : Setup). IsChunkOf s (producer_of s 0) chunk) is inside))
-    (subst (λ (w : World). IsNew (writer w 0)) (sym world_is) (record { begun = refl; calls = refl }))
+    ∙ fresh_payload geometry chunk (subst (λ (s : Setup). IsChunkOf s (producer_of s 0) chunk) is inside)))
 
 -- and it drops packets
 pub first_drops : (setup : Setup) (geometry : Geometry) (view : WriterView) (core : WriterCore PlainWriter)
-    → setup ≡ fresh_setup geometry → CoreAgrees setup 0 view core → core.writer.route.spec.policy ≡ Drops
+    → setup ≡ fresh_setup geometry → CoreAgrees setup 0 view core → (route_of core).spec.policy ≡ Drops
 first_drops setup geometry view core is agrees =
-    ap (λ (o : Option WriterSpec). (unwrap_or o one_writer).policy) (sym agrees.route.spec ∙ ap (λ (s : Setup). slice_get s.writers 0) is)
+    ap (λ (o : Option WriterSpec). (unwrap_or o one_writer).policy) (sym agrees.writes.route.spec ∙ ap (λ (s : Setup). slice_get s.writers 0) is)

@@ -7,8 +7,8 @@ use Rattle.chunk_plain.specs.Words.{IsWriterStep}
 use Rattle.chunk_plain.proofs.SeatSteps.{steps_follow}
 use Rattle.trace_writer.specs.declared.route.Route.{Route}
 use Rattle.trace_writer.specs.declared.writer.WriterCore.{WriterCore}
-use Rattle.trace_writer.specs.Core.{CoreAgrees, is_stalled}
-use Rattle.trace_writer.specs.Outcomes.{DropsNeverStall}
+use Rattle.trace_writer.specs.Core.{CoreAgrees, is_stalled, route_of}
+use Rattle.trace_writer.specs.Laws.{DropsNeverStall}
 use Rattle.writer_speed.specs.Going.{IsReady, GoesOn}
 
 module _ {T W S : Type 0} (setup : T → Setup) (sits : T → W → Type 0) (place : W → ℕ) (view : T → W → WriterView)
@@ -19,7 +19,7 @@ module _ {T W S : Type 0} (setup : T → Setup) (sits : T → W → Type 0) (pla
 
   -- one call
   pub goes_once : (old : T) (before : WriterCore W) (new : T) (after : WriterCore W)
-      → before.writer.route.spec.policy ≡ Drops → after.writer.route ≡ before.writer.route
+      → (route_of before).spec.policy ≡ Drops → route_of after ≡ route_of before
       → CoreAgrees (setup old) (place before.seat) (view new after.seat) after
       → IsWriterStep setup sits place view serves service_view old before.seat new after.seat
       → GoesOn setup sits place view serves service_view old before new after

@@ -5,13 +5,13 @@ use Rattle.chunk_plain.specs.Setup.{Setup}
 use Rattle.chunk_plain.specs.Views.{WriterView, ServiceView}
 use Rattle.chunk_plain.specs.Words.{IsWriterStep}
 use Rattle.trace_writer.specs.declared.writer.WriterCore.{WriterCore}
-use Rattle.trace_writer.specs.Core.{CoreAgrees}
+use Rattle.trace_writer.specs.Core.{CoreAgrees, route_of}
 
 -- the writer sits at the table, agrees with the view of its seat, and drops packets where no chunk is free: so it never stalls
 pub record IsReady {T W : Type 0} (setup : T → Setup) (sits : T → W → Type 0) (place : W → ℕ) (view : T → W → WriterView) (table : T) (core : WriterCore W) : Type 0 where
   pub seat : sits table core.seat
   pub agrees : CoreAgrees (setup table) (place core.seat) (view table core.seat) core
-  pub drops : core.writer.route.spec.policy ≡ Drops
+  pub drops : (route_of core).spec.policy ≡ Drops
 
 -- the writer made steps, and is ready for more
 pub record GoesOn {T W S : Type 0} (setup : T → Setup) (sits : T → W → Type 0) (place : W → ℕ) (view : T → W → WriterView)

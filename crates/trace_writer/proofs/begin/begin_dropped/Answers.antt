@@ -2,6 +2,7 @@ use Rattle.std.proofs.Common.{◌∙◌, ap, Some, min, ◌+◌, ℕ}
 use Rattle.trace_writer.specs.declared.state.State.{State}
 use Rattle.trace_writer.specs.declared.state.State.TheVariants.{Dropping}
 use Rattle.trace_writer.proofs.Beginnings.{begin_nowhere}
+use Rattle.trace_writer.proofs.QuietSteps.{quiet_noted}
 use Rattle.trace_writer.proofs.begin.begin_dropped.Goals as goal
 
 pub returns-clause-agrees : goal.returns-clause-agrees
@@ -20,3 +21,8 @@ returns-clause-agrees g c =
     ∙ ap (λ (n : ℕ). record writer { state = Dropping next_id; packet = Some open_one; begun = n; dropped = dropped }) c.saturating_add-writer.ensures
     ∙ ap (λ (n : ℕ). record writer { state = Dropping next_id; packet = Some open_one; begun = min (writer.begun + 1) 18446744073709551615; dropped = n }) c.saturating_add-writer-2.ensures)
     c.requires.next c.requires.idle c.requires.agrees
+
+pub returns-clause-quiet : goal.returns-clause-quiet
+returns-clause-quiet g c =
+    quiet_noted g.W.Words.setup g.W.Words.sits g.W.Words.place g.W.Words.view g.W.Words.serves g.W.Words.service_view g.W.Words.told
+    c.args.table.now c.args.seat.now c.note_call.new.self c.note_call.new.seat _ _ c.note_call.ensures.step c.note_call.ensures.view c.note_call.ensures.told

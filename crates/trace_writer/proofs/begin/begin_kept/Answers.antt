@@ -5,6 +5,8 @@ use Rattle.trace_writer.specs.declared.state.State.{State}
 use Rattle.trace_writer.specs.declared.state.State.TheVariants.{Writing}
 use Rattle.trace_writer.specs.Placing.{IsStarted}
 use Rattle.trace_writer.proofs.Beginnings.{begin_behind, IsFronted, fronted_put, fronted_not}
+use Rattle.trace_writer.proofs.QuietRows.{quiet_both}
+use Rattle.trace_writer.proofs.QuietSteps.{quiet_noted}
 use Rattle.trace_writer.proofs.begin.begin_kept.Goals.{then-writer, else-writer}
 use Rattle.trace_writer.proofs.begin.begin_kept.Goals as goal
 
@@ -29,3 +31,11 @@ returns-clause-agrees g c =
     (ap (λ (state : State). record writer { state = state; packet = Some c.new.result; begun = c.saturating_add-writer.result }) c.put_state.ensures
     ∙ ap (λ (n : ℕ). record writer { state = Writing c.if-writer.fragment; packet = Some c.new.result; begun = n }) c.saturating_add-writer.ensures)
     c.requires.roomy c.requires.agrees
+
+pub returns-clause-quiet : goal.returns-clause-quiet
+returns-clause-quiet g c =
+    quiet_both g.W.Words.setup g.W.Words.sits g.W.Words.place g.W.Words.view g.W.Words.serves g.W.Words.service_view g.W.Words.told
+    c.args.table.now c.args.seat.now c.start_fragment-fragment.new.table c.start_fragment-fragment.new.seat c.note_call.new.self c.note_call.new.seat
+    c.start_fragment-fragment.ensures.quiet
+    (quiet_noted g.W.Words.setup g.W.Words.sits g.W.Words.place g.W.Words.view g.W.Words.serves g.W.Words.service_view g.W.Words.told
+    c.start_fragment-fragment.new.table c.start_fragment-fragment.new.seat c.note_call.new.self c.note_call.new.seat _ _ c.note_call.ensures.step c.note_call.ensures.view c.note_call.ensures.told)

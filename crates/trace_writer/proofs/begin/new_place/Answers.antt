@@ -16,5 +16,4 @@ returns-in-None-clause-place g c = λ account pending idle.
       c.requires.next ∙ sym (ap length none.begun),
       none_idle (site_of (g.W.Words.setup c.args.table.now) (g.W.Words.place c.args.seat.now) c.args.route.now) account
           (g.W.Words.view c.args.table.now c.args.seat.now) (g.W.Words.view c.claim_next.new.table c.claim_next.new.seat) pending none.begun idle,
-      none.asked,
     )

@@ -1,11 +1,10 @@
-use Rattle.std.proofs.Common.{◌∙◌, Bool, sym, ap, subst}
-use Rattle.chunk_plain.specs.Views.{WriterView}
-use Rattle.trace_writer.specs.Helping.{IsWork}
+use Rattle.std.proofs.Common.{◌∙◌, sym}
 use Rattle.trace_writer.specs.Site.{site_of}
 use Rattle.trace_writer.proofs.Ending.{behind_holds, behind_head}
 use Rattle.trace_writer.proofs.Idling.{begun_one_more}
-use Rattle.trace_writer.proofs.Starting.{behind_roomy, place_from, behind_idle, room_of, idle_there, place_here}
-use Rattle.trace_writer.proofs.Working.{work_none, work_before, refuses_none}
+use Rattle.trace_writer.proofs.KeptChunks.{shown_none_held}
+use Rattle.trace_writer.proofs.Starting.{behind_roomy, behind_idle, room_of, idle_there, place_here}
+use Rattle.trace_writer.proofs.Working.{work_none, work_before}
 use Rattle.trace_writer.proofs.begin.place_behind.Goals as goal
 
 pub complete-requires-clause-held : goal.complete-requires-clause-held
@@ -33,26 +32,31 @@ returns-clause-place g c = λ account behind.
     let new = g.W.Words.view c.new_place.new.table c.new_place.new.seat in
     let setup = g.W.Words.setup c.args.table.now in
     let place = g.W.Words.place c.args.seat.now in
-    let step = c.complete.ensures.step in
+    let step = c.complete.ensures.quiet.step in
     let idle = behind_idle site account old mid c.args.pending.now c.complete.new.pending c.args.chunk _ c.args.chunk.few c.complete.ensures.pending c.complete.ensures.view
     (room_of site c.args.chunk c.has_room.result behind.whole c.has_room.ensures ∙ c.if-has_room.false) behind in
-    place_from setup place c.args.route.now account old mid new c.complete.new.pending c.new_place.result
-    (ap (λ (view : WriterView). view.asked) c.complete.ensures.view) (ap (λ (view : WriterView). view.calls) c.complete.ensures.view)
-    (place_here setup (g.W.Words.setup c.complete.new.table) place (g.W.Words.place c.complete.new.seat) c.args.route.now account mid new c.complete.new.pending c.new_place.result
+    place_here setup (g.W.Words.setup c.complete.new.table) place (g.W.Words.place c.complete.new.seat) c.args.route.now account new c.complete.new.pending c.new_place.result
     step.setup_stays step.place_stays
     (c.new_place.ensures.place account c.complete.new.pending
     (idle_there setup (g.W.Words.setup c.complete.new.table) place (g.W.Words.place c.complete.new.seat) c.args.route.now account mid c.complete.new.pending
-    step.setup_stays step.place_stays idle)))
+    step.setup_stays step.place_stays idle))
+
+pub new_place-requires-clause-none_held : goal.new_place-requires-clause-none_held
+new_place-requires-clause-none_held g c =
+    let site = site_of (g.W.Words.setup c.args.table.now) (g.W.Words.place c.args.seat.now) c.args.route.now in
+    let account = c.requires.behind.0 in let behind = c.requires.behind.1 in
+    let mid = g.W.Words.view c.complete.new.table c.complete.new.seat in
+    let idle = behind_idle site account (g.W.Words.view c.args.table.now c.args.seat.now) mid c.args.pending.now c.complete.new.pending c.args.chunk _ c.args.chunk.few c.complete.ensures.pending c.complete.ensures.view
+    (room_of site c.args.chunk c.has_room.result behind.whole c.has_room.ensures ∙ c.if-has_room.false) behind in
+    shown_none_held site 0 mid.begun idle.pages idle.shown
 
 pub returns-then-has_room-clause-work : goal.returns-then-has_room-clause-work
 returns-then-has_room-clause-work g c =
-    subst (λ (refused : Bool). IsWork g.W.Words.setup g.W.Words.sits g.W.Words.place g.W.Words.view g.W.Words.serves g.W.Words.service_view g.H.HelperOn.needs g.H.HelperOn.helps
-    c.args.route.now c.args.help.now c.args.table.now c.args.seat.now refused c.args.help.now c.args.table.now c.args.seat.now) (sym (refuses_none c.args.route.now.spec.policy))
-    (work_none g.W.Words.setup g.W.Words.sits g.W.Words.place g.W.Words.view g.W.Words.serves g.W.Words.service_view g.H.HelperOn.needs g.H.HelperOn.helps
-    c.args.route.now c.args.help.now c.args.table.now c.args.seat.now c.requires.seat c.requires.needs)
+    work_none g.W.Words.setup g.W.Words.sits g.W.Words.place g.W.Words.view g.W.Words.serves g.W.Words.service_view g.W.Words.told g.H.HelperOn.needs g.H.HelperOn.helps
+    c.args.route.now c.args.help.now c.args.table.now c.args.seat.now c.args.steps.now c.requires.seat c.requires.needs
 
 pub returns-clause-work : goal.returns-clause-work
 returns-clause-work g c =
-    work_before g.W.Words.setup g.W.Words.sits g.W.Words.place g.W.Words.view g.W.Words.serves g.W.Words.service_view g.H.HelperOn.needs g.H.HelperOn.helps
-    c.args.route.now c.args.help.now c.args.table.now c.args.seat.now c.complete.new.table c.complete.new.seat _ c.new_place.new.help c.new_place.new.table c.new_place.new.seat
-    c.complete.ensures.step c.new_place.ensures.work
+    work_before g.W.Words.setup g.W.Words.sits g.W.Words.place g.W.Words.view g.W.Words.serves g.W.Words.service_view g.W.Words.told g.H.HelperOn.needs g.H.HelperOn.helps
+    c.args.route.now c.args.help.now c.args.table.now c.args.seat.now c.args.steps.now c.complete.new.table c.complete.new.seat _ c.new_place.new.help c.new_place.new.table c.new_place.new.seat
+    c.new_place.new.steps c.complete.ensures.quiet c.new_place.ensures.work

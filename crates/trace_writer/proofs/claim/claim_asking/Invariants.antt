@@ -1,13 +1,14 @@
 use Rattle.std.proofs.Common.{false}
+use Rattle.trace_writer.specs.Claims.{FindsNone}
 use Rattle.trace_writer.specs.Helping.{IsWork}
-use Rattle.trace_writer.proofs.Asking.{AsksSoFar}
 use Rattle.trace_writer.proofs.claim.claim_asking.Given as goal
 
 abbrev pub invariant-claims : goal.invariant-claims
-invariant-claims g l =
-    AsksSoFar (g.W.Words.view l.initial.table l.initial.seat) (g.W.Words.view l.table l.seat)
-    × IsWork g.W.Words.setup g.W.Words.sits g.W.Words.place g.W.Words.view g.W.Words.serves g.W.Words.service_view g.H.HelperOn.needs g.H.HelperOn.helps
-    l.route l.initial.help l.initial.table l.initial.seat false l.help l.table l.seat
+invariant-claims g l = record {
+  none : FindsNone (g.W.Words.view l.initial.table l.initial.seat) (g.W.Words.view l.table l.seat);
+  work : IsWork g.W.Words.setup g.W.Words.sits g.W.Words.place g.W.Words.view g.W.Words.serves g.W.Words.service_view g.W.Words.told g.H.HelperOn.needs g.H.HelperOn.helps
+      l.route l.initial.help l.initial.table l.initial.seat l.initial.steps false l.help l.table l.seat l.steps;
+}
 
 abbrev pub decreases-claims : goal.decreases-claims
 decreases-claims g l = g.H.HelperOn.turns l.help

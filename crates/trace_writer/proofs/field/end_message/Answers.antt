@@ -6,6 +6,8 @@ use Rattle.trace_writer.specs.Site.{site_of}
 use Rattle.trace_writer.specs.Agreement.{Agrees, depth_of}
 use Rattle.trace_writer.proofs.Closing.{Pops, pops_few, start_within, hole_within, agrees_ended, agrees_ended_dropping}
 use Rattle.trace_writer.proofs.Agreeing.{writing_agrees}
+use Rattle.trace_writer.proofs.QuietRows.{quiet_none}
+use Rattle.trace_writer.proofs.QuietSteps.{quiet_noted}
 use Rattle.trace_writer.proofs.field.end_message.Goals as goal
 use Rattle.trace_writer.proofs.field.end_message.Goals.{in-Writing, in-Dropping}
 
@@ -50,3 +52,13 @@ returns-clause-agrees g c =
           c.in-Some.packet c.end_nested-length.new.self c.end_nested-length.result c.requires.agrees w.in-Dropping.is w.in-Dropping.is c.in-Some.is pops
           c.note_call.ensures.view)
     ]
+
+pub returns-then-is_stalled-clause-quiet : goal.returns-then-is_stalled-clause-quiet
+returns-then-is_stalled-clause-quiet g c =
+    quiet_none g.W.Words.setup g.W.Words.sits g.W.Words.place g.W.Words.view g.W.Words.serves g.W.Words.service_view g.W.Words.told
+    c.args.table.now c.args.seat.now c.requires.seat
+
+pub returns-clause-quiet : goal.returns-clause-quiet
+returns-clause-quiet g c =
+    quiet_noted g.W.Words.setup g.W.Words.sits g.W.Words.place g.W.Words.view g.W.Words.serves g.W.Words.service_view g.W.Words.told
+    c.args.table.now c.args.seat.now c.note_call.new.self c.note_call.new.seat _ _ c.note_call.ensures.step c.note_call.ensures.view c.note_call.ensures.told

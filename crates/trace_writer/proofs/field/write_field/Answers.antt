@@ -1,4 +1,4 @@
-use Rattle.std.proofs.Common.{◌∙◌, ℕ, ◌+◌, ◌*◌, ◌≤◌, ◌++◌, length, refl, sym, ap, subst}
+use Rattle.std.proofs.Common.{◌∙◌, ℕ, ◌+◌, ◌*◌, ◌≤◌, ◌++◌, length, refl, sym, ap, subst, false, [], ◌∷◌}
 use Rattle.std.specs.List.{repeat}
 use Rattle.chunk_plain.specs.Words.{call_of}
 use Rattle.trace_writer.specs.Agreement.{len_of}
@@ -6,6 +6,10 @@ use Rattle.trace_writer.proofs.Calling.{field_long}
 use Rattle.std.proofs.lemmas.Bool.{true≢false}
 use Rattle.trace_writer.specs.declared.state.Writer.{Writer}
 use Rattle.trace_writer.specs.Empty.{is_empty, is_stalled}
+use Rattle.chunk_plain.specs.Views.{WriterView}
+use Rattle.trace_writer.proofs.FewSteps.{asked_of}
+use Rattle.trace_writer.proofs.QuietSteps.{quiet_noted}
+use Rattle.trace_writer.proofs.Stopping.{refuses_none}
 use Rattle.trace_writer.proofs.Working.{work_own}
 use Rattle.trace_writer.proofs.InPlace.{agrees_put, needs_empty}
 use Rattle.trace_writer.proofs.field.write_field.Goals as goal
@@ -19,16 +23,27 @@ returns-then-put_field_here-clause-agrees g c =
     (subst (λ (n : ℕ). len_of c.args.writer.now.packet + n ≤ 1048576) (sym (field_long c.args.head.now c.args.text.now c.args.times)) c.requires.fits)
     c.requires.call c.note_call.ensures.view
 
-pub returns-then-put_field_here-clause-going : goal.returns-then-put_field_here-clause-going
-returns-then-put_field_here-clause-going g c = ap (λ (writer : Writer). is_stalled writer.state) (c.if-put_field_here.ensures.puts refl).new_is
+pub returns-then-put_field_here-clause-answers : goal.returns-then-put_field_here-clause-answers
+returns-then-put_field_here-clause-answers g c = λ goes. ap (λ (writer : Writer). is_stalled writer.state) (c.if-put_field_here.ensures.puts refl).new_is
 
 pub returns-then-put_field_here-clause-stays : goal.returns-then-put_field_here-clause-stays
 returns-then-put_field_here-clause-stays g c = λ stalled. absurd (true≢false (sym stalled ∙ ap is_stalled (c.if-put_field_here.ensures.puts refl).was))
 
-pub returns-then-put_field_here-clause-work : goal.returns-then-put_field_here-clause-work
-returns-then-put_field_here-clause-work g c =
-    work_own g.W.Words.setup g.W.Words.sits g.W.Words.place g.W.Words.view g.W.Words.serves g.W.Words.service_view g.H.HelperOn.needs g.H.HelperOn.helps
-    c.args.writer.now.route c.args.help.now c.args.table.now c.args.seat.now c.note_call.new.self c.note_call.new.seat g.met.H.HelperOn.needs_stay c.requires.needs c.note_call.ensures.step
+pub returns-then-put_field_here-clause-done : goal.returns-then-put_field_here-clause-done
+returns-then-put_field_here-clause-done g c = λ goes.
+    let route = c.args.writer.now.route in (
+      false,
+      asked_of g.W.Words.setup g.W.Words.sits g.W.Words.place g.W.Words.view g.W.Words.serves g.W.Words.service_view g.W.Words.told g.H.HelperOn.needs g.H.HelperOn.helps
+          route c.args.help.now c.args.table.now c.args.seat.now c.args.steps.now false ((call_of c.args.call) ∷ []) (is_stalled c.put_field_here.new.writer.state)
+          c.args.help.now c.note_call.new.self c.note_call.new.seat c.args.steps.now
+          (work_own g.W.Words.setup g.W.Words.sits g.W.Words.place g.W.Words.view g.W.Words.serves g.W.Words.service_view g.W.Words.told g.H.HelperOn.needs g.H.HelperOn.helps
+          route c.args.help.now c.args.table.now c.args.seat.now c.note_call.new.self c.note_call.new.seat c.args.steps.now g.met.H.HelperOn.needs_stay c.requires.needs
+          (quiet_noted g.W.Words.setup g.W.Words.sits g.W.Words.place g.W.Words.view g.W.Words.serves g.W.Words.service_view g.W.Words.told
+          c.args.table.now c.args.seat.now c.note_call.new.self c.note_call.new.seat _ _ c.note_call.ensures.step c.note_call.ensures.view c.note_call.ensures.told))
+          (ap (λ (v : WriterView). v.calls) c.note_call.ensures.view)
+          (ap (λ (writer : Writer). is_stalled writer.state) (c.if-put_field_here.ensures.puts refl).new_is ∙ sym (refuses_none route.spec.policy)),
+      λ stops. absurd (true≢false (sym stops)),
+    )
 
 pub returns-clause-asked : goal.returns-clause-asked
 returns-clause-asked g c = λ needs.

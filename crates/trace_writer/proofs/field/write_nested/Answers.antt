@@ -1,7 +1,12 @@
-use Rattle.std.proofs.Common.{◌∙◌, ◌+◌, length, refl, sym, ap}
+use Rattle.std.proofs.Common.{◌∙◌, ◌+◌, length, refl, sym, ap, false, [], ◌∷◌}
 use Rattle.std.proofs.lemmas.Bool.{true≢false}
+use Rattle.trace_model.specs.Calls as call
 use Rattle.trace_writer.specs.declared.state.Writer.{Writer}
 use Rattle.trace_writer.specs.Empty.{is_empty, is_stalled}
+use Rattle.chunk_plain.specs.Views.{WriterView}
+use Rattle.trace_writer.proofs.FewSteps.{asked_of}
+use Rattle.trace_writer.proofs.QuietSteps.{quiet_noted}
+use Rattle.trace_writer.proofs.Stopping.{refuses_none}
 use Rattle.trace_writer.proofs.Working.{work_own}
 use Rattle.trace_writer.proofs.InPlace.{few_holes, agrees_opened, needs_empty}
 use Rattle.trace_writer.proofs.field.write_nested.Goals as goal
@@ -21,16 +26,27 @@ returns-then-put_nested_here-clause-agrees g c =
     (few_holes setup place view c.args.writer.now c.args.writer.now.packet puts.fragment refl c.requires.agrees puts.was c.requires.begun c.requires.depth)
     c.requires.tag c.note_call.ensures.view
 
-pub returns-then-put_nested_here-clause-going : goal.returns-then-put_nested_here-clause-going
-returns-then-put_nested_here-clause-going g c = ap (λ (writer : Writer). is_stalled writer.state) (c.if-put_nested_here.ensures.puts refl).new_is
+pub returns-then-put_nested_here-clause-answers : goal.returns-then-put_nested_here-clause-answers
+returns-then-put_nested_here-clause-answers g c = λ goes. ap (λ (writer : Writer). is_stalled writer.state) (c.if-put_nested_here.ensures.puts refl).new_is
 
 pub returns-then-put_nested_here-clause-stays : goal.returns-then-put_nested_here-clause-stays
 returns-then-put_nested_here-clause-stays g c = λ stalled. absurd (true≢false (sym stalled ∙ ap is_stalled (c.if-put_nested_here.ensures.puts refl).was))
 
-pub returns-then-put_nested_here-clause-work : goal.returns-then-put_nested_here-clause-work
-returns-then-put_nested_here-clause-work g c =
-    work_own g.W.Words.setup g.W.Words.sits g.W.Words.place g.W.Words.view g.W.Words.serves g.W.Words.service_view g.H.HelperOn.needs g.H.HelperOn.helps
-    c.args.writer.now.route c.args.help.now c.args.table.now c.args.seat.now c.note_call.new.self c.note_call.new.seat g.met.H.HelperOn.needs_stay c.requires.needs c.note_call.ensures.step
+pub returns-then-put_nested_here-clause-done : goal.returns-then-put_nested_here-clause-done
+returns-then-put_nested_here-clause-done g c = λ goes.
+    let route = c.args.writer.now.route in (
+      false,
+      asked_of g.W.Words.setup g.W.Words.sits g.W.Words.place g.W.Words.view g.W.Words.serves g.W.Words.service_view g.W.Words.told g.H.HelperOn.needs g.H.HelperOn.helps
+          route c.args.help.now c.args.table.now c.args.seat.now c.args.steps.now false ((call.Nested c.args.field) ∷ []) (is_stalled c.put_nested_here.new.writer.state)
+          c.args.help.now c.note_call.new.self c.note_call.new.seat c.args.steps.now
+          (work_own g.W.Words.setup g.W.Words.sits g.W.Words.place g.W.Words.view g.W.Words.serves g.W.Words.service_view g.W.Words.told g.H.HelperOn.needs g.H.HelperOn.helps
+          route c.args.help.now c.args.table.now c.args.seat.now c.note_call.new.self c.note_call.new.seat c.args.steps.now g.met.H.HelperOn.needs_stay c.requires.needs
+          (quiet_noted g.W.Words.setup g.W.Words.sits g.W.Words.place g.W.Words.view g.W.Words.serves g.W.Words.service_view g.W.Words.told
+          c.args.table.now c.args.seat.now c.note_call.new.self c.note_call.new.seat _ _ c.note_call.ensures.step c.note_call.ensures.view c.note_call.ensures.told))
+          (ap (λ (v : WriterView). v.calls) c.note_call.ensures.view)
+          (ap (λ (writer : Writer). is_stalled writer.state) (c.if-put_nested_here.ensures.puts refl).new_is ∙ sym (refuses_none route.spec.policy)),
+      λ stops. absurd (true≢false (sym stops)),
+    )
 
 pub returns-clause-asked : goal.returns-clause-asked
 returns-clause-asked g c = λ needs.

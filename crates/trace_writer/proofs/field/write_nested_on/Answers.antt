@@ -1,4 +1,4 @@
-use Rattle.std.proofs.Common.{◌≡◌, ◌∙◌, ℕ, ◌+◌, ◌<◌, ◌≤◌, Bool, not, List, Option, Some, length, refl, sym, ap, subst}
+use Rattle.std.proofs.Common.{◌≡◌, ◌∙◌, ℕ, ◌+◌, ◌<◌, ◌≤◌, List, Option, Some, length, refl, sym, ap, subst, false, [], ◌∷◌}
 use Rattle.trace_model.specs.Calls as call
 use Rattle.trace_model.specs.Encoding.{nested_tag}
 use Rattle.trace_model.specs.Packets.{Packet, Account, noted, on_newest, with_more}
@@ -7,10 +7,14 @@ use Rattle.trace_writer.specs.declared.packet.OpenPacket.{OpenPacket}
 use Rattle.trace_writer.specs.Agreement.{len_of, depth_of}
 use Rattle.trace_writer.specs.Empty.{is_stalled}
 use Rattle.trace_writer.specs.Flows.{is_stopped}
-use Rattle.trace_writer.specs.Helping.{refuses, IsWork}
-use Rattle.trace_writer.proofs.Agreeing.{agrees_behind, agrees_dropping, notes_behind, stalls_behind, going_behind, as_many_holes, grows_nested}
-use Rattle.trace_writer.proofs.Stopping.{then_ok, then_err, stalls_is}
-use Rattle.trace_writer.proofs.Working.{work_none, work_own, work_then}
+use Rattle.trace_writer.proofs.Agreeing.{agrees_behind, agrees_dropping, notes_behind, writing_not_lost, as_many_holes, grows_nested}
+use Rattle.std.proofs.lemmas.Bool.{true≢false}
+use Rattle.trace_writer.proofs.FewSteps.{asked_of}
+use Rattle.trace_writer.proofs.QuietSteps.{quiet_noted}
+use Rattle.trace_writer.proofs.Stopping.{refuses_none}
+use Rattle.trace_writer.proofs.Working.{work_own, work_then}
+use Rattle.chunk_plain.specs.Views.{WriterView}
+use Rattle.trace_writer.specs.Asked.{written_as}
 use Rattle.trace_writer.proofs.Measuring.{measured_nested}
 use Rattle.trace_writer.proofs.field.write_nested_on.Goals as goal
 
@@ -35,47 +39,28 @@ returns-in-Writing-clause-agrees g c =
     (λ (packet : Packet) some m. measured_nested c.in-Some.packet c.add_nested.new.self packet tag (length tag) refl c.add_nested.ensures.len c.add_nested.ensures.starts some m)
     (subst (λ (o : Option OpenPacket). len_of o + (length tag + 4) ≤ 1048576) c.in-Some.is c.requires.fits) (noted_tag c.args.field tag c.requires.tag) c.put_nested-flow.ensures.flow c.go_on.ensures.goes
 
-pub returns-in-Writing-clause-notes : goal.returns-in-Writing-clause-notes
-returns-in-Writing-clause-notes g c =
-    let tag = c.args.tag.now in
-    then_ok c.go_on.result c.go_on.ensures.going (λ none.
-    notes_behind (g.W.Words.setup c.args.table.now) (g.W.Words.place c.args.seat.now) (g.W.Words.view c.args.table.now c.args.seat.now)
-    (g.W.Words.view c.put_nested-flow.new.table c.put_nested-flow.new.seat) (g.W.Words.view c.go_on.new.table c.go_on.new.seat)
-    c.args.writer.now
-    (record c.args.writer.now { state = c.take_state.new.state; packet = Some c.add_nested.new.self; pending = c.put_nested-flow.new.pending })
-    c.go_on.new.writer c.put_nested-flow.new.pending c.in-Writing.fragment (length tag + 4)
-    (λ (packet : Packet). with_open (with_more tag packet)) (call.Nested c.args.field) c.put_nested-flow.result refl none
-    c.put_nested-flow.ensures.flow c.go_on.ensures.goes)
-
-pub returns-in-Writing-clause-going : goal.returns-in-Writing-clause-going
-returns-in-Writing-clause-going g c =
-    then_ok c.go_on.result c.go_on.ensures.going (λ none.
-    going_behind c.args.writer.now.route.spec.policy
-    (record c.args.writer.now { state = c.take_state.new.state; packet = Some c.add_nested.new.self; pending = c.put_nested-flow.new.pending })
-    c.go_on.new.writer (g.W.Words.view c.put_nested-flow.new.table c.put_nested-flow.new.seat) (g.W.Words.view c.go_on.new.table c.go_on.new.seat)
-    (call.Nested c.args.field) c.put_nested-flow.result refl none c.go_on.ensures.goes)
-
-pub returns-in-Writing-clause-stalls : goal.returns-in-Writing-clause-stalls
-returns-in-Writing-clause-stalls g c = λ not_before.
-    let tag = c.args.tag.now in
-    then_err c.go_on.result c.go_on.ensures.stalls (λ some.
-    stalls_behind (g.W.Words.setup c.args.table.now) (g.W.Words.place c.args.seat.now) (g.W.Words.view c.args.table.now c.args.seat.now)
-    (g.W.Words.view c.put_nested-flow.new.table c.put_nested-flow.new.seat) (g.W.Words.view c.go_on.new.table c.go_on.new.seat)
-    c.args.writer.now
-    (record c.args.writer.now { state = c.take_state.new.state; packet = Some c.add_nested.new.self; pending = c.put_nested-flow.new.pending })
-    c.go_on.new.writer c.put_nested-flow.new.pending c.in-Writing.fragment (length tag + 4)
-    (λ (packet : Packet). with_open (with_more tag packet)) (call.Nested c.args.field) c.put_nested-flow.result refl some
-    c.put_nested-flow.ensures.flow c.go_on.ensures.goes)
-
-pub returns-in-Writing-clause-work : goal.returns-in-Writing-clause-work
-returns-in-Writing-clause-work g c =
+pub returns-in-Writing-clause-done : goal.returns-in-Writing-clause-done
+returns-in-Writing-clause-done g c = λ goes.
     let route = c.args.writer.now.route in
-    subst (λ (refused : Bool). IsWork g.W.Words.setup g.W.Words.sits g.W.Words.place g.W.Words.view g.W.Words.serves g.W.Words.service_view g.H.HelperOn.needs g.H.HelperOn.helps
-    route c.args.help.now c.args.table.now c.args.seat.now refused c.put_nested-flow.new.help c.go_on.new.table c.go_on.new.seat)
-    (stalls_is (is_stalled c.args.writer.now.state) (refuses route.spec.policy (is_stopped c.put_nested-flow.result)) c.go_on.result (sym c.is_stalled.ensures ∙ c.if-is_stalled.false) c.go_on.ensures.going c.go_on.ensures.stalls)
-    (work_then g.W.Words.setup g.W.Words.sits g.W.Words.place g.W.Words.view g.W.Words.serves g.W.Words.service_view g.H.HelperOn.needs g.H.HelperOn.helps
-    route c.args.help.now c.args.table.now c.args.seat.now (refuses route.spec.policy (is_stopped c.put_nested-flow.result)) c.put_nested-flow.new.help c.put_nested-flow.new.table c.put_nested-flow.new.seat c.go_on.new.table c.go_on.new.seat
-    g.met.H.HelperOn.needs_stay c.put_nested-flow.ensures.work c.go_on.ensures.step)
+    let tag = c.args.tag.now in
+    let stopped = is_stopped c.put_nested-flow.result in
+    let noted = notes_behind (g.W.Words.setup c.args.table.now) (g.W.Words.place c.args.seat.now) (g.W.Words.view c.args.table.now c.args.seat.now)
+    (g.W.Words.view c.put_nested-flow.new.table c.put_nested-flow.new.seat) (g.W.Words.view c.go_on.new.table c.go_on.new.seat)
+    c.args.writer.now
+    (record c.args.writer.now { state = c.take_state.new.state; packet = Some c.add_nested.new.self; pending = c.put_nested-flow.new.pending })
+    c.go_on.new.writer c.put_nested-flow.new.pending c.in-Writing.fragment (length tag + 4)
+    (λ (packet : Packet). with_open (with_more tag packet)) (call.Nested c.args.field) c.put_nested-flow.result refl c.put_nested-flow.ensures.flow c.go_on.ensures.goes in (
+      stopped,
+      asked_of g.W.Words.setup g.W.Words.sits g.W.Words.place g.W.Words.view g.W.Words.serves g.W.Words.service_view g.W.Words.told g.H.HelperOn.needs g.H.HelperOn.helps
+          route c.args.help.now c.args.table.now c.args.seat.now c.args.steps.now stopped (written_as stopped route.spec.policy (call.Nested c.args.field)) (is_stalled c.go_on.new.writer.state)
+          c.put_nested-flow.new.help c.go_on.new.table c.go_on.new.seat c.put_nested-flow.new.steps
+          (work_then g.W.Words.setup g.W.Words.sits g.W.Words.place g.W.Words.view g.W.Words.serves g.W.Words.service_view g.W.Words.told g.H.HelperOn.needs g.H.HelperOn.helps
+          route c.args.help.now c.args.table.now c.args.seat.now c.args.steps.now stopped c.put_nested-flow.new.help c.put_nested-flow.new.table c.put_nested-flow.new.seat c.put_nested-flow.new.steps
+          c.go_on.new.table c.go_on.new.seat g.met.H.HelperOn.needs_stay c.put_nested-flow.ensures.work c.go_on.ensures.quiet)
+          noted.0 noted.1,
+      λ stops. writing_not_lost (g.W.Words.setup c.args.table.now) (g.W.Words.place c.args.seat.now) (g.W.Words.view c.args.table.now c.args.seat.now) c.args.writer.now c.in-Writing.fragment
+          c.requires.agrees (sym c.in-Writing.ensures.taken),
+    )
 
 pub returns-in-Dropping-clause-agrees : goal.returns-in-Dropping-clause-agrees
 returns-in-Dropping-clause-agrees g c =
@@ -87,16 +72,18 @@ returns-in-Dropping-clause-agrees g c =
     (λ (packet : Packet) some m. measured_nested c.in-Some.packet c.add_nested.new.self packet tag (length tag) refl c.add_nested.ensures.len c.add_nested.ensures.starts some m)
     (noted_tag c.args.field tag c.requires.tag) c.note_call.ensures.view
 
-pub returns-then-is_stalled-clause-work : goal.returns-then-is_stalled-clause-work
-returns-then-is_stalled-clause-work g c =
-    let route = c.args.writer.now.route in
-    subst (λ (refused : Bool). IsWork g.W.Words.setup g.W.Words.sits g.W.Words.place g.W.Words.view g.W.Words.serves g.W.Words.service_view g.H.HelperOn.needs g.H.HelperOn.helps
-    route c.args.help.now c.args.table.now c.args.seat.now refused c.args.help.now c.args.table.now c.args.seat.now)
-    (sym (ap not (sym c.is_stalled.ensures ∙ c.if-is_stalled.true)))
-    (work_none g.W.Words.setup g.W.Words.sits g.W.Words.place g.W.Words.view g.W.Words.serves g.W.Words.service_view g.H.HelperOn.needs g.H.HelperOn.helps
-    route c.args.help.now c.args.table.now c.args.seat.now c.requires.seat c.requires.needs)
-
-pub returns-in-Dropping-clause-work : goal.returns-in-Dropping-clause-work
-returns-in-Dropping-clause-work g c =
-    work_own g.W.Words.setup g.W.Words.sits g.W.Words.place g.W.Words.view g.W.Words.serves g.W.Words.service_view g.H.HelperOn.needs g.H.HelperOn.helps
-    c.args.writer.now.route c.args.help.now c.args.table.now c.args.seat.now c.note_call.new.self c.note_call.new.seat g.met.H.HelperOn.needs_stay c.requires.needs c.note_call.ensures.step
+pub returns-in-Dropping-clause-done : goal.returns-in-Dropping-clause-done
+returns-in-Dropping-clause-done g c = λ goes.
+    let route = c.args.writer.now.route in (
+      false,
+      asked_of g.W.Words.setup g.W.Words.sits g.W.Words.place g.W.Words.view g.W.Words.serves g.W.Words.service_view g.W.Words.told g.H.HelperOn.needs g.H.HelperOn.helps
+          route c.args.help.now c.args.table.now c.args.seat.now c.args.steps.now false ((call.Nested c.args.field) ∷ []) (is_stalled c.put_state.new.state)
+          c.args.help.now c.note_call.new.self c.note_call.new.seat c.args.steps.now
+          (work_own g.W.Words.setup g.W.Words.sits g.W.Words.place g.W.Words.view g.W.Words.serves g.W.Words.service_view g.W.Words.told g.H.HelperOn.needs g.H.HelperOn.helps
+          route c.args.help.now c.args.table.now c.args.seat.now c.note_call.new.self c.note_call.new.seat c.args.steps.now g.met.H.HelperOn.needs_stay c.requires.needs
+          (quiet_noted g.W.Words.setup g.W.Words.sits g.W.Words.place g.W.Words.view g.W.Words.serves g.W.Words.service_view g.W.Words.told
+          c.args.table.now c.args.seat.now c.note_call.new.self c.note_call.new.seat _ _ c.note_call.ensures.step c.note_call.ensures.view c.note_call.ensures.told))
+          (ap (λ (v : WriterView). v.calls) c.note_call.ensures.view)
+          (ap is_stalled c.put_state.ensures ∙ sym (refuses_none route.spec.policy)),
+      λ stops. absurd (true≢false (sym stops)),
+    )

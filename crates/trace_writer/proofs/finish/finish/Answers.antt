@@ -4,6 +4,8 @@ use Rattle.trace_writer.specs.declared.state.State.{State}
 use Rattle.trace_writer.specs.declared.state.Writer.{Writer}
 use Rattle.trace_writer.proofs.Finishing.{finish_writing}
 use Rattle.trace_writer.proofs.Ending.{finish_lost}
+use Rattle.trace_writer.proofs.QuietRows.{quiet_none}
+use Rattle.trace_writer.proofs.QuietSteps.{quiet_noted}
 use Rattle.trace_writer.proofs.finish.finish.Goals.{in-Writing, in-Dropping}
 use Rattle.trace_writer.proofs.finish.finish.Goals as goal
 
@@ -34,3 +36,13 @@ returns-clause-agrees g c = elim c.match-take_state.branch [
       ∙ ap (λ (state : State). record c.args.writer.now { state = state; packet = None; follows_loss = true }) w.put_state-in-Dropping.ensures)
       c.requires.agrees
 ]
+
+pub returns-then-is_stalled-clause-quiet : goal.returns-then-is_stalled-clause-quiet
+returns-then-is_stalled-clause-quiet g c =
+    quiet_none g.W.Words.setup g.W.Words.sits g.W.Words.place g.W.Words.view g.W.Words.serves g.W.Words.service_view g.W.Words.told
+    c.args.table.now c.args.seat.now c.requires.seat
+
+pub returns-clause-quiet : goal.returns-clause-quiet
+returns-clause-quiet g c =
+    quiet_noted g.W.Words.setup g.W.Words.sits g.W.Words.place g.W.Words.view g.W.Words.serves g.W.Words.service_view g.W.Words.told
+    c.args.table.now c.args.seat.now c.note_call.new.self c.note_call.new.seat _ _ c.note_call.ensures.step c.note_call.ensures.view c.note_call.ensures.told

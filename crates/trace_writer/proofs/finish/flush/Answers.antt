@@ -3,6 +3,8 @@ use Rattle.trace_writer.specs.declared.state.State.{State}
 use Rattle.trace_model.specs.Calls.{Flushed}
 use Rattle.chunk_plain.specs.Steps.{notes_call}
 use Rattle.trace_writer.proofs.Ending.{flush_held, flush_idle, behind_of, behind_holds, behind_head}
+use Rattle.trace_writer.proofs.QuietRows.{quiet_none, quiet_both, quiet_there}
+use Rattle.trace_writer.proofs.QuietSteps.{quiet_noted}
 use Rattle.trace_writer.proofs.finish.flush.Goals.{in-Between, in-Idle}
 use Rattle.trace_writer.proofs.finish.flush.Goals as goal
 
@@ -44,3 +46,23 @@ returns-clause-agrees g c = elim c.match-take_state.branch [
       (w.writer-is ∙ ap (λ (state : State). record c.args.writer.now { state = state }) w.put_state-in-Idle.ensures)
       c.requires.agrees
 ]
+
+pub returns-then-is_stalled-clause-quiet : goal.returns-then-is_stalled-clause-quiet
+returns-then-is_stalled-clause-quiet g c =
+    quiet_none g.W.Words.setup g.W.Words.sits g.W.Words.place g.W.Words.view g.W.Words.serves g.W.Words.service_view g.W.Words.told
+    c.args.table.now c.args.seat.now c.requires.seat
+
+pub returns-clause-quiet : goal.returns-clause-quiet
+returns-clause-quiet g c =
+    quiet_both g.W.Words.setup g.W.Words.sits g.W.Words.place g.W.Words.view g.W.Words.serves g.W.Words.service_view g.W.Words.told
+    c.args.table.now c.args.seat.now c.match-take_state.table c.match-take_state.seat c.note_call.new.self c.note_call.new.seat
+    (elim c.match-take_state.branch [
+      | in-Between w ↦ quiet_there g.W.Words.setup g.W.Words.sits g.W.Words.place g.W.Words.view g.W.Words.serves g.W.Words.service_view g.W.Words.told
+          c.args.table.now c.args.seat.now w.table-is w.seat-is w.complete.ensures.quiet
+      | in-Idle w ↦ quiet_there g.W.Words.setup g.W.Words.sits g.W.Words.place g.W.Words.view g.W.Words.serves g.W.Words.service_view g.W.Words.told
+          c.args.table.now c.args.seat.now w.table-is w.seat-is
+          (quiet_none g.W.Words.setup g.W.Words.sits g.W.Words.place g.W.Words.view g.W.Words.serves g.W.Words.service_view g.W.Words.told
+          c.args.table.now c.args.seat.now c.requires.seat)
+    ])
+    (quiet_noted g.W.Words.setup g.W.Words.sits g.W.Words.place g.W.Words.view g.W.Words.serves g.W.Words.service_view g.W.Words.told
+    c.match-take_state.table c.match-take_state.seat c.note_call.new.self c.note_call.new.seat _ _ c.note_call.ensures.step c.note_call.ensures.view c.note_call.ensures.told)

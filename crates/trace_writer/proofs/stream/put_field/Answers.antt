@@ -3,10 +3,9 @@ use Rattle.std.specs.List.{repeat}
 use Rattle.chunk_plain.specs.Setup.{Setup}
 use Rattle.trace_writer.specs.Site.{Site, site_of}
 use Rattle.trace_writer.specs.Flows.{IsInPacket, Flows, is_stopped}
-use Rattle.trace_writer.specs.Helping.{refuses}
 use Rattle.trace_writer.proofs.Putting.{inside_behind}
 use Rattle.trace_writer.proofs.Calling.{writes_behind, field_long}
-use Rattle.trace_writer.proofs.Working.{work_next}
+use Rattle.trace_writer.proofs.Working.{work_behind}
 use Rattle.trace_writer.proofs.stream.put_field.Goals as goal
 
 pub put_times-requires-clause-inside : goal.put_times-requires-clause-inside
@@ -39,6 +38,6 @@ returns-in-Going-clause-flow g c =
 pub returns-in-Going-clause-work : goal.returns-in-Going-clause-work
 returns-in-Going-clause-work g c =
     let route = c.args.route.now in
-    work_next g.W.Words.setup g.W.Words.sits g.W.Words.place g.W.Words.view g.W.Words.serves g.W.Words.service_view g.H.HelperOn.needs g.H.HelperOn.helps
-    route c.args.help.now c.args.table.now c.args.seat.now c.put_piece.new.help c.put_piece.new.table c.put_piece.new.seat
-    (refuses route.spec.policy (is_stopped c.put_times.result)) c.put_times.new.help c.put_times.new.table c.put_times.new.seat c.in-Going.ensures.work c.put_times.ensures.work
+    work_behind g.W.Words.setup g.W.Words.sits g.W.Words.place g.W.Words.view g.W.Words.serves g.W.Words.service_view g.W.Words.told g.H.HelperOn.needs g.H.HelperOn.helps
+    route c.args.help.now c.args.table.now c.args.seat.now c.args.steps.now c.put_piece.new.help c.put_piece.new.table c.put_piece.new.seat c.put_piece.new.steps
+    (is_stopped c.put_times.result) c.put_times.new.help c.put_times.new.table c.put_times.new.seat c.put_times.new.steps c.in-Going.ensures.work c.put_times.ensures.work

@@ -6,7 +6,7 @@ use Rattle.trace_writer.specs.declared.fragment.OpenFragment.{OpenFragment}
 use Rattle.trace_writer.specs.Site.{site_of}
 use Rattle.trace_writer.specs.Flows.{RunsOn}
 use Rattle.trace_writer.proofs.SettingAside.{sets_here, sets_behind}
-use Rattle.trace_writer.proofs.Working.{work_none, work_goes}
+use Rattle.trace_writer.proofs.Working.{work_none}
 use Rattle.trace_writer.proofs.stream.put_length.Goals as goal
 
 pub returns-then-put_hole-clause-flow : goal.returns-then-put_hole-clause-flow
@@ -18,10 +18,8 @@ returns-then-put_hole-clause-flow g c =
 
 pub returns-then-put_hole-clause-work : goal.returns-then-put_hole-clause-work
 returns-then-put_hole-clause-work g c =
-    work_goes g.W.Words.setup g.W.Words.sits g.W.Words.place g.W.Words.view g.W.Words.serves g.W.Words.service_view g.H.HelperOn.needs g.H.HelperOn.helps
-    c.args.route.now c.args.help.now c.args.table.now c.args.seat.now c.args.help.now c.args.table.now c.args.seat.now
-    (work_none g.W.Words.setup g.W.Words.sits g.W.Words.place g.W.Words.view g.W.Words.serves g.W.Words.service_view g.H.HelperOn.needs g.H.HelperOn.helps
-    c.args.route.now c.args.help.now c.args.table.now c.args.seat.now c.requires.seat c.requires.needs)
+    work_none g.W.Words.setup g.W.Words.sits g.W.Words.place g.W.Words.view g.W.Words.serves g.W.Words.service_view g.W.Words.told g.H.HelperOn.needs g.H.HelperOn.helps
+    c.args.route.now c.args.help.now c.args.table.now c.args.seat.now c.args.steps.now c.requires.seat c.requires.needs
 
 pub returns-in-Going-clause-flow : goal.returns-in-Going-clause-flow
 returns-in-Going-clause-flow g c =

@@ -2,10 +2,9 @@ use Rattle.std.proofs.Common.{◌≡◌, ◌∙◌, ℕ, ap, subst, sym}
 use Rattle.chunk_plain.specs.Setup.{Setup}
 use Rattle.trace_writer.specs.Site.{Site, site_of}
 use Rattle.trace_writer.specs.Flows.{IsInPacket, SetsLength, is_stopped}
-use Rattle.trace_writer.specs.Helping.{refuses}
 use Rattle.trace_writer.proofs.Putting.{inside_behind}
 use Rattle.trace_writer.proofs.Calling.{writes_nested, nested_lost}
-use Rattle.trace_writer.proofs.Working.{work_next}
+use Rattle.trace_writer.proofs.Working.{work_behind}
 use Rattle.trace_writer.proofs.stream.put_nested.Goals as goal
 
 pub put_length-requires-clause-inside : goal.put_length-requires-clause-inside
@@ -36,7 +35,7 @@ returns-in-Going-clause-flow g c =
 pub returns-in-Stopped-clause-flow : goal.returns-in-Stopped-clause-flow
 returns-in-Stopped-clause-flow g c =
     let lost = c.in-Stopped.ensures.flow in (
-      nested_lost (site_of (g.W.Words.setup c.args.table.now) (g.W.Words.place c.args.seat.now) c.args.route.now) (g.W.Words.setup c.args.table.now) c.args.route.now
+      nested_lost (site_of (g.W.Words.setup c.args.table.now) (g.W.Words.place c.args.seat.now) c.args.route.now)
           (g.W.Words.view c.args.table.now c.args.seat.now) (g.W.Words.view c.put_piece.new.table c.put_piece.new.seat) c.args.pending.now c.put_piece.new.pending
           c.args.fragment c.args.tag.now lost.0,
       lost.1,
@@ -45,6 +44,6 @@ returns-in-Stopped-clause-flow g c =
 pub returns-in-Going-clause-work : goal.returns-in-Going-clause-work
 returns-in-Going-clause-work g c =
     let route = c.args.route.now in
-    work_next g.W.Words.setup g.W.Words.sits g.W.Words.place g.W.Words.view g.W.Words.serves g.W.Words.service_view g.H.HelperOn.needs g.H.HelperOn.helps
-    route c.args.help.now c.args.table.now c.args.seat.now c.put_piece.new.help c.put_piece.new.table c.put_piece.new.seat
-    (refuses route.spec.policy (is_stopped c.put_length.result)) c.put_length.new.help c.put_length.new.table c.put_length.new.seat c.in-Going.ensures.work c.put_length.ensures.work
+    work_behind g.W.Words.setup g.W.Words.sits g.W.Words.place g.W.Words.view g.W.Words.serves g.W.Words.service_view g.W.Words.told g.H.HelperOn.needs g.H.HelperOn.helps
+    route c.args.help.now c.args.table.now c.args.seat.now c.args.steps.now c.put_piece.new.help c.put_piece.new.table c.put_piece.new.seat c.put_piece.new.steps
+    (is_stopped c.put_length.result) c.put_length.new.help c.put_length.new.table c.put_length.new.seat c.put_length.new.steps c.in-Going.ensures.work c.put_length.ensures.work

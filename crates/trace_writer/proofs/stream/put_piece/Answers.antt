@@ -1,16 +1,15 @@
-use Rattle.std.proofs.Common.{◌≡◌, ◌∙◌, ℕ, true, List, take, drop, ap, subst, sym}
+use Rattle.std.proofs.Common.{false, ◌≡◌, ◌∙◌, ℕ, true, List, take, drop, ap, subst, sym}
 use Rattle.chunk_plain.specs.Setup.{Setup}
 use Rattle.trace_writer.specs.Site.{Site, site_of}
-use Rattle.trace_writer.specs.Flows.{IsInPacket, RunsOn, CannotRunOn}
-use Rattle.trace_writer.specs.Helping.{refuses}
+use Rattle.trace_writer.specs.Flows.{IsInPacket, RunsOn, StopsHere}
 use Rattle.trace_writer.proofs.Putting.{PutsSoFar, puts_none, puts_part, puts_run, puts_lost, puts_all, inside_so_far, full_when_left, left_is, left_none, left_some, ids_most}
-use Rattle.trace_writer.proofs.Working.{work_none, work_behind, work_on}
+use Rattle.trace_writer.proofs.Working.{work_none, work_behind}
 use Rattle.trace_writer.proofs.stream.put_piece.Goals as goal
 
 pub chunks-init : goal.chunks-init
 chunks-init g c = record {
-  work = work_none g.W.Words.setup g.W.Words.sits g.W.Words.place g.W.Words.view g.W.Words.serves g.W.Words.service_view g.H.HelperOn.needs g.H.HelperOn.helps
-      c.args.route.now c.args.help.now c.args.table.now c.args.seat.now c.requires.seat c.requires.needs;
+  work = work_none g.W.Words.setup g.W.Words.sits g.W.Words.place g.W.Words.view g.W.Words.serves g.W.Words.service_view g.W.Words.told g.H.HelperOn.needs g.H.HelperOn.helps
+      c.args.route.now c.args.help.now c.args.table.now c.args.seat.now c.args.steps.now c.requires.seat c.requires.needs;
   so_far = puts_none (site_of (g.W.Words.setup c.args.table.now) (g.W.Words.place c.args.seat.now) c.args.route.now)
       (g.W.Words.view c.args.table.now c.args.seat.now) c.args.pending.now c.args.fragment c.args.piece.now;
 }
@@ -66,8 +65,8 @@ chunks-preserved g c =
     c.put-count.ensures.count c.put-count.ensures.bytes c.put-count.ensures.at left
     (inside_so_far site old mid c.args.pending.now c.chunks.pending c.args.fragment c.put-count.new.self c.args.piece.now (drop count rest) part c.requires.inside) in
     record {
-      work = work_on g.W.Words.setup g.W.Words.sits g.W.Words.place g.W.Words.view g.W.Words.serves g.W.Words.service_view g.H.HelperOn.needs g.H.HelperOn.helps
-          route c.args.help.now c.args.table.now c.args.seat.now c.chunks.help c.chunks.table c.chunks.seat c.run_on.new.help c.run_on.new.table c.run_on.new.seat
+      work = work_behind g.W.Words.setup g.W.Words.sits g.W.Words.place g.W.Words.view g.W.Words.serves g.W.Words.service_view g.W.Words.told g.H.HelperOn.needs g.H.HelperOn.helps
+          route c.args.help.now c.args.table.now c.args.seat.now c.args.steps.now c.chunks.help c.chunks.table c.chunks.seat c.chunks.steps false c.run_on.new.help c.run_on.new.table c.run_on.new.seat c.run_on.new.steps
           c.chunks.invariant.work c.in-Going.ensures.work;
       so_far = subst (λ (xs : List ℕ). PutsSoFar site old new c.args.pending.now c.run_on.new.pending c.args.fragment c.in-Going.next c.args.piece.now xs) (left_is rest count)
           (puts_run site old mid new c.args.pending.now c.chunks.pending c.run_on.new.pending c.args.fragment c.put-count.new.self c.in-Going.next c.args.piece.now (drop count rest)
@@ -92,10 +91,8 @@ returns-in-Stopped-clause-flow g c =
     c.put-count.ensures.count c.put-count.ensures.bytes c.put-count.ensures.at left
     (inside_so_far site old mid c.args.pending.now c.chunks.pending c.args.fragment c.put-count.new.self c.args.piece.now (drop count rest) part c.requires.inside) in
     let cannot = c.in-Stopped.ensures.flow in (
-      puts_lost site setup route old mid new c.args.pending.now c.chunks.pending c.run_on.new.pending c.args.fragment c.put-count.new.self c.args.piece.now (drop count rest) part
-          (subst (λ (s : Site). CannotRunOn s setup route mid new c.chunks.pending c.run_on.new.pending c.put-count.new.self) site_is
-          (subst (λ (s : Setup). CannotRunOn (site_of (g.W.Words.setup c.chunks.table) (g.W.Words.place c.chunks.seat) route) s route mid new c.chunks.pending c.run_on.new.pending c.put-count.new.self)
-          others.setup_stays cannot.0))
+      puts_lost site old mid new c.args.pending.now c.chunks.pending c.run_on.new.pending c.args.fragment c.put-count.new.self c.args.piece.now (drop count rest) part
+          (subst (λ (s : Site). StopsHere s mid new c.chunks.pending c.run_on.new.pending c.put-count.new.self) site_is cannot.0)
           full left,
       cannot.1,
     )
@@ -103,6 +100,6 @@ returns-in-Stopped-clause-flow g c =
 pub returns-in-Stopped-clause-work : goal.returns-in-Stopped-clause-work
 returns-in-Stopped-clause-work g c =
     let route = c.args.route.now in
-    work_behind g.W.Words.setup g.W.Words.sits g.W.Words.place g.W.Words.view g.W.Words.serves g.W.Words.service_view g.H.HelperOn.needs g.H.HelperOn.helps
-    route c.args.help.now c.args.table.now c.args.seat.now c.chunks.help c.chunks.table c.chunks.seat
-    (refuses route.spec.policy true) c.run_on.new.help c.run_on.new.table c.run_on.new.seat c.chunks.invariant.work c.in-Stopped.ensures.work
+    work_behind g.W.Words.setup g.W.Words.sits g.W.Words.place g.W.Words.view g.W.Words.serves g.W.Words.service_view g.W.Words.told g.H.HelperOn.needs g.H.HelperOn.helps
+    route c.args.help.now c.args.table.now c.args.seat.now c.args.steps.now c.chunks.help c.chunks.table c.chunks.seat c.chunks.steps
+    true c.run_on.new.help c.run_on.new.table c.run_on.new.seat c.run_on.new.steps c.chunks.invariant.work c.in-Stopped.ensures.work

@@ -1,17 +1,16 @@
-use Rattle.std.proofs.Common.{◌≡◌, ◌∙◌, ℕ, true, ap, subst, sym, arith}
+use Rattle.std.proofs.Common.{false, ◌≡◌, ◌∙◌, ℕ, true, ap, subst, sym, arith}
 use Rattle.std.specs.List.{repeat}
 use Rattle.chunk_plain.specs.Setup.{Setup}
 use Rattle.trace_writer.specs.Site.{Site, site_of}
 use Rattle.trace_writer.specs.Flows.{IsInPacket, PutsOn, StopsIn}
-use Rattle.trace_writer.specs.Helping.{refuses}
 use Rattle.trace_writer.proofs.Putting.{inside_behind, puts_nothing, times_next, times_lost, times_ids}
-use Rattle.trace_writer.proofs.Working.{work_none, work_behind, work_on}
+use Rattle.trace_writer.proofs.Working.{work_none, work_behind}
 use Rattle.trace_writer.proofs.stream.put_times.Goals as goal
 
 pub loop-turn-init : goal.loop-turn-init
 loop-turn-init g c = record {
-  work = work_none g.W.Words.setup g.W.Words.sits g.W.Words.place g.W.Words.view g.W.Words.serves g.W.Words.service_view g.H.HelperOn.needs g.H.HelperOn.helps
-      c.args.route.now c.args.help.now c.args.table.now c.args.seat.now c.requires.seat c.requires.needs;
+  work = work_none g.W.Words.setup g.W.Words.sits g.W.Words.place g.W.Words.view g.W.Words.serves g.W.Words.service_view g.W.Words.told g.H.HelperOn.needs g.H.HelperOn.helps
+      c.args.route.now c.args.help.now c.args.table.now c.args.seat.now c.args.steps.now c.requires.seat c.requires.needs;
   puts = puts_nothing (site_of (g.W.Words.setup c.args.table.now) (g.W.Words.place c.args.seat.now) c.args.route.now)
       (g.W.Words.view c.args.table.now c.args.seat.now) c.args.pending.now c.args.fragment;
 }
@@ -42,11 +41,9 @@ returns-in-Stopped-clause-flow g c =
     let old = g.W.Words.view c.args.table.now c.args.seat.now in let mid = g.W.Words.view c.loop-turn.table c.loop-turn.seat in
     let new = g.W.Words.view c.put_piece.new.table c.put_piece.new.seat in
     let lost = c.in-Stopped.ensures.flow in (
-      times_lost site setup route old mid new c.args.pending.now c.loop-turn.pending c.put_piece.new.pending c.args.fragment c.loop-turn.fragment
+      times_lost site old mid new c.args.pending.now c.loop-turn.pending c.put_piece.new.pending c.args.fragment c.loop-turn.fragment
           c.loop-turn._turn c.args.times c.args.piece.now c.loop-turn-test.true c.loop-turn.invariant.puts
-          (subst (λ (s : Site). StopsIn s setup route mid new c.loop-turn.pending c.put_piece.new.pending c.loop-turn.fragment c.args.piece.now) site_is
-          (subst (λ (s : Setup). StopsIn (site_of (g.W.Words.setup c.loop-turn.table) (g.W.Words.place c.loop-turn.seat) route) s route mid new c.loop-turn.pending c.put_piece.new.pending c.loop-turn.fragment c.args.piece.now)
-          others.setup_stays lost.0)),
+          (subst (λ (s : Site). StopsIn s mid new c.loop-turn.pending c.put_piece.new.pending c.loop-turn.fragment c.args.piece.now) site_is lost.0),
       lost.1,
     )
 
@@ -59,8 +56,8 @@ loop-turn-preserved g c =
     let old = g.W.Words.view c.args.table.now c.args.seat.now in let mid = g.W.Words.view c.loop-turn.table c.loop-turn.seat in
     let new = g.W.Words.view c.put_piece.new.table c.put_piece.new.seat in
     record {
-      work = work_on g.W.Words.setup g.W.Words.sits g.W.Words.place g.W.Words.view g.W.Words.serves g.W.Words.service_view g.H.HelperOn.needs g.H.HelperOn.helps
-          route c.args.help.now c.args.table.now c.args.seat.now c.loop-turn.help c.loop-turn.table c.loop-turn.seat c.put_piece.new.help c.put_piece.new.table c.put_piece.new.seat
+      work = work_behind g.W.Words.setup g.W.Words.sits g.W.Words.place g.W.Words.view g.W.Words.serves g.W.Words.service_view g.W.Words.told g.H.HelperOn.needs g.H.HelperOn.helps
+          route c.args.help.now c.args.table.now c.args.seat.now c.args.steps.now c.loop-turn.help c.loop-turn.table c.loop-turn.seat c.loop-turn.steps false c.put_piece.new.help c.put_piece.new.table c.put_piece.new.seat c.put_piece.new.steps
           c.loop-turn.invariant.work c.in-Going.ensures.work;
       puts = times_next site old mid new c.args.pending.now c.loop-turn.pending c.put_piece.new.pending c.args.fragment c.loop-turn.fragment c.in-Going.next
           c.loop-turn._turn c.args.piece.now c.loop-turn.invariant.puts
@@ -76,6 +73,6 @@ returns-clause-flow g c =
 pub returns-in-Stopped-clause-work : goal.returns-in-Stopped-clause-work
 returns-in-Stopped-clause-work g c =
     let route = c.args.route.now in
-    work_behind g.W.Words.setup g.W.Words.sits g.W.Words.place g.W.Words.view g.W.Words.serves g.W.Words.service_view g.H.HelperOn.needs g.H.HelperOn.helps
-    route c.args.help.now c.args.table.now c.args.seat.now c.loop-turn.help c.loop-turn.table c.loop-turn.seat
-    (refuses route.spec.policy true) c.put_piece.new.help c.put_piece.new.table c.put_piece.new.seat c.loop-turn.invariant.work c.in-Stopped.ensures.work
+    work_behind g.W.Words.setup g.W.Words.sits g.W.Words.place g.W.Words.view g.W.Words.serves g.W.Words.service_view g.W.Words.told g.H.HelperOn.needs g.H.HelperOn.helps
+    route c.args.help.now c.args.table.now c.args.seat.now c.args.steps.now c.loop-turn.help c.loop-turn.table c.loop-turn.seat c.loop-turn.steps
+    true c.put_piece.new.help c.put_piece.new.table c.put_piece.new.seat c.put_piece.new.steps c.loop-turn.invariant.work c.in-Stopped.ensures.work

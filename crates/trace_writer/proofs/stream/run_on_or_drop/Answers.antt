@@ -1,8 +1,10 @@
-use Rattle.std.proofs.Common.{◌+◌}
+use Rattle.std.proofs.Common.{◌+◌, length, ap, arith}
 use Rattle.trace_writer.specs.Site.{site_of}
 use Rattle.trace_writer.specs.Headers.{held_head}
-use Rattle.trace_writer.proofs.Asking.{asks_first, wins_in_turn}
-use Rattle.trace_writer.proofs.RunOn.{next_id, next_id_after, ends_as, held_behind, ended_holds, ended_head, next_first, run_holds, run_follows, goes_on_in, runs_on, cannot_run_on}
+use Rattle.trace_writer.proofs.Asking.{none_yet, wins_in_turn, won_counts, lost_counts, gets_chunk, out_after}
+use Rattle.trace_writer.proofs.KeptChunks.{keeps_long}
+use Rattle.trace_writer.proofs.QuietRows.{quiet_both}
+use Rattle.trace_writer.proofs.RunOn.{next_id, next_id_after, ends_as, held_behind, ended_holds, ended_head, next_first, run_holds, run_follows, goes_on_in, runs_on, cannot_run_on, stopped_holds_none}
 use Rattle.trace_writer.proofs.stream.run_on_or_drop.Goals as goal
 
 pub claim_over-requires-clause-id : goal.claim_over-requires-clause-id
@@ -17,8 +19,8 @@ returns-in_default-clause-flow g c =
     let new = g.W.Words.view c.give_up.new.table c.give_up.new.seat in
     let vain = c.in_default.ensures.lost in let step = c.in_default.ensures.step in let i = c.requires.inside in (
       cannot_run_on setup (g.W.Words.setup c.claim_over.new.table) place (g.W.Words.place c.claim_over.new.seat) c.args.route.now old mid new
-          c.args.pending.now c.give_up.new.pending c.args.fragment step.setup_stays step.place_stays vain c.give_up.ensures.asked c.give_up.ensures.stops,
-      next_id_after setup _ _ _ i.packet i.older old mid new c.args.pending.now c.args.fragment i.inside vain c.give_up.ensures.begun,
+          c.args.pending.now c.give_up.new.pending c.args.fragment step.setup_stays step.place_stays vain c.give_up.ensures.stops,
+      next_id_after setup _ _ _ i.packet i.older old mid new c.args.pending.now c.args.fragment i.inside vain (keeps_long mid.begun new.begun c.give_up.ensures.quiet.chunks),
     )
 
 pub complete-requires-clause-held : goal.complete-requires-clause-held
@@ -28,7 +30,7 @@ complete-requires-clause-held g c =
     let i = c.requires.inside in let e = c.end.ensures in
     ended_holds site i.packet i.older old one c.args.pending.now c.args.fragment c.end.result
     (held_behind route c.in-Some.next.chunk site i.packet i.older old one c.args.pending.now c.args.fragment
-    (wins_in_turn setup route c.in-Some.next.chunk old old one (asks_first old) c.in-Some.ensures.won) i.inside)
+    (wins_in_turn setup route c.in-Some.next.chunk old old one (none_yet old) c.in-Some.ensures.won) i.inside)
     (ends_as c.args.fragment c.end.result e.held e.bytes e.count e.continues)
 
 pub complete-requires-clause-head : goal.complete-requires-clause-head
@@ -38,7 +40,7 @@ complete-requires-clause-head g c =
     let i = c.requires.inside in let e = c.end.ensures in
     ended_head site i.packet i.older old one c.args.pending.now c.args.fragment c.end.result
     (held_behind route c.in-Some.next.chunk site i.packet i.older old one c.args.pending.now c.args.fragment
-    (wins_in_turn setup route c.in-Some.next.chunk old old one (asks_first old) c.in-Some.ensures.won) i.inside)
+    (wins_in_turn setup route c.in-Some.next.chunk old old one (none_yet old) c.in-Some.ensures.won) i.inside)
     (ends_as c.args.fragment c.end.result e.held e.bytes e.count e.continues)
 
 pub start_fragment-requires-clause-held : goal.start_fragment-requires-clause-held
@@ -49,7 +51,7 @@ start_fragment-requires-clause-held g c =
     let i = c.requires.inside in let e = c.end.ensures in let n = c.new.ensures in let b = c.in-Some.ensures.begun in
     run_holds site i.packet i.older old two c.args.pending.now c.args.fragment c.end.result.held.body.payload.items c.new.result c.in-Some.next i.inside
     (next_first setup place (g.W.Words.place c.claim_over.new.seat) c.in-Some.next.chunk route old one two c.args.pending.now c.args.fragment c.end.result c.requires.route
-    (wins_in_turn setup route c.in-Some.next.chunk old old one (asks_first old) c.in-Some.ensures.won)
+    (wins_in_turn setup route c.in-Some.next.chunk old old one (none_yet old) c.in-Some.ensures.won)
     (ends_as c.args.fragment c.end.result e.held e.bytes e.count e.continues) c.in-Some.ensures.step.place_stays c.complete.ensures.view)
     (record { held = n.held; at = n.at; count = n.count; continues = n.continues; id = b.id_is; whole = b.whole })
 
@@ -62,7 +64,7 @@ start_fragment-requires-clause-head g c =
     run_follows site i.packet i.older old two c.args.pending.now c.args.fragment c.end.result.held.body.payload.items c.new.result c.in-Some.next
     (held_head (c.new.result.count + 1) c.new.result.continues) i.inside
     (next_first setup place (g.W.Words.place c.claim_over.new.seat) c.in-Some.next.chunk route old one two c.args.pending.now c.args.fragment c.end.result c.requires.route
-    (wins_in_turn setup route c.in-Some.next.chunk old old one (asks_first old) c.in-Some.ensures.won)
+    (wins_in_turn setup route c.in-Some.next.chunk old old one (none_yet old) c.in-Some.ensures.won)
     (ends_as c.args.fragment c.end.result e.held e.bytes e.count e.continues) c.in-Some.ensures.step.place_stays c.complete.ensures.view)
     (record { held = n.held; at = n.at; count = n.count; continues = n.continues; id = b.id_is; whole = b.whole })
 
@@ -77,7 +79,50 @@ returns-clause-flow g c =
     runs_on site old new c.args.pending.now c.complete.new.pending c.args.fragment c.start_fragment.result c.requires.route.least c.requires.filled
     (goes_on_in site old two new c.args.pending.now c.complete.new.pending c.args.fragment c.end.result c.new.result c.in-Some.next c.start_fragment.result
     (next_first setup place (g.W.Words.place c.claim_over.new.seat) c.in-Some.next.chunk route old one two c.args.pending.now c.args.fragment c.end.result c.requires.route
-    (wins_in_turn setup route c.in-Some.next.chunk old old one (asks_first old) c.in-Some.ensures.won) ends c.in-Some.ensures.step.place_stays c.complete.ensures.view)
+    (wins_in_turn setup route c.in-Some.next.chunk old old one (none_yet old) c.in-Some.ensures.won) ends c.in-Some.ensures.step.place_stays c.complete.ensures.view)
     ends c.complete.ensures.pending
     (record { held = n.held; at = n.at; count = n.count; continues = n.continues; id = b.id_is; whole = b.whole })
     (record { held = s.held; start = s.start; at = s.at; count = s.count; continues = s.continues }) s.view)
+
+pub returns-in_default-clause-round : goal.returns-in_default-clause-round
+returns-in_default-clause-round g c =
+    let setup = g.W.Words.setup c.args.table.now in let place = g.W.Words.place c.args.seat.now in let route = c.args.route.now in
+    let old = g.W.Words.view c.args.table.now c.args.seat.now in let mid = g.W.Words.view c.claim_over.new.table c.claim_over.new.seat in
+    let new = g.W.Words.view c.give_up.new.table c.give_up.new.seat in
+    let i = c.requires.inside in let e = c.in_default.ensures in
+    out_after g.W.Words.setup g.W.Words.sits g.W.Words.place g.W.Words.view g.W.Words.serves g.W.Words.service_view g.W.Words.told
+    route c.args.table.now c.args.seat.now c.claim_over.new.table c.claim_over.new.seat c.give_up.new.table c.give_up.new.seat c.claim_over.ensures.step e.lost e.told_lost
+    c.give_up.ensures.quiet
+    (stopped_holds_none (site_of setup place route) i.packet i.older old new c.args.pending.now c.give_up.new.pending c.args.fragment i.inside
+    (cannot_run_on setup (g.W.Words.setup c.claim_over.new.table) place (g.W.Words.place c.claim_over.new.seat) route old mid new
+    c.args.pending.now c.give_up.new.pending c.args.fragment c.claim_over.ensures.step.setup_stays c.claim_over.ensures.step.place_stays e.lost c.give_up.ensures.stops))
+
+pub returns-clause-round : goal.returns-clause-round
+returns-clause-round g c =
+    let e = c.in-Some.ensures in (
+      c.claim_over.new.table,
+      c.claim_over.new.seat,
+      gets_chunk g.W.Words.setup g.W.Words.sits g.W.Words.place g.W.Words.view g.W.Words.serves g.W.Words.service_view g.W.Words.told
+          c.args.route.now c.in-Some.next.chunk _ c.args.table.now c.args.seat.now c.claim_over.new.table c.claim_over.new.seat c.claim_over.ensures.step e.won e.told_won,
+      quiet_both g.W.Words.setup g.W.Words.sits g.W.Words.place g.W.Words.view g.W.Words.serves g.W.Words.service_view g.W.Words.told
+          c.claim_over.new.table c.claim_over.new.seat c.complete.new.table c.complete.new.seat c.start_fragment.new.table c.start_fragment.new.seat
+          c.complete.ensures.quiet c.start_fragment.ensures.quiet,
+    )
+
+pub returns-in_default-clause-counts : goal.returns-in_default-clause-counts
+returns-in_default-clause-counts g c =
+    let mid = g.W.Words.view c.claim_over.new.table c.claim_over.new.seat in let new = g.W.Words.view c.give_up.new.table c.give_up.new.seat in
+    let lost = lost_counts (g.W.Words.setup c.args.table.now) c.args.route.now.arbiter.first c.args.route.now.arbiter.chunks (g.W.Words.view c.args.table.now c.args.seat.now) mid
+    c.args.steps.now c.claim_over.new.steps c.in_default.ensures.lost c.in_default.ensures.steps_lost in
+    let asks = ap length c.give_up.ensures.quiet.asked in let chunks = keeps_long mid.begun new.begun c.give_up.ensures.quiet.chunks in
+    omega (arith, lost, asks, chunks)
+
+pub returns-clause-counts : goal.returns-clause-counts
+returns-clause-counts g c =
+    let mid = g.W.Words.view c.claim_over.new.table c.claim_over.new.seat in let one = g.W.Words.view c.complete.new.table c.complete.new.seat in
+    let new = g.W.Words.view c.start_fragment.new.table c.start_fragment.new.seat in
+    let won = won_counts (g.W.Words.setup c.args.table.now) c.args.route.now.arbiter.first c.args.route.now.arbiter.chunks c.in-Some.next.chunk (g.W.Words.view c.args.table.now c.args.seat.now) mid
+    c.args.steps.now c.claim_over.new.steps c.in-Some.ensures.won c.in-Some.ensures.steps_won in
+    let asks = ap length c.complete.ensures.quiet.asked in let chunks = keeps_long mid.begun one.begun c.complete.ensures.quiet.chunks in
+    let more = ap length c.start_fragment.ensures.quiet.asked in let later = keeps_long one.begun new.begun c.start_fragment.ensures.quiet.chunks in
+    omega (arith, won, asks, chunks, more, later)

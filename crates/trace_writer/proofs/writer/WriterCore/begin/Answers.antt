@@ -1,12 +1,53 @@
-use Rattle.trace_writer.proofs.CoreCalls.{begins_in}
+use Rattle.std.proofs.Common.{◌∙◌, ap}
+use Rattle.trace_writer.specs.declared.writer.WriterCore.{WriterCore}
+use Rattle.trace_writer.specs.Asked.{stops_with}
+use Rattle.trace_writer.proofs.CoreDone.{left_begun, begun_inside}
 use Rattle.trace_writer.proofs.writer.WriterCore.begin.Goals as goal
+
+pub returns-clause-agrees : goal.returns-clause-agrees
+returns-clause-agrees g c =
+    (left_begun g.W.Words.setup g.W.Words.sits g.W.Words.place g.W.Words.view g.W.Words.serves g.W.Words.service_view g.W.Words.told g.H.HelperOn.needs g.H.HelperOn.helps
+    c.args.help.now c.args.table.now c.args.self.now c.args.steps.now (stops_with c.begin.result) c.begin.new.help c.begin.new.table (record { seat = c.begin.new.seat; writer = c.begin.new.writer }) c.begin.new.steps
+    c.requires.seat c.requires.needs c.requires.agrees c.requires.none_begun c.begin.ensures.agrees
+    (λ stalled. let is = c.begin.ensures.stays stalled in (
+      ap (λ writer. let one : WriterCore _ = record { seat = c.begin.new.seat; writer = writer } in one) is.1
+          ∙ ap (λ seat. let one : WriterCore _ = record { seat = seat; writer = c.args.self.now.writer } in one) is.3,
+      is.2,
+      is.4,
+    )) c.begin.ensures.done).agrees
+
+pub returns-clause-others : goal.returns-clause-others
+returns-clause-others g c =
+    (left_begun g.W.Words.setup g.W.Words.sits g.W.Words.place g.W.Words.view g.W.Words.serves g.W.Words.service_view g.W.Words.told g.H.HelperOn.needs g.H.HelperOn.helps
+    c.args.help.now c.args.table.now c.args.self.now c.args.steps.now (stops_with c.begin.result) c.begin.new.help c.begin.new.table (record { seat = c.begin.new.seat; writer = c.begin.new.writer }) c.begin.new.steps
+    c.requires.seat c.requires.needs c.requires.agrees c.requires.none_begun c.begin.ensures.agrees
+    (λ stalled. let is = c.begin.ensures.stays stalled in (
+      ap (λ writer. let one : WriterCore _ = record { seat = c.begin.new.seat; writer = writer } in one) is.1
+          ∙ ap (λ seat. let one : WriterCore _ = record { seat = seat; writer = c.args.self.now.writer } in one) is.3,
+      is.2,
+      is.4,
+    )) c.begin.ensures.done).others
+
+pub returns-clause-alone : goal.returns-clause-alone
+returns-clause-alone g c =
+    (left_begun g.W.Words.setup g.W.Words.sits g.W.Words.place g.W.Words.view g.W.Words.serves g.W.Words.service_view g.W.Words.told g.H.HelperOn.needs g.H.HelperOn.helps
+    c.args.help.now c.args.table.now c.args.self.now c.args.steps.now (stops_with c.begin.result) c.begin.new.help c.begin.new.table (record { seat = c.begin.new.seat; writer = c.begin.new.writer }) c.begin.new.steps
+    c.requires.seat c.requires.needs c.requires.agrees c.requires.none_begun c.begin.ensures.agrees
+    (λ stalled. let is = c.begin.ensures.stays stalled in (
+      ap (λ writer. let one : WriterCore _ = record { seat = c.begin.new.seat; writer = writer } in one) is.1
+          ∙ ap (λ seat. let one : WriterCore _ = record { seat = seat; writer = c.args.self.now.writer } in one) is.3,
+      is.2,
+      is.4,
+    )) c.begin.ensures.done).alone
 
 pub returns-clause-in_packet : goal.returns-clause-in_packet
 returns-clause-in_packet g c =
-    (begins_in (g.W.Words.setup c.args.table.now) c.args.self.now.writer.route (g.W.Words.view c.args.table.now c.args.self.now.seat) (g.W.Words.view c.begin.new.table c.begin.new.seat)
-    c.begin.result c.begin.ensures.begins).0
+    (begun_inside g.W.Words.setup g.W.Words.sits g.W.Words.place g.W.Words.view g.W.Words.serves g.W.Words.service_view g.W.Words.told g.H.HelperOn.needs g.H.HelperOn.helps
+    c.args.help.now c.args.table.now c.args.self.now c.args.steps.now c.begin.new.help c.begin.new.table (record { seat = c.begin.new.seat; writer = c.begin.new.writer }) c.begin.new.steps c.begin.result
+    (λ stalled. (c.begin.ensures.stays stalled).0) c.begin.ensures.answers c.begin.ensures.done).0
 
 pub returns-clause-depth : goal.returns-clause-depth
 returns-clause-depth g c =
-    (begins_in (g.W.Words.setup c.args.table.now) c.args.self.now.writer.route (g.W.Words.view c.args.table.now c.args.self.now.seat) (g.W.Words.view c.begin.new.table c.begin.new.seat)
-    c.begin.result c.begin.ensures.begins).1
+    (begun_inside g.W.Words.setup g.W.Words.sits g.W.Words.place g.W.Words.view g.W.Words.serves g.W.Words.service_view g.W.Words.told g.H.HelperOn.needs g.H.HelperOn.helps
+    c.args.help.now c.args.table.now c.args.self.now c.args.steps.now c.begin.new.help c.begin.new.table (record { seat = c.begin.new.seat; writer = c.begin.new.writer }) c.begin.new.steps c.begin.result
+    (λ stalled. (c.begin.ensures.stays stalled).0) c.begin.ensures.answers c.begin.ensures.done).1

@@ -3,6 +3,8 @@ use Rattle.chunk_plain.specs.Views.{WriterView}
 use Rattle.trace_writer.specs.Core.{in_packet}
 use Rattle.trace_writer.specs.Empty.{is_stalled}
 use Rattle.trace_writer.proofs.CoreCalls.{ended_in, deep_writing}
+use Rattle.trace_writer.specs.declared.writer.WriterCore.{WriterCore}
+use Rattle.trace_writer.proofs.CoreHolding.{core_ended, core_still}
 use Rattle.trace_writer.proofs.Stopping.{either_way}
 use Rattle.trace_writer.proofs.writer.WriterCore.end_nested.Goals as goal
 
@@ -19,3 +21,15 @@ returns-clause-in_packet g c =
 pub returns-clause-depth_falls : goal.returns-clause-depth_falls
 returns-clause-depth_falls g c = λ goes.
     (ended_in (g.W.Words.view c.args.table.now c.args.self.now.seat) (g.W.Words.view c.end_message.new.table c.end_message.new.seat) (c.end_message.ensures.notes goes) c.requires.depth).1
+
+pub returns-clause-agrees : goal.returns-clause-agrees
+returns-clause-agrees g c =
+    let core = c.args.self.now in let after : WriterCore _ = (record { seat = c.end_message.new.seat; writer = c.end_message.new.writer }) in
+    either_way (is_stalled core.writer.state)
+    (λ goes. core_ended g.W.Words.setup g.W.Words.sits g.W.Words.place g.W.Words.view g.W.Words.serves g.W.Words.service_view g.W.Words.told
+    c.args.table.now core c.end_message.new.table after c.requires.agrees c.requires.depth c.end_message.ensures.quiet c.end_message.ensures.agrees (c.end_message.ensures.notes goes))
+    (λ stalled. let is = c.end_message.ensures.stalled stalled in
+    core_still g.W.Words.setup g.W.Words.sits g.W.Words.place g.W.Words.view g.W.Words.serves g.W.Words.service_view g.W.Words.told
+    c.args.table.now core c.end_message.new.table after c.requires.agrees
+    (ap (λ writer. let one : WriterCore _ = record { seat = c.end_message.new.seat; writer = writer } in one) is.0
+    ∙ ap (λ seat. let one : WriterCore _ = record { seat = seat; writer = core.writer } in one) is.2) is.1)

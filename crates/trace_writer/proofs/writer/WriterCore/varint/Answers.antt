@@ -1,95 +1,148 @@
-use Rattle.std.proofs.Common.{◌≡◌, ◌∙◌, ℕ, false, inl, inr, Bool, Some, None, Result, Err, List, length, rules, refl, sym, ap, subst, arith}
-use Rattle.trace_model.specs.Calls as call
+use Rattle.std.proofs.Common.{◌≡◌, ◌∙◌, ℕ, Some, None, Err, List, length, rules, refl, sym, ap, subst, arith}
 use Rattle.trace_model.specs.Encoding.{number_field}
-use Rattle.chunk_plain.specs.Views.{WriterView}
-use Rattle.trace_writer.specs.declared.fault.CallFault.{CallFault}
+use Rattle.trace_model.specs.Packets.{with_more}
+use Rattle.trace_model.specs.Calls as call
+use Rattle.trace_writer.specs.declared.writer.WriterCore.{WriterCore}
 use Rattle.trace_writer.specs.Agreement.{NeedsNoChunk, depth_of, len_of}
-use Rattle.trace_writer.specs.Core.{in_packet, open_depth, field_fault}
-use Rattle.trace_writer.specs.Empty.{is_stalled}
-use Rattle.trace_writer.specs.Helping.{IsWork, stalls_now}
+use Rattle.trace_writer.specs.Core.{field_fault}
 use Rattle.trace_writer.specs.Refusals.{field_refusal}
-use Rattle.trace_writer.proofs.CoreAnswers.{found_is, none_found, field_not_stalled}
-use Rattle.trace_writer.proofs.CoreCalls.{noted_or_same, number_in}
+use Rattle.trace_writer.proofs.CoreCalls.{more_keeps}
+use Rattle.trace_writer.proofs.CoreDone.{left_written, deep_written, refused_so, never_none, refused_stalled, none_stalled}
 use Rattle.trace_writer.proofs.CoreLemmas.{field_fault_is}
-use Rattle.trace_writer.proofs.Stopping.{always}
-use Rattle.trace_writer.proofs.Working.{work_none, work_alone}
+use Rattle.trace_writer.proofs.Possible.{more_keeps as more_fate}
 use Rattle.trace_writer.proofs.writer.WriterCore.varint.Goals as goal
 
 pub returns-in_err-check_field-clause-refused : goal.returns-in_err-check_field-clause-refused
-returns-in_err-check_field-clause-refused g c = λ fault is.
+returns-in_err-check_field-clause-refused g c = λ fault asked.
     let found = c.in_err-check_field.field-0.0 in
     let result_is : c.from_residual.result ≡ Err found = search rules in
+    let is = field_fault_is (g.W.Words.setup c.args.table.now) (g.W.Words.place c.args.self.now.seat) (g.W.Words.view c.args.table.now c.args.self.now.seat) c.args.self.now.writer c.args.field (length c.as_slice.result.now) c.requires.agrees.writes c.requires.begun
+    ∙ ap (λ (bytes : List ℕ). field_fault (g.W.Words.view c.args.table.now c.args.self.now.seat) c.args.field (length bytes)) (c.as_slice.ensures ∙ c.head_number-head.ensures) in
     let refused : field_refusal (depth_of c.args.self.now.writer.packet) (len_of c.args.self.now.writer.packet) c.args.field (length c.as_slice.result.now) ≡ Some found = c.in_err-check_field.ensures.refused in
-    let by : field_fault (g.W.Words.view c.args.table.now c.args.self.now.seat) c.args.field (length (number_field c.args.field c.args.value)) ≡ Some found = (ap (λ (bytes : List ℕ). field_fault (g.W.Words.view c.args.table.now c.args.self.now.seat) c.args.field (length bytes)) (sym (c.as_slice.ensures ∙ c.head_number-head.ensures))
-    ∙ sym (field_fault_is (g.W.Words.setup c.args.table.now) (g.W.Words.place c.args.self.now.seat) (g.W.Words.view c.args.table.now c.args.self.now.seat) c.args.self.now.writer c.args.field (length c.as_slice.result.now) c.requires.agrees c.requires.begun)) ∙ refused in
-    (result_is ∙ ap Err (found_is (field_fault (g.W.Words.view c.args.table.now c.args.self.now.seat) c.args.field (length (number_field c.args.field c.args.value))) found fault by is), refl, refl, refl)
+    record {
+      answer_is = result_is ∙ ap Err (refused_so c.args.self.now (field_fault (g.W.Words.view c.args.table.now c.args.self.now.seat) c.args.field (length (number_field c.args.field c.args.value))) found fault (sym is ∙ refused) asked);
+      writer_stays = refl;
+      table_stays = refl;
+      helper_stays = refl;
+    }
 
-pub returns-in_err-check_field-clause-stalls : goal.returns-in_err-check_field-clause-stalls
-returns-in_err-check_field-clause-stalls g c = λ none not_before.
+pub returns-in_err-check_field-clause-answers : goal.returns-in_err-check_field-clause-answers
+returns-in_err-check_field-clause-answers g c = λ asked.
     let found = c.in_err-check_field.field-0.0 in
+    let is = field_fault_is (g.W.Words.setup c.args.table.now) (g.W.Words.place c.args.self.now.seat) (g.W.Words.view c.args.table.now c.args.self.now.seat) c.args.self.now.writer c.args.field (length c.as_slice.result.now) c.requires.agrees.writes c.requires.begun
+    ∙ ap (λ (bytes : List ℕ). field_fault (g.W.Words.view c.args.table.now c.args.self.now.seat) c.args.field (length bytes)) (c.as_slice.ensures ∙ c.head_number-head.ensures) in
     let refused : field_refusal (depth_of c.args.self.now.writer.packet) (len_of c.args.self.now.writer.packet) c.args.field (length c.as_slice.result.now) ≡ Some found = c.in_err-check_field.ensures.refused in
-    let by : field_fault (g.W.Words.view c.args.table.now c.args.self.now.seat) c.args.field (length (number_field c.args.field c.args.value)) ≡ Some found = (ap (λ (bytes : List ℕ). field_fault (g.W.Words.view c.args.table.now c.args.self.now.seat) c.args.field (length bytes)) (sym (c.as_slice.ensures ∙ c.head_number-head.ensures))
-    ∙ sym (field_fault_is (g.W.Words.setup c.args.table.now) (g.W.Words.place c.args.self.now.seat) (g.W.Words.view c.args.table.now c.args.self.now.seat) c.args.self.now.writer c.args.field (length c.as_slice.result.now) c.requires.agrees c.requires.begun)) ∙ refused in
-    absurd (none_found (field_fault (g.W.Words.view c.args.table.now c.args.self.now.seat) c.args.field (length (number_field c.args.field c.args.value))) found none by)
+    absurd (never_none c.args.self.now (field_fault (g.W.Words.view c.args.table.now c.args.self.now.seat) c.args.field (length (number_field c.args.field c.args.value))) found (sym is ∙ refused) asked)
 
-pub returns-in_err-check_field-clause-work : goal.returns-in_err-check_field-clause-work
-returns-in_err-check_field-clause-work g c =
+pub returns-in_err-check_field-clause-done : goal.returns-in_err-check_field-clause-done
+returns-in_err-check_field-clause-done g c = λ asked.
     let found = c.in_err-check_field.field-0.0 in
-    let was = is_stalled c.args.self.now.writer.state in
-    let result_is : c.from_residual.result ≡ Err found = search rules in
+    let is = field_fault_is (g.W.Words.setup c.args.table.now) (g.W.Words.place c.args.self.now.seat) (g.W.Words.view c.args.table.now c.args.self.now.seat) c.args.self.now.writer c.args.field (length c.as_slice.result.now) c.requires.agrees.writes c.requires.begun
+    ∙ ap (λ (bytes : List ℕ). field_fault (g.W.Words.view c.args.table.now c.args.self.now.seat) c.args.field (length bytes)) (c.as_slice.ensures ∙ c.head_number-head.ensures) in
     let refused : field_refusal (depth_of c.args.self.now.writer.packet) (len_of c.args.self.now.writer.packet) c.args.field (length c.as_slice.result.now) ≡ Some found = c.in_err-check_field.ensures.refused in
-    let none : stalls_now was c.from_residual.result ≡ false =
-    ap (λ (answer : Result _ CallFault). stalls_now was answer) result_is ∙ field_not_stalled (Unit {0}) (depth_of c.args.self.now.writer.packet) (len_of c.args.self.now.writer.packet) c.args.field (length c.as_slice.result.now) found was refused in
-    subst (λ (refused_now : Bool). IsWork g.W.Words.setup g.W.Words.sits g.W.Words.place g.W.Words.view g.W.Words.serves g.W.Words.service_view g.H.HelperOn.needs g.H.HelperOn.helps
-    c.args.self.now.writer.route c.args.help.now c.args.table.now c.args.self.now.seat refused_now c.args.help.now c.args.table.now c.args.self.now.seat) (sym none)
-    (work_none g.W.Words.setup g.W.Words.sits g.W.Words.place g.W.Words.view g.W.Words.serves g.W.Words.service_view g.H.HelperOn.needs g.H.HelperOn.helps
-    c.args.self.now.writer.route c.args.help.now c.args.table.now c.args.self.now.seat c.requires.seat c.requires.needs)
+    absurd (never_none c.args.self.now (field_fault (g.W.Words.view c.args.table.now c.args.self.now.seat) c.args.field (length (number_field c.args.field c.args.value))) found (sym is ∙ refused) asked)
 
 pub returns-clause-refused : goal.returns-clause-refused
-returns-clause-refused g c = λ fault is.
+returns-clause-refused g c = λ fault asked.
+    let is = field_fault_is (g.W.Words.setup c.args.table.now) (g.W.Words.place c.args.self.now.seat) (g.W.Words.view c.args.table.now c.args.self.now.seat) c.args.self.now.writer c.args.field (length c.as_slice.result.now) c.requires.agrees.writes c.requires.begun
+    ∙ ap (λ (bytes : List ℕ). field_fault (g.W.Words.view c.args.table.now c.args.self.now.seat) c.args.field (length bytes)) (c.as_slice.ensures ∙ c.head_number-head.ensures) in
     let accepted : field_refusal (depth_of c.args.self.now.writer.packet) (len_of c.args.self.now.writer.packet) c.args.field (length c.as_slice.result.now) ≡ None = c.in_ok-check_field.ensures.accepted in
-    let none : field_fault (g.W.Words.view c.args.table.now c.args.self.now.seat) c.args.field (length (number_field c.args.field c.args.value)) ≡ None = (ap (λ (bytes : List ℕ). field_fault (g.W.Words.view c.args.table.now c.args.self.now.seat) c.args.field (length bytes)) (sym (c.as_slice.ensures ∙ c.head_number-head.ensures))
-    ∙ sym (field_fault_is (g.W.Words.setup c.args.table.now) (g.W.Words.place c.args.self.now.seat) (g.W.Words.view c.args.table.now c.args.self.now.seat) c.args.self.now.writer c.args.field (length c.as_slice.result.now) c.requires.agrees c.requires.begun)) ∙ accepted in
-    absurd (none_found (field_fault (g.W.Words.view c.args.table.now c.args.self.now.seat) c.args.field (length (number_field c.args.field c.args.value))) fault none is)
+    let now = refused_stalled c.args.self.now (field_fault (g.W.Words.view c.args.table.now c.args.self.now.seat) c.args.field (length (number_field c.args.field c.args.value))) fault (sym is ∙ accepted) asked in
+    let stays = c.write_field.ensures.stays now.stalled_is in
+    record {
+      answer_is = stays.0 ∙ ap Err (sym now.fault_is);
+      writer_stays = ap (λ writer. let one : WriterCore _ = record { seat = c.write_field.new.seat; writer = writer } in one) stays.1
+          ∙ ap (λ seat. let one : WriterCore _ = record { seat = seat; writer = c.args.self.now.writer } in one) stays.3;
+      table_stays = stays.2;
+      helper_stays = stays.4;
+    }
 
-pub returns-clause-accepted : goal.returns-clause-accepted
-returns-clause-accepted g c =
+pub returns-clause-answers : goal.returns-clause-answers
+returns-clause-answers g c = λ asked.
+    let is = field_fault_is (g.W.Words.setup c.args.table.now) (g.W.Words.place c.args.self.now.seat) (g.W.Words.view c.args.table.now c.args.self.now.seat) c.args.self.now.writer c.args.field (length c.as_slice.result.now) c.requires.agrees.writes c.requires.begun
+    ∙ ap (λ (bytes : List ℕ). field_fault (g.W.Words.view c.args.table.now c.args.self.now.seat) c.args.field (length bytes)) (c.as_slice.ensures ∙ c.head_number-head.ensures) in
     let accepted : field_refusal (depth_of c.args.self.now.writer.packet) (len_of c.args.self.now.writer.packet) c.args.field (length c.as_slice.result.now) ≡ None = c.in_ok-check_field.ensures.accepted in
-    let none : field_fault (g.W.Words.view c.args.table.now c.args.self.now.seat) c.args.field (length (number_field c.args.field c.args.value)) ≡ None = (ap (λ (bytes : List ℕ). field_fault (g.W.Words.view c.args.table.now c.args.self.now.seat) c.args.field (length bytes)) (sym (c.as_slice.ensures ∙ c.head_number-head.ensures))
-    ∙ sym (field_fault_is (g.W.Words.setup c.args.table.now) (g.W.Words.place c.args.self.now.seat) (g.W.Words.view c.args.table.now c.args.self.now.seat) c.args.self.now.writer c.args.field (length c.as_slice.result.now) c.requires.agrees c.requires.begun)) ∙ accepted in
-    always c.write_field.result none
+    c.write_field.ensures.answers (none_stalled c.args.self.now (field_fault (g.W.Words.view c.args.table.now c.args.self.now.seat) c.args.field (length (number_field c.args.field c.args.value))) (sym is ∙ accepted) asked)
+
+pub returns-clause-done : goal.returns-clause-done
+returns-clause-done g c = λ asked.
+    let is = field_fault_is (g.W.Words.setup c.args.table.now) (g.W.Words.place c.args.self.now.seat) (g.W.Words.view c.args.table.now c.args.self.now.seat) c.args.self.now.writer c.args.field (length c.as_slice.result.now) c.requires.agrees.writes c.requires.begun
+    ∙ ap (λ (bytes : List ℕ). field_fault (g.W.Words.view c.args.table.now c.args.self.now.seat) c.args.field (length bytes)) (c.as_slice.ensures ∙ c.head_number-head.ensures) in
+    let accepted : field_refusal (depth_of c.args.self.now.writer.packet) (len_of c.args.self.now.writer.packet) c.args.field (length c.as_slice.result.now) ≡ None = c.in_ok-check_field.ensures.accepted in
+    let d = c.write_field.ensures.done (none_stalled c.args.self.now (field_fault (g.W.Words.view c.args.table.now c.args.self.now.seat) c.args.field (length (number_field c.args.field c.args.value))) (sym is ∙ accepted) asked) in
+    (d.0, d.1)
+
+pub returns-clause-agrees : goal.returns-clause-agrees
+returns-clause-agrees g c =
+    (left_written g.W.Words.setup g.W.Words.sits g.W.Words.place g.W.Words.view g.W.Words.serves g.W.Words.service_view g.W.Words.told g.H.HelperOn.needs g.H.HelperOn.helps
+    c.args.help.now c.args.table.now c.args.self.now c.args.steps.now c.write_field.new.help c.write_field.new.table (record { seat = c.write_field.new.seat; writer = c.write_field.new.writer }) c.write_field.new.steps (call.Number c.args.field c.args.value)
+    (with_more (number_field c.args.field c.args.value)) c.requires.seat c.requires.needs c.requires.agrees c.requires.begun (λ account. refl) (more_fate (number_field c.args.field c.args.value)) c.requires.begun c.write_field.ensures.agrees
+    (λ stalled. let is = c.write_field.ensures.stays stalled in (
+      ap (λ writer. let one : WriterCore _ = record { seat = c.write_field.new.seat; writer = writer } in one) is.1
+          ∙ ap (λ seat. let one : WriterCore _ = record { seat = seat; writer = c.args.self.now.writer } in one) is.3,
+      is.2,
+      is.4,
+    )) c.write_field.ensures.done).0.agrees
+
+pub returns-clause-needs : goal.returns-clause-needs
+returns-clause-needs g c =
+    (left_written g.W.Words.setup g.W.Words.sits g.W.Words.place g.W.Words.view g.W.Words.serves g.W.Words.service_view g.W.Words.told g.H.HelperOn.needs g.H.HelperOn.helps
+    c.args.help.now c.args.table.now c.args.self.now c.args.steps.now c.write_field.new.help c.write_field.new.table (record { seat = c.write_field.new.seat; writer = c.write_field.new.writer }) c.write_field.new.steps (call.Number c.args.field c.args.value)
+    (with_more (number_field c.args.field c.args.value)) c.requires.seat c.requires.needs c.requires.agrees c.requires.begun (λ account. refl) (more_fate (number_field c.args.field c.args.value)) c.requires.begun c.write_field.ensures.agrees
+    (λ stalled. let is = c.write_field.ensures.stays stalled in (
+      ap (λ writer. let one : WriterCore _ = record { seat = c.write_field.new.seat; writer = writer } in one) is.1
+          ∙ ap (λ seat. let one : WriterCore _ = record { seat = seat; writer = c.args.self.now.writer } in one) is.3,
+      is.2,
+      is.4,
+    )) c.write_field.ensures.done).0.needed
+
+pub returns-clause-others : goal.returns-clause-others
+returns-clause-others g c =
+    (left_written g.W.Words.setup g.W.Words.sits g.W.Words.place g.W.Words.view g.W.Words.serves g.W.Words.service_view g.W.Words.told g.H.HelperOn.needs g.H.HelperOn.helps
+    c.args.help.now c.args.table.now c.args.self.now c.args.steps.now c.write_field.new.help c.write_field.new.table (record { seat = c.write_field.new.seat; writer = c.write_field.new.writer }) c.write_field.new.steps (call.Number c.args.field c.args.value)
+    (with_more (number_field c.args.field c.args.value)) c.requires.seat c.requires.needs c.requires.agrees c.requires.begun (λ account. refl) (more_fate (number_field c.args.field c.args.value)) c.requires.begun c.write_field.ensures.agrees
+    (λ stalled. let is = c.write_field.ensures.stays stalled in (
+      ap (λ writer. let one : WriterCore _ = record { seat = c.write_field.new.seat; writer = writer } in one) is.1
+          ∙ ap (λ seat. let one : WriterCore _ = record { seat = seat; writer = c.args.self.now.writer } in one) is.3,
+      is.2,
+      is.4,
+    )) c.write_field.ensures.done).0.others
 
 pub returns-clause-alone : goal.returns-clause-alone
-returns-clause-alone g c = λ drops.
-    work_alone g.W.Words.setup g.W.Words.sits g.W.Words.place g.W.Words.view g.W.Words.serves g.W.Words.service_view g.H.HelperOn.needs g.H.HelperOn.helps
-    c.args.self.now.writer.route c.args.help.now c.args.table.now c.args.self.now.seat (stalls_now (is_stalled c.args.self.now.writer.state) c.write_field.result)
-    c.write_field.new.help c.write_field.new.table c.write_field.new.seat c.write_field.ensures.work drops
+returns-clause-alone g c =
+    (left_written g.W.Words.setup g.W.Words.sits g.W.Words.place g.W.Words.view g.W.Words.serves g.W.Words.service_view g.W.Words.told g.H.HelperOn.needs g.H.HelperOn.helps
+    c.args.help.now c.args.table.now c.args.self.now c.args.steps.now c.write_field.new.help c.write_field.new.table (record { seat = c.write_field.new.seat; writer = c.write_field.new.writer }) c.write_field.new.steps (call.Number c.args.field c.args.value)
+    (with_more (number_field c.args.field c.args.value)) c.requires.seat c.requires.needs c.requires.agrees c.requires.begun (λ account. refl) (more_fate (number_field c.args.field c.args.value)) c.requires.begun c.write_field.ensures.agrees
+    (λ stalled. let is = c.write_field.ensures.stays stalled in (
+      ap (λ writer. let one : WriterCore _ = record { seat = c.write_field.new.seat; writer = writer } in one) is.1
+          ∙ ap (λ seat. let one : WriterCore _ = record { seat = seat; writer = c.args.self.now.writer } in one) is.3,
+      is.2,
+      is.4,
+    )) c.write_field.ensures.done).0.alone
 
 pub returns-clause-in_packet : goal.returns-clause-in_packet
 returns-clause-in_packet g c =
-    let setup = g.W.Words.setup c.args.table.now in let route = c.args.self.now.writer.route in
-    let old = g.W.Words.view c.args.table.now c.args.self.now.seat in let new = g.W.Words.view c.write_field.new.table c.write_field.new.seat in
-    let noted = noted_or_same _ c.write_field.result (is_stalled c.args.self.now.writer.state) setup route (call.Number c.args.field c.args.value) old new c.write_field.ensures.notes
-    (λ stalled. let stays = c.write_field.ensures.stays stalled in
-    ap (λ table. g.W.Words.view table c.write_field.new.seat) stays.2 ∙ ap (λ seat. g.W.Words.view c.args.table.now seat) stays.3)
-    c.write_field.ensures.stalls in
-    elim noted [
-      | inl notes ↦ (number_in setup route old new c.args.field c.args.value notes c.requires.begun).0
-      | inr same ↦ ap (λ (view : WriterView). in_packet view) same ∙ c.requires.begun
-    ]
+    (left_written g.W.Words.setup g.W.Words.sits g.W.Words.place g.W.Words.view g.W.Words.serves g.W.Words.service_view g.W.Words.told g.H.HelperOn.needs g.H.HelperOn.helps
+    c.args.help.now c.args.table.now c.args.self.now c.args.steps.now c.write_field.new.help c.write_field.new.table (record { seat = c.write_field.new.seat; writer = c.write_field.new.writer }) c.write_field.new.steps (call.Number c.args.field c.args.value)
+    (with_more (number_field c.args.field c.args.value)) c.requires.seat c.requires.needs c.requires.agrees c.requires.begun (λ account. refl) (more_fate (number_field c.args.field c.args.value)) c.requires.begun c.write_field.ensures.agrees
+    (λ stalled. let is = c.write_field.ensures.stays stalled in (
+      ap (λ writer. let one : WriterCore _ = record { seat = c.write_field.new.seat; writer = writer } in one) is.1
+          ∙ ap (λ seat. let one : WriterCore _ = record { seat = seat; writer = c.args.self.now.writer } in one) is.3,
+      is.2,
+      is.4,
+    )) c.write_field.ensures.done).1
 
 pub returns-clause-depth : goal.returns-clause-depth
 returns-clause-depth g c =
-    let setup = g.W.Words.setup c.args.table.now in let route = c.args.self.now.writer.route in
-    let old = g.W.Words.view c.args.table.now c.args.self.now.seat in let new = g.W.Words.view c.write_field.new.table c.write_field.new.seat in
-    let noted = noted_or_same _ c.write_field.result (is_stalled c.args.self.now.writer.state) setup route (call.Number c.args.field c.args.value) old new c.write_field.ensures.notes
-    (λ stalled. let stays = c.write_field.ensures.stays stalled in
-    ap (λ table. g.W.Words.view table c.write_field.new.seat) stays.2 ∙ ap (λ seat. g.W.Words.view c.args.table.now seat) stays.3)
-    c.write_field.ensures.stalls in
-    elim noted [
-      | inl notes ↦ (number_in setup route old new c.args.field c.args.value notes c.requires.begun).1
-      | inr same ↦ ap (λ (view : WriterView). open_depth view) same
-    ]
+    deep_written g.W.Words.setup g.W.Words.sits g.W.Words.place g.W.Words.view g.W.Words.serves g.W.Words.service_view g.W.Words.told g.H.HelperOn.needs g.H.HelperOn.helps
+    c.args.help.now c.args.table.now c.args.self.now c.args.steps.now c.write_field.new.help c.write_field.new.table (record { seat = c.write_field.new.seat; writer = c.write_field.new.writer }) c.write_field.new.steps (call.Number c.args.field c.args.value)
+    (with_more (number_field c.args.field c.args.value)) (λ account. refl) (more_keeps (number_field c.args.field c.args.value))
+    (λ stalled. let is = c.write_field.ensures.stays stalled in (
+      ap (λ writer. let one : WriterCore _ = record { seat = c.write_field.new.seat; writer = writer } in one) is.1
+          ∙ ap (λ seat. let one : WriterCore _ = record { seat = seat; writer = c.args.self.now.writer } in one) is.3,
+      is.2,
+      is.4,
+    )) c.write_field.ensures.done
 
 pub returns-clause-asked : goal.returns-clause-asked
 returns-clause-asked g c = λ needs.

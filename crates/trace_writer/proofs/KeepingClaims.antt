@@ -1,0 +1,217 @@
+-- What a writer keeps of its claims over a call.
+use Rattle.std.proofs.Common.{◌≡◌, ◌∙◌, ℕ, ◌+◌, ◌<◌, ◌≤◌, ◌⊎◌, inl, inr, Bool, true, None, List, [], ◌∷◌, ◌++◌, length, Option, sym, ap, subst, arith}
+use Rattle.std.proofs.lemmas.Bool.{true≢false}
+use native.Mathlib.Decide.{dec_le}
+use mathlib.Core.Logic.{dite}
+use Rattle.trace_base.specs.declared.policy.WriterPolicy.{WriterPolicy}
+use Rattle.trace_base.specs.declared.policy.WriterPolicy.TheVariants.{Drops, Stalls}
+use Rattle.trace_model.specs.Packets.{packets_of}
+use Rattle.chunk_plain.specs.declared.setup.ChunkRange.{ChunkRange}
+use Rattle.chunk_plain.specs.Setup.{Setup, range_of, producer_of, IsChunkOf}
+use Rattle.chunk_plain.specs.Views.{Ask, Begun, Held, Completed, Head, WriterView, ServiceView}
+use Rattle.chunk_plain.specs.World.{World}
+use Rattle.chunk_plain.specs.Steps.{no_head}
+use Rattle.chunk_plain.specs.Owned.{times}
+use Rattle.claim_arbiter.specs.Claiming.{ClaimsInTurn, lost_asks, range_in}
+use Rattle.trace_writer.specs.declared.route.Route.{Route}
+use Rattle.trace_writer.specs.Claims.{AreOwnAsks, AreOwnChunks, HasAsked, lost_count, KeepsClaims}
+use Rattle.trace_writer.specs.Helping.{LeavesWriters, Works, Done, Quiet, Gets, Helped, Refused, Lost, IsWork}
+use Rattle.trace_writer.specs.OwnSteps.{KeepsChunks, IsQuiet, GetsChunk, IsOutNow}
+
+-- Lists
+
+own_both : (setup : Setup) (producer : ℕ) (asks more : List Ask) → AreOwnAsks setup producer asks → AreOwnAsks setup producer more → AreOwnAsks setup producer (asks ++ more)
+own_both setup producer [] more one two = two
+own_both setup producer (ask ∷ asks) more one two = (one.0, own_both setup producer asks more one.1 two)
+
+own_lost : (setup : Setup) (producer calls first : ℕ) (words : List ℕ) → (range_of setup producer).first ≤ first
+    → first + length words ≤ (range_of setup producer).first + (range_of setup producer).count → AreOwnAsks setup producer (lost_asks calls first words)
+own_lost setup producer calls first [] least most = tt
+own_lost setup producer calls first (word ∷ words) least most =
+    (record { least = least; below = omega (arith, most) }, own_lost setup producer calls (first + 1) words (omega (arith, least)) (omega (arith, most)))
+
+chunks_kept : (setup : Setup) (producer : ℕ) (old new : List Begun) → KeepsChunks old new → AreOwnChunks setup producer old → AreOwnChunks setup producer new
+chunks_kept setup producer [] [] keeps own = tt
+chunks_kept setup producer [] (one ∷ new) keeps own = absurd keeps
+chunks_kept setup producer (Held chunk head ∷ old) [] keeps own = absurd keeps
+chunks_kept setup producer (Completed chunk content ∷ old) [] keeps own = absurd keeps
+chunks_kept setup producer (Held chunk head ∷ old) (Held other next ∷ new) keeps own =
+    (subst (λ (c : ℕ). IsChunkOf setup producer c) (sym keeps.0) own.0, chunks_kept setup producer old new keeps.1 own.1)
+chunks_kept setup producer (Held chunk head ∷ old) (Completed other content ∷ new) keeps own =
+    (subst (λ (c : ℕ). IsChunkOf setup producer c) (sym keeps.0) own.0, chunks_kept setup producer old new keeps.1 own.1)
+chunks_kept setup producer (Completed chunk content ∷ old) (Held other next ∷ new) keeps own = absurd keeps
+chunks_kept setup producer (Completed chunk content ∷ old) (Completed other later ∷ new) keeps own =
+    (subst (λ (c : ℕ). IsChunkOf setup producer c) (sym keeps.0) own.0, chunks_kept setup producer old new keeps.1 own.1)
+
+chunks_more : (setup : Setup) (producer chunk : ℕ) (head : Head) (begun : List Begun) → IsChunkOf setup producer chunk → AreOwnChunks setup producer begun
+    → AreOwnChunks setup producer (begun ++ Held chunk head ∷ [])
+chunks_more setup producer chunk head [] own all = (own, tt)
+chunks_more setup producer chunk head (Held c h ∷ begun) own all = (all.0, chunks_more setup producer chunk head begun own all.1)
+chunks_more setup producer chunk head (Completed c content ∷ begun) own all = (all.0, chunks_more setup producer chunk head begun own all.1)
+
+has_before : (asks more : List Ask) (chunk : ℕ) → HasAsked asks chunk → HasAsked (asks ++ more) chunk
+has_before [] more chunk has = absurd has
+has_before (ask ∷ asks) more chunk (inl same) = inl same
+has_before (ask ∷ asks) more chunk (inr has) = inr (has_before asks more chunk has)
+
+has_behind : (asks more : List Ask) (chunk : ℕ) → HasAsked more chunk → HasAsked (asks ++ more) chunk
+has_behind [] more chunk has = has
+has_behind (ask ∷ asks) more chunk has = inr (has_behind asks more chunk has)
+
+has_lost : (calls first : ℕ) (words : List ℕ) (chunk : ℕ) → first ≤ chunk → chunk < first + length words → HasAsked (lost_asks calls first words) chunk
+has_lost calls first [] chunk least below = absurd (omega (arith, least, below))
+has_lost calls first (word ∷ words) chunk least below =
+    dite (dec_le (first + 1) chunk)
+    (λ later. inr (has_lost calls (first + 1) words chunk later (omega (arith, below))))
+    (λ first_one. inl (omega (arith, least, first_one)))
+
+-- A call
+
+-- what is kept whatever the call loses
+record KeepsMost (setup : Setup) (producer : ℕ) (view : WriterView) : Type 0 where
+  unclaimed : view.claimed ≡ []
+  unstamped : view.stamped ≡ None
+  own_asks : AreOwnAsks setup producer view.asked
+  own_chunks : AreOwnChunks setup producer view.begun
+
+record KeepsOn (policy : WriterPolicy) (setup : Setup) (producer : ℕ) (stopped : Bool) (old new : WriterView) : Type 0 where
+  kept : KeepsMost setup producer new
+  grown : (chunk : ℕ) → HasAsked old.asked chunk → HasAsked new.asked chunk
+  all : policy ≡ Drops → stopped ≡ true → (chunk : ℕ) → IsChunkOf setup producer chunk → HasAsked new.asked chunk
+
+most_gets : (setup now : Setup) (producer chunk : ℕ) (route : Route) (old new : WriterView) → range_of setup producer ≡ range_in route.arbiter
+    → ClaimsInTurn now route.arbiter.first route.arbiter.chunks chunk old new → KeepsMost setup producer old
+    → KeepsMost setup producer new × ((other : ℕ) → HasAsked old.asked other → HasAsked new.asked other)
+most_gets setup now producer chunk route old new range claims kept =
+    let won : Ask = record { chunk = chunk; found = claims.found; won = true; calls = length old.calls } in
+    let lost : List Ask = lost_asks (length old.calls) route.arbiter.first claims.words in
+    let first : (range_of setup producer).first ≡ route.arbiter.first = ap (λ (r : ChunkRange). r.first) range in
+    let count : (range_of setup producer).count ≡ route.arbiter.chunks = ap (λ (r : ChunkRange). r.count) range in
+    let own : IsChunkOf setup producer chunk = record { least = omega (arith, first, claims.least); below = omega (arith, first, count, claims.below) } in
+    let asked : new.asked ≡ old.asked ++ lost ++ won ∷ [] = ap (λ (v : WriterView). v.asked) claims.view in (
+      record {
+        unclaimed = claims.claimed_stays (ap (times chunk) kept.unclaimed) ∙ kept.unclaimed;
+        unstamped = ap (λ (v : WriterView). v.stamped) claims.view;
+        own_asks = subst (λ (asks : List Ask). AreOwnAsks setup producer asks) (sym asked)
+            (own_both setup producer (old.asked ++ lost) (won ∷ [])
+            (own_both setup producer old.asked lost kept.own_asks
+            (own_lost setup producer (length old.calls) route.arbiter.first claims.words (omega (arith, first)) (omega (arith, first, count, claims.count_is, claims.below))))
+            (own, tt));
+        own_chunks = subst (λ (begun : List Begun). AreOwnChunks setup producer begun) (sym (ap (λ (v : WriterView). v.begun) claims.view))
+            (chunks_more setup producer chunk no_head old.begun own kept.own_chunks);
+      },
+      λ other has. subst (λ (asks : List Ask). HasAsked asks other) (sym asked)
+          (has_before (old.asked ++ lost) (won ∷ []) other (has_before old.asked lost other has)),
+    )
+
+keeps_then : (policy : WriterPolicy) (there : Setup) (producer : ℕ) (stopped : Bool) (old mid new : WriterView)
+    → ((chunk : ℕ) → HasAsked old.asked chunk → HasAsked mid.asked chunk) → KeepsOn policy there producer stopped mid new → KeepsOn policy there producer stopped old new
+keeps_then policy there producer stopped old mid new grows on = record {
+  kept = on.kept;
+  grown = λ chunk has. on.grown chunk (grows chunk has);
+  all = on.all;
+}
+
+module _ {T W S : Type 0} (setup : T → Setup) (sits : T → W → Type 0) (place : W → ℕ) (view : T → W → WriterView)
+    (serves : T → S → Type 0) (service_view : T → S → ServiceView) (told : T → Option World) where
+  most_quiet : (there : Setup) (producer : ℕ) (old : T) (seat : W) (new : T) (after : W) → IsQuiet setup sits place view serves service_view told old seat new after
+      → KeepsMost there producer (view old seat) → KeepsMost there producer (view new after)
+  most_quiet there producer old seat new after quiet kept = record {
+    unclaimed = quiet.claimed ∙ kept.unclaimed;
+    unstamped = quiet.stamped ∙ kept.unstamped;
+    own_asks = subst (λ (asks : List Ask). AreOwnAsks there producer asks) (sym quiet.asked) kept.own_asks;
+    own_chunks = chunks_kept there producer (view old seat).begun (view new after).begun quiet.chunks kept.own_chunks;
+  }
+
+  most_out : (there : Setup) (producer : ℕ) (route : Route) (old : T) (seat : W) (new : T) (after : W) → range_of there producer ≡ range_in route.arbiter
+      → IsOutNow setup sits place view serves service_view told route old seat new after → KeepsMost there producer (view old seat)
+      → KeepsMost there producer (view new after) × ((other : ℕ) → HasAsked (view old seat).asked other → HasAsked (view new after).asked other)
+      × ((other : ℕ) → IsChunkOf there producer other → HasAsked (view new after).asked other)
+  most_out there producer route old seat new after range out kept =
+      let lost : List Ask = lost_asks (length (view old seat).calls) route.arbiter.first out.words in
+      let first : (range_of there producer).first ≡ route.arbiter.first = ap (λ (r : ChunkRange). r.first) range in
+      let count : (range_of there producer).count ≡ route.arbiter.chunks = ap (λ (r : ChunkRange). r.count) range in (
+        record {
+          unclaimed = out.claimed ∙ kept.unclaimed;
+          unstamped = out.stamped ∙ kept.unstamped;
+          own_asks = subst (λ (asks : List Ask). AreOwnAsks there producer asks) (sym out.asked)
+              (own_both there producer (view old seat).asked lost kept.own_asks
+              (own_lost there producer (length (view old seat).calls) route.arbiter.first out.words (omega (arith, first)) (omega (arith, first, count, out.count_is))));
+          own_chunks = chunks_kept there producer (view old seat).begun (view new after).begun out.chunks kept.own_chunks;
+        },
+        λ other has. subst (λ (asks : List Ask). HasAsked asks other) (sym out.asked) (has_before (view old seat).asked lost other has),
+        λ other inside. subst (λ (asks : List Ask). HasAsked asks other) (sym out.asked)
+            (has_behind (view old seat).asked lost other
+            (let least = inside.least in let below = inside.below in
+            has_lost (length (view old seat).calls) route.arbiter.first out.words other (omega (arith, first, least)) (omega (arith, first, count, below, out.count_is)))),
+      )
+
+  pub claims_quiet : (there : Setup) (at : ℕ) (old : T) (seat : W) (new : T) (after : W) → IsQuiet setup sits place view serves service_view told old seat new after
+      → lost_count (packets_of (view new after).calls) ≡ lost_count (packets_of (view old seat).calls)
+      → KeepsClaims there at (view old seat) → KeepsClaims there at (view new after)
+  claims_quiet there at old seat new after quiet same claims =
+      let kept = most_quiet there (producer_of there at) old seat new after quiet
+      (record { unclaimed = claims.unclaimed; unstamped = claims.unstamped; own_asks = claims.own_asks; own_chunks = claims.own_chunks }) in
+      record {
+        unclaimed = kept.unclaimed;
+        unstamped = kept.unstamped;
+        own_asks = kept.own_asks;
+        own_chunks = kept.own_chunks;
+        vain = λ some chunk inside. subst (λ (asks : List Ask). HasAsked asks chunk) (sym quiet.asked) (claims.vain (subst (λ (n : ℕ). 0 < n) same some) chunk inside);
+      }
+
+module _ {H T W S : Type 0} (setup : T → Setup) (sits : T → W → Type 0) (place : W → ℕ) (view : T → W → WriterView)
+    (serves : T → S → Type 0) (service_view : T → S → ServiceView) (told : T → Option World) (needs : H → T → Type 0) (helps : H → T → ℕ → Bool → H → T → Type 0) where
+  works_keep : (there : Setup) (producer : ℕ) (route : Route) {policy : WriterPolicy} {asks : H → T → Bool → H → T → Type 0} {helper left : H} {old new : T} {seat after : W} {stopped : Bool}
+      → range_of there producer ≡ range_in route.arbiter
+      → Works policy (IsQuiet setup sits place view serves service_view told) (GetsChunk setup sits place view serves service_view told route)
+      (IsOutNow setup sits place view serves service_view told route) (λ asked table answer behind freed. asks asked table answer behind freed × LeavesWriters setup sits view table freed)
+      helper old seat stopped left new after
+      → KeepsMost there producer (view old seat) → KeepsOn policy there producer stopped (view old seat) (view new after)
+  works_keep there producer route range (Done helper old seat) kept =
+      record { kept = kept; grown = λ chunk has. has; all = λ drops stops. absurd (true≢false (sym stops)) }
+  works_keep there producer route {policy} range (Quiet helper old seat next moved stopped left new after quiet more) kept =
+      keeps_then policy there producer stopped (view old seat) (view next moved) (view new after)
+      (λ chunk has. subst (λ (asks : List Ask). HasAsked asks chunk) (sym quiet.asked) has)
+      (works_keep there producer route range more (most_quiet setup sits place view serves service_view told there producer old seat next moved quiet kept))
+  works_keep there producer route {policy} range (Gets helper old seat next moved stopped left new after gets more) kept =
+      let found = most_gets there (setup old) producer gets.chunk route (view old seat) (view next moved) range gets.claims kept in
+      keeps_then policy there producer stopped (view old seat) (view next moved) (view new after) found.1 (works_keep there producer route range more found.0)
+  works_keep there producer route {policy} range (Helped helper old seat asking asker helped freed stopped left new after stalls out helps_ more) kept =
+      let found = most_out setup sits place view serves service_view told there producer route old seat asking asker range out kept in
+      let same = (helps_.1.writers_stay asker out.step.seat_stays).1 in
+      keeps_then policy there producer stopped (view old seat) (view freed asker) (view new after)
+      (λ chunk has. subst (λ (v : WriterView). HasAsked v.asked chunk) (sym same) (found.1 chunk has))
+      (works_keep there producer route range more (subst (λ (v : WriterView). KeepsMost there producer v) (sym same) found.0))
+  works_keep there producer route {policy} range (Refused helper old seat asking asker left kept_table new after stalls out helps_ last) kept =
+      let found = most_out setup sits place view serves service_view told there producer route old seat asking asker range out kept in
+      let same = (helps_.1.writers_stay asker out.step.seat_stays).1 in
+      record {
+        kept = most_quiet setup sits place view serves service_view told there producer kept_table asker new after last (subst (λ (v : WriterView). KeepsMost there producer v) (sym same) found.0);
+        grown = λ chunk has. subst (λ (asks : List Ask). HasAsked asks chunk) (sym last.asked)
+            (subst (λ (v : WriterView). HasAsked v.asked chunk) (sym same) (found.1 chunk has));
+        all = λ drops. absurd (let wrong : Drops ≡ Stalls = sym drops ∙ stalls in cc);
+      }
+  works_keep there producer route range (Lost helper old seat new after drops out) kept =
+      let found = most_out setup sits place view serves service_view told there producer route old seat new after range out kept in
+      record { kept = found.0; grown = found.1; all = λ is stops. found.2 }
+
+  -- the writer keeps what it has of its claims, if the call loses a packet only where it stops
+  pub claims_kept : (there : Setup) (at : ℕ) (route : Route) (helper : H) (old : T) (seat : W) (steps : ℕ) (stopped : Bool) (left : H) (new : T) (after : W) (later : ℕ)
+      → range_of there (producer_of there at) ≡ range_in route.arbiter
+      → IsWork setup sits place view serves service_view told needs helps route helper old seat steps stopped left new after later
+      → (lost_count (packets_of (view new after).calls) ≡ lost_count (packets_of (view old seat).calls)) ⊎ ((route.spec.policy ≡ Drops) × (stopped ≡ true))
+      → KeepsClaims there at (view old seat) → KeepsClaims there at (view new after)
+  claims_kept there at route helper old seat steps stopped left new after later range work lost claims =
+      let on = works_keep there (producer_of there at) route range work.works
+      (record { unclaimed = claims.unclaimed; unstamped = claims.unstamped; own_asks = claims.own_asks; own_chunks = claims.own_chunks }) in
+      record {
+        unclaimed = on.kept.unclaimed;
+        unstamped = on.kept.unstamped;
+        own_asks = on.kept.own_asks;
+        own_chunks = on.kept.own_chunks;
+        vain = λ some chunk inside. elim lost [
+          | inl same ↦ on.grown chunk (claims.vain (subst (λ (n : ℕ). 0 < n) same some) chunk inside)
+          | inr now ↦ on.all now.0 now.1 chunk inside
+        ];
+      }

@@ -1,0 +1,58 @@
+-- Quiet steps of a writer in a row.
+use Rattle.std.proofs.Common.{◌≡◌, ◌∙◌, ℕ, Option, refl, sym, subst}
+use Rattle.chunk_plain.specs.Setup.{Setup}
+use Rattle.chunk_plain.specs.Views.{WriterView, ServiceView}
+use Rattle.chunk_plain.specs.World.{World}
+use Rattle.chunk_plain.proofs.SeatSteps.{stays, steps_follow}
+use Rattle.trace_writer.specs.declared.route.Route.{Route}
+use Rattle.trace_writer.specs.OwnSteps.{IsQuiet, IsOutNow}
+use Rattle.trace_writer.proofs.KeptChunks.{keeps_same, keeps_both, keeps_none_held, frees_same, frees_both}
+
+module _ {T W S : Type 0} (setup : T → Setup) (sits : T → W → Type 0) (place : W → ℕ) (view : T → W → WriterView)
+    (serves : T → S → Type 0) (service_view : T → S → ServiceView) (told : T → Option World) where
+  pub quiet_none : (table : T) (seat : W) → sits table seat → IsQuiet setup sits place view serves service_view told table seat table seat
+  quiet_none table seat there = record {
+    step = stays setup sits place view serves service_view table seat there;
+    asked = refl;
+    claimed = refl;
+    stamped = refl;
+    chunks = keeps_same (view table seat).begun;
+    frees_none = frees_same told table;
+  }
+
+  pub quiet_both : (old : T) (before : W) (mid : T) (between : W) (new : T) (after : W) → IsQuiet setup sits place view serves service_view told old before mid between
+      → IsQuiet setup sits place view serves service_view told mid between new after → IsQuiet setup sits place view serves service_view told old before new after
+  quiet_both old before mid between new after one two = record {
+    step = steps_follow setup sits place view serves service_view old before mid between new after one.step two.step;
+    asked = two.asked ∙ one.asked;
+    claimed = two.claimed ∙ one.claimed;
+    stamped = two.stamped ∙ one.stamped;
+    chunks = keeps_both (view old before).begun (view mid between).begun (view new after).begun one.chunks two.chunks;
+    frees_none = frees_both told old mid new one.frees_none two.frees_none;
+  }
+
+  -- a writer that is out of chunks is so behind quiet steps too
+  pub out_then : (route : Route) (old : T) (before : W) (mid : T) (between : W) (new : T) (after : W) → IsOutNow setup sits place view serves service_view told route old before mid between
+      → IsQuiet setup sits place view serves service_view told mid between new after → IsOutNow setup sits place view serves service_view told route old before new after
+  out_then route old before mid between new after out quiet = record {
+    step = steps_follow setup sits place view serves service_view old before mid between new after out.step quiet.step;
+    words = out.words;
+    count_is = out.count_is;
+    all_claimed = out.all_claimed;
+    asked = quiet.asked ∙ out.asked;
+    claimed = quiet.claimed ∙ out.claimed;
+    stamped = quiet.stamped ∙ out.stamped;
+    chunks = keeps_both (view old before).begun (view mid between).begun (view new after).begun out.chunks quiet.chunks;
+    none_held = keeps_none_held (view mid between).begun (view new after).begun quiet.chunks out.none_held;
+    none_free = λ world is.
+        let found = out.none_free world is in
+        let kept = quiet.frees_none found.0 found.1 in
+        (kept.0, kept.1, λ chunk least below free. found.2 chunk least below (kept.2 chunk free));
+  }
+
+  -- the same under other names
+  pub quiet_there : (old : T) (seat : W) {new same_new : T} {after same_after : W} → new ≡ same_new → after ≡ same_after
+      → IsQuiet setup sits place view serves service_view told old seat same_new same_after → IsQuiet setup sits place view serves service_view told old seat new after
+  quiet_there old seat {new} {same_new} {after} {same_after} new_is after_is quiet =
+      subst (λ (t : T). IsQuiet setup sits place view serves service_view told old seat t after) (sym new_is)
+      (subst (λ (w : W). IsQuiet setup sits place view serves service_view told old seat same_new w) (sym after_is) quiet)

@@ -1,0 +1,50 @@
+-- What a call of a writer does, and what one leaves that is refused.
+use Rattle.std.specs.Prelude.{◌≡◌, ℕ, ◌+◌, ◌-◌, ◌*◌, ◌≤◌, Bool, true, false, List, [], ◌∷◌, ◌++◌, length, Option, Result, Ok, Err, if◌then◌else◌}
+use Rattle.trace_base.specs.declared.policy.WriterPolicy.{WriterPolicy}
+use Rattle.trace_base.specs.declared.policy.WriterPolicy.TheVariants.{Drops, Stalls}
+use Rattle.trace_model.specs.Calls.{Call, Begun, GivenUp}
+use Rattle.chunk_plain.specs.Setup.{Setup}
+use Rattle.chunk_plain.specs.Views.{WriterView, ServiceView}
+use Rattle.chunk_plain.specs.World.{World}
+use Rattle.trace_writer.specs.declared.fault.Begun.{Begun as BegunPacket}
+use Rattle.trace_writer.specs.declared.fault.Begun.TheVariants.{Kept, Dropping}
+use Rattle.trace_writer.specs.declared.fault.CallFault.{CallFault}
+use Rattle.trace_writer.specs.declared.route.Route.{Route}
+use Rattle.trace_writer.specs.Helping.{IsWork, refuses}
+
+-- What is noted of a field call. Where it stops since no chunk is to be had, a writer that drops gives its packet up.
+abbrev pub written_as : Bool → WriterPolicy → Call → List Call
+written_as false policy call = call ∷ []
+written_as true Drops call = call ∷ GivenUp ∷ []
+written_as true Stalls call = call ∷ []
+
+-- What is noted of a packet's begin. Where there is no chunk for it, a writer that drops drops it, and one that stalls begins none.
+abbrev pub begun_as : Bool → WriterPolicy → List Call
+begun_as false policy = Begun true ∷ []
+begun_as true Drops = Begun false ∷ []
+begun_as true Stalls = []
+
+-- whether a packet's begin found no chunk
+abbrev pub stops_with : Result BegunPacket CallFault → Bool
+stops_with (Ok Kept) = false
+stops_with (Ok Dropping) = true
+stops_with (Err fault) = true
+
+-- A call of a writer that isn't stalled: what it did, whether it stopped since no chunk was to be had, which calls it noted behind
+-- its claims, whether its writer is stalled now, and its steps. A writer that drops makes one round of claims for each chunk that it
+-- begins, and one for the chunk that isn't there.
+pub record IsAsked {H T W S : Type 0} (setup : T → Setup) (sits : T → W → Type 0) (place : W → ℕ) (view : T → W → WriterView)
+    (serves : T → S → Type 0) (service_view : T → S → ServiceView) (told : T → Option World) (needs : H → T → Type 0) (helps : H → T → ℕ → Bool → H → T → Type 0)
+    (route : Route) (helper : H) (old : T) (seat : W) (steps : ℕ) (stopped : Bool) (noted : List Call) (stalled : Bool) (left : H) (new : T) (after : W) (later : ℕ) : Type 0 where
+  pub work : IsWork setup sits place view serves service_view told needs helps route helper old seat steps stopped left new after later
+  pub notes : (view new after).calls ≡ (view old seat).calls ++ noted
+  pub stalls : stalled ≡ refuses route.spec.policy stopped
+  pub few_steps : route.spec.policy ≡ Drops → later ≤ steps
+      + (length (view new after).begun - length (view old seat).begun) * (route.arbiter.chunks + 1) + (if stopped then route.arbiter.chunks else 0)
+
+-- The call was refused for this fault, and changed nothing.
+pub record LeavesAll {A C T H : Type 0} (fault : CallFault) (answer : Result A CallFault) (old new : C) (table left : T) (helper behind : H) : Type 0 where
+  pub answer_is : answer ≡ Err fault
+  pub writer_stays : new ≡ old
+  pub table_stays : left ≡ table
+  pub helper_stays : behind ≡ helper

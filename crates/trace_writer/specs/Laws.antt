@@ -1,0 +1,25 @@
+-- Laws on writers that agree with the views of their seats.
+use Rattle.std.specs.Prelude.{◌≡◌, ℕ, ◌+◌, false}
+use Rattle.trace_base.specs.declared.policy.WriterPolicy.TheVariants.{Drops}
+use Rattle.trace_model.specs.Packets.{account_of}
+use Rattle.chunk_plain.specs.Setup.{Setup}
+use Rattle.chunk_plain.specs.Views.{WriterView}
+use Rattle.trace_writer.specs.declared.state.Writer.{Writer}
+use Rattle.trace_writer.specs.Core.{WriterAgrees, last_is_held, holds_newest}
+use Rattle.trace_writer.specs.Empty.{is_stalled}
+use Rattle.trace_writer.specs.Outcomes.{images_so_far, patches_so_far, held_images, HasCut}
+
+-- A writer has cut its packets into its chunks; where it holds none, the last one runs on exactly where its newest packet goes on.
+abbrev pub AgreeingIsCut : Type 0
+AgreeingIsCut = (setup : Setup) (place : ℕ) (view : WriterView) (writer : Writer) → WriterAgrees setup place view writer
+    → HasCut writer.route.payload_size (place + 2) view.calls (images_so_far place view writer) (patches_so_far view writer) (held_images place writer.state)
+
+-- One that drops packets never waits for ever.
+abbrev pub DropsNeverStall : Type 0
+DropsNeverStall = (setup : Setup) (place : ℕ) (view : WriterView) (writer : Writer) → WriterAgrees setup place view writer
+    → writer.route.spec.policy ≡ Drops → is_stalled writer.state ≡ false
+
+-- One that isn't stalled holds its newest chunk exactly where its newest packet isn't lost and no flush came behind it.
+abbrev pub NewestIsHeld : Type 0
+NewestIsHeld = (setup : Setup) (place : ℕ) (view : WriterView) (writer : Writer) → WriterAgrees setup place view writer
+    → is_stalled writer.state ≡ false → last_is_held view.begun ≡ holds_newest (account_of view.calls)
