@@ -38,13 +38,13 @@ def main():
     parser.add_argument('--characters', type=int, default=60000, help='about the size of a generated file (60,000)')
     parser.add_argument('--keep', metavar='FOLDER', help='leave the scratch folder there')
     parser.add_argument('--spoilt', type=int, default=4, help='how many runs for each way to spoil one (4)')
-    parser.add_argument('--mutate', action='store_true', help='try wrong definitions')
+    parser.add_argument('--mutate', metavar='WORDS', nargs='?', const='', help='try wrong definitions, those whose names have these words')
     options = parser.parse_args()
     sys.path.insert(0, os.path.abspath(options.model))
     scratch = options.keep or tempfile.mkdtemp(prefix='computed-')
     try:
-        crate = make_scratch(scratch, laws=not options.mutate)
-        agreed = mutated(scratch, crate, options) if options.mutate else computed(crate, options)
+        crate = make_scratch(scratch, laws=options.mutate is None)
+        agreed = computed(crate, options) if options.mutate is None else mutated(scratch, crate, options)
         return 0 if agreed else 1
     finally:
         if not options.keep:
@@ -96,7 +96,7 @@ def mutated(scratch, crate, options):
         groups[name] = [file for file in files_of(kind, makers, options, wanted, Counter()) if file[3]]
     specs = os.path.join(scratch, 'crates', 'trace_model', 'specs')
     agreed = True
-    for mutation in mutations.ALL:
+    for mutation in [one for one in mutations.ALL if options.mutate in one.name]:
         path = os.path.join(specs, mutation.file)
         right = open(path).read()
         assert right.count(mutation.old) == 1, (mutation.name, right.count(mutation.old))

@@ -7,7 +7,8 @@ from model.buffers import KEPT, DISCARDED, DUPLICATE, TOO_FAR, BadChunk, TraceBu
 # Branches of the definitions that few histories take.
 BRANCHES = (
     'a headless chain that ends in a drop mark', 'a headless chain that runs into a lost chunk', 'a chain that is cut by its next chunk',
-    'a chain that runs into a lost chunk', 'a chain that awaits a patch when its sequence is closed',
+    'a chain that runs into a lost chunk', 'a chain that runs into a chunk that never came', 'a chain that its sequence\'s end cuts',
+    'a chain that awaits a patch when its sequence is closed', 'a drop mark in a chunk that runs on',
     'a partial record that the cursor alone makes a double', 'a final partial record that is lost', 'a partial record that shuts a discard buffer',
     'an arrival that moves the cursor', 'padding that meets a record', 'a patch outside the last fragment', 'a patch for a chunk that is gone',
     'a commit with patches', 'an id that is too far', 'an id out of order', 'a double', 'a chunk that is unreadable', 'a partial record that grows',
@@ -194,13 +195,17 @@ def read(buffer, sequence, limit, out, packets_checked=True):
 
 
 def branches_of(chain, buffer):
-    headless = chain.fate == reader.HEADLESS
+    headless, sequence = chain.fate == reader.HEADLESS, chain.sequence
     if chain.walked == 'dropped':
-        return {'a headless chain that ends in a drop mark'} if headless else set()
+        last = sequence.live.get(chain.position if chain.passed else chain.position - 1)
+        return ({'a headless chain that ends in a drop mark'} if headless else set()) \
+            | ({'a drop mark in a chunk that runs on'} if last and last.runs_on() else set())
     if chain.walked == buffer.loss:
         return {'a headless chain that runs into a lost chunk' if headless else 'a chain that runs into a lost chunk'}
-    if chain.walked == 'cut':
-        return set() if headless else {'a chain that is cut by its next chunk'}
+    if chain.walked == 'cut' and not headless:
+        return {'a chain that is cut by its next chunk' if chain.position in sequence.live
+                else 'a chain that runs into a chunk that never came' if chain.position < sequence.end
+                else 'a chain that its sequence\'s end cuts'}
     return {'a chain that awaits a patch when its sequence is closed'} if chain.awaits and not headless else set()
 
 
