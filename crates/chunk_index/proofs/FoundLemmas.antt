@@ -1,5 +1,5 @@
 -- What the map of the slots has at a key.
-use Rattle.std.proofs.Common.{◌≡◌, ℕ, zero, suc, ◌<◌, ◌==◌, Bool, true, false, cond, if◌then◌else◌, List, [], ◌∷◌, length, set, nat_cmp, Option, Some, None, refl, sym, ap, ◌∙◌, subst, true≢false, arith}
+use Rattle.std.proofs.Common.{◌≡◌, ℕ, zero, suc, ◌<◌, ◌==◌, Bool, true, false, cond, if◌then◌else◌, List, [], ◌∷◌, length, set, nat_cmp, Option, Some, None, refl, sym, ap, ◌∙◌, subst, true≢false, arith, eqb-true}
 use Rattle.std.specs.FinMap.{FinMap, find, get, insert, remove, get-from_entries, get-insert, get-remove, same_map, nat_cmp-IsAntisymmetric}
 use Rattle.std.specs.Cmp.{nat_cmp_total, unsigned_tied}
 use Rattle.chunk_index.specs.declared.slot.Entry.{Entry}
@@ -60,9 +60,6 @@ turned true true x y z apart = absurd (true≢false (apart refl))
 turned true false x y z apart = refl
 turned false other x y z apart = refl
 
-same_number : (a b : ℕ) → (a == b) ≡ true → a ≡ b
-same_number a b same = grind (arith)
-
 not_here : (key place : ℕ) (b : Bool) (rest : Option ℕ) → cond b (Some place) rest ≡ None → b ≡ false
 not_here key place true rest none = absurd (cc)
 not_here key place false rest none = refl
@@ -97,7 +94,7 @@ found_clear (Some first ∷ slots) zero entry key there none =
     let here : first ≡ entry = cc in
     subst (λ (e : Entry). found key slots ≡ cond (key == entry_key entry) None (if key == entry_key e then Some e.place else found key slots)) (sym here)
     (none_again key entry.place (key == entry_key entry) (found key slots)
-    (λ same. ap (λ k. found k slots) (same_number key (entry_key entry) same) ∙ none))
+    (λ same. ap (λ k. found k slots) (eqb-true key (entry_key entry) same) ∙ none))
 found_clear (None ∷ slots) (suc at) entry key there none = found_clear slots at entry key there none
 found_clear (Some first ∷ slots) (suc at) entry key there none =
     let apart = not_here (entry_key entry) first.place (entry_key entry == entry_key first) (found (entry_key entry) (set slots at None)) none in

@@ -1,13 +1,10 @@
 -- Tables after an entry was added, taken out, or moved up into a hole.
-use Rattle.std.proofs.Common.{◌≡◌, ◌≢◌, ℕ, ◌+◌, ◌<◌, ◌≤◌, ◌==◌, ⊎_elim, true, false, List, length, set, Option, Some, None, sym, ap, ◌∙◌, subst, true≢false, arith, eq-eqb}
+use Rattle.std.proofs.Common.{◌≡◌, ◌≢◌, ℕ, ◌+◌, ◌<◌, ◌≤◌, ⊎_elim, true, false, List, length, set, Option, Some, None, sym, ap, ◌∙◌, subst, true≢false, arith, eq-eqb, eqb-true}
 use Rattle.std.proofs.lemmas.Bool.{cases_eq}
 use Rattle.chunk_index.specs.declared.slot.Entry.{Entry}
 use Rattle.chunk_index.specs.Slots.{home, slot, is_used, has_key, entry_key}
 use Rattle.chunk_index.specs.Table.{EndsAt, IsTable, IsHoled}
 use Rattle.chunk_index.proofs.SlotLemmas.{slot_same, slot_other, length_slots}
-
-same_number : (a b : ℕ) → (a == b) ≡ true → a ≡ b
-same_number a b same = grind arith
 
 -- one slot alone is new
 record IsPut (old new : List (Option Entry)) (at : ℕ) (there : Option Entry) : Type 0 where
@@ -22,7 +19,7 @@ put_is slots at there inside = record {
 
 -- who has a key where the slot is an entry
 key_is : (key : ℕ) (entry : Entry) (there : Option Entry) → there ≡ Some entry → has_key key there ≡ true → key ≡ entry_key entry
-key_is key entry there is has = same_number key (entry_key entry) (sym (ap (has_key key) is) ∙ has)
+key_is key entry there is has = eqb-true key (entry_key entry) (sym (ap (has_key key) is) ∙ has)
 
 no_key : (key : ℕ) (there : Option Entry) → there ≡ None → has_key key there ≡ true → ⊥
 no_key key there is has = true≢false (sym has ∙ ap (has_key key) is)

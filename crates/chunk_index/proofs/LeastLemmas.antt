@@ -1,5 +1,5 @@
 -- The least key of a range.
-use Rattle.std.proofs.Common.{◌≡◌, ◌≢◌, ℕ, suc, ◌+◌, ◌-◌, ◌^◌, ◌<◌, ◌≤◌, ◌==◌, ⊎_elim, Bool, true, false, cond, List, length, Option, Some, None, refl, sym, ap, ◌∙◌, subst, arith}
+use Rattle.std.proofs.Common.{◌≡◌, ◌≢◌, ℕ, suc, ◌+◌, ◌-◌, ◌^◌, ◌<◌, ◌≤◌, ⊎_elim, Bool, true, false, cond, List, length, Option, Some, None, refl, sym, ap, ◌∙◌, subst, arith, ne_eqb}
 use Rattle.std.proofs.lemmas.Bool.{cases_eq, cases_lt}
 use Rattle.std.proofs.lemmas.Bool.Decides.{nat_tests}
 use Rattle.std.specs.FinMap.{get}
@@ -21,12 +21,9 @@ one_more slots count low limit before here at key below above under =
 none_in : (slots : List (Option Entry)) (count low limit : ℕ) → slot slots count ≡ None → (key : ℕ) → low ≤ key → key < limit → has_key key (slot slots count) ≡ false
 none_in slots count low limit is key above under = ap (has_key key) is
 
-not_equal : (a b : ℕ) → a ≢ b → (a == b) ≡ false
-not_equal a b apart = grind arith
-
 other_in : (slots : List (Option Entry)) (count low limit : ℕ) (entry : Entry) → slot slots count ≡ Some entry → ((key : ℕ) → low ≤ key → key < limit → key ≢ entry_key entry) → (key : ℕ) → low ≤ key → key < limit → has_key key (slot slots count) ≡ false
 other_in slots count low limit entry is apart key above under =
-    ap (has_key key) is ∙ not_equal key (entry_key entry) (apart key above under)
+    ap (has_key key) is ∙ ne_eqb key (entry_key entry) (apart key above under)
 
 improves_none : (low high key : ℕ) → improves low high None key ≡ true → (low ≤ key) × (key ≤ high)
 improves_none low high key yes_it_does = (grind (arith, nat_tests), grind (arith, nat_tests))

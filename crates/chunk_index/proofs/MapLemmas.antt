@@ -1,5 +1,5 @@
 -- The map after an entry was added, taken out, or moved.
-use Rattle.std.proofs.Common.{◌≡◌, ◌≢◌, ℕ, ◌+◌, ◌-◌, ◌<◌, ◌==◌, ⊎_elim, Bool, true, false, cond, List, length, set, nat_cmp, Option, Some, None, is_some, refl, sym, ap, ◌∙◌, subst, true≢false, arith, eq-eqb, replicate}
+use Rattle.std.proofs.Common.{◌≡◌, ◌≢◌, ℕ, ◌+◌, ◌-◌, ◌<◌, ◌==◌, ⊎_elim, Bool, true, false, cond, List, length, set, nat_cmp, Option, Some, None, is_some, refl, sym, ap, ◌∙◌, subst, true≢false, arith, eq-eqb, replicate, eqb-true}
 use Rattle.std.proofs.lemmas.Bool.{cases_eq, cases_Bool}
 use Rattle.std.specs.FinMap.{FinMap, empty, empty_of_len, get, len, insert, remove, get-empty, len-insert, len-remove}
 use Rattle.std.specs.Cmp.{nat_cmp_total}
@@ -50,9 +50,6 @@ back_again : (key same place : ℕ) (b : Bool) (was : Option ℕ) → (b ≡ tru
 back_again key same place true was is = sym (is refl)
 back_again key same place false was is = refl
 
-same_number : (a b : ℕ) → (a == b) ≡ true → a ≡ b
-same_number a b same = grind arith
-
 pub found_moved : (slots : List (Option Entry)) (hole from : ℕ) (entry : Entry) (key : ℕ) → hole < length slots → from < length slots → is_used (slot slots hole) ≡ false → slot slots from ≡ Some entry → Once slots → found key (set (set slots from None) hole (Some entry)) ≡ found key slots
 found_moved slots hole from entry key hole_in from_in free there once =
     let mid : List (Option Entry) = set slots from None in
@@ -61,7 +58,7 @@ found_moved slots hole from entry key hole_in from_in free there once =
     found_set mid hole entry key (omega (arith, length_slots slots from None)) (ap is_used (slot_other slots from hole None apart) ∙ free) none
     ∙ ap (λ o. cond (key == entry_key entry) (Some entry.place) o) (found_cleared slots from entry key from_in there once)
     ∙ back_again key (entry_key entry) entry.place (key == entry_key entry) (found key slots)
-    (λ same. ap (λ k. found k slots) (same_number key (entry_key entry) same) ∙ found_here slots from entry there once)
+    (λ same. ap (λ k. found k slots) (eqb-true key (entry_key entry) same) ∙ found_here slots from entry there once)
 
 pub map_moved : (slots : List (Option Entry)) (hole from : ℕ) (entry : Entry) → hole < length slots → from < length slots → is_used (slot slots hole) ≡ false → slot slots from ≡ Some entry → Once slots → map_of (set (set slots from None) hole (Some entry)) ≡ map_of slots
 map_moved slots hole from entry hole_in from_in free there once =
@@ -144,7 +141,7 @@ entry_at slots key at has = of_slot (slot slots at) refl has
   where
     of_slot : (there : Option Entry) → slot slots at ≡ there → has_key key there ≡ true → (entry : Entry) × (slot slots at ≡ Some entry) × (key ≡ entry_key entry)
     of_slot None is one = absurd (true≢false (sym one))
-    of_slot (Some entry) is one = (entry, is, same_number key (entry_key entry) one)
+    of_slot (Some entry) is one = (entry, is, eqb-true key (entry_key entry) one)
 
 -- How many entries a map has, as a caller of an index counts them
 

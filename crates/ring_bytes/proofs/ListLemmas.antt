@@ -1,5 +1,6 @@
 -- Lists of records, and the one that is at a place.
-use Rattle.std.proofs.Common.{◌≡◌, ℕ, ◌+◌, ◌<◌, ◌≤◌, ◌==◌, Bool, true, false, not, cond, List, [], ◌∷◌, ◌++◌, length, Some, None, refl, sym, ap, ◌∙◌, arith, length-append, eq-eqb}
+use Rattle.std.proofs.Common.{◌≡◌, ℕ, ◌+◌, ◌<◌, ◌≤◌, Bool, true, false, not, cond, List, [], ◌∷◌, ◌++◌, length, Some, None, refl, sym, ap, ◌∙◌, arith, length-append, eq-eqb, ne_eqb, sum_by, ◌*◌}
+use Rattle.std.proofs.lemmas.List.Sums.{sum_by-cons}
 use Rattle.std.specs.List.{find}
 use Rattle.ring_bytes.specs.Value.{Stored, size_of, is_at, without_stored, change_at, NoneAt, OnlyAt}
 use Rattle.ring_bytes.proofs.RowLemmas.{AllIn, size_least}
@@ -49,18 +50,15 @@ empty_of P lo hi (s ∷ ss) all every none =
 
 -- Who is at a place
 
-differs : (a b : ℕ) → (a ≡ b → ⊥) → (a == b) ≡ false
-differs a b apart = grind arith
-
 pub none_at_below : (lo hi place : ℕ) (ss : List Stored) → AllIn lo hi ss → hi ≤ place → NoneAt place ss
 none_at_below lo hi place [] all over = tt
 none_at_below lo hi place (s ∷ ss) all over =
     let least = size_least (length s.payload) in
-    (differs s.at place (λ same. omega (arith, all.1)), none_at_below lo hi place ss all.2 over)
+    (ne_eqb s.at place (λ same. omega (arith, all.1)), none_at_below lo hi place ss all.2 over)
 
 pub none_at_above : (lo hi place : ℕ) (ss : List Stored) → AllIn lo hi ss → place < lo → NoneAt place ss
 none_at_above lo hi place [] all under = tt
-none_at_above lo hi place (s ∷ ss) all under = (differs s.at place (λ same. omega (arith, all.0)), none_at_above lo hi place ss all.2 under)
+none_at_above lo hi place (s ∷ ss) all under = (ne_eqb s.at place (λ same. omega (arith, all.0)), none_at_above lo hi place ss all.2 under)
 
 pub none_at_append : (place : ℕ) (ss ts : List Stored) → NoneAt place ss → NoneAt place ts → NoneAt place (ss ++ ts)
 none_at_append place [] ts one two = two
@@ -119,3 +117,22 @@ only_found place ss s only =
 pub fewer_without : (place : ℕ) (ss : List Stored) (s : Stored) → OnlyAt place ss s → length (without_stored place ss) < length ss
 fewer_without place ss s only =
     omega (arith, ap length (without_only place ss s only), length-append only.before only.behind, ap length only.split, length-append only.before (s ∷ only.behind))
+
+-- How many records there can be: each takes a unit at least, or as much as the least of them.
+
+pub few_units : (ss : List Stored) → 16 * length ss ≤ sum_by size_of ss
+few_units [] = omega arith
+few_units (s ∷ ss) =
+    let least = size_least (length s.payload) in
+    let rest = few_units ss in
+    omega (arith, sum_by-cons size_of s ss)
+
+abbrev pub AllTake : ℕ → List Stored → Type 0
+AllTake least [] = Unit {0}
+AllTake least (s ∷ ss) = (least ≤ size_of s) × AllTake least ss
+
+pub few_of : (least : ℕ) (ss : List Stored) → AllTake least ss → least * length ss ≤ sum_by size_of ss
+few_of least [] all = omega arith
+few_of least (s ∷ ss) all =
+    let rest = few_of least ss all.1 in
+    omega (arith, all.0, sum_by-cons size_of s ss)

@@ -1,5 +1,5 @@
 -- A live record of a ring at its place, and what a change of its bytes leaves.
-use Rattle.std.proofs.Common.{◌≡◌, ℕ, ◌+◌, ◌<◌, ◌≤◌, ◌==◌, Bool, true, List, ◌∷◌, ◌++◌, length, Option, Some, None, refl, sym, ap, ap₂, ◌∙◌, subst, arith, append_assoc}
+use Rattle.std.proofs.Common.{◌≡◌, ℕ, ◌+◌, ◌<◌, ◌≤◌, Bool, true, List, ◌∷◌, ◌++◌, length, Option, Some, None, refl, sym, ap, ap₂, ◌∙◌, subst, arith, append_assoc, eqb-true}
 use Rattle.std.specs.List.{find}
 use Rattle.page_geometry.specs.Sizes.{record_size}
 use Rattle.ring_bytes.specs.declared.header.Header.{Header}
@@ -35,9 +35,6 @@ pub record IsAt (b : List ℕ) (next size clear front place : ℕ) (s : Stored) 
       × (only.behind ≡ live_row b (place + record_size header.len) size ++ live_row b 0 next)
   pub in_newer : place < next → IsRow b (place + record_size header.len) next
       × (only.behind ≡ live_row b (place + record_size header.len) next)
-
-same_number : (a b : ℕ) → (a == b) ≡ true → a ≡ b
-same_number a b same = grind arith
 
 at_older : (b : List ℕ) (next size clear front : ℕ) (s : Stored) → AreHalves b next size clear front → IsCut b clear size (live_row b clear size) s → IsAt b next size clear front s.at s
 at_older b next size clear front s halves is =
@@ -151,5 +148,5 @@ at_found b next size clear front P s halves found = of (find P (live_row b next 
 -- the record at a place
 pub at_place : (b : List ℕ) (next size clear front place : ℕ) (s : Stored) → AreHalves b next size clear front → find (is_at place) (live_of b next size) ≡ Some s → IsAt b next size clear front place s
 at_place b next size clear front place s halves found =
-    let here : s.at ≡ place = same_number s.at place (find_true (is_at place) (live_of b next size) s found) in
+    let here : s.at ≡ place = eqb-true s.at place (find_true (is_at place) (live_of b next size) s found) in
     subst (λ n. IsAt b next size clear front n s) here (at_found b next size clear front (is_at place) s halves found)
