@@ -21,7 +21,7 @@ use Rattle.trace_writer.proofs.CoreHolding.{inside_holds}
 use Rattle.trace_writer.proofs.KeepingClaims.{claims_kept}
 use Rattle.trace_writer.proofs.Possible.{KeepsFate, field_possible, field_loses, begin_possible, begin_loses}
 use Rattle.trace_writer.proofs.Stopping.{either_way}
-use Rattle.trace_writer.proofs.Working.{work_alone}
+use Rattle.trace_writer.proofs.Working.{asked_drops}
 
 -- Refusals
 
@@ -117,14 +117,14 @@ module _ {H T W S : Type 0} (setup : T → Setup) (sits : T → W → Type 0) (p
             record {
               agrees = record {
                 writes = agrees;
-                claims = claims_kept setup sits place view serves service_view told needs helps (setup old) (place core.seat) core.writer.route helper old core.seat steps d.0 left new after.seat later
-                    ok.writes.route.range d.1.work (field_loses (view old core.seat) (view new after.seat) call change policy d.0 noted_is keeps d.1.notes) ok.claims;
+                claims = claims_kept setup sits place view serves service_view told needs helps (setup old) (place core.seat) core.writer.route helper old core.seat steps d.0 (written_as d.0 policy call) (is_stalled after) left new after.seat later
+                    ok.writes.route.range d.1 (field_loses (view old core.seat) (view new after.seat) call change policy d.0 noted_is keeps d.1.notes) ok.claims;
                 possible = field_possible (view old core.seat) (view new after.seat) call change policy d.0 noted_is keeps possible writes d.1.notes d.2 ok.possible;
                 holds = inside_holds (setup old) (place core.seat) (view new after.seat) after.writer agrees inside;
               };
-              needed = d.1.work.needed;
-              others = d.1.work.others;
-              alone = work_alone setup sits place view serves service_view told needs helps core.writer.route helper old core.seat steps d.0 left new after.seat later there d.1.work;
+              needed = d.1.needed;
+              others = d.1.others;
+              alone = asked_drops setup sits place view serves service_view told needs helps core.writer.route helper old core.seat steps d.0 (written_as d.0 policy call) (is_stalled after) left new after.seat later there d.1;
             },
             inside,
           )
@@ -165,15 +165,15 @@ module _ {H T W S : Type 0} (setup : T → Setup) (sits : T → W → Type 0) (p
           record {
             agrees = record {
               writes = agrees;
-              claims = claims_kept setup sits place view serves service_view told needs helps (setup old) (place core.seat) core.writer.route helper old core.seat steps stopped left new after.seat later
-                  ok.writes.route.range d.work (begin_loses (view old core.seat) (view new after.seat) policy stopped d.notes) ok.claims;
+              claims = claims_kept setup sits place view serves service_view told needs helps (setup old) (place core.seat) core.writer.route helper old core.seat steps stopped (begun_as stopped policy) (is_stalled after) left new after.seat later
+                  ok.writes.route.range d (begin_loses (view old core.seat) (view new after.seat) policy stopped d.notes) ok.claims;
               possible = begin_possible (view old core.seat) (view new after.seat) policy stopped none d.notes ok.possible;
               holds = λ goes. inside_holds (setup old) (place core.seat) (view new after.seat) after.writer agrees
                   (begins_in (view old core.seat) (view new after.seat) policy stopped (is_stalled after) d.notes d.stalls goes).0 goes;
             };
-            needed = d.work.needed;
-            others = d.work.others;
-            alone = work_alone setup sits place view serves service_view told needs helps core.writer.route helper old core.seat steps stopped left new after.seat later there d.work;
+            needed = d.needed;
+            others = d.others;
+            alone = asked_drops setup sits place view serves service_view told needs helps core.writer.route helper old core.seat steps stopped (begun_as stopped policy) (is_stalled after) left new after.seat later there d;
           }
 
   -- a packet that was begun is inside, and no message is open in it

@@ -2,16 +2,14 @@
 use Rattle.std.proofs.Common.{◌≡◌, ◌∙◌, ℕ, ◌+◌, ◌-◌, ◌*◌, ◌≤◌, Bool, true, if◌then◌else◌, length, Option, sym, ap, subst, arith, length-append, List, [], ◌∷◌, ◌++◌}
 use Rattle.trace_base.specs.declared.policy.WriterPolicy.{WriterPolicy}
 use Rattle.trace_base.specs.declared.policy.WriterPolicy.TheVariants.{Drops, Stalls}
-use Rattle.trace_model.specs.Calls.{Call}
 use Rattle.chunk_plain.specs.Setup.{Setup}
 use Rattle.chunk_plain.specs.Views.{Ask, Held, WriterView, ServiceView}
 use Rattle.chunk_plain.specs.World.{World}
 use Rattle.chunk_plain.specs.Steps.{no_head}
 use Rattle.claim_arbiter.specs.Claiming.{ClaimsInTurn, lost_asks}
 use Rattle.trace_writer.specs.declared.route.Route.{Route}
-use Rattle.trace_writer.specs.Asked.{IsAsked}
-use Rattle.trace_writer.specs.Helping.{Works, Done, Quiet, Gets, Helped, Refused, Lost, IsWork, refuses}
-use Rattle.trace_writer.specs.OwnSteps.{IsQuiet, GetsChunk, IsOutNow}
+use Rattle.trace_writer.specs.Helping.{Works, Done, Silent, Gets, Helped, Refused, Lost}
+use Rattle.trace_writer.specs.OwnSteps.{IsQuiet, IsSilent, GetsChunk, IsOutNow}
 use Rattle.trace_writer.proofs.Asking.{length-lost_asks}
 use Rattle.trace_writer.proofs.KeptChunks.{keeps_long}
 
@@ -41,24 +39,25 @@ grows_one setup first count chunk stopped old mid new claims rest =
     }
 
 module _ {H T W S : Type 0} (setup : T → Setup) (sits : T → W → Type 0) (place : W → ℕ) (view : T → W → WriterView)
-    (serves : T → S → Type 0) (service_view : T → S → ServiceView) (told : T → Option World) (needs : H → T → Type 0) (helps : H → T → ℕ → Bool → H → T → Type 0) where
-  works_few : (route : Route) {policy : WriterPolicy} {asks : H → T → Bool → H → T → Type 0} {helper left : H} {old new : T} {seat after : W} {stopped : Bool}
-      → Works policy (IsQuiet setup sits place view serves service_view told) (GetsChunk setup sits place view serves service_view told route)
-      (IsOutNow setup sits place view serves service_view told route) asks helper old seat stopped left new after
+    (serves : T → S → Type 0) (service_view : T → S → ServiceView) (told : T → Option World) where
+  works_grow : (route : Route) {policy : WriterPolicy} {asks : H → T → Bool → H → T → Type 0} {helper left : H} {old new : T} {seat after : W} {stopped : Bool}
+      → Works policy (IsSilent setup sits place view serves service_view told) (IsQuiet setup sits place view serves service_view told) (GetsChunk setup sits place view serves service_view told route) (IsOutNow setup sits place view serves service_view told route) asks helper old seat stopped left new after
       → policy ≡ Drops → Grows route.arbiter.chunks stopped (view old seat) (view new after)
-  works_few route (Done helper old seat) drops = record { more = 0; begun = omega arith; few = omega arith }
-  works_few route (Quiet helper old seat next moved stopped left new after quiet more) drops =
-      let rest = works_few route more drops in
-      let asks = ap length quiet.asked in let chunks = keeps_long (view old seat).begun (view next moved).begun quiet.chunks in
+  works_grow route (Done helper old seat new after last) drops =
+      let asks = ap length last.asked in let chunks = keeps_long (view old seat).begun (view new after).begun last.chunks in
+      record { more = 0; begun = omega (arith, chunks); few = omega (arith, asks, chunks) }
+  works_grow route (Silent helper old seat next moved stopped left new after silent more) drops =
+      let rest = works_grow route more drops in
+      let asks = ap length silent.quiet.asked in let chunks = keeps_long (view old seat).begun (view next moved).begun silent.quiet.chunks in
       record { more = rest.more; begun = omega (arith, rest.begun, chunks); few = omega (arith, rest.few, asks, chunks) }
-  works_few route (Gets helper old seat next moved stopped left new after gets more) drops =
-      grows_one (setup old) route.arbiter.first route.arbiter.chunks gets.chunk stopped (view old seat) (view next moved) (view new after) gets.claims (works_few route more drops)
-  works_few route (Helped helper old seat asking asker helped freed stopped left new after stalls out helps_ more) drops = absurd (let same : Drops ≡ Stalls = sym drops ∙ stalls in cc)
-  works_few route (Refused helper old seat asking asker left kept new after stalls out helps_ last) drops = absurd (let same : Drops ≡ Stalls = sym drops ∙ stalls in cc)
-  works_few route (Lost helper old seat new after lost out) drops =
-      let asks : length (view new after).asked ≡ length ((view old seat).asked ++ lost_asks (length (view old seat).calls) route.arbiter.first out.words) = ap length out.asked in
-      let chunks = keeps_long (view old seat).begun (view new after).begun out.chunks in
-      let all : length (view new after).asked ≡ length (view old seat).asked + route.arbiter.chunks =
+  works_grow route (Gets helper old seat next moved stopped left new after gets more) drops =
+      grows_one (setup old) route.arbiter.first route.arbiter.chunks gets.chunk stopped (view old seat) (view next moved) (view new after) gets.claims (works_grow route more drops)
+  works_grow route (Helped helper old seat asking asker helped freed stopped left new after stalls out helps_ more) drops = absurd (let same : Drops ≡ Stalls = sym drops ∙ stalls in cc)
+  works_grow route (Refused helper old seat asking asker left kept new after stalls out helps_ last) drops = absurd (let same : Drops ≡ Stalls = sym drops ∙ stalls in cc)
+  works_grow route (Lost helper old seat mid between new after lost out last) drops =
+      let asks : length (view mid between).asked ≡ length ((view old seat).asked ++ lost_asks (length (view old seat).calls) route.arbiter.first out.words) = ap length out.asked in
+      let chunks = keeps_long (view old seat).begun (view mid between).begun out.chunks in
+      let all : length (view mid between).asked ≡ length (view old seat).asked + route.arbiter.chunks =
       omega (
         arith,
         asks,
@@ -66,25 +65,15 @@ module _ {H T W S : Type 0} (setup : T → Setup) (sits : T → W → Type 0) (p
         length-lost_asks (length (view old seat).calls) route.arbiter.first out.words,
         out.count_is,
       ) in
-      record { more = 0; begun = omega (arith, chunks); few = omega (arith, all, chunks) }
+      let later = ap length last.asked in let still = keeps_long (view mid between).begun (view new after).begun last.chunks in
+      record { more = 0; begun = omega (arith, chunks, still); few = omega (arith, all, chunks, later, still) }
 
-  pub work_few : (route : Route) (helper : H) (old : T) (seat : W) (steps : ℕ) (stopped : Bool) (left : H) (new : T) (after : W) (later : ℕ)
-      → IsWork setup sits place view serves service_view told needs helps route helper old seat steps stopped left new after later → route.spec.policy ≡ Drops
+  pub works_few : (policy : WriterPolicy) (route : Route) (asks : H → T → Bool → H → T → Type 0) (helper : H) (old : T) (seat : W) (steps : ℕ) (stopped : Bool) (left : H) (new : T) (after : W) (later : ℕ)
+      → Works policy (IsSilent setup sits place view serves service_view told) (IsQuiet setup sits place view serves service_view told) (GetsChunk setup sits place view serves service_view told route) (IsOutNow setup sits place view serves service_view told route) asks helper old seat stopped left new after
+      → later + (length (view old seat).asked + length (view old seat).begun) ≡ steps + (length (view new after).asked + length (view new after).begun) → policy ≡ Drops
       → later ≤ steps + (length (view new after).begun - length (view old seat).begun) * (route.arbiter.chunks + 1) + (if stopped then route.arbiter.chunks else 0)
-  work_few route helper old seat steps stopped left new after later work drops =
-      let grows = works_few route work.works drops in
+  works_few policy route asks helper old seat steps stopped left new after later works counts drops =
+      let grows = works_grow route works drops in
       let many : length (view new after).begun - length (view old seat).begun ≡ grows.more = omega (arith, grows.begun) in
       subst (λ (more : ℕ). later ≤ steps + more * (route.arbiter.chunks + 1) + (if stopped then route.arbiter.chunks else 0)) (sym many)
-      (let counts = work.counts in let few = grows.few in omega (arith, counts, few))
-
-  -- a call that did this was asked for
-  pub asked_of : (route : Route) (helper : H) (old : T) (seat : W) (steps : ℕ) (stopped : Bool) (noted : List Call) (stalled : Bool) (left : H) (new : T) (after : W) (later : ℕ)
-      → IsWork setup sits place view serves service_view told needs helps route helper old seat steps stopped left new after later
-      → (view new after).calls ≡ (view old seat).calls ++ noted → stalled ≡ refuses route.spec.policy stopped
-      → IsAsked setup sits place view serves service_view told needs helps route helper old seat steps stopped noted stalled left new after later
-  asked_of route helper old seat steps stopped noted stalled left new after later work notes stalls = record {
-    work = work;
-    notes = notes;
-    stalls = stalls;
-    few_steps = work_few route helper old seat steps stopped left new after later work;
-  }
+      (let few = grows.few in omega (arith, counts, few))

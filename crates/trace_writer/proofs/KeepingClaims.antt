@@ -5,6 +5,7 @@ use native.Mathlib.Decide.{dec_le}
 use mathlib.Core.Logic.{dite}
 use Rattle.trace_base.specs.declared.policy.WriterPolicy.{WriterPolicy}
 use Rattle.trace_base.specs.declared.policy.WriterPolicy.TheVariants.{Drops, Stalls}
+use Rattle.trace_model.specs.Calls.{Call}
 use Rattle.trace_model.specs.Packets.{packets_of}
 use Rattle.chunk_plain.specs.declared.setup.ChunkRange.{ChunkRange}
 use Rattle.chunk_plain.specs.Setup.{Setup, range_of, producer_of, IsChunkOf}
@@ -14,9 +15,10 @@ use Rattle.chunk_plain.specs.Steps.{no_head}
 use Rattle.chunk_plain.specs.Owned.{times}
 use Rattle.claim_arbiter.specs.Claiming.{ClaimsInTurn, lost_asks, range_in}
 use Rattle.trace_writer.specs.declared.route.Route.{Route}
+use Rattle.trace_writer.specs.Asked.{IsAsked}
 use Rattle.trace_writer.specs.Claims.{AreOwnAsks, AreOwnChunks, HasAsked, lost_count, KeepsClaims}
-use Rattle.trace_writer.specs.Helping.{LeavesWriters, Works, Done, Quiet, Gets, Helped, Refused, Lost, IsWork}
-use Rattle.trace_writer.specs.OwnSteps.{KeepsChunks, IsQuiet, GetsChunk, IsOutNow}
+use Rattle.trace_writer.specs.Helping.{LeavesWriters, Works, Done, Silent, Gets, Helped, Refused, Lost}
+use Rattle.trace_writer.specs.OwnSteps.{KeepsChunks, IsQuiet, IsSilent, GetsChunk, IsOutNow}
 
 -- Lists
 
@@ -164,16 +166,19 @@ module _ {H T W S : Type 0} (setup : T → Setup) (sits : T → W → Type 0) (p
     (serves : T → S → Type 0) (service_view : T → S → ServiceView) (told : T → Option World) (needs : H → T → Type 0) (helps : H → T → ℕ → Bool → H → T → Type 0) where
   works_keep : (there : Setup) (producer : ℕ) (route : Route) {policy : WriterPolicy} {asks : H → T → Bool → H → T → Type 0} {helper left : H} {old new : T} {seat after : W} {stopped : Bool}
       → range_of there producer ≡ range_in route.arbiter
-      → Works policy (IsQuiet setup sits place view serves service_view told) (GetsChunk setup sits place view serves service_view told route)
+      → Works policy (IsSilent setup sits place view serves service_view told) (IsQuiet setup sits place view serves service_view told) (GetsChunk setup sits place view serves service_view told route)
       (IsOutNow setup sits place view serves service_view told route) (λ asked table answer behind freed. asks asked table answer behind freed × LeavesWriters setup sits view table freed)
       helper old seat stopped left new after
       → KeepsMost there producer (view old seat) → KeepsOn policy there producer stopped (view old seat) (view new after)
-  works_keep there producer route range (Done helper old seat) kept =
-      record { kept = kept; grown = λ chunk has. has; all = λ drops stops. absurd (true≢false (sym stops)) }
-  works_keep there producer route {policy} range (Quiet helper old seat next moved stopped left new after quiet more) kept =
+  works_keep there producer route range (Done helper old seat new after last) kept = record {
+    kept = most_quiet setup sits place view serves service_view told there producer old seat new after last kept;
+    grown = λ chunk has. subst (λ (asks : List Ask). HasAsked asks chunk) (sym last.asked) has;
+    all = λ drops stops. absurd (true≢false (sym stops));
+  }
+  works_keep there producer route {policy} range (Silent helper old seat next moved stopped left new after silent more) kept =
       keeps_then policy there producer stopped (view old seat) (view next moved) (view new after)
-      (λ chunk has. subst (λ (asks : List Ask). HasAsked asks chunk) (sym quiet.asked) has)
-      (works_keep there producer route range more (most_quiet setup sits place view serves service_view told there producer old seat next moved quiet kept))
+      (λ chunk has. subst (λ (asks : List Ask). HasAsked asks chunk) (sym silent.quiet.asked) has)
+      (works_keep there producer route range more (most_quiet setup sits place view serves service_view told there producer old seat next moved silent.quiet kept))
   works_keep there producer route {policy} range (Gets helper old seat next moved stopped left new after gets more) kept =
       let found = most_gets there (setup old) producer gets.chunk route (view old seat) (view next moved) range gets.claims kept in
       keeps_then policy there producer stopped (view old seat) (view next moved) (view new after) found.1 (works_keep there producer route range more found.0)
@@ -192,18 +197,21 @@ module _ {H T W S : Type 0} (setup : T → Setup) (sits : T → W → Type 0) (p
             (subst (λ (v : WriterView). HasAsked v.asked chunk) (sym same) (found.1 chunk has));
         all = λ drops. absurd (let wrong : Drops ≡ Stalls = sym drops ∙ stalls in cc);
       }
-  works_keep there producer route range (Lost helper old seat new after drops out) kept =
-      let found = most_out setup sits place view serves service_view told there producer route old seat new after range out kept in
-      record { kept = found.0; grown = found.1; all = λ is stops. found.2 }
+  works_keep there producer route range (Lost helper old seat mid between new after drops out last) kept =
+      let found = most_out setup sits place view serves service_view told there producer route old seat mid between range out kept in record {
+        kept = most_quiet setup sits place view serves service_view told there producer mid between new after last found.0;
+        grown = λ chunk has. subst (λ (asks : List Ask). HasAsked asks chunk) (sym last.asked) (found.1 chunk has);
+        all = λ is stops chunk inside. subst (λ (asks : List Ask). HasAsked asks chunk) (sym last.asked) (found.2 chunk inside);
+      }
 
   -- the writer keeps what it has of its claims, if the call loses a packet only where it stops
-  pub claims_kept : (there : Setup) (at : ℕ) (route : Route) (helper : H) (old : T) (seat : W) (steps : ℕ) (stopped : Bool) (left : H) (new : T) (after : W) (later : ℕ)
+  pub claims_kept : (there : Setup) (at : ℕ) (route : Route) (helper : H) (old : T) (seat : W) (steps : ℕ) (stopped : Bool) (noted : List Call) (stalled : Bool) (left : H) (new : T) (after : W) (later : ℕ)
       → range_of there (producer_of there at) ≡ range_in route.arbiter
-      → IsWork setup sits place view serves service_view told needs helps route helper old seat steps stopped left new after later
+      → IsAsked setup sits place view serves service_view told needs helps route helper old seat steps stopped noted stalled left new after later
       → (lost_count (packets_of (view new after).calls) ≡ lost_count (packets_of (view old seat).calls)) ⊎ ((route.spec.policy ≡ Drops) × (stopped ≡ true))
       → KeepsClaims there at (view old seat) → KeepsClaims there at (view new after)
-  claims_kept there at route helper old seat steps stopped left new after later range work lost claims =
-      let on = works_keep there (producer_of there at) route range work.works
+  claims_kept there at route helper old seat steps stopped noted stalled left new after later range asked lost claims =
+      let on = works_keep there (producer_of there at) route range asked.works
       (record { unclaimed = claims.unclaimed; unstamped = claims.unstamped; own_asks = claims.own_asks; own_chunks = claims.own_chunks }) in
       record {
         unclaimed = on.kept.unclaimed;

@@ -43,14 +43,6 @@ keeps_long (Held chunk head ∷ old) (Completed other content ∷ new) keeps = a
 keeps_long (Completed chunk content ∷ old) (Held other next ∷ new) keeps = absurd keeps
 keeps_long (Completed chunk content ∷ old) (Completed other later ∷ new) keeps = ap suc (keeps_long old new keeps.1)
 
-pub keeps_none_held : (old new : List Begun) → KeepsChunks old new → NoneHeld old → NoneHeld new
-keeps_none_held [] [] keeps none = tt
-keeps_none_held [] (y ∷ new) keeps none = absurd keeps
-keeps_none_held (Held chunk head ∷ old) new keeps none = absurd none
-keeps_none_held (Completed chunk content ∷ old) [] keeps none = absurd keeps
-keeps_none_held (Completed chunk content ∷ old) (Held other next ∷ new) keeps none = absurd keeps
-keeps_none_held (Completed chunk content ∷ old) (Completed other later ∷ new) keeps none = keeps_none_held old new keeps.1 none
-
 chunk_of : Begun → ℕ
 chunk_of (Held chunk head) = chunk
 chunk_of (Completed chunk content) = chunk

@@ -4,9 +4,8 @@ use Rattle.chunk_plain.specs.Setup.{Setup}
 use Rattle.chunk_plain.specs.Views.{WriterView, ServiceView}
 use Rattle.chunk_plain.specs.World.{World}
 use Rattle.chunk_plain.proofs.SeatSteps.{stays, steps_follow}
-use Rattle.trace_writer.specs.declared.route.Route.{Route}
-use Rattle.trace_writer.specs.OwnSteps.{IsQuiet, IsOutNow}
-use Rattle.trace_writer.proofs.KeptChunks.{keeps_same, keeps_both, keeps_none_held, frees_same, frees_both}
+use Rattle.trace_writer.specs.OwnSteps.{IsQuiet, IsSilent}
+use Rattle.trace_writer.proofs.KeptChunks.{keeps_same, keeps_both, frees_same, frees_both}
 
 module _ {T W S : Type 0} (setup : T → Setup) (sits : T → W → Type 0) (place : W → ℕ) (view : T → W → WriterView)
     (serves : T → S → Type 0) (service_view : T → S → ServiceView) (told : T → Option World) where
@@ -31,24 +30,13 @@ module _ {T W S : Type 0} (setup : T → Setup) (sits : T → W → Type 0) (pla
     frees_none = frees_both told old mid new one.frees_none two.frees_none;
   }
 
-  -- a writer that is out of chunks is so behind quiet steps too
-  pub out_then : (route : Route) (old : T) (before : W) (mid : T) (between : W) (new : T) (after : W) → IsOutNow setup sits place view serves service_view told route old before mid between
-      → IsQuiet setup sits place view serves service_view told mid between new after → IsOutNow setup sits place view serves service_view told route old before new after
-  out_then route old before mid between new after out quiet = record {
-    step = steps_follow setup sits place view serves service_view old before mid between new after out.step quiet.step;
-    words = out.words;
-    count_is = out.count_is;
-    all_claimed = out.all_claimed;
-    asked = quiet.asked ∙ out.asked;
-    claimed = quiet.claimed ∙ out.claimed;
-    stamped = quiet.stamped ∙ out.stamped;
-    chunks = keeps_both (view old before).begun (view mid between).begun (view new after).begun out.chunks quiet.chunks;
-    none_held = keeps_none_held (view mid between).begun (view new after).begun quiet.chunks out.none_held;
-    none_free = λ world is.
-        let found = out.none_free world is in
-        let kept = quiet.frees_none found.0 found.1 in
-        (kept.0, kept.1, λ chunk least below free. found.2 chunk least below (kept.2 chunk free));
-  }
+  pub silent_none : (table : T) (seat : W) → sits table seat → IsSilent setup sits place view serves service_view told table seat table seat
+  silent_none table seat there = record { quiet = quiet_none table seat there; calls = refl }
+
+  pub silent_both : (old : T) (before : W) (mid : T) (between : W) (new : T) (after : W) → IsSilent setup sits place view serves service_view told old before mid between
+      → IsSilent setup sits place view serves service_view told mid between new after → IsSilent setup sits place view serves service_view told old before new after
+  silent_both old before mid between new after one two =
+      record { quiet = quiet_both old before mid between new after one.quiet two.quiet; calls = two.calls ∙ one.calls }
 
   -- the same under other names
   pub quiet_there : (old : T) (seat : W) {new same_new : T} {after same_after : W} → new ≡ same_new → after ≡ same_after

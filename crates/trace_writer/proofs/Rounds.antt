@@ -46,10 +46,10 @@ module _ {H T W S : Type 0} (setup : T → Setup) (sits : T → W → Type 0) (p
       → later + (length (view old seat).asked + length (view old seat).begun) ≡ steps + (length (view new after).asked + length (view new after).begun)
       → IsWork setup sits place view serves service_view told needs helps route helper old seat steps stopped helper new after later
   round_is_work route helper old seat steps false new after later keeps needed drops round counts =
-      let mid = round.0 in let between = round.1 in let gets = round.2 in let quiet = round.3 in
-      let asks = ap length quiet.asked in let chunks = keeps_long (view mid between).begun (view new after).begun quiet.chunks in
+      let mid = round.0 in let between = round.1 in let gets = round.2 in let silent = round.3 in
+      let asks = ap length silent.quiet.asked in let chunks = keeps_long (view mid between).begun (view new after).begun silent.quiet.chunks in
       work_then setup sits place view serves service_view told needs helps route helper old seat steps false helper mid between later new after keeps
       (work_gets setup sits place view serves service_view told needs helps route helper old seat steps mid between later keeps needed gets (omega (arith, counts, asks, chunks)))
-      quiet
+      silent
   round_is_work route helper old seat steps true new after later keeps needed drops out counts =
       work_lost setup sits place view serves service_view told needs helps route helper old seat steps new after later keeps needed drops out counts

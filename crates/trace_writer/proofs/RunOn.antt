@@ -5,12 +5,11 @@ use Rattle.std.proofs.lemmas.Bool.{eq-eqb}
 use Rattle.trace_base.specs.declared.policy.WriterPolicy.{WriterPolicy}
 use Rattle.trace_base.specs.declared.policy.WriterPolicy.TheVariants.{Drops, Stalls}
 use Rattle.wire_varint.specs.Varint.{redundant}
-use Rattle.trace_model.specs.Images.{Patch, with_bytes}
+use Rattle.trace_model.specs.Images.{with_bytes}
 use Rattle.trace_model.specs.Packets.{Packet, body_of}
 use Rattle.trace_model.specs.Pages.{Page, laid}
 use Rattle.trace_model.specs.Sequences.{is_among}
 use Rattle.trace_model.specs.Cut.{IsFull, left_behind, length_places}
-use Rattle.commit_body.specs.declared.hole.Hole.{Hole}
 use Rattle.commit_body.specs.Patches.{hole_chunks, with_lasts}
 use Rattle.commit_body.specs.Pending.{Pending}
 use Rattle.chunk_plain.specs.declared.setup.ChunkRange.{ChunkRange}
@@ -20,7 +19,7 @@ use Rattle.chunk_plain.specs.Views.{Begun, Held, Completed, Head, Content, Write
 use Rattle.chunk_plain.specs.Steps.{no_head, restamps, completes}
 use Rattle.chunk_plain.specs.Words.{IsHolding, MayFollow, head_at}
 use Rattle.claim_arbiter.specs.Claiming.{AsksInVain}
-use Rattle.cut_steps.specs.RawChains.{earlier_pieces, current_piece, offset_behind}
+use Rattle.cut_steps.specs.RawChains.{current_piece, offset_behind}
 use Rattle.cut_steps.specs.Writing.{IsWriting, with_open}
 use Rattle.cut_steps.proofs.WritingSteps.{writing_coming}
 use Rattle.cut_steps.proofs.RunningOn.{writing_run_on}

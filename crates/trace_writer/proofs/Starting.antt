@@ -44,8 +44,7 @@ use Rattle.trace_writer.specs.Placing.{IsStarted, IsRoomy, IsPlace, BeginsAt, is
 use Rattle.trace_writer.proofs.Idling.{completed_idle, behind_content}
 use Rattle.trace_writer.proofs.Payloads.{length-framed}
 use Rattle.trace_writer.proofs.Seats.{restamped_here, holds_here, head_here, shows_long}
-use Rattle.trace_writer.proofs.FewSteps.{work_few}
-use Rattle.trace_writer.proofs.Working.{work_then}
+use Rattle.trace_writer.proofs.Working.{asked_of}
 
 -- four bytes are set aside for the size of a fragment behind these
 pub started_written : (payload : List ℕ) (at count : ℕ) (done : List (List ℕ)) → at + 4 ≤ length payload → IsFilled payload at count done
@@ -273,12 +272,9 @@ module _ {H T W S : Type 0} {setup : T → Setup} {sits : T → W → Type 0} {p
         → IsAsked setup sits place view serves service_view told needs helps before.route helper old seat steps (stops_with result) (begun_as (stops_with result) before.route.spec.policy)
         (is_stalled state) left new after later
     found_asked new after state result keeps has at quiet =
-        let work = work_then setup sits place view serves service_view told needs helps before.route helper old seat steps (not (is_behind found)) left mid between later new after keeps has.work quiet in
         let begins = subst (λ (r : Route). BeginsAt r.spec.policy found result (view mid between).calls (view new after).calls state) has.route_is at in
         subst (λ (stopped : Bool). IsAsked setup sits place view serves service_view told needs helps before.route helper old seat steps stopped (begun_as stopped before.route.spec.policy)
-        (is_stalled state) left new after later) (sym begins.stops) (record {
-          work = work;
-          notes = begins.calls ∙ ap (λ (calls : List Call). calls ++ begun_as (not (is_behind found)) before.route.spec.policy) has.calls;
-          stalls = begins.stalls;
-          few_steps = work_few setup sits place view serves service_view told needs helps before.route helper old seat steps (not (is_behind found)) left new after later work;
-        })
+        (is_stalled state) left new after later) (sym begins.stops)
+        (asked_of setup sits place view serves service_view told needs helps before.route helper old seat steps (not (is_behind found)) (begun_as (not (is_behind found)) before.route.spec.policy)
+        (is_stalled state) left mid between later new after keeps has.work quiet
+        (begins.calls ∙ ap (λ (calls : List Call). calls ++ begun_as (not (is_behind found)) before.route.spec.policy) has.calls) begins.stalls)

@@ -1,18 +1,21 @@
 -- What a writer does for a call: parts of it in a row are one.
-use Rattle.std.proofs.Common.{◌≡◌, ◌∙◌, ℕ, ◌+◌, Bool, true, false, length, Option, refl, sym, ap, subst, arith}
+use Rattle.std.proofs.Common.{◌≡◌, ◌∙◌, ℕ, ◌+◌, Bool, true, false, length, Option, refl, sym, ap, subst, arith, List, ◌++◌}
 use Rattle.std.proofs.lemmas.Bool.{true≢false}
 use Rattle.trace_base.specs.declared.policy.WriterPolicy.{WriterPolicy}
 use Rattle.trace_base.specs.declared.policy.WriterPolicy.TheVariants.{Drops, Stalls}
+use Rattle.trace_model.specs.Calls.{Call}
 use Rattle.chunk_plain.specs.Setup.{Setup}
 use Rattle.chunk_plain.specs.Views.{WriterView, ServiceView}
 use Rattle.chunk_plain.specs.World.{World}
 use Rattle.chunk_plain.specs.Words.{IsWriterStep}
 use Rattle.chunk_plain.proofs.SeatSteps.{stays, steps_follow}
 use Rattle.trace_writer.specs.declared.route.Route.{Route}
-use Rattle.trace_writer.specs.OwnSteps.{IsQuiet, GetsChunk, IsOutNow}
-use Rattle.trace_writer.specs.Helping.{LeavesWriters, LeavesOthers, Works, Done, Quiet, Gets, Helped, Refused, Lost, IsWork}
+use Rattle.trace_writer.specs.OwnSteps.{IsQuiet, IsSilent, GetsChunk, IsOutNow}
+use Rattle.trace_writer.specs.Asked.{IsAsked}
+use Rattle.trace_writer.specs.Helping.{LeavesWriters, LeavesOthers, Works, Done, Silent, Gets, Helped, Refused, Lost, IsWork, refuses}
+use Rattle.trace_writer.proofs.FewSteps.{works_few}
 use Rattle.trace_writer.proofs.KeptChunks.{keeps_long}
-use Rattle.trace_writer.proofs.QuietRows.{quiet_none, quiet_both, out_then}
+use Rattle.trace_writer.proofs.QuietRows.{quiet_both, silent_none, silent_both}
 
 module _ {H T W S : Type 0} (setup : T → Setup) (sits : T → W → Type 0) (place : W → ℕ) (view : T → W → WriterView)
     (serves : T → S → Type 0) (service_view : T → S → ServiceView) (told : T → Option World) (needs : H → T → Type 0) (helps : H → T → ℕ → Bool → H → T → Type 0) where
@@ -46,58 +49,67 @@ module _ {H T W S : Type 0} (setup : T → Setup) (sits : T → W → Type 0) (p
 
   module _ (policy : WriterPolicy) (route : Route) (asks : H → T → Bool → H → T → Type 0) where
     works_both : {helper middle : H} {old mid : T} {before between : W} {first : Bool} (stopped : Bool) (left : H) (new : T) (after : W)
-        → Works policy (IsQuiet setup sits place view serves service_view told) (GetsChunk setup sits place view serves service_view told route) (IsOutNow setup sits place view serves service_view told route) asks helper old before first middle mid between
+        → Works policy (IsSilent setup sits place view serves service_view told) (IsSilent setup sits place view serves service_view told) (GetsChunk setup sits place view serves service_view told route) (IsOutNow setup sits place view serves service_view told route) asks helper old before first middle mid between
         → first ≡ false
-        → Works policy (IsQuiet setup sits place view serves service_view told) (GetsChunk setup sits place view serves service_view told route) (IsOutNow setup sits place view serves service_view told route) asks middle mid between stopped left new after
-        → Works policy (IsQuiet setup sits place view serves service_view told) (GetsChunk setup sits place view serves service_view told route) (IsOutNow setup sits place view serves service_view told route) asks helper old before stopped left new after
-    works_both stopped left new after (Done helper old before) none rest = rest
-    works_both stopped left new after (Quiet helper old before next moved first middle mid between quiet more) none rest =
-        Quiet helper old before next moved stopped left new after quiet (works_both stopped left new after more none rest)
+        → Works policy (IsSilent setup sits place view serves service_view told) (IsSilent setup sits place view serves service_view told) (GetsChunk setup sits place view serves service_view told route) (IsOutNow setup sits place view serves service_view told route) asks middle mid between stopped left new after
+        → Works policy (IsSilent setup sits place view serves service_view told) (IsSilent setup sits place view serves service_view told) (GetsChunk setup sits place view serves service_view told route) (IsOutNow setup sits place view serves service_view told route) asks helper old before stopped left new after
+    works_both stopped left new after (Done helper old before mid between last) none rest = Silent helper old before mid between stopped left new after last rest
+    works_both stopped left new after (Silent helper old before next moved first middle mid between silent more) none rest =
+        Silent helper old before next moved stopped left new after silent (works_both stopped left new after more none rest)
     works_both stopped left new after (Gets helper old before next moved first middle mid between gets more) none rest =
         Gets helper old before next moved stopped left new after gets (works_both stopped left new after more none rest)
     works_both stopped left new after (Helped helper old before asking asker helped freed first middle mid between stalls out helps_ more) none rest =
         Helped helper old before asking asker helped freed stopped left new after stalls out helps_ (works_both stopped left new after more none rest)
     works_both stopped left new after (Refused helper old before asking asker middle kept mid between stalls out helps_ last) none rest = absurd (true≢false none)
-    works_both stopped left new after (Lost helper old before mid between drops out) none rest = absurd (true≢false none)
+    works_both stopped left new after (Lost helper old before out_table out_seat mid between drops out last) none rest = absurd (true≢false none)
 
+    -- silent steps come last
     works_then : {helper left : H} {old mid : T} {before between : W} {stopped : Bool} (new : T) (after : W)
-        → Works policy (IsQuiet setup sits place view serves service_view told) (GetsChunk setup sits place view serves service_view told route) (IsOutNow setup sits place view serves service_view told route) asks helper old before stopped left mid between
+        → Works policy (IsSilent setup sits place view serves service_view told) (IsSilent setup sits place view serves service_view told) (GetsChunk setup sits place view serves service_view told route) (IsOutNow setup sits place view serves service_view told route) asks helper old before stopped left mid between
+        → IsSilent setup sits place view serves service_view told mid between new after
+        → Works policy (IsSilent setup sits place view serves service_view told) (IsSilent setup sits place view serves service_view told) (GetsChunk setup sits place view serves service_view told route) (IsOutNow setup sits place view serves service_view told route) asks helper old before stopped left new after
+    works_then new after (Done helper old before mid between last) silent =
+        Done helper old before new after (silent_both setup sits place view serves service_view told old before mid between new after last silent)
+    works_then new after (Silent helper old before next moved stopped left mid between first more) silent =
+        Silent helper old before next moved stopped left new after first (works_then new after more silent)
+    works_then new after (Gets helper old before next moved stopped left mid between gets more) silent =
+        Gets helper old before next moved stopped left new after gets (works_then new after more silent)
+    works_then new after (Helped helper old before asking asker helped freed stopped left mid between stalls out helps_ more) silent =
+        Helped helper old before asking asker helped freed stopped left new after stalls out helps_ (works_then new after more silent)
+    works_then new after (Refused helper old before asking asker left kept mid between stalls out helps_ last) silent =
+        Refused helper old before asking asker left kept new after stalls out helps_ (silent_both setup sits place view serves service_view told kept asker mid between new after last silent)
+    works_then new after (Lost helper old before out_table out_seat mid between drops out last) silent =
+        Lost helper old before out_table out_seat new after drops out (silent_both setup sits place view serves service_view told out_table out_seat mid between new after last silent)
+
+    -- or those that note the call
+    works_last : {helper left : H} {old mid : T} {before between : W} {stopped : Bool} (new : T) (after : W)
+        → Works policy (IsSilent setup sits place view serves service_view told) (IsSilent setup sits place view serves service_view told) (GetsChunk setup sits place view serves service_view told route) (IsOutNow setup sits place view serves service_view told route) asks helper old before stopped left mid between
         → IsQuiet setup sits place view serves service_view told mid between new after
-        → Works policy (IsQuiet setup sits place view serves service_view told) (GetsChunk setup sits place view serves service_view told route) (IsOutNow setup sits place view serves service_view told route) asks helper old before stopped left new after
-    works_then new after (Done helper old before) quiet = Quiet helper old before new after false helper new after quiet (Done helper new after)
-    works_then new after (Quiet helper old before next moved stopped left mid between first more) quiet =
-        Quiet helper old before next moved stopped left new after first (works_then new after more quiet)
-    works_then new after (Gets helper old before next moved stopped left mid between gets more) quiet =
-        Gets helper old before next moved stopped left new after gets (works_then new after more quiet)
-    works_then new after (Helped helper old before asking asker helped freed stopped left mid between stalls out helps_ more) quiet =
-        Helped helper old before asking asker helped freed stopped left new after stalls out helps_ (works_then new after more quiet)
-    works_then new after (Refused helper old before asking asker left kept mid between stalls out helps_ last) quiet =
-        Refused helper old before asking asker left kept new after stalls out helps_ (quiet_both setup sits place view serves service_view told kept asker mid between new after last quiet)
-    works_then new after (Lost helper old before mid between drops out) quiet =
-        Lost helper old before new after drops (out_then setup sits place view serves service_view told route old before mid between new after out quiet)
+        → Works policy (IsSilent setup sits place view serves service_view told) (IsQuiet setup sits place view serves service_view told) (GetsChunk setup sits place view serves service_view told route) (IsOutNow setup sits place view serves service_view told route) asks helper old before stopped left new after
+    works_last new after (Done helper old before mid between last) quiet =
+        Done helper old before new after (quiet_both setup sits place view serves service_view told old before mid between new after last.quiet quiet)
+    works_last new after (Silent helper old before next moved stopped left mid between first more) quiet =
+        Silent helper old before next moved stopped left new after first (works_last new after more quiet)
+    works_last new after (Gets helper old before next moved stopped left mid between gets more) quiet =
+        Gets helper old before next moved stopped left new after gets (works_last new after more quiet)
+    works_last new after (Helped helper old before asking asker helped freed stopped left mid between stalls out helps_ more) quiet =
+        Helped helper old before asking asker helped freed stopped left new after stalls out helps_ (works_last new after more quiet)
+    works_last new after (Refused helper old before asking asker left kept mid between stalls out helps_ last) quiet =
+        Refused helper old before asking asker left kept new after stalls out helps_ (quiet_both setup sits place view serves service_view told kept asker mid between new after last.quiet quiet)
+    works_last new after (Lost helper old before out_table out_seat mid between drops out last) quiet =
+        Lost helper old before out_table out_seat new after drops out (quiet_both setup sits place view serves service_view told out_table out_seat mid between new after last.quiet quiet)
 
   quiet_counts : (old : T) (seat : W) (new : T) (after : W) → IsQuiet setup sits place view serves service_view told old seat new after
       → length (view new after).asked + length (view new after).begun ≡ length (view old seat).asked + length (view old seat).begun
   quiet_counts old seat new after quiet =
       let asks = ap length quiet.asked in let chunks = keeps_long (view old seat).begun (view new after).begun quiet.chunks in omega (arith, asks, chunks)
 
-  pub work_own : (route : Route) (helper : H) (old : T) (seat : W) (new : T) (after : W) (steps : ℕ)
-      → ((helper : H) (old new : T) (seat after : W) → IsWriterStep setup sits place view serves service_view old seat new after → needs helper old → needs helper new)
-      → needs helper old → IsQuiet setup sits place view serves service_view told old seat new after
-      → IsWork setup sits place view serves service_view told needs helps route helper old seat steps false helper new after steps
-  work_own route helper old seat new after steps keeps needed quiet = record {
-    others = leaves_own old seat new after quiet.step;
-    works = Quiet helper old seat new after false helper new after quiet (Done helper new after);
-    needed = keeps helper old new seat after quiet.step needed;
-    counts = ap (λ (n : ℕ). steps + n) (sym (quiet_counts old seat new after quiet));
-  }
-
   -- nothing was done
   pub work_none : (route : Route) (helper : H) (table : T) (seat : W) (steps : ℕ) → sits table seat → needs helper table
       → IsWork setup sits place view serves service_view told needs helps route helper table seat steps false helper table seat steps
   work_none route helper table seat steps there needed = record {
     others = leaves_own table seat table seat (stays setup sits place view serves service_view table seat there);
-    works = Done helper table seat;
+    works = Done helper table seat table seat (silent_none setup sits place view serves service_view told table seat there);
     needed = needed;
     counts = refl;
   }
@@ -114,29 +126,30 @@ module _ {H T W S : Type 0} (setup : T → Setup) (sits : T → W → Type 0) (p
     counts = let first = one.counts in let second = two.counts in omega (arith, first, second);
   }
 
-  -- quiet steps come first
+  -- silent steps come first
   pub work_before : (route : Route) (helper : H) (old : T) (before : W) (steps : ℕ) (mid : T) (between : W) (stopped : Bool) (left : H) (new : T) (after : W) (later : ℕ)
-      → IsQuiet setup sits place view serves service_view told old before mid between
+      → IsSilent setup sits place view serves service_view told old before mid between
       → IsWork setup sits place view serves service_view told needs helps route helper mid between steps stopped left new after later
       → IsWork setup sits place view serves service_view told needs helps route helper old before steps stopped left new after later
-  work_before route helper old before steps mid between stopped left new after later quiet two = record {
-    others = leaves_both old before mid between new after (leaves_own old before mid between quiet.step) two.others;
-    works = Quiet helper old before mid between stopped left new after quiet two.works;
+  work_before route helper old before steps mid between stopped left new after later silent two = record {
+    others = leaves_both old before mid between new after (leaves_own old before mid between silent.quiet.step) two.others;
+    works = Silent helper old before mid between stopped left new after silent two.works;
     needed = two.needed;
-    counts = let first = quiet_counts old before mid between quiet in let second = two.counts in omega (arith, first, second);
+    counts = let first = quiet_counts old before mid between silent.quiet in let second = two.counts in omega (arith, first, second);
   }
 
   -- or last
   pub work_then : (route : Route) (helper : H) (old : T) (before : W) (steps : ℕ) (stopped : Bool) (left : H) (mid : T) (between : W) (later : ℕ) (new : T) (after : W)
       → ((helper : H) (old new : T) (seat after : W) → IsWriterStep setup sits place view serves service_view old seat new after → needs helper old → needs helper new)
       → IsWork setup sits place view serves service_view told needs helps route helper old before steps stopped left mid between later
-      → IsQuiet setup sits place view serves service_view told mid between new after
+      → IsSilent setup sits place view serves service_view told mid between new after
       → IsWork setup sits place view serves service_view told needs helps route helper old before steps stopped left new after later
-  work_then route helper old before steps stopped left mid between later new after keeps one quiet = record {
-    others = leaves_both old before mid between new after one.others (leaves_own mid between new after quiet.step);
-    works = works_then route.spec.policy route (λ asked table answer behind freed. helps asked table route.spec.producer answer behind freed × LeavesWriters setup sits view table freed) new after one.works quiet;
-    needed = keeps left mid new between after quiet.step one.needed;
-    counts = let first = quiet_counts mid between new after quiet in let second = one.counts in omega (arith, first, second);
+  work_then route helper old before steps stopped left mid between later new after keeps one silent = record {
+    others = leaves_both old before mid between new after one.others (leaves_own mid between new after silent.quiet.step);
+    works = works_then route.spec.policy route (λ asked table answer behind freed. helps asked table route.spec.producer answer behind freed × LeavesWriters setup sits view table freed)
+        new after one.works silent;
+    needed = keeps left mid new between after silent.quiet.step one.needed;
+    counts = let first = quiet_counts mid between new after silent.quiet in let second = one.counts in omega (arith, first, second);
   }
 
   -- a chunk was claimed and begun
@@ -147,7 +160,7 @@ module _ {H T W S : Type 0} (setup : T → Setup) (sits : T → W → Type 0) (p
       → IsWork setup sits place view serves service_view told needs helps route helper old seat steps false helper new after later
   work_gets route helper old seat steps new after later keeps needed gets counts = record {
     others = leaves_own old seat new after gets.step;
-    works = Gets helper old seat new after false helper new after gets (Done helper new after);
+    works = Gets helper old seat new after false helper new after gets (Done helper new after new after (silent_none setup sits place view serves service_view told new after gets.step.seat_stays));
     needed = keeps helper old new seat after gets.step needed;
     counts = counts;
   }
@@ -160,7 +173,8 @@ module _ {H T W S : Type 0} (setup : T → Setup) (sits : T → W → Type 0) (p
       → IsWork setup sits place view serves service_view told needs helps route helper old seat steps false helped freed asker later
   work_helped route helper old seat steps asking asker later helped freed stalls out helps_ leaves needed counts = record {
     others = leaves_both old seat asking asker freed asker (leaves_own old seat asking asker out.step) (leaves_help asking asker freed out.step.seat_stays leaves);
-    works = Helped helper old seat asking asker helped freed false helped freed asker stalls out (helps_, leaves) (Done helped freed asker);
+    works = Helped helper old seat asking asker helped freed false helped freed asker stalls out (helps_, leaves)
+        (Done helped freed asker freed asker (silent_none setup sits place view serves service_view told freed asker (leaves.writers_stay asker out.step.seat_stays).0));
     needed = needed;
     counts = subst (λ (v : WriterView). later + (length (view old seat).asked + length (view old seat).begun) ≡ steps + (length v.asked + length v.begun))
         (sym (leaves.writers_stay asker out.step.seat_stays).1) counts;
@@ -174,7 +188,7 @@ module _ {H T W S : Type 0} (setup : T → Setup) (sits : T → W → Type 0) (p
       → IsWork setup sits place view serves service_view told needs helps route helper old seat steps true left new asker later
   work_refused route helper old seat steps asking asker later left new stalls out helps_ leaves needed counts = record {
     others = leaves_both old seat asking asker new asker (leaves_own old seat asking asker out.step) (leaves_help asking asker new out.step.seat_stays leaves);
-    works = Refused helper old seat asking asker left new new asker stalls out (helps_, leaves) (quiet_none setup sits place view serves service_view told new asker (leaves.writers_stay asker out.step.seat_stays).0);
+    works = Refused helper old seat asking asker left new new asker stalls out (helps_, leaves) (silent_none setup sits place view serves service_view told new asker (leaves.writers_stay asker out.step.seat_stays).0);
     needed = needed;
     counts = subst (λ (v : WriterView). later + (length (view old seat).asked + length (view old seat).begun) ≡ steps + (length v.asked + length v.begun))
         (sym (leaves.writers_stay asker out.step.seat_stays).1) counts;
@@ -188,29 +202,61 @@ module _ {H T W S : Type 0} (setup : T → Setup) (sits : T → W → Type 0) (p
       → IsWork setup sits place view serves service_view told needs helps route helper old seat steps true helper new after later
   work_lost route helper old seat steps new after later keeps needed drops out counts = record {
     others = leaves_own old seat new after out.step;
-    works = Lost helper old seat new after drops out;
+    works = Lost helper old seat new after new after drops out (silent_none setup sits place view serves service_view told new after out.step.seat_stays);
     needed = keeps helper old new seat after out.step needed;
     counts = counts;
   }
 
+  -- A call, behind which it is noted
+
+  pub asked_of : (route : Route) (helper : H) (old : T) (before : W) (steps : ℕ) (stopped : Bool) (noted : List Call) (stalled : Bool) (left : H) (mid : T) (between : W) (later : ℕ) (new : T) (after : W)
+      → ((helper : H) (old new : T) (seat after : W) → IsWriterStep setup sits place view serves service_view old seat new after → needs helper old → needs helper new)
+      → IsWork setup sits place view serves service_view told needs helps route helper old before steps stopped left mid between later
+      → IsQuiet setup sits place view serves service_view told mid between new after
+      → (view new after).calls ≡ (view old before).calls ++ noted → stalled ≡ refuses route.spec.policy stopped
+      → IsAsked setup sits place view serves service_view told needs helps route helper old before steps stopped noted stalled left new after later
+  asked_of route helper old before steps stopped noted stalled left mid between later new after keeps one quiet notes stalls =
+      let works = works_last route.spec.policy route (λ asked table answer behind freed. helps asked table route.spec.producer answer behind freed × LeavesWriters setup sits view table freed)
+      new after one.works quiet in
+      let first = quiet_counts mid between new after quiet in let second = one.counts in
+      record {
+        others = leaves_both old before mid between new after one.others (leaves_own mid between new after quiet.step);
+        works = works;
+        needed = keeps left mid new between after quiet.step one.needed;
+        counts = omega (arith, first, second);
+        notes = notes;
+        stalls = stalls;
+        few_steps = works_few setup sits place view serves service_view told route.spec.policy route _ helper old before steps stopped left new after later works (omega (arith, first, second));
+      }
+
+  -- the call was noted alone
+  pub asked_alone : (route : Route) (helper : H) (old : T) (seat : W) (steps : ℕ) (noted : List Call) (stalled : Bool) (new : T) (after : W) → sits old seat
+      → ((helper : H) (old new : T) (seat after : W) → IsWriterStep setup sits place view serves service_view old seat new after → needs helper old → needs helper new)
+      → needs helper old → IsQuiet setup sits place view serves service_view told old seat new after
+      → (view new after).calls ≡ (view old seat).calls ++ noted → stalled ≡ refuses route.spec.policy false
+      → IsAsked setup sits place view serves service_view told needs helps route helper old seat steps false noted stalled helper new after steps
+  asked_alone route helper old seat steps noted stalled new after there keeps needed quiet notes stalls =
+      asked_of route helper old seat steps false noted stalled helper old seat steps new after keeps (work_none route helper old seat steps there needed) quiet notes stalls
+
   -- a writer that drops asks for no help
-  pub work_alone : (route : Route) (helper : H) (old : T) (seat : W) (steps : ℕ) (stopped : Bool) (left : H) (new : T) (after : W) (later : ℕ) → sits old seat
-      → IsWork setup sits place view serves service_view told needs helps route helper old seat steps stopped left new after later → route.spec.policy ≡ Drops
+  pub asked_drops : (route : Route) (helper : H) (old : T) (seat : W) (steps : ℕ) (stopped : Bool) (noted : List Call) (stalled : Bool) (left : H) (new : T) (after : W) (later : ℕ) → sits old seat
+      → IsAsked setup sits place view serves service_view told needs helps route helper old seat steps stopped noted stalled left new after later → route.spec.policy ≡ Drops
       → (left ≡ helper) × IsWriterStep setup sits place view serves service_view old seat new after
-  work_alone route helper old seat steps stopped left new after later there work drops = alone there work.works
+  asked_drops route helper old seat steps stopped noted stalled left new after later there asked drops = alone there asked.works
     where
       alone : {helper left : H} {old new : T} {seat after : W} {stopped : Bool} → sits old seat
-          → Works route.spec.policy (IsQuiet setup sits place view serves service_view told) (GetsChunk setup sits place view serves service_view told route)
-          (IsOutNow setup sits place view serves service_view told route) (λ asked table answer behind freed. helps asked table route.spec.producer answer behind freed × LeavesWriters setup sits view table freed)
+          → Works route.spec.policy (IsSilent setup sits place view serves service_view told) (IsQuiet setup sits place view serves service_view told) (GetsChunk setup sits place view serves service_view told route) (IsOutNow setup sits place view serves service_view told route)
+          (λ asked table answer behind freed. helps asked table route.spec.producer answer behind freed × LeavesWriters setup sits view table freed)
           helper old seat stopped left new after
           → (left ≡ helper) × IsWriterStep setup sits place view serves service_view old seat new after
-      alone there (Done helper old seat) = (refl, stays setup sits place view serves service_view old seat there)
-      alone there (Quiet helper old seat next moved stopped left new after quiet more) =
-          let rest = alone quiet.step.seat_stays more in
-          (rest.0, steps_follow setup sits place view serves service_view old seat next moved new after quiet.step rest.1)
+      alone there (Done helper old seat new after last) = (refl, last.step)
+      alone there (Silent helper old seat next moved stopped left new after silent more) =
+          let rest = alone silent.quiet.step.seat_stays more in
+          (rest.0, steps_follow setup sits place view serves service_view old seat next moved new after silent.quiet.step rest.1)
       alone there (Gets helper old seat next moved stopped left new after gets more) =
           let rest = alone gets.step.seat_stays more in
           (rest.0, steps_follow setup sits place view serves service_view old seat next moved new after gets.step rest.1)
       alone there (Helped helper old seat asking asker helped freed stopped left new after stalls out helps_ more) = absurd (let same : Drops ≡ Stalls = sym drops ∙ stalls in cc)
       alone there (Refused helper old seat asking asker left kept new after stalls out helps_ last) = absurd (let same : Drops ≡ Stalls = sym drops ∙ stalls in cc)
-      alone there (Lost helper old seat new after lost out) = (refl, out.step)
+      alone there (Lost helper old seat mid between new after lost out last) =
+          (refl, steps_follow setup sits place view serves service_view old seat mid between new after out.step last.step)

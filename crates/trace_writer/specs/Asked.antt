@@ -10,7 +10,8 @@ use Rattle.trace_writer.specs.declared.fault.Begun.{Begun as BegunPacket}
 use Rattle.trace_writer.specs.declared.fault.Begun.TheVariants.{Kept, Dropping}
 use Rattle.trace_writer.specs.declared.fault.CallFault.{CallFault}
 use Rattle.trace_writer.specs.declared.route.Route.{Route}
-use Rattle.trace_writer.specs.Helping.{IsWork, refuses}
+use Rattle.trace_writer.specs.Helping.{LeavesWriters, LeavesOthers, Works, refuses}
+use Rattle.trace_writer.specs.OwnSteps.{IsQuiet, IsSilent, GetsChunk, IsOutNow}
 
 -- What is noted of a field call. Where it stops since no chunk is to be had, a writer that drops gives its packet up.
 abbrev pub written_as : Bool → WriterPolicy → Call → List Call
@@ -36,15 +37,22 @@ stops_with (Err fault) = true
 pub record IsAsked {H T W S : Type 0} (setup : T → Setup) (sits : T → W → Type 0) (place : W → ℕ) (view : T → W → WriterView)
     (serves : T → S → Type 0) (service_view : T → S → ServiceView) (told : T → Option World) (needs : H → T → Type 0) (helps : H → T → ℕ → Bool → H → T → Type 0)
     (route : Route) (helper : H) (old : T) (seat : W) (steps : ℕ) (stopped : Bool) (noted : List Call) (stalled : Bool) (left : H) (new : T) (after : W) (later : ℕ) : Type 0 where
-  pub work : IsWork setup sits place view serves service_view told needs helps route helper old seat steps stopped left new after later
+  pub others : LeavesOthers setup sits place view old seat new after
+  pub works : Works route.spec.policy (IsSilent setup sits place view serves service_view told) (IsQuiet setup sits place view serves service_view told)
+      (GetsChunk setup sits place view serves service_view told route) (IsOutNow setup sits place view serves service_view told route)
+      (λ asked table answer behind freed. helps asked table route.spec.producer answer behind freed × LeavesWriters setup sits view table freed)
+      helper old seat stopped left new after
+  pub needed : needs left new
+  pub counts : later + (length (view old seat).asked + length (view old seat).begun) ≡ steps + (length (view new after).asked + length (view new after).begun)
   pub notes : (view new after).calls ≡ (view old seat).calls ++ noted
   pub stalls : stalled ≡ refuses route.spec.policy stopped
   pub few_steps : route.spec.policy ≡ Drops → later ≤ steps
       + (length (view new after).begun - length (view old seat).begun) * (route.arbiter.chunks + 1) + (if stopped then route.arbiter.chunks else 0)
 
 -- The call was refused for this fault, and changed nothing.
-pub record LeavesAll {A C T H : Type 0} (fault : CallFault) (answer : Result A CallFault) (old new : C) (table left : T) (helper behind : H) : Type 0 where
+pub record LeavesAll {A C T H : Type 0} (fault : CallFault) (answer : Result A CallFault) (old new : C) (table left : T) (helper behind : H) (steps later : ℕ) : Type 0 where
   pub answer_is : answer ≡ Err fault
   pub writer_stays : new ≡ old
   pub table_stays : left ≡ table
   pub helper_stays : behind ≡ helper
+  pub steps_stay : later ≡ steps

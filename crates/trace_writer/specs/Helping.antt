@@ -6,7 +6,7 @@ use Rattle.chunk_plain.specs.Setup.{Setup}
 use Rattle.chunk_plain.specs.Views.{WriterView, ServiceView}
 use Rattle.chunk_plain.specs.World.{World}
 use Rattle.trace_writer.specs.declared.route.Route.{Route}
-use Rattle.trace_writer.specs.OwnSteps.{IsQuiet, GetsChunk, IsOutNow}
+use Rattle.trace_writer.specs.OwnSteps.{IsSilent, GetsChunk, IsOutNow}
 
 -- a help leaves the view of each writer's seat
 pub record LeavesWriters {T W : Type 0} (setup : T → Setup) (sits : T → W → Type 0) (view : T → W → WriterView) (old new : T) : Type 0 where
@@ -21,37 +21,40 @@ pub record LeavesOthers {T W : Type 0} (setup : T → Setup) (sits : T → W →
   pub place_stays : place after ≡ place seat
   pub writers_stay : (other : W) → sits old other → place other ≢ place seat → sits new other × (view new other ≡ view old other)
 
--- What a writer does for a call, with the helps that it asks for: its own quiet steps, and for each further chunk the claims by
--- which it gets one. A writer that stalls asks for a help where it is out of chunks, and claims again behind one that freed a
--- chunk; it stops (true) behind one that freed none. A writer that drops stops where it is out of chunks. Each help is asked for
--- behind a full round of claims of its own, and a writer that stops claims no more.
-pub data Works {H T W : Type 0} (policy : WriterPolicy) (quiet gets out : T → W → T → W → Type 0) (helps : H → T → Bool → H → T → Type 0)
+-- What a writer does for a call, with the helps that it asks for: silent steps, and for each further chunk the claims by which it
+-- gets one; only its last steps note calls. A writer that stalls asks for a help where it is out of chunks, and claims again
+-- behind one that freed a chunk; it stops (true) behind one that freed none. A writer that drops stops where it is out of
+-- chunks. Each help is asked for behind a full round of claims of its own, and a writer that stops claims no more.
+pub data Works {H T W : Type 0} (policy : WriterPolicy) (silent last gets out : T → W → T → W → Type 0) (helps : H → T → Bool → H → T → Type 0)
     : H → T → W → Bool → H → T → W → Type 0 where
-  Done : (helper : H) (table : T) (seat : W) → Works policy quiet gets out helps helper table seat false helper table seat
-  Quiet : (helper : H) (old : T) (seat : W) (next : T) (moved : W) (stopped : Bool) (left : H) (new : T) (after : W)
-      → quiet old seat next moved → Works policy quiet gets out helps helper next moved stopped left new after
-      → Works policy quiet gets out helps helper old seat stopped left new after
+  Done : (helper : H) (old : T) (seat : W) (new : T) (after : W) → last old seat new after
+      → Works policy silent last gets out helps helper old seat false helper new after
+  Silent : (helper : H) (old : T) (seat : W) (next : T) (moved : W) (stopped : Bool) (left : H) (new : T) (after : W)
+      → silent old seat next moved → Works policy silent last gets out helps helper next moved stopped left new after
+      → Works policy silent last gets out helps helper old seat stopped left new after
   Gets : (helper : H) (old : T) (seat : W) (next : T) (moved : W) (stopped : Bool) (left : H) (new : T) (after : W)
-      → gets old seat next moved → Works policy quiet gets out helps helper next moved stopped left new after
-      → Works policy quiet gets out helps helper old seat stopped left new after
+      → gets old seat next moved → Works policy silent last gets out helps helper next moved stopped left new after
+      → Works policy silent last gets out helps helper old seat stopped left new after
   Helped : (helper : H) (old : T) (seat : W) (asking : T) (asker : W) (helped : H) (freed : T) (stopped : Bool) (left : H) (new : T) (after : W)
       → policy ≡ Stalls → out old seat asking asker → helps helper asking true helped freed
-      → Works policy quiet gets out helps helped freed asker stopped left new after
-      → Works policy quiet gets out helps helper old seat stopped left new after
+      → Works policy silent last gets out helps helped freed asker stopped left new after
+      → Works policy silent last gets out helps helper old seat stopped left new after
   Refused : (helper : H) (old : T) (seat : W) (asking : T) (asker : W) (left : H) (kept : T) (new : T) (after : W)
-      → policy ≡ Stalls → out old seat asking asker → helps helper asking false left kept → quiet kept asker new after
-      → Works policy quiet gets out helps helper old seat true left new after
-  Lost : (helper : H) (old : T) (seat : W) (new : T) (after : W)
-      → policy ≡ Drops → out old seat new after → Works policy quiet gets out helps helper old seat true helper new after
+      → policy ≡ Stalls → out old seat asking asker → helps helper asking false left kept → last kept asker new after
+      → Works policy silent last gets out helps helper old seat true left new after
+  Lost : (helper : H) (old : T) (seat : W) (mid : T) (between : W) (new : T) (after : W)
+      → policy ≡ Drops → out old seat mid between → last mid between new after
+      → Works policy silent last gets out helps helper old seat true helper new after
 
--- What a writer's call does to its table, its seat and its helper, whether it stops since no chunk is to be had, and its steps:
--- each claim is one, and each begin of a chunk.
+-- What a writer does to its table, its seat and its helper before it notes its call, whether it stops since no chunk is to be had,
+-- and its steps: each claim is one, and each begin of a chunk.
 pub record IsWork {H T W S : Type 0} (setup : T → Setup) (sits : T → W → Type 0) (place : W → ℕ) (view : T → W → WriterView)
     (serves : T → S → Type 0) (service_view : T → S → ServiceView) (told : T → Option World) (needs : H → T → Type 0) (helps : H → T → ℕ → Bool → H → T → Type 0)
     (route : Route) (helper : H) (old : T) (seat : W) (steps : ℕ) (stopped : Bool) (left : H) (new : T) (after : W) (later : ℕ) : Type 0 where
   pub others : LeavesOthers setup sits place view old seat new after
-  pub works : Works route.spec.policy (IsQuiet setup sits place view serves service_view told) (GetsChunk setup sits place view serves service_view told route)
-      (IsOutNow setup sits place view serves service_view told route) (λ asked table answer behind freed. helps asked table route.spec.producer answer behind freed × LeavesWriters setup sits view table freed)
+  pub works : Works route.spec.policy (IsSilent setup sits place view serves service_view told) (IsSilent setup sits place view serves service_view told)
+      (GetsChunk setup sits place view serves service_view told route) (IsOutNow setup sits place view serves service_view told route)
+      (λ asked table answer behind freed. helps asked table route.spec.producer answer behind freed × LeavesWriters setup sits view table freed)
       helper old seat stopped left new after
   pub needed : needs left new
   pub counts : later + (length (view old seat).asked + length (view old seat).begun) ≡ steps + (length (view new after).asked + length (view new after).begun)

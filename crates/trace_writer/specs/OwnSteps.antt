@@ -38,6 +38,12 @@ pub record IsQuiet {T W S : Type 0} (setup : T → Setup) (sits : T → W → Ty
   pub chunks : KeepsChunks (view old seat).begun (view new after).begun
   pub frees_none : FreesNone told old new
 
+-- and notes no call
+pub record IsSilent {T W S : Type 0} (setup : T → Setup) (sits : T → W → Type 0) (place : W → ℕ) (view : T → W → WriterView)
+    (serves : T → S → Type 0) (service_view : T → S → ServiceView) (told : T → Option World) (old : T) (seat : W) (new : T) (after : W) : Type 0 where
+  pub quiet : IsQuiet setup sits place view serves service_view told old seat new after
+  pub calls : (view new after).calls ≡ (view old seat).calls
+
 -- The writer gets a chunk: it asks for those of its producer in rising order until a claim wins, and begins that one.
 pub record GetsChunk {T W S : Type 0} (setup : T → Setup) (sits : T → W → Type 0) (place : W → ℕ) (view : T → W → WriterView)
     (serves : T → S → Type 0) (service_view : T → S → ServiceView) (told : T → Option World) (route : Route) (old : T) (seat : W) (new : T) (after : W) : Type 0 where
@@ -68,6 +74,6 @@ abbrev pub MakesRound : {T W S : Type 0} (setup : T → Setup) (sits : T → W �
     (serves : T → S → Type 0) (service_view : T → S → ServiceView) (told : T → Option World) → Route → Bool → T → W → T → W → Type 0
 MakesRound {T} {W} setup sits place view serves service_view told route false old seat new after =
     (mid : T) × (between : W) × GetsChunk setup sits place view serves service_view told route old seat mid between
-    × IsQuiet setup sits place view serves service_view told mid between new after
+    × IsSilent setup sits place view serves service_view told mid between new after
 MakesRound setup sits place view serves service_view told route true old seat new after =
     IsOutNow setup sits place view serves service_view told route old seat new after

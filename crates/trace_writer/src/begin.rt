@@ -191,7 +191,7 @@ pub(crate) fn begin<W: Words, L: Ledger, H: HelperOn<W>>(
     ensures agrees { Agrees (W.setup table.old) (W.place seat.old) (W.view table.new seat.new) writer.new }
     ensures route { writer.new.route ≡ writer.old.route }
     ensures stays { is_stalled_state writer.old.state ≡ true
-        → (result ≡ Err call_fault.Stalled) × (writer.new ≡ writer.old) × (table.new ≡ table.old) × (seat.new ≡ seat.old) × (help.new ≡ help.old) }
+        → (result ≡ Err call_fault.Stalled) × (writer.new ≡ writer.old) × (table.new ≡ table.old) × (seat.new ≡ seat.old) × (help.new ≡ help.old) × (steps.new ≡ steps.old) }
     ensures answers { is_stalled_state writer.old.state ≡ false
         → MatchResult result (λ _. is_stalled_state writer.new.state ≡ false) (λ fault. (fault ≡ call_fault.Stalled) × (is_stalled_state writer.new.state ≡ true)) }
     ensures done { is_stalled_state writer.old.state ≡ false

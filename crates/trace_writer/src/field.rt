@@ -46,7 +46,7 @@ pub(crate) fn write_field<W: Words, L: Ledger, H: HelperOn<W>>(
     ensures agrees { Agrees (W.setup table.old) (W.place seat.old) (W.view table.new seat.new) writer.new }
     ensures route { writer.new.route ≡ writer.old.route }
     ensures stays { is_stalled_state writer.old.state ≡ true
-        → (result ≡ Err call_fault.Stalled) × (writer.new ≡ writer.old) × (table.new ≡ table.old) × (seat.new ≡ seat.old) × (help.new ≡ help.old) }
+        → (result ≡ Err call_fault.Stalled) × (writer.new ≡ writer.old) × (table.new ≡ table.old) × (seat.new ≡ seat.old) × (help.new ≡ help.old) × (steps.new ≡ steps.old) }
     ensures answers { is_stalled_state writer.old.state ≡ false
         → MatchResult result (λ _. is_stalled_state writer.new.state ≡ false) (λ fault. (fault ≡ call_fault.Stalled) × (is_stalled_state writer.new.state ≡ true)) }
     ensures done { is_stalled_state writer.old.state ≡ false → (stopped : Bool)
@@ -84,7 +84,7 @@ fn write_field_on<W: Words, L: Ledger, H: HelperOn<W>>(
     ensures agrees { Agrees (W.setup table.old) (W.place seat.old) (W.view table.new seat.new) writer.new }
     ensures route { writer.new.route ≡ writer.old.route }
     ensures stays { is_stalled_state writer.old.state ≡ true
-        → (result ≡ Err call_fault.Stalled) × (writer.new ≡ writer.old) × (table.new ≡ table.old) × (seat.new ≡ seat.old) × (help.new ≡ help.old) }
+        → (result ≡ Err call_fault.Stalled) × (writer.new ≡ writer.old) × (table.new ≡ table.old) × (seat.new ≡ seat.old) × (help.new ≡ help.old) × (steps.new ≡ steps.old) }
     ensures answers { is_stalled_state writer.old.state ≡ false
         → MatchResult result (λ _. is_stalled_state writer.new.state ≡ false) (λ fault. (fault ≡ call_fault.Stalled) × (is_stalled_state writer.new.state ≡ true)) }
     ensures done { is_stalled_state writer.old.state ≡ false → (stopped : Bool)
@@ -141,7 +141,7 @@ pub(crate) fn write_nested<W: Words, L: Ledger, H: HelperOn<W>>(
     ensures agrees { Agrees (W.setup table.old) (W.place seat.old) (W.view table.new seat.new) writer.new }
     ensures route { writer.new.route ≡ writer.old.route }
     ensures stays { is_stalled_state writer.old.state ≡ true
-        → (result ≡ Err call_fault.Stalled) × (writer.new ≡ writer.old) × (table.new ≡ table.old) × (seat.new ≡ seat.old) × (help.new ≡ help.old) }
+        → (result ≡ Err call_fault.Stalled) × (writer.new ≡ writer.old) × (table.new ≡ table.old) × (seat.new ≡ seat.old) × (help.new ≡ help.old) × (steps.new ≡ steps.old) }
     ensures answers { is_stalled_state writer.old.state ≡ false
         → MatchResult result (λ _. is_stalled_state writer.new.state ≡ false) (λ fault. (fault ≡ call_fault.Stalled) × (is_stalled_state writer.new.state ≡ true)) }
     ensures done { is_stalled_state writer.old.state ≡ false → (stopped : Bool)
@@ -178,7 +178,7 @@ fn write_nested_on<W: Words, L: Ledger, H: HelperOn<W>>(
     ensures agrees { Agrees (W.setup table.old) (W.place seat.old) (W.view table.new seat.new) writer.new }
     ensures route { writer.new.route ≡ writer.old.route }
     ensures stays { is_stalled_state writer.old.state ≡ true
-        → (result ≡ Err call_fault.Stalled) × (writer.new ≡ writer.old) × (table.new ≡ table.old) × (seat.new ≡ seat.old) × (help.new ≡ help.old) }
+        → (result ≡ Err call_fault.Stalled) × (writer.new ≡ writer.old) × (table.new ≡ table.old) × (seat.new ≡ seat.old) × (help.new ≡ help.old) × (steps.new ≡ steps.old) }
     ensures answers { is_stalled_state writer.old.state ≡ false
         → MatchResult result (λ _. is_stalled_state writer.new.state ≡ false) (λ fault. (fault ≡ call_fault.Stalled) × (is_stalled_state writer.new.state ≡ true)) }
     ensures done { is_stalled_state writer.old.state ≡ false → (stopped : Bool)

@@ -90,7 +90,7 @@ impl<S> WriterCore<S> {
         ensures needs { H.needs help.new table.new }
         ensures others { LeavesOthers W.setup W.sits W.place W.view table.old self.old.seat table.new self.new.seat }
         ensures refused { (fault : CallFault) → refusal_of self.old None ≡ Some fault
-            → LeavesAll fault result self.old self.new table.old table.new help.old help.new }
+            → LeavesAll fault result self.old self.new table.old table.new help.old help.new steps.old steps.new }
         ensures answers { refusal_of self.old None ≡ None
             → MatchResult result (λ _. is_stalled self.new ≡ false) (λ fault. (fault ≡ call_fault.Stalled) × (is_stalled self.new ≡ true)) }
         ensures done { refusal_of self.old None ≡ None →
@@ -127,7 +127,7 @@ impl<S> WriterCore<S> {
         ensures needs { H.needs help.new table.new }
         ensures others { LeavesOthers W.setup W.sits W.place W.view table.old self.old.seat table.new self.new.seat }
         ensures refused { (fault : CallFault) → refusal_of self.old (field_fault (W.view table.old self.old.seat) field (length (number_field field value))) ≡ Some fault
-            → LeavesAll fault result self.old self.new table.old table.new help.old help.new }
+            → LeavesAll fault result self.old self.new table.old table.new help.old help.new steps.old steps.new }
         ensures answers { refusal_of self.old (field_fault (W.view table.old self.old.seat) field (length (number_field field value))) ≡ None
             → MatchResult result (λ _. is_stalled self.new ≡ false) (λ fault. (fault ≡ call_fault.Stalled) × (is_stalled self.new ≡ true)) }
         ensures done { refusal_of self.old (field_fault (W.view table.old self.old.seat) field (length (number_field field value))) ≡ None → (stopped : Bool) ×
@@ -177,7 +177,7 @@ impl<S> WriterCore<S> {
         ensures needs { H.needs help.new table.new }
         ensures others { LeavesOthers W.setup W.sits W.place W.view table.old self.old.seat table.new self.new.seat }
         ensures refused { (fault : CallFault) → refusal_of self.old (field_fault (W.view table.old self.old.seat) field (bytes_size field times value.now)) ≡ Some fault
-            → LeavesAll fault result self.old self.new table.old table.new help.old help.new }
+            → LeavesAll fault result self.old self.new table.old table.new help.old help.new steps.old steps.new }
         ensures answers { refusal_of self.old (field_fault (W.view table.old self.old.seat) field (bytes_size field times value.now)) ≡ None
             → MatchResult result (λ _. is_stalled self.new ≡ false) (λ fault. (fault ≡ call_fault.Stalled) × (is_stalled self.new ≡ true)) }
         ensures done { refusal_of self.old (field_fault (W.view table.old self.old.seat) field (bytes_size field times value.now)) ≡ None → (stopped : Bool) ×
@@ -234,7 +234,7 @@ impl<S> WriterCore<S> {
         ensures needs { H.needs help.new table.new }
         ensures others { LeavesOthers W.setup W.sits W.place W.view table.old self.old.seat table.new self.new.seat }
         ensures refused { (fault : CallFault) → refusal_of self.old (nested_fault (W.view table.old self.old.seat) field) ≡ Some fault
-            → LeavesAll fault result self.old self.new table.old table.new help.old help.new }
+            → LeavesAll fault result self.old self.new table.old table.new help.old help.new steps.old steps.new }
         ensures answers { refusal_of self.old (nested_fault (W.view table.old self.old.seat) field) ≡ None
             → MatchResult result (λ _. is_stalled self.new ≡ false) (λ fault. (fault ≡ call_fault.Stalled) × (is_stalled self.new ≡ true)) }
         ensures done { refusal_of self.old (nested_fault (W.view table.old self.old.seat) field) ≡ None → (stopped : Bool) ×

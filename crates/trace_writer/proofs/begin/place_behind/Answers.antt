@@ -1,4 +1,5 @@
-use Rattle.std.proofs.Common.{◌∙◌, sym}
+use Rattle.std.proofs.Common.{◌∙◌, sym, ap}
+use Rattle.chunk_plain.specs.Views.{WriterView}
 use Rattle.trace_writer.specs.Site.{site_of}
 use Rattle.trace_writer.proofs.Ending.{behind_holds, behind_head}
 use Rattle.trace_writer.proofs.Idling.{begun_one_more}
@@ -59,4 +60,5 @@ pub returns-clause-work : goal.returns-clause-work
 returns-clause-work g c =
     work_before g.W.Words.setup g.W.Words.sits g.W.Words.place g.W.Words.view g.W.Words.serves g.W.Words.service_view g.W.Words.told g.H.HelperOn.needs g.H.HelperOn.helps
     c.args.route.now c.args.help.now c.args.table.now c.args.seat.now c.args.steps.now c.complete.new.table c.complete.new.seat _ c.new_place.new.help c.new_place.new.table c.new_place.new.seat
-    c.new_place.new.steps c.complete.ensures.quiet c.new_place.ensures.work
+    c.new_place.new.steps
+    (record { quiet = c.complete.ensures.quiet; calls = ap (λ (v : WriterView). v.calls) c.complete.ensures.view }) c.new_place.ensures.work

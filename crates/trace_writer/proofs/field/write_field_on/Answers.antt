@@ -9,10 +9,9 @@ use Rattle.trace_writer.specs.Empty.{is_stalled}
 use Rattle.trace_writer.specs.Flows.{is_stopped}
 use Rattle.trace_writer.proofs.Agreeing.{agrees_behind, agrees_dropping, notes_behind, writing_not_lost, grows_more}
 use Rattle.std.proofs.lemmas.Bool.{true≢false}
-use Rattle.trace_writer.proofs.FewSteps.{asked_of}
 use Rattle.trace_writer.proofs.QuietSteps.{quiet_noted}
 use Rattle.trace_writer.proofs.Stopping.{refuses_none}
-use Rattle.trace_writer.proofs.Working.{work_own, work_then}
+use Rattle.trace_writer.proofs.Working.{asked_of, asked_alone}
 use Rattle.chunk_plain.specs.Views.{WriterView}
 use Rattle.trace_writer.specs.Asked.{written_as}
 use Rattle.trace_writer.proofs.Measuring.{measured_more}
@@ -46,10 +45,8 @@ returns-in-Writing-clause-done g c = λ goes.
       stopped,
       asked_of g.W.Words.setup g.W.Words.sits g.W.Words.place g.W.Words.view g.W.Words.serves g.W.Words.service_view g.W.Words.told g.H.HelperOn.needs g.H.HelperOn.helps
           route c.args.help.now c.args.table.now c.args.seat.now c.args.steps.now stopped (written_as stopped route.spec.policy (call_of c.args.call)) (is_stalled c.go_on.new.writer.state)
-          c.put_field-flow.new.help c.go_on.new.table c.go_on.new.seat c.put_field-flow.new.steps
-          (work_then g.W.Words.setup g.W.Words.sits g.W.Words.place g.W.Words.view g.W.Words.serves g.W.Words.service_view g.W.Words.told g.H.HelperOn.needs g.H.HelperOn.helps
-          route c.args.help.now c.args.table.now c.args.seat.now c.args.steps.now stopped c.put_field-flow.new.help c.put_field-flow.new.table c.put_field-flow.new.seat c.put_field-flow.new.steps
-          c.go_on.new.table c.go_on.new.seat g.met.H.HelperOn.needs_stay c.put_field-flow.ensures.work c.go_on.ensures.quiet)
+          c.put_field-flow.new.help c.put_field-flow.new.table c.put_field-flow.new.seat c.put_field-flow.new.steps c.go_on.new.table c.go_on.new.seat g.met.H.HelperOn.needs_stay
+          c.put_field-flow.ensures.work c.go_on.ensures.quiet
           noted.0 noted.1,
       λ stops. writing_not_lost (g.W.Words.setup c.args.table.now) (g.W.Words.place c.args.seat.now) (g.W.Words.view c.args.table.now c.args.seat.now) c.args.writer.now c.in-Writing.fragment
           c.requires.agrees (sym c.in-Writing.ensures.taken),
@@ -72,13 +69,11 @@ pub returns-in-Dropping-clause-done : goal.returns-in-Dropping-clause-done
 returns-in-Dropping-clause-done g c = λ goes.
     let route = c.args.writer.now.route in (
       false,
-      asked_of g.W.Words.setup g.W.Words.sits g.W.Words.place g.W.Words.view g.W.Words.serves g.W.Words.service_view g.W.Words.told g.H.HelperOn.needs g.H.HelperOn.helps
-          route c.args.help.now c.args.table.now c.args.seat.now c.args.steps.now false ((call_of c.args.call) ∷ []) (is_stalled c.put_state.new.state)
-          c.args.help.now c.note_call.new.self c.note_call.new.seat c.args.steps.now
-          (work_own g.W.Words.setup g.W.Words.sits g.W.Words.place g.W.Words.view g.W.Words.serves g.W.Words.service_view g.W.Words.told g.H.HelperOn.needs g.H.HelperOn.helps
-          route c.args.help.now c.args.table.now c.args.seat.now c.note_call.new.self c.note_call.new.seat c.args.steps.now g.met.H.HelperOn.needs_stay c.requires.needs
+      asked_alone g.W.Words.setup g.W.Words.sits g.W.Words.place g.W.Words.view g.W.Words.serves g.W.Words.service_view g.W.Words.told g.H.HelperOn.needs g.H.HelperOn.helps
+          route c.args.help.now c.args.table.now c.args.seat.now c.args.steps.now ((call_of c.args.call) ∷ []) (is_stalled c.put_state.new.state)
+          c.note_call.new.self c.note_call.new.seat c.requires.seat g.met.H.HelperOn.needs_stay c.requires.needs
           (quiet_noted g.W.Words.setup g.W.Words.sits g.W.Words.place g.W.Words.view g.W.Words.serves g.W.Words.service_view g.W.Words.told
-          c.args.table.now c.args.seat.now c.note_call.new.self c.note_call.new.seat _ _ c.note_call.ensures.step c.note_call.ensures.view c.note_call.ensures.told))
+          c.args.table.now c.args.seat.now c.note_call.new.self c.note_call.new.seat _ _ c.note_call.ensures.step c.note_call.ensures.view c.note_call.ensures.told)
           (ap (λ (v : WriterView). v.calls) c.note_call.ensures.view)
           (ap is_stalled c.put_state.ensures ∙ sym (refuses_none route.spec.policy)),
       λ stops. absurd (true≢false (sym stops)),

@@ -4,10 +4,9 @@ use Rattle.trace_model.specs.Calls as call
 use Rattle.trace_writer.specs.declared.state.Writer.{Writer}
 use Rattle.trace_writer.specs.Empty.{is_empty, is_stalled}
 use Rattle.chunk_plain.specs.Views.{WriterView}
-use Rattle.trace_writer.proofs.FewSteps.{asked_of}
 use Rattle.trace_writer.proofs.QuietSteps.{quiet_noted}
 use Rattle.trace_writer.proofs.Stopping.{refuses_none}
-use Rattle.trace_writer.proofs.Working.{work_own}
+use Rattle.trace_writer.proofs.Working.{asked_alone}
 use Rattle.trace_writer.proofs.InPlace.{few_holes, agrees_opened, needs_empty}
 use Rattle.trace_writer.proofs.field.write_nested.Goals as goal
 
@@ -36,13 +35,11 @@ pub returns-then-put_nested_here-clause-done : goal.returns-then-put_nested_here
 returns-then-put_nested_here-clause-done g c = λ goes.
     let route = c.args.writer.now.route in (
       false,
-      asked_of g.W.Words.setup g.W.Words.sits g.W.Words.place g.W.Words.view g.W.Words.serves g.W.Words.service_view g.W.Words.told g.H.HelperOn.needs g.H.HelperOn.helps
-          route c.args.help.now c.args.table.now c.args.seat.now c.args.steps.now false ((call.Nested c.args.field) ∷ []) (is_stalled c.put_nested_here.new.writer.state)
-          c.args.help.now c.note_call.new.self c.note_call.new.seat c.args.steps.now
-          (work_own g.W.Words.setup g.W.Words.sits g.W.Words.place g.W.Words.view g.W.Words.serves g.W.Words.service_view g.W.Words.told g.H.HelperOn.needs g.H.HelperOn.helps
-          route c.args.help.now c.args.table.now c.args.seat.now c.note_call.new.self c.note_call.new.seat c.args.steps.now g.met.H.HelperOn.needs_stay c.requires.needs
+      asked_alone g.W.Words.setup g.W.Words.sits g.W.Words.place g.W.Words.view g.W.Words.serves g.W.Words.service_view g.W.Words.told g.H.HelperOn.needs g.H.HelperOn.helps
+          route c.args.help.now c.args.table.now c.args.seat.now c.args.steps.now ((call.Nested c.args.field) ∷ []) (is_stalled c.put_nested_here.new.writer.state)
+          c.note_call.new.self c.note_call.new.seat c.requires.seat g.met.H.HelperOn.needs_stay c.requires.needs
           (quiet_noted g.W.Words.setup g.W.Words.sits g.W.Words.place g.W.Words.view g.W.Words.serves g.W.Words.service_view g.W.Words.told
-          c.args.table.now c.args.seat.now c.note_call.new.self c.note_call.new.seat _ _ c.note_call.ensures.step c.note_call.ensures.view c.note_call.ensures.told))
+          c.args.table.now c.args.seat.now c.note_call.new.self c.note_call.new.seat _ _ c.note_call.ensures.step c.note_call.ensures.view c.note_call.ensures.told)
           (ap (λ (v : WriterView). v.calls) c.note_call.ensures.view)
           (ap (λ (writer : Writer). is_stalled writer.state) (c.if-put_nested_here.ensures.puts refl).new_is ∙ sym (refuses_none route.spec.policy)),
       λ stops. absurd (true≢false (sym stops)),

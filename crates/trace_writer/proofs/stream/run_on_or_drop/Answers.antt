@@ -1,9 +1,10 @@
 use Rattle.std.proofs.Common.{◌+◌, length, ap, arith}
+use Rattle.chunk_plain.specs.Views.{WriterView}
 use Rattle.trace_writer.specs.Site.{site_of}
 use Rattle.trace_writer.specs.Headers.{held_head}
 use Rattle.trace_writer.proofs.Asking.{none_yet, wins_in_turn, won_counts, lost_counts, gets_chunk, out_after}
 use Rattle.trace_writer.proofs.KeptChunks.{keeps_long}
-use Rattle.trace_writer.proofs.QuietRows.{quiet_both}
+use Rattle.trace_writer.proofs.QuietRows.{silent_both}
 use Rattle.trace_writer.proofs.RunOn.{next_id, next_id_after, ends_as, held_behind, ended_holds, ended_head, next_first, run_holds, run_follows, goes_on_in, runs_on, cannot_run_on, stopped_holds_none}
 use Rattle.trace_writer.proofs.stream.run_on_or_drop.Goals as goal
 
@@ -104,9 +105,10 @@ returns-clause-round g c =
       c.claim_over.new.seat,
       gets_chunk g.W.Words.setup g.W.Words.sits g.W.Words.place g.W.Words.view g.W.Words.serves g.W.Words.service_view g.W.Words.told
           c.args.route.now c.in-Some.next.chunk _ c.args.table.now c.args.seat.now c.claim_over.new.table c.claim_over.new.seat c.claim_over.ensures.step e.won e.told_won,
-      quiet_both g.W.Words.setup g.W.Words.sits g.W.Words.place g.W.Words.view g.W.Words.serves g.W.Words.service_view g.W.Words.told
+      silent_both g.W.Words.setup g.W.Words.sits g.W.Words.place g.W.Words.view g.W.Words.serves g.W.Words.service_view g.W.Words.told
           c.claim_over.new.table c.claim_over.new.seat c.complete.new.table c.complete.new.seat c.start_fragment.new.table c.start_fragment.new.seat
-          c.complete.ensures.quiet c.start_fragment.ensures.quiet,
+          (record { quiet = c.complete.ensures.quiet; calls = ap (λ (v : WriterView). v.calls) c.complete.ensures.view })
+          (record { quiet = c.start_fragment.ensures.quiet; calls = ap (λ (v : WriterView). v.calls) c.start_fragment.ensures.view }),
     )
 
 pub returns-in_default-clause-counts : goal.returns-in_default-clause-counts

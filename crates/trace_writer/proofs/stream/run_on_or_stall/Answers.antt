@@ -1,5 +1,6 @@
 use Rattle.std.proofs.Common.{◌∙◌, ◌+◌, true, false, length, refl, sym, ap}
 use Rattle.chunk_plain.specs.Setup.{Setup, spot}
+use Rattle.chunk_plain.specs.Views.{WriterView}
 use Rattle.trace_writer.specs.Site.{site_of}
 use Rattle.trace_writer.specs.Headers.{held_head}
 use Rattle.trace_writer.proofs.RunOn.{Starts, next_id, ends_as, held_first, ended_holds, ended_head, next_last, run_holds, run_follows, goes_on_in, runs_on, stopped_holds_none}
@@ -97,10 +98,11 @@ pub returns-in-Some-clause-work : goal.returns-in-Some-clause-work
 returns-in-Some-clause-work g c =
     work_before g.W.Words.setup g.W.Words.sits g.W.Words.place g.W.Words.view g.W.Words.serves g.W.Words.service_view g.W.Words.told g.H.HelperOn.needs g.H.HelperOn.helps
     c.args.route.now c.args.help.now c.args.table.now c.args.seat.now c.args.steps.now c.complete.new.table c.complete.new.seat false c.claim_asking.new.help c.start_fragment.new.table c.start_fragment.new.seat c.claim_asking.new.steps
-    c.complete.ensures.quiet
+    (record { quiet = c.complete.ensures.quiet; calls = ap (λ (v : WriterView). v.calls) c.complete.ensures.view })
     (work_then g.W.Words.setup g.W.Words.sits g.W.Words.place g.W.Words.view g.W.Words.serves g.W.Words.service_view g.W.Words.told g.H.HelperOn.needs g.H.HelperOn.helps
     c.args.route.now c.args.help.now c.complete.new.table c.complete.new.seat c.args.steps.now false c.claim_asking.new.help c.claim_asking.new.table c.claim_asking.new.seat c.claim_asking.new.steps c.start_fragment.new.table c.start_fragment.new.seat
-    g.met.H.HelperOn.needs_stay c.in-Some.ensures.work c.start_fragment.ensures.quiet)
+    g.met.H.HelperOn.needs_stay c.in-Some.ensures.work
+    (record { quiet = c.start_fragment.ensures.quiet; calls = ap (λ (v : WriterView). v.calls) c.start_fragment.ensures.view }))
 
 pub returns-in-None-clause-flow : goal.returns-in-None-clause-flow
 returns-in-None-clause-flow g c =
@@ -120,7 +122,7 @@ pub returns-in-None-clause-work : goal.returns-in-None-clause-work
 returns-in-None-clause-work g c =
     work_before g.W.Words.setup g.W.Words.sits g.W.Words.place g.W.Words.view g.W.Words.serves g.W.Words.service_view g.W.Words.told g.H.HelperOn.needs g.H.HelperOn.helps
     c.args.route.now c.args.help.now c.args.table.now c.args.seat.now c.args.steps.now c.complete.new.table c.complete.new.seat true c.claim_asking.new.help c.claim_asking.new.table c.claim_asking.new.seat c.claim_asking.new.steps
-    c.complete.ensures.quiet c.in-None.ensures.work
+    (record { quiet = c.complete.ensures.quiet; calls = ap (λ (v : WriterView). v.calls) c.complete.ensures.view }) c.in-None.ensures.work
 
 pub claim_asking-requires-clause-none_held : goal.claim_asking-requires-clause-none_held
 claim_asking-requires-clause-none_held g c =

@@ -28,6 +28,7 @@ returns-in_err-check_field-clause-refused g c = λ fault asked.
       writer_stays = refl;
       table_stays = refl;
       helper_stays = refl;
+      steps_stay = refl;
     }
 
 pub returns-in_err-check_field-clause-answers : goal.returns-in_err-check_field-clause-answers
@@ -68,6 +69,7 @@ returns-clause-refused g c = λ fault asked.
           ∙ ap (λ seat. let one : WriterCore _ = record { seat = seat; writer = c.args.self.now.writer } in one) stays.3;
       table_stays = stays.2;
       helper_stays = stays.4;
+      steps_stay = stays.5;
     }
 
 pub returns-clause-answers : goal.returns-clause-answers
