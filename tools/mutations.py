@@ -63,8 +63,8 @@ READ = [
 ]
 
 CAUSES = [
-    ('fixes each passed packet as cut', 'Causes.antt', 'fixed_by_turn at (Counts cause) = record { at = at; outcome = Absent cause } ∷ []',
-     'fixed_by_turn at (Counts cause) = record { at = at; outcome = Absent Cut } ∷ []'),
+    ('fixes no packet that is passed', 'Causes.antt', 'fixed_by_turn at (Counts cause) = record { at = at; outcome = Absent cause } ∷ []',
+     'fixed_by_turn at (Counts cause) = []'),
     ('fixes the rest of a packet too', 'Causes.antt', 'filter (λ at. not (chunk.continues && (at.passed == 0))) places', 'places'),
     ('fixes no discarded packet', 'Causes.antt', 'if (state.number == owner.number) && not partial', 'if (state.number == owner.number) && partial'),
 ]

@@ -164,6 +164,8 @@ class Run:
         self.writer.images = []
         self.calls = []
         self.depth = 0
+        # (some services take seldom, and some writers flush often: then packets are dropped at their begin)
+        self.taking, self.flushing = self.random.choice([(.3, .15), (.3, .15), (.02, .5)])
 
     def help(self):
         return self.random.random() >= .1 and self.take()
@@ -210,7 +212,7 @@ class Run:
             for _ in range(steps):
                 x = roll()
                 if not self.writer.in_packet:
-                    self.flush() if x < .15 else self.begin()
+                    self.flush() if x < self.flushing else self.begin()
                 elif x < .25:
                     self.call('Number', pick([1, 2, 900]), pick([7, 300, 2 ** 40]))
                 elif x < .45:
@@ -222,7 +224,7 @@ class Run:
                     self.call('Ended')
                 elif x < .9:
                     self.call('Finished')
-                if roll() < .3:
+                if roll() < self.taking:
                     self.take()
                     self.take()
         except writers.Stalled:
