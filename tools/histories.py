@@ -16,14 +16,14 @@ WORDS = '''-- What a history is compared in.
 use Rattle.std.specs.Prelude.{◌≡◌, ℕ, List, [], ◌∷◌, ◌++◌, map}
 use Rattle.trace_model.specs.Images.{Patch}
 use Rattle.trace_model.specs.Counts.{one_if}
-use Rattle.trace_model.specs.Sequences.{Sequence, base_of, sequence_in, is_known}
+use Rattle.trace_model.specs.Sequences.{Sequence, Cursor, base_of, sequence_in, is_known}
 use Rattle.trace_model.specs.Buffers.{Buffer, BufferRecord}
 use Rattle.trace_model.specs.Causes.{Fixed, fixed_after}
 use Rattle.trace_model.specs.Reads.{ReadEnd, read_end}
 use Rattle.trace_model.specs.Row.{row_from_cursor}
 use Rattle.trace_model.specs.Arrivals.{Arrived, arrival_of, partial_arrival_of, image_arrival_of, with_image}
 use Rattle.trace_model.specs.Patches.{PatchAnswer, patch_answer, with_patch}
-use Rattle.trace_model.specs.History.{Event, Arrives, ArrivesInPart, Patched, Committed, Closed, Read, buffer_after, state_after, records_after}
+use Rattle.trace_model.specs.History.{Event, Arrives, ArrivesInPart, Patched, Committed, Closed, Read, event_sequence, buffer_after, state_after, records_after}
 use Rattle.trace_model.specs.Delivery.{Delivered, trace_of}
 
 -- what an event answered
@@ -57,6 +57,13 @@ abbrev pub ends_of : Buffer → List Event → List ReadEnd
 ends_of b [] = []
 ends_of b (event ∷ events) = ends_at b event ++ ends_of (buffer_after b event) events
 
+-- where the cursor of its sequence stands behind each event
+abbrev pub cursors_of : Buffer → List Event → List (List ℕ)
+cursors_of b [] = []
+cursors_of b (event ∷ events) =
+    (let cursor : Cursor = (sequence_in (buffer_after b event).sequences (event_sequence event)).cursor in cursor.chunk_id ∷ cursor.passed ∷ [])
+    ∷ cursors_of (buffer_after b event) events
+
 abbrev pub counts_of : Buffer → List ℕ
 counts_of b =
     b.placed ∷ b.rewritten ∷ b.overwritten ∷ b.discarded ∷ b.unpatched ∷ b.padding ∷ b.next ∷ one_if b.shut ∷ []
@@ -72,12 +79,13 @@ abbrev pub place_of : BufferRecord → List ℕ
 place_of stored = stored.sequence ∷ stored.chunk_id ∷ stored.at ∷ []
 
 pub record IsComputed (b : Buffer) (events : List Event) (answers : List Answer) (records : List (List ℕ)) (counts : List ℕ)
-    (sequences places : List (List ℕ)) (ends : List ReadEnd) (fixed : List (List Fixed)) : Type 0 where
+    (sequences places cursors : List (List ℕ)) (ends : List ReadEnd) (fixed : List (List Fixed)) : Type 0 where
   pub answered : answers_of b events ≡ answers
   pub written : map (λ (d : Delivered). d.bytes) (records_after (b ∷ []) events) ≡ records
   pub counted : counts_of (state_after b events) ≡ counts
   pub known : map state_of (state_after b events).sequences ≡ sequences
   pub placed : map place_of (state_after b events).live ≡ places
+  pub stands : cursors_of b events ≡ cursors
   pub ended : ends_of b events ≡ ends
   pub caused : map (λ (s : Sequence). fixed_after s.number b events) b.sequences ≡ fixed
 '''.replace('◌++◌, map}', '◌++◌, length, map}')
@@ -144,12 +152,14 @@ def patches_behind(history, at, number):
     return history[at + 1:end]
 
 
-def events_of(history, choose):
-    """The events of a buffer's history as terms, their answers, the records of its reads, and where these end."""
-    events, answers, records, ends = [], [], [], []
-    at, commits = 0, False
+def events_of(notes, choose):
+    """The events of a buffer's history as terms, their answers, the records of its reads and where these end, the cursors
+    behind the events, and whether one is a commit with patches."""
+    events, answers, records, ends, cursors = [], [], [], [], []
+    at, commits, history = 0, False, notes.events
     while at < len(history):
         kind, number, *rest = history[at]
+        cursors.append(notes.cursors[at])
         at += 1
         if kind == 'arrive':
             position, (count, flags, payload), outcome = rest
@@ -178,7 +188,7 @@ def events_of(history, choose):
             events.append(f'Read {number} {"no_limit" if limit is None else limit}')
             records += written
             ends.append(end)
-    return events, answers, records, ends, commits
+    return events, answers, records, ends, cursors, commits
 
 
 def played(seed, **which):
@@ -227,7 +237,7 @@ def fixed_term(fixed):
 
 def statement_of(name, buffer, notes, counts):
     # (every third chunk comes by a commit, with the patches behind it)
-    events, answers, records, ends, commits = events_of(notes.events, lambda position: position % 3 == 1)
+    events, answers, records, ends, cursors, commits = events_of(notes, lambda position: position % 3 == 1)
     text = listed(events)
     if len(text) > 30000:
         return None
@@ -254,10 +264,10 @@ def statement_of(name, buffer, notes, counts):
         return (f'abbrev pub buffer_{name} : Buffer\nbuffer_{name} = empty_buffer {buffer.size} {policy} {fresh}\n\n'
                 f'abbrev pub events_{name} : List Event\nevents_{name} = {text}\n\n'
                 f'abbrev pub Run{name} : Type 0\nRun{name} = IsComputed buffer_{name} events_{name} {listed(answers)} '
-                f'{listed(map(octets, records))} {listed(map(str, numbers))} {numbers_of(states)} {numbers_of(places)} '
+                f'{listed(map(octets, records))} {listed(map(str, numbers))} {numbers_of(states)} {numbers_of(places)} {numbers_of(cursors)} '
                 f'{listed(ends)} {listed(listed(map(fixed_term, one)) for one in fixed)}\n')
 
-    proof = record(answered='refl', written='refl', counted='refl', known='refl', placed='refl', ended='refl', caused='refl')
+    proof = record(answered='refl', written='refl', counted='refl', known='refl', placed='refl', stands='refl', ended='refl', caused='refl')
     spoilt = [list(state) for state in states]
     spoilt[-1][5] += 1
     return Statement(f'Run{name}', specs(states), proof, Statement(f'Run{name}', specs(spoilt), proof))

@@ -10,7 +10,7 @@ BRANCHES = (
     'a chain that runs into a lost chunk', 'a chain that runs into a chunk that never came', 'a chain that its sequence\'s end cuts',
     'a chain that awaits a patch when its sequence is closed', 'a drop mark in a chunk that runs on',
     'a partial record that the cursor alone makes a double', 'a final partial record that is lost', 'a partial record that shuts a discard buffer',
-    'an arrival that moves the cursor', 'padding that meets a record', 'a patch outside the last fragment', 'a patch for a chunk that is gone',
+    'an arrival of which more was passed', 'an arrival of which just all was passed', 'padding that meets a record', 'a patch outside the last fragment', 'a patch for a chunk that is gone',
     'a commit with patches', 'an id that is too far', 'an id out of order', 'a double', 'a chunk that is unreadable', 'a partial record that grows',
     'a read that ends at its limit', 'a read that ends at a part', 'a read that ends at an open patch', 'a read that ends at a close',
 )
@@ -21,8 +21,13 @@ class Notes:
 
     def __init__(self):
         self.events = []        # kind, sequence, and what the event needs and answered
+        self.cursors = []       # where the cursor of its sequence stands behind each event
         self.fixed = {}         # of each sequence: (chunk id, passed, outcome)
         self.branches = set()
+
+    def note(self, sequence, kind, *rest):
+        self.events.append((kind, sequence.number, *rest))
+        self.cursors.append((sequence.position, sequence.passed))
 
     def fix(self, number, position, passed, outcome):
         self.fixed.setdefault(number, []).append((position, passed, outcome))
@@ -84,7 +89,7 @@ class Buffer(TraceBuffer):
     def arrive(self, sequence, position, count, flags, payload):
         notes, self.losses = notes_of(self), []
         order = [id(record) for record in self.at_place.values()]
-        was, ahead = sequence.position, position > sequence.base
+        was, ahead = (sequence.position, sequence.passed), position > sequence.base
         try:
             fragments = read_fragments(payload, count)
             # (read off before the state changes)
@@ -92,7 +97,7 @@ class Buffer(TraceBuffer):
             outcome = super().arrive(sequence, position, count, flags, payload)
         except BadChunk as bad:
             notes.branches.add('a chunk that is unreadable')
-            notes.events.append(('arrive', sequence.number, position, (count, flags, bytes(payload)), str(bad)))
+            notes.note(sequence, 'arrive', position, (count, flags, bytes(payload)), str(bad))
             raise
         if outcome == KEPT:
             self.note_losses(order)
@@ -105,9 +110,9 @@ class Buffer(TraceBuffer):
             notes.branches.add('an id that is too far')
         elif ahead:
             notes.branches.add('an id out of order')
-        if sequence.position != was:
-            notes.branches.add('an arrival that moves the cursor')
-        notes.events.append(('arrive', sequence.number, position, (count, flags, bytes(payload)), outcome))
+        if sequence.position != was[0]:
+            notes.branches.add('an arrival of which just all was passed' if was[1] == count else 'an arrival of which more was passed')
+        notes.note(sequence, 'arrive', position, (count, flags, bytes(payload)), outcome)
         return outcome
 
     def arrive_partial(self, sequence, position, count, flags, payload):
@@ -123,7 +128,7 @@ class Buffer(TraceBuffer):
             notes.branches.add('a partial record that shuts a discard buffer')
         if held is not None and outcome == 'rewritten':
             notes.branches.add('a partial record that grows')
-        notes.events.append(('partial', sequence.number, position, (count, flags, bytes(payload)), outcome))
+        notes.note(sequence, 'partial', position, (count, flags, bytes(payload)), outcome)
         return outcome
 
     def patch(self, sequence, patch):
@@ -134,12 +139,12 @@ class Buffer(TraceBuffer):
         done = super().patch(sequence, patch)
         answer = 'Applied' if done else 'BadOffset' if awaits else 'NoChunk'
         notes.branches |= {{'BadOffset': 'a patch outside the last fragment', 'NoChunk': 'a patch for a chunk that is gone'}[answer]} if not done else set()
-        notes.events.append(('patch', sequence.number, position, patch, answer))
+        notes.note(sequence, 'patch', position, patch, answer)
         return done
 
     def close_sequence(self, sequence):
         super().close_sequence(sequence)
-        notes_of(self).events.append(('close', sequence.number))
+        notes_of(self).note(sequence, 'close')
 
 
 def stop_place(sequence):
@@ -190,7 +195,7 @@ def read(buffer, sequence, limit, out, packets_checked=True):
         # A final part that was read whole, and nothing was passed behind it: the cursor stays. The model goes on to the next
         # chunk, which nothing but the cursor shows.
         sequence.position, sequence.passed = was
-    notes.events.append(('read', sequence.number, limit, out[before:], end))
+    notes.note(sequence, 'read', limit, out[before:], end)
     return delivered
 
 

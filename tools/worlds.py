@@ -172,8 +172,9 @@ def statement_of(name, writer, world, reported, counts):
     spec = writer.spec
     buffer = world.service.buffers[spec.buffer - 1]
     sequence = writer.number + 1
-    history = recorder.notes_of(buffer).events
-    events, *_ = histories.events_of(history, lambda position: False)
+    notes = recorder.notes_of(buffer)
+    history = notes.events
+    events, *_ = histories.events_of(notes, lambda position: False)
     records = [one for kind, number, *rest in history if kind == 'read' and number == sequence for one in rest[1]]
     packets, pages = writer_scripts.packets_of(writer.calls), writer.pages()
     emitted = [packet.body()[len(packet.front):] for packet in packets[::-1] if packet.finished]
