@@ -1,18 +1,19 @@
--- A step of a writer that changes the entry of a chunk that it holds: its header is stored anew, or it is completed.
-use Rattle.std.proofs.Common.{◌≡◌, ◌≢◌, ℕ, ◌+◌, ◌<◌, ◌≤◌, inl, List, length, set, subst, sym, refl, ap, ◌∙◌, arith, ⊎_elim, length-set, lt_of_not-le}
+-- A step of a writer that changes the entry of a chunk that it holds: its header or a payload word is stored, or it is completed.
+use Rattle.std.proofs.Common.{◌≡◌, ◌≢◌, ℕ, ◌+◌, ◌-◌, ◌*◌, ◌<◌, ◌≤◌, inl, List, length, set, get_or, subst, sym, refl, ap, ◌∙◌, arith, ⊎_elim, length-set, lt_of_not-le}
 use native.Mathlib.Decide.{dec_le, ℕ_discrete}
 use mathlib.Core.Logic.{dite}
 use Rattle.atomic_table.proofs.Lists.{at_set, set_here, set_else}
-use Rattle.chunk_plain.specs.Views.{At, Head, Content, Begun, Held, Completed, taken_of}
+use Rattle.chunk_plain.specs.Setup.{sequence_of}
+use Rattle.chunk_plain.specs.Payload.{byte_of, byte_at, byte_in, sealed_to}
+use Rattle.chunk_plain.specs.Views.{At, Head, Draft, Content, Begun, Held, Completed, Found, taken_of}
 use Rattle.chunk_plain.specs.World.{World, Status, Writing, Ready, status, writer}
-use Rattle.chunk_plain.specs.Steps.{restamps, completes, moved}
+use Rattle.chunk_plain.specs.Steps.{redrafts, with_head, with_word, completes, moved}
 use Rattle.chunk_plain.specs.Owned.{claims_of, reads_of, IsOwned}
+use Rattle.chunk_plain.specs.Drafts.{MayFollow, IsDraft, HasFinished, head_of, StillHas, IsThere}
+use Rattle.chunk_plain.specs.Words.{chunk_of}
 use Rattle.chunk_plain.proofs.Lists.{at_inside, at_one}
 use Rattle.chunk_plain.proofs.Owned.{Foreign, writer_step, won_stays}
-
-abbrev chunk_of : Begun → ℕ
-chunk_of (Held chunk head) = chunk
-chunk_of (Completed chunk content) = chunk
+use Rattle.chunk_plain.proofs.Sealing.{reads_same, ends_grow, word_bytes}
 
 -- the status of a chunk with this entry, as long as it isn't taken
 abbrev status_by : ℕ → ℕ → Begun → Status
@@ -28,7 +29,7 @@ entered : (place id : ℕ) (entry : Begun) → IsEntered (status_by place id ent
 entered place id (Held chunk head) = tt
 entered place id (Completed chunk content) = tt
 
-writing_entry : (place id i : ℕ) (head : Head) (entry : Begun) → status_by place id entry ≡ Writing place i head → (id ≡ i) × (entry ≡ Held (chunk_of entry) head)
+writing_entry : (place id i : ℕ) (head : Draft) (entry : Begun) → status_by place id entry ≡ Writing place i head → (id ≡ i) × (entry ≡ Held (chunk_of entry) head)
 writing_entry place id i head (Held chunk other) e = (cc, cc)
 writing_entry place id i head (Completed chunk content) e = absurd cc
 
@@ -51,11 +52,14 @@ kept begun id i was entry other changed at apart =
     (λ same. absurd (apart (at_one begun was other id changed (subst (λ j. At begun j other) same at))))
     (λ differs. set_else begun id i entry differs ∙ at)
 
-entry_owned : (world : World) (place chunk id : ℕ) (head : Head) (entry : Begun) → IsOwned world → place < length world.writers → chunk < length world.chunks
+entry_owned : (world : World) (place chunk id : ℕ) (head : Draft) (entry : Begun) → IsOwned world → place < length world.writers → chunk < length world.chunks
     → At (writer world place).begun id (Held chunk head) → chunk_of entry ≡ chunk
-    → ((content : Content) → entry ≡ Completed chunk content → (content.image.chunk_id ≡ id) × (content.image.sequence ≡ place + 2))
+    → ((content : Content) → entry ≡ Completed chunk content → (content.image.chunk_id ≡ id) × (content.image.sequence ≡ sequence_of place))
+    → ((draft : Draft) → entry ≡ Held chunk draft → IsDraft draft)
+    → ((content : Content) → entry ≡ Completed chunk content → HasFinished content)
+    → ((about : ℕ) (found : Found) → StillHas about found (Held chunk head) → StillHas about found entry)
     → IsOwned (moved world place (record (writer world place) { begun = set (writer world place).begun id entry }) chunk (status_by place id entry))
-entry_owned world place chunk id head entry o inside_w inside_c at same_chunk named =
+entry_owned world place chunk id head entry o inside_w inside_c at same_chunk named good whole carries =
     let v = writer world place in let w = o.owns place chunk in let q = o.counts place in
     let count = (taken_of world.service place).count in
     let is = status_by place id entry in
@@ -106,9 +110,17 @@ entry_owned world place chunk id head entry o inside_w inside_c at same_chunk na
       wins = let same = length-set v.begun id entry in omega (arith, same, q.wins);
       next = λ stamp e. q.next stamp e ∙ sym (length-set v.begun id entry);
       named = λ i d content e. ⊎_elim
-          (λ (new : (i ≡ id) × (entry ≡ Completed d content)). subst (λ (j : ℕ). (content.image.chunk_id ≡ j) × (content.image.sequence ≡ place + 2)) (sym new.0)
+          (λ (new : (i ≡ id) × (entry ≡ Completed d content)). subst (λ (j : ℕ). (content.image.chunk_id ≡ j) × (content.image.sequence ≡ sequence_of place)) (sym new.0)
           (named content (new.1 ∙ ap (λ (c : ℕ). Completed c content) (sym (ap chunk_of new.1) ∙ same_chunk))))
           (λ (old : (i ≢ id) × At v.begun i (Completed d content)). q.named i d content old.1)
+          (at_set v.begun id i entry (Completed d content) e);
+      drafts = λ i d draft e. ⊎_elim
+          (λ (new : (i ≡ id) × (entry ≡ Held d draft)). good draft (new.1 ∙ ap (λ (c : ℕ). Held c draft) (sym (ap chunk_of new.1) ∙ same_chunk)))
+          (λ (old : (i ≢ id) × At v.begun i (Held d draft)). q.drafts i d draft old.1)
+          (at_set v.begun id i entry (Held d draft) e);
+      wholes = λ i d content e. ⊎_elim
+          (λ (new : (i ≡ id) × (entry ≡ Completed d content)). whole content (new.1 ∙ ap (λ (c : ℕ). Completed c content) (sym (ap chunk_of new.1) ∙ same_chunk)))
+          (λ (old : (i ≢ id) × At v.begun i (Completed d content)). q.wholes i d content old.1)
           (at_set v.begun id i entry (Completed d content) e);
       completed = λ i below. let r = q.completed i below in (r.0, r.1, done i r.0 r.1 r.2);
       learnt = λ i content e. let r = q.learnt i content e in (r.0, done i r.0 content r.1);
@@ -117,16 +129,80 @@ entry_owned world place chunk id head entry o inside_w inside_c at same_chunk na
     (λ i ask e. e)
     (λ i ask e. inl e)
     (won_stays world place chunk chunk (record v { begun = set v.begun id entry }) is inside_w (λ i ask e. e) (o.claimed_won chunk (λ free. absurd cc)))
+    (λ about found there. there_still v.begun chunk id head entry about found at inside carries there)
+  where
+    there_still : (begun : List Begun) (chunk id : ℕ) (head : Draft) (entry : Begun) (about : ℕ) (found : Found) → At begun id (Held chunk head) → id < length begun
+        → ((about : ℕ) (found : Found) → StillHas about found (Held chunk head) → StillHas about found entry)
+        → (there : IsThere (record (writer world place) { begun = begun }) about found) → IsThere (record (writer world place) { begun = set begun id entry }) about found
+    there_still begun chunk id head entry about found at inside carries there =
+        dite (ℕ_discrete found.id id)
+        (λ same. record {
+          entry = entry;
+          at = subst (λ i. At (set begun id entry) i entry) (sym same) (set_here begun id entry inside);
+          has = carries about found (subst (StillHas about found) (at_one begun there.entry (Held chunk head) id (subst (λ i. At begun i there.entry) same there.at) at) there.has);
+        })
+        (λ differs. record { entry = there.entry; at = set_else begun id found.id entry differs ∙ there.at; has = there.has })
+
+follows_on : (first second third : Head) → MayFollow first second → MayFollow second third → MayFollow first third
+follows_on first second third a b = record {
+  count_grows = let low = a.count_grows in let high = b.count_grows in omega arith;
+  front_stays = λ some. b.front_stays (λ none. some (let low = a.count_grows in omega arith)) ∙ a.front_stays some;
+}
+
+redrafts_owned : (world : World) (place chunk id : ℕ) (old new : Draft) → IsOwned world → place < length world.writers → chunk < length world.chunks
+    → At (writer world place).begun id (Held chunk old) → IsDraft new
+    → ((about : ℕ) (found : Found) → StillHas about found (Held chunk old) → StillHas about found (Held chunk new))
+    → IsOwned (moved world place (redrafts (writer world place) chunk id new) chunk (Writing place id new))
+redrafts_owned world place chunk id old new o inside_w inside_c at good carries =
+    entry_owned world place chunk id old (Held chunk new) o inside_w inside_c at refl (λ content e. absurd cc)
+    (λ draft e. let same : new ≡ draft = cc in subst IsDraft same good) (λ content e. absurd cc) carries
 
 -- the header of a held chunk is stored anew
-pub restamps_owned : (world : World) (place chunk id : ℕ) (old new : Head) → IsOwned world → place < length world.writers → chunk < length world.chunks
-    → At (writer world place).begun id (Held chunk old) → IsOwned (moved world place (restamps (writer world place) chunk id new) chunk (Writing place id new))
-restamps_owned world place chunk id old new o inside_w inside_c at = entry_owned world place chunk id old (Held chunk new) o inside_w inside_c at refl (λ content e. absurd cc)
+pub heads_owned : (world : World) (place chunk id : ℕ) (draft : Draft) (head : Head) (ends : List ℕ) → IsOwned world → place < length world.writers → chunk < length world.chunks
+    → At (writer world place).begun id (Held chunk draft) → MayFollow draft.head head → IsDraft (with_head draft head ends)
+    → IsOwned (moved world place (redrafts (writer world place) chunk id (with_head draft head ends)) chunk (Writing place id (with_head draft head ends)))
+heads_owned world place chunk id draft head ends o inside_w inside_c at follows good =
+    let before = (o.counts place).drafts id chunk draft at in
+    let more : length draft.ends ≤ length ends = let low = before.count in let high = good.count in let grows = follows.count_grows in omega arith in
+    let grown = ends_grow (byte_at draft.words) draft.ends ends before.reads good.reads more in
+    redrafts_owned world place chunk id draft (with_head draft head ends) o inside_w inside_c at good
+    (λ about found has. (has.0, follows_on found.head draft.head head has.1 follows, (let less = has.2 in omega arith), has.3))
 
--- a held chunk is completed
-pub completes_owned : (world : World) (place chunk id : ℕ) (head : Head) (content : Content) → IsOwned world → place < length world.writers → chunk < length world.chunks
-    → At (writer world place).begun id (Held chunk head) → content.image.chunk_id ≡ id → content.image.sequence ≡ place + 2
+-- a payload word of a held chunk is stored, which keeps the bytes of the finished fragments
+pub publishes_owned : (world : World) (place chunk id index word : ℕ) (draft : Draft) → IsOwned world → place < length world.writers → chunk < length world.chunks
+    → At (writer world place).begun id (Held chunk draft) → index < length draft.words
+    → ((m : ℕ) → m < 8 → 8 * index + m < sealed_to draft.ends → byte_of word m ≡ byte_of (get_or draft.words index 0) m)
+    → IsOwned (moved world place (redrafts (writer world place) chunk id (with_word draft index word)) chunk (Writing place id (with_word draft index word)))
+publishes_owned world place chunk id index word draft o inside_w inside_c at inside same =
+    let good = (o.counts place).drafts id chunk draft at in
+    let bytes = word_bytes draft.words index word (sealed_to draft.ends) same inside in
+    redrafts_owned world place chunk id draft (with_word draft index word) o inside_w inside_c at
+    record { count = good.count; reads = reads_same (byte_at draft.words) (byte_at (set draft.words index word)) draft.ends (λ j below. sym (bytes j below)) good.reads }
+    (λ about found has. (has.0, has.1, has.2, λ j below. bytes j (let most = has.2 in omega arith) ∙ has.3 j below))
+
+-- a held chunk is completed, whose content has the finished fragments
+pub completes_owned : (world : World) (place chunk id : ℕ) (draft : Draft) (content : Content) → IsOwned world → place < length world.writers → chunk < length world.chunks
+    → At (writer world place).begun id (Held chunk draft) → content.image.chunk_id ≡ id → content.image.sequence ≡ sequence_of place
+    → head_of content ≡ draft.head → sealed_to draft.ends ≤ length content.image.payload
+    → ((j : ℕ) → j < sealed_to draft.ends → byte_at draft.words j ≡ byte_in content.image.payload j)
     → IsOwned (moved world place (completes (writer world place) chunk id content) chunk (Ready place id content))
-completes_owned world place chunk id head content o inside_w inside_c at id_is sequence_is =
-    entry_owned world place chunk id head (Completed chunk content) o inside_w inside_c at refl
-    (λ other e. let same : content ≡ other = cc in subst (λ (m : Content). (m.image.chunk_id ≡ id) × (m.image.sequence ≡ place + 2)) same (id_is, sequence_is))
+completes_owned world place chunk id draft content o inside_w inside_c at id_is sequence_is head_is inside same =
+    let good = (o.counts place).drafts id chunk draft at in
+    let finished : HasFinished content = record {
+      ends = draft.ends;
+      sealed = record {
+        count = good.count ∙ ap (λ (h : Head). h.count - 1) (sym head_is);
+        reads = reads_same (byte_at draft.words) (byte_in content.image.payload) draft.ends same good.reads;
+      };
+      inside = inside;
+    } in
+    entry_owned world place chunk id draft (Completed chunk content) o inside_w inside_c at refl
+    (λ other e. let one : content ≡ other = cc in subst (λ (m : Content). (m.image.chunk_id ≡ id) × (m.image.sequence ≡ sequence_of place)) one (id_is, sequence_is))
+    (λ other e. absurd cc)
+    (λ other e. let one : content ≡ other = cc in subst HasFinished one finished)
+    (λ about found has. (
+      has.0,
+      subst (λ h. MayFollow found.head h) (sym head_is) has.1,
+      (let less = has.2 in omega arith),
+      λ j below. sym (same j (let less = has.2 in omega arith)) ∙ has.3 j below,
+    ))

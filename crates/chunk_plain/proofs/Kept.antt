@@ -1,16 +1,16 @@
 -- Each call of the table of one thread keeps what the table keeps.
-use Rattle.std.proofs.Common.{◌≡◌, ◌≢◌, ℕ, ◌+◌, ◌<◌, ◌⊎◌, ◌↔◌, inl, inr, not, IsTrue, Bool, true, false, Option, None, List, length, set, get_or, subst, sym, refl, ap, ◌∙◌, arith, ⊎_elim, length-set}
+use Rattle.std.proofs.Common.{◌≡◌, ◌≢◌, ℕ, ◌+◌, ◌<◌, ◌⊎◌, ◌↔◌, inl, inr, not, IsTrue, Bool, true, false, List, length, set, get_or, subst, sym, refl, ap, ◌∙◌, arith, ⊎_elim, length-set}
 use Rattle.std.specs.Int.{bit_at}
 use Rattle.std.proofs.lemmas.List.{get_or-set_same, get_or-set_other}
 use Rattle.page_geometry.specs.PageBits.{Claims, KeepsOthers, IsClaimed}
-use Rattle.commit_body.specs.declared.body.CommitBody.{CommitBody}
 use Rattle.chunk_plain.specs.declared.setup.Spot.{Spot}
 use Rattle.chunk_plain.specs.declared.step.Step.TheVariants.{Claim}
 use Rattle.chunk_plain.specs.Setup.{Setup, spot, IsLaid}
 use Rattle.chunk_plain.specs.Views.{At, Ask, WriterView, ServiceView, newcomer}
 use Rattle.chunk_plain.specs.World.{World, Status, Unclaimed, Claimed, Stamped, Writing, Ready, Reading, status, writer}
 use Rattle.chunk_plain.specs.Steps.{claims}
-use Rattle.chunk_plain.specs.Shows.{state_of, claim_of, NeverAsked, ShowsPage, ShowsHeader, ShowsBody, page_word, header_word, body_at}
+use Rattle.chunk_plain.specs.Shows.{state_of, claim_of, NeverAsked, ShowsPage, ShowsHeader, ShowsSlot, page_word, header_word}
+use Rattle.chunk_plain.specs.Stored.{Stored, stored_at}
 use Rattle.chunk_plain.specs.Plain.{world_after, IsKept}
 use Rattle.chunk_plain.proofs.Lists.{changed, at_more}
 use Rattle.chunk_plain.proofs.WriterSteps.{claims_owned, misses_owned}
@@ -35,11 +35,6 @@ never_same setup world place view chunks service inside same number never u i as
     (λ _ at. never place i ask (subst (λ l. At l i ask) same at))
     (λ _ at. never u i ask at)
 
--- one writer's view changes, in which no header waits
-pub rests_still : (world : World) (place : ℕ) (view : WriterView) → place < length world.writers → view.stamped ≡ None
-    → ((u : ℕ) → (writer world u).stamped ≡ None) → (u : ℕ) → (get_or (set world.writers place view) u newcomer).stamped ≡ None
-rests_still world place view inside here all u = changed (λ (v : WriterView). v.stamped ≡ None) world.writers place u view newcomer inside (λ _. here) (λ _. all u)
-
 pub claim_bit_free : (word place : ℕ) (is : Status) → bit_at word (32 + place) ≡ claim_of is → (bit_at word (32 + place) ≡ 1 → ⊥) → is ≡ Unclaimed
 claim_bit_free word place Unclaimed bit clear = refl
 claim_bit_free word place (Claimed k) bit clear = absurd (clear bit)
@@ -50,13 +45,13 @@ claim_bit_free word place (Reading k i m) bit clear = absurd (clear bit)
 
 -- ---- claim
 
-claim_won : (setup : Setup) (words : List ℕ) (bodies : List (Option CommitBody)) (world : World) (place chunk found new : ℕ)
-    → IsLaid setup → IsKept setup words bodies world → place < length setup.writers → chunk < length setup.spots
+claim_won : (setup : Setup) (words : List ℕ) (slots : List Stored) (world : World) (place chunk found new : ℕ)
+    → IsLaid setup → IsKept setup words slots world → place < length setup.writers → chunk < length setup.spots
     → found ≡ page_word setup words chunk
     → Claims found new (spot setup chunk).place (spot setup chunk).layout → KeepsOthers found new (spot setup chunk).place
     → (IsClaimed found (spot setup chunk).place → ⊥)
-    → IsKept setup (set words (spot setup chunk).page new) bodies (world_after world (Claim place chunk found true))
-claim_won setup words bodies world place chunk found new laid kept inside_w inside_c is step keeps clear =
+    → IsKept setup (set words (spot setup chunk).page new) slots (world_after world (Claim place chunk found true))
+claim_won setup words slots world place chunk found new laid kept inside_w inside_c is step keeps clear =
     let shown = kept.shown in let at = spot setup chunk in
     let w_inside : place < length world.writers = let many = kept.writers in omega arith in
     let c_inside : chunk < length world.chunks = let many = shown.chunk_count in omega arith in
@@ -66,9 +61,9 @@ claim_won setup words bodies world place chunk found new laid kept inside_w insi
     let next = world_after world (Claim place chunk found true) in
     let now : status next chunk ≡ Claimed place = get_or-set_same world.chunks chunk (Claimed place) Unclaimed c_inside in
     let ask : Ask = record { chunk = chunk; found = found; won = true; calls = length v.calls } in
-    let body = subst (λ t. ShowsBody at.payload_size t (body_at bodies chunk)) free (shown.body chunk inside_c) in
+    let before : ShowsSlot at.payload_size Unclaimed (stored_at slots chunk) = subst (λ t. ShowsSlot at.payload_size t (stored_at slots chunk)) free (shown.slot chunk inside_c) in
     record {
-      shown = shown_page_only setup words bodies world next chunk new laid shown inside_c
+      shown = shown_page_only setup words slots world next chunk new laid shown inside_c
           (length-set world.chunks chunk (Claimed place))
           (λ other differs. get_or-set_other world.chunks chunk other (Claimed place) Unclaimed differs)
           (never_more setup world place chunk (claims v chunk found true) (set world.chunks chunk (Claimed place)) world.service w_inside
@@ -76,21 +71,19 @@ claim_won setup words bodies world place chunk found new laid kept inside_w insi
           (subst (λ w. KeepsOthers w new at.place) is keeps)
           (subst (λ t. ShowsPage setup next at new t) (sym now)
           (claims_page setup world next at found new (status world chunk) (Claimed place) (laid.place chunk inside_c) (laid.chunks chunk inside_c) step (ap state_of (sym free)) refl page))
-          (subst (λ t. ShowsHeader (header_word setup words chunk) t) (sym now) tt)
-          (subst (λ t. ShowsBody at.payload_size t (body_at bodies chunk)) (sym now) body);
+          (subst (λ t. ShowsHeader setup (header_word setup words chunk) t) (sym now) tt)
+          (subst (λ t. ShowsSlot at.payload_size t (stored_at slots chunk)) (sym now) (record { room = before.room; words = tt; body = before.body }));
       owned = claims_owned world place chunk found kept.owned w_inside c_inside free;
       writers = length-set world.writers place (claims v chunk found true) ∙ kept.writers;
-      rests = rests_still world place (claims v chunk found true) w_inside (kept.rests place) kept.rests;
-      level = kept.level;
     }
 
-claim_lost : (setup : Setup) (words : List ℕ) (bodies : List (Option CommitBody)) (world : World) (place chunk found new : ℕ)
-    → IsLaid setup → IsKept setup words bodies world → place < length setup.writers → chunk < length setup.spots
+claim_lost : (setup : Setup) (words : List ℕ) (slots : List Stored) (world : World) (place chunk found new : ℕ)
+    → IsLaid setup → IsKept setup words slots world → place < length setup.writers → chunk < length setup.spots
     → found ≡ page_word setup words chunk
     → Claims found new (spot setup chunk).place (spot setup chunk).layout → KeepsOthers found new (spot setup chunk).place
     → IsClaimed found (spot setup chunk).place
-    → IsKept setup (set words (spot setup chunk).page new) bodies (world_after world (Claim place chunk found false))
-claim_lost setup words bodies world place chunk found new laid kept inside_w inside_c is step keeps claimed =
+    → IsKept setup (set words (spot setup chunk).page new) slots (world_after world (Claim place chunk found false))
+claim_lost setup words slots world place chunk found new laid kept inside_w inside_c is step keeps claimed =
     let shown = kept.shown in let at = spot setup chunk in
     let w_inside : place < length world.writers = let many = kept.writers in omega arith in
     let page : ShowsPage setup world at found (status world chunk) = subst (λ w. ShowsPage setup world at w (status world chunk)) (sym is) (shown.page chunk inside_c) in
@@ -100,7 +93,7 @@ claim_lost setup words bodies world place chunk found new laid kept inside_w ins
     let next = world_after world (Claim place chunk found false) in
     let ask : Ask = record { chunk = chunk; found = found; won = false; calls = length v.calls } in
     record {
-      shown = shown_page_only setup words bodies world next chunk new laid shown inside_c
+      shown = shown_page_only setup words slots world next chunk new laid shown inside_c
           refl
           (λ other differs. refl)
           (never_more setup world place chunk (claims v chunk found false) world.chunks world.service w_inside
@@ -108,29 +101,27 @@ claim_lost setup words bodies world place chunk found new laid kept inside_w ins
           (subst (λ w. KeepsOthers w new at.place) is keeps)
           (claims_page setup world next at found new (status world chunk) (status world chunk) (laid.place chunk inside_c) (laid.chunks chunk inside_c) step refl one page)
           (shown.header chunk inside_c)
-          (shown.body chunk inside_c);
+          (shown.slot chunk inside_c);
       owned = misses_owned world place chunk found kept.owned w_inside taken;
       writers = length-set world.writers place (claims v chunk found false) ∙ kept.writers;
-      rests = rests_still world place (claims v chunk found false) w_inside (kept.rests place) kept.rests;
-      level = kept.level;
     }
 
-by_claimed : (setup : Setup) (words : List ℕ) (bodies : List (Option CommitBody)) (world : World) (place chunk found new : ℕ) (claimed : Bool)
-    → IsLaid setup → IsKept setup words bodies world → place < length setup.writers → chunk < length setup.spots
+by_claimed : (setup : Setup) (words : List ℕ) (slots : List Stored) (world : World) (place chunk found new : ℕ) (claimed : Bool)
+    → IsLaid setup → IsKept setup words slots world → place < length setup.writers → chunk < length setup.spots
     → found ≡ page_word setup words chunk
     → Claims found new (spot setup chunk).place (spot setup chunk).layout → KeepsOthers found new (spot setup chunk).place
     → (IsTrue claimed ↔ IsClaimed found (spot setup chunk).place)
-    → IsKept setup (set words (spot setup chunk).page new) bodies (world_after world (Claim place chunk found (not claimed)))
-by_claimed setup words bodies world place chunk found new true laid kept inside_w inside_c is step keeps tells = claim_lost setup words bodies world place chunk found new laid kept inside_w inside_c is step keeps (tells.0 refl)
-by_claimed setup words bodies world place chunk found new false laid kept inside_w inside_c is step keeps tells = claim_won setup words bodies world place chunk found new laid kept inside_w inside_c is step keeps (λ bit. absurd (let no : false ≡ true = tells.1 bit in cc))
+    → IsKept setup (set words (spot setup chunk).page new) slots (world_after world (Claim place chunk found (not claimed)))
+by_claimed setup words slots world place chunk found new true laid kept inside_w inside_c is step keeps tells = claim_lost setup words slots world place chunk found new laid kept inside_w inside_c is step keeps (tells.0 refl)
+by_claimed setup words slots world place chunk found new false laid kept inside_w inside_c is step keeps tells = claim_won setup words slots world place chunk found new laid kept inside_w inside_c is step keeps (λ bit. absurd (let no : false ≡ true = tells.1 bit in cc))
 
-pub claim_kept : (setup : Setup) (words : List ℕ) (bodies : List (Option CommitBody)) (world : World) (place chunk found new : ℕ) (claimed : Bool) (at : Spot) → at ≡ spot setup chunk
-    → IsLaid setup → IsKept setup words bodies world → place < length setup.writers → chunk < length setup.spots
+pub claim_kept : (setup : Setup) (words : List ℕ) (slots : List Stored) (world : World) (place chunk found new : ℕ) (claimed : Bool) (at : Spot) → at ≡ spot setup chunk
+    → IsLaid setup → IsKept setup words slots world → place < length setup.writers → chunk < length setup.spots
     → found ≡ get_or words at.page 0
     → Claims found new at.place at.layout → KeepsOthers found new at.place
     → (IsTrue claimed ↔ IsClaimed found at.place)
-    → IsKept setup (set words at.page new) bodies (world_after world (Claim place chunk found (not claimed)))
-claim_kept setup words bodies world place chunk found new claimed at at_is laid kept inside_w inside_c =
+    → IsKept setup (set words at.page new) slots (world_after world (Claim place chunk found (not claimed)))
+claim_kept setup words slots world place chunk found new claimed at at_is laid kept inside_w inside_c =
     subst (λ (s : Spot). found ≡ get_or words s.page 0 → Claims found new s.place s.layout → KeepsOthers found new s.place → (IsTrue claimed ↔ IsClaimed found s.place)
-    → IsKept setup (set words s.page new) bodies (world_after world (Claim place chunk found (not claimed)))) (sym at_is)
-    (λ is step keeps tells. by_claimed setup words bodies world place chunk found new claimed laid kept inside_w inside_c is step keeps tells)
+    → IsKept setup (set words s.page new) slots (world_after world (Claim place chunk found (not claimed)))) (sym at_is)
+    (λ is step keeps tells. by_claimed setup words slots world place chunk found new claimed laid kept inside_w inside_c is step keeps tells)

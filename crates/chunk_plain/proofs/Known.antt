@@ -1,5 +1,5 @@
--- What the code of the table of one thread knows of its world, and what its calls keep, as its goals say it.
-use Rattle.std.proofs.Common.{◌≡◌, ℕ, ◌+◌, ◌-◌, ◌^◌, ◌<◌, ◌↔◌, IsTrue, IsSome, not, Bool, Option, Some, None, List, length, set, get_or, vec_len, subst, sym, refl, ap, ◌∙◌, arith}
+-- What the code of the table of one thread knows of its world, and what its steps keep, as its goals say it.
+use Rattle.std.proofs.Common.{◌≡◌, ℕ, ◌+◌, ◌-◌, ◌*◌, ◌/◌, ◌%◌, ◌^◌, ◌<◌, ◌≤◌, ◌↔◌, IsTrue, IsSome, IfSome, not, Bool, Option, Some, None, List, length, set, get_or, vec_len, subst, sym, refl, ap, ◌∙◌, arith}
 use Rattle.std.proofs.Math.Logic.{∥∥₁_map, ∥∥₁_elim}
 use Rattle.std.proofs.Math.Nat.{ℕ_set}
 use Rattle.std.proofs.Math.Bool.{Bool-set}
@@ -7,25 +7,27 @@ use Rattle.std.specs.Coded.{le_prop}
 use Rattle.std.specs.Int.{bit_at}
 use Rattle.std.proofs.lemmas.List.{get_or-set_same}
 use Rattle.std.proofs.lemmas.Nat.Bits.{bit_at-lt}
-use Rattle.page_geometry.specs.Header.{packed, unpacked}
+use Rattle.page_geometry.specs.Header.{packed}
 use Rattle.page_geometry.specs.PageBits.{HasState, SetsState, Claims, Releases, KeepsOthers, IsClaimed}
 use Rattle.page_geometry.specs.declared.chunk_header.ChunkHeader.{ChunkHeader}
 use Rattle.page_geometry.specs.declared.chunk_state.ChunkState.TheVariants as state
 use Rattle.commit_body.specs.declared.body.CommitBody.{CommitBody}
 use Rattle.trace_model.specs.Calls as call
 use Rattle.chunk_plain.specs.declared.setup.Spot.{Spot}
-use Rattle.chunk_plain.specs.declared.step.Step.TheVariants.{Claim, Begin, SetHeader, Release}
+use Rattle.chunk_plain.specs.declared.step.Step.TheVariants.{Claim, Stamp, SetHeader, Publish, Look, Take}
 use Rattle.chunk_plain.specs.Setup.{Setup, spot, IsLaid}
-use Rattle.chunk_plain.specs.Views.{Head, WriterView, ServiceView, newcomer, taken_of}
-use Rattle.chunk_plain.specs.World.{World, Status, Unclaimed, Ready, Reading, status, writer}
-use Rattle.chunk_plain.specs.Steps.{completes, no_head, notes_call, looks_at, takes_in, learns, moved, served, noted, serviced}
-use Rattle.chunk_plain.specs.Owned.{times}
-use Rattle.chunk_plain.specs.Shows.{claim_of, content_of, IsHeader, ShowsPage, ShowsHeader, page_word, body_at}
-use Rattle.chunk_plain.specs.Words.{head_at, IsHolding}
-use Rattle.chunk_plain.specs.Plain.{world_after, IsKept}
+use Rattle.chunk_plain.specs.Payload.{byte_of, byte_at, sealed_to, HasFragments}
+use Rattle.chunk_plain.specs.Views.{Content, WriterView, ServiceView, newcomer, fresh, taken_of}
+use Rattle.chunk_plain.specs.World.{World, Status, Unclaimed, Writing, Ready, Reading, status, writer}
+use Rattle.chunk_plain.specs.Steps.{begins, completes, notes_call, looks_at, takes_in, learns, lets_go, moved, served, noted, serviced}
+use Rattle.chunk_plain.specs.Owned.{times, claims_of}
+use Rattle.chunk_plain.specs.Drafts.{MayFollow, draft_at, head_at, published, ends_by, IsHolding}
+use Rattle.chunk_plain.specs.Stored.{Stored, stored_at}
+use Rattle.chunk_plain.specs.Shows.{claim_of, content_of, IsHeader, page_word}
+use Rattle.chunk_plain.specs.Plain.{IsLent, StandsWhole, world_after, read_as, IsKept}
 use Rattle.chunk_plain.proofs.Kept.{claim_kept, claim_bit_free}
-use Rattle.chunk_plain.proofs.KeptWriter.{claimed_by, is_chunk, body_of_claimed, begin_kept, header_kept, held_chunk, complete_kept, call_kept}
-use Rattle.chunk_plain.proofs.KeptService.{serviced_kept, IsFound, found_at, found_content, take_kept, read_chunk, release_kept}
+use Rattle.chunk_plain.proofs.KeptWriter.{claimed_by, is_chunk, body_of_claimed, stamp_kept, begin_kept, lent_inside, body_kept, held_status, held_chunk, held_slot, header_kept, publish_kept, complete_kept, call_kept}
+use Rattle.chunk_plain.proofs.KeptService.{serviced_kept, look_kept, take_kept, learn_kept, reading_of, read_chunk, release_kept}
 
 -- the claim bit at the chunk's spot
 pub bit_set : (setup : Setup) (chunk found : ℕ) (at : Spot) → at ≡ spot setup chunk → IsClaimed found at.place → bit_at found (32 + (spot setup chunk).place) ≡ 1
@@ -39,102 +41,85 @@ bit_clear setup chunk found at at_is clear =
     zero_or_one b low apart = omega arith
 
 -- a body is there where some body is known to be
-is_some_by : (there : Option CommitBody) → ∥ ((body : CommitBody) × (there ≡ Some body)) ∥₁ → IsSome there
+pub is_some_by : (there : Option CommitBody) → ∥ ((body : CommitBody) × (there ≡ Some body)) ∥₁ → IsSome there
 is_some_by (Some body) known = refl
 is_some_by None known = ∥∥₁_elim known (Bool-set _ _) (λ e. absurd (let same = e.1 in cc))
 
-module _ (setup : Setup) (words : List ℕ) (bodies : List (Option CommitBody)) (world : World) (kept : ∥ IsKept setup words bodies world ∥₁) where
+pub some_there : (there : Option CommitBody) → IsSome there → (body : CommitBody) × (there ≡ Some body)
+some_there (Some body) is = (body, refl)
+some_there None is = absurd cc
+
+-- what holds of a body that is there
+pub some_is : (P : CommitBody → Type 0) (there : Option CommitBody) (body : CommitBody) → there ≡ Some body → IfSome there P → P body
+some_is P (Some other) body is holds = subst P (let same : other ≡ body = cc in same) holds
+some_is P None body is holds = absurd cc
+
+module _ (setup : Setup) (words : List ℕ) (slots : List Stored) (world : World) (kept : ∥ IsKept setup words slots world ∥₁) where
   pub seat_inside : (place : ℕ) → place < length setup.writers → place < length world.writers
   seat_inside place inside = ∥∥₁_elim kept (hlevel le_prop) (λ k. let many = k.writers in omega arith)
+
+  pub chunks_inside : length world.chunks ≡ length setup.spots
+  chunks_inside = ∥∥₁_elim kept (ℕ_set _ _) (λ k. k.shown.chunk_count)
 
   pub claimed_inside : (place chunk : ℕ) → 0 < times chunk (writer world place).claimed → chunk < length setup.spots
   claimed_inside place chunk mine = ∥∥₁_elim kept (hlevel le_prop) (λ k. let was = claimed_by world place chunk k.owned mine in is_chunk setup world chunk k.shown.chunk_count (λ free. absurd cc))
 
+  pub stamped_inside : (place chunk id : ℕ) → (writer world place).stamped ≡ Some (record { chunk = chunk; id = id }) → chunk < length setup.spots
+  stamped_inside place chunk id stamped = ∥∥₁_elim kept (hlevel le_prop) (λ k. let was = (k.owned.owns place chunk).stamp_is id stamped in is_chunk setup world chunk k.shown.chunk_count (λ free. absurd cc))
+
   pub held_inside : (place chunk id : ℕ) → IsHolding (writer world place) chunk id → chunk < length setup.spots
-  held_inside place chunk id holding = ∥∥₁_elim kept (hlevel le_prop) (λ k. held_chunk setup words bodies world place chunk id k holding)
+  held_inside place chunk id holding = ∥∥₁_elim kept (hlevel le_prop) (λ k. held_chunk setup words slots world place chunk id k holding)
+
+  pub out_inside : (chunk : ℕ) → ∥ IsLent (status world chunk) ∥₁ → chunk < length setup.spots
+  out_inside chunk lent = ∥∥₁_elim kept (hlevel le_prop) (λ k. ∥∥₁_elim lent (hlevel le_prop) (λ l. lent_inside setup words slots world chunk k l))
 
   pub read_inside : (chunk : ℕ) → 0 < times chunk world.service.reading → chunk < length setup.spots
-  read_inside chunk reading = ∥∥₁_elim kept (hlevel le_prop) (λ k. read_chunk setup words bodies world chunk k reading)
+  read_inside chunk reading = ∥∥₁_elim kept (hlevel le_prop) (λ k. read_chunk setup words slots world chunk k reading)
 
-  pub claimed_body : (place chunk : ℕ) → 0 < times chunk (writer world place).claimed → IsSome (body_at bodies chunk)
-  claimed_body place chunk mine = is_some_by (body_at bodies chunk) (∥∥₁_map kept (λ k. let b = body_of_claimed setup words bodies world place chunk k mine in (b.0, b.1)))
+  pub claimed_body : (place chunk : ℕ) → 0 < times chunk (writer world place).claimed → IsSome (stored_at slots chunk).body
+  claimed_body place chunk mine = is_some_by (stored_at slots chunk).body (∥∥₁_map kept (λ k. let b = body_of_claimed setup words slots world place chunk k mine in (b.0, b.1)))
 
-  pub claimed_size : (place chunk : ℕ) (body : CommitBody) → 0 < times chunk (writer world place).claimed → body_at bodies chunk ≡ Some body → vec_len body.payload ≡ (spot setup chunk).payload_size
-  claimed_size place chunk body mine is = ∥∥₁_elim kept (ℕ_set _ _) (λ k. let b = body_of_claimed setup words bodies world place chunk k mine in
+  pub claimed_size : (place chunk : ℕ) (body : CommitBody) → 0 < times chunk (writer world place).claimed → (stored_at slots chunk).body ≡ Some body → vec_len body.payload ≡ (spot setup chunk).payload_size
+  claimed_size place chunk body mine is = ∥∥₁_elim kept (ℕ_set _ _) (λ k. let b = body_of_claimed setup words slots world place chunk k mine in
       let some_same : Some b.0 ≡ Some body = sym b.1 ∙ is in let same : b.0 ≡ body = cc in subst (λ (x : CommitBody). vec_len x.payload ≡ (spot setup chunk).payload_size) same b.2.whole)
+
+  -- a chunk that a writer holds, or that the service reads, may have its body with a token
+  pub held_lent : (place chunk id : ℕ) → IsHolding (writer world place) chunk id → ∥ IsLent (status world chunk) ∥₁
+  held_lent place chunk id holding = ∥∥₁_map kept (λ k. subst IsLent (sym (held_status setup words slots world place chunk id k holding)) tt)
+
+  pub read_lent : (chunk : ℕ) → 0 < times chunk world.service.reading → ∥ IsLent (status world chunk) ∥₁
+  read_lent chunk reading = ∥∥₁_map kept (λ k. subst IsLent (sym (reading_of world chunk k.owned reading).3) tt)
+
+  -- the slot of a chunk has room for its payload
+  pub room : (chunk : ℕ) → chunk < length setup.spots → (spot setup chunk).payload_size ≤ 8 * length (stored_at slots chunk).words
+  room chunk inside = ∥∥₁_elim kept (hlevel le_prop) (λ k. (k.shown.slot chunk inside).room)
+
+  -- so a word of the payload is one of the draft's
+  pub word_inside : (place chunk id index : ℕ) → IsHolding (writer world place) chunk id → 8 * index < (spot setup chunk).payload_size
+      → (index < length (stored_at slots chunk).words) × (index < length (draft_at (writer world place) id).words)
+  word_inside place chunk id index holding inside = (
+    ∥∥₁_elim kept (hlevel le_prop) (λ k. let slot = held_slot setup words slots world place chunk id k holding in let room = slot.room in omega arith),
+    ∥∥₁_elim kept (hlevel le_prop) (λ k. let slot = held_slot setup words slots world place chunk id k holding in let room = slot.room in let many = ap (λ (l : List ℕ). length l) slot.words.0 in omega arith),
+  )
 
   -- ---- claim
 
   pub claim_step : (next : World) (place chunk found new : ℕ) (claimed : Bool) (at : Spot) → at ≡ spot setup chunk → IsLaid setup → place < length setup.writers → chunk < length setup.spots
       → found ≡ get_or words at.page 0 → Claims found new at.place at.layout → KeepsOthers found new at.place → (IsTrue claimed ↔ IsClaimed found at.place)
-      → next ≡ world_after world (Claim place chunk found (not claimed)) → ∥ IsKept setup (set words at.page new) bodies next ∥₁
+      → next ≡ world_after world (Claim place chunk found (not claimed)) → ∥ IsKept setup (set words at.page new) slots next ∥₁
   claim_step next place chunk found new claimed at at_is laid inside_w inside_c is step keeps tells next_is =
-      subst (λ w. ∥ IsKept setup (set words at.page new) bodies w ∥₁) (sym next_is)
-      (∥∥₁_map kept (λ k. claim_kept setup words bodies world place chunk found new claimed at at_is laid k inside_w inside_c is step keeps tells))
+      subst (λ w. ∥ IsKept setup (set words at.page new) slots w ∥₁) (sym next_is)
+      (∥∥₁_map kept (λ k. claim_kept setup words slots world place chunk found new claimed at at_is laid k inside_w inside_c is step keeps tells))
 
   pub claim_free : (chunk found : ℕ) (at : Spot) → at ≡ spot setup chunk → chunk < length setup.spots → found ≡ get_or words at.page 0 → (IsClaimed found at.place → ⊥) → ∥ status world chunk ≡ Unclaimed ∥₁
   claim_free chunk found at at_is inside is clear =
       ∥∥₁_map kept (λ k. subst (λ (s : Spot). found ≡ get_or words s.page 0 → (IsClaimed found s.place → ⊥) → status world chunk ≡ Unclaimed) (sym at_is)
       (λ read free. claim_bit_free found (spot setup chunk).place (status world chunk) (ap (λ w. bit_at w (32 + (spot setup chunk).place)) read ∙ (k.shown.page chunk inside).claim) free) is clear)
 
-  -- ---- begin and set_header
-
-  pub begin_step : (next : World) (bodies' : List (Option CommitBody)) (place chunk id index header found new : ℕ) (at : Spot) → at ≡ spot setup chunk → index ≡ setup.pages + chunk
-      → bodies' ≡ set bodies chunk None → IsLaid setup → place < length setup.writers → place + 1 < 2 ^ 16
-      → 0 < times chunk (writer world place).claimed → id ≡ length (writer world place).begun → id < 2 ^ 32 - 1
-      → header ≡ packed (record { chunk_id = id; writer_id = place + 1; count = 0; flags = 0 })
-      → found ≡ get_or (set words index header) at.page 0
-      → (HasState found at.place state.Free → SetsState found new at.place state.BeingWritten) → KeepsOthers found new at.place
-      → next ≡ world_after world (Begin place chunk) → ∥ IsKept setup (set (set words index header) at.page new) bodies' next ∥₁
-  begin_step next bodies' place chunk id index header found new at at_is index_is bodies_is laid inside_w number_fits mine id_is id_fits header_is is sets keeps next_is =
-      subst (λ w. ∥ IsKept setup (set (set words index header) at.page new) bodies' w ∥₁) (sym next_is)
-      (subst (λ b. ∥ IsKept setup (set (set words index header) at.page new) b (world_after world (Begin place chunk)) ∥₁) (sym bodies_is)
-      (subst (λ i. found ≡ get_or (set words i header) at.page 0 → ∥ IsKept setup (set (set words i header) at.page new) (set bodies chunk None) (world_after world (Begin place chunk)) ∥₁) (sym index_is)
-      (λ read. ∥∥₁_map kept (λ k. begin_kept setup words bodies world place chunk header found new at at_is laid k inside_w (claimed_inside place chunk mine) mine
-      (subst (λ i. IsHeader header place i no_head) id_is record { word_is = header_is; id_fits = omega arith; writer_fits = number_fits; count_fits = omega arith; flags_fit = omega arith })
-      read sets keeps))
-      is))
-
-  pub header_step : (next : World) (place chunk id index header count flags : ℕ) → index ≡ setup.pages + chunk → IsLaid setup → place < length setup.writers → place + 1 < 2 ^ 16
-      → IsHolding (writer world place) chunk id → id < 2 ^ 32 → count < 2 ^ 10 → flags < 2 ^ 6
-      → header ≡ packed (record { chunk_id = id; writer_id = place + 1; count = count; flags = flags })
-      → next ≡ world_after world (SetHeader place chunk id count flags) → ∥ IsKept setup (set words index header) bodies next ∥₁
-  header_step next place chunk id index header count flags index_is laid inside_w number_fits holding id_fits count_fits flags_fit header_is next_is =
-      subst (λ w. ∥ IsKept setup (set words index header) bodies w ∥₁) (sym next_is)
-      (subst (λ i. ∥ IsKept setup (set words i header) bodies (world_after world (SetHeader place chunk id count flags)) ∥₁) (sym index_is)
-      (∥∥₁_map kept (λ k. header_kept setup words bodies world place chunk id header (record { count = count; flags = flags }) laid k inside_w (held_inside place chunk id holding) holding
-      record { word_is = header_is; id_fits = id_fits; writer_fits = number_fits; count_fits = count_fits; flags_fit = flags_fit })))
-
-  -- ---- complete
-
-  pub complete_step : (next : World) (bodies' : List (Option CommitBody)) (place chunk id found new : ℕ) (body : CommitBody) (at : Spot) → at ≡ spot setup chunk
-      → bodies' ≡ set bodies chunk (Some body) → IsLaid setup → place < length setup.writers
-      → IsHolding (writer world place) chunk id → vec_len body.payload ≡ (spot setup chunk).payload_size
-      → found ≡ get_or words at.page 0
-      → (HasState found at.place state.BeingWritten → SetsState found new at.place state.Complete) → KeepsOthers found new at.place
-      → next ≡ moved world place (completes (writer world place) chunk id (content_of place id (head_at (writer world place) id) body)) chunk (Ready place id (content_of place id (head_at (writer world place) id) body))
-      → ∥ IsKept setup (set words at.page new) bodies' next ∥₁
-  complete_step next bodies' place chunk id found new body at at_is bodies_is laid inside_w holding size is sets keeps next_is =
-      subst (λ w. ∥ IsKept setup (set words at.page new) bodies' w ∥₁) (sym next_is)
-      (subst (λ b. ∥ IsKept setup (set words at.page new) b (moved world place (completes (writer world place) chunk id (content_of place id (head_at (writer world place) id) body)) chunk (Ready place id (content_of place id (head_at (writer world place) id) body))) ∥₁) (sym bodies_is)
-      (∥∥₁_map kept (λ k. complete_kept setup words bodies world place chunk id found new body at at_is laid k inside_w (held_inside place chunk id holding) holding size is sets keeps)))
-
-  -- ---- notes and looks
-
-  pub call_step : (next : World) (place : ℕ) (noted_call : call.Call) → place < length setup.writers → next ≡ noted world place (notes_call (writer world place) noted_call) → ∥ IsKept setup words bodies next ∥₁
-  call_step next place noted_call inside next_is =
-      subst (λ w. ∥ IsKept setup words bodies w ∥₁) (sym next_is) (∥∥₁_map kept (λ k. call_kept setup words bodies world place noted_call k inside))
-
-  -- the view of the seat after a step that changes it alone
-  pub view_now : (next : World) (place : ℕ) (view : WriterView) → place < length setup.writers → next.writers ≡ set world.writers place view → writer next place ≡ view
-  view_now next place view inside is = ap (λ l. get_or l place newcomer) is ∙ get_or-set_same world.writers place view newcomer (seat_inside place inside)
-
-  -- a step that changes one writer's view, told with the view that the seat has then
-  pub told_noted : (next : World) (place : ℕ) (view : WriterView) → place < length setup.writers → next ≡ noted world place view → next ≡ noted world place (writer next place)
-  told_noted next place view inside is = is ∙ ap (λ v. noted world place v) (sym (view_now next place view inside (ap (λ (w : World). w.writers) is)))
-
-  pub told_moved : (next : World) (place chunk : ℕ) (view : WriterView) (to : Status) → place < length setup.writers → next ≡ moved world place view chunk to → next ≡ moved world place (writer next place) chunk to
-  told_moved next place chunk view to inside is = is ∙ ap (λ v. moved world place v chunk to) (sym (view_now next place view inside (ap (λ (w : World). w.writers) is)))
+  -- a chunk that was free is claimed by nobody
+  pub claim_fresh : (place chunk : ℕ) → ∥ status world chunk ≡ Unclaimed ∥₁ → times chunk (writer world place).claimed ≡ 0
+  claim_fresh place chunk free = ∥∥₁_elim kept (ℕ_set _ _) (λ k. ∥∥₁_elim free (ℕ_set _ _) (λ f.
+      (k.owned.owns place chunk).claimed ∙ ap (λ t. claims_of place t) f))
 
   -- the page word that a claim found has the claim bit set, so the chunk isn't free
   pub claim_taken : (chunk found : ℕ) (at : Spot) → at ≡ spot setup chunk → chunk < length setup.spots → found ≡ get_or words at.page 0 → IsClaimed found at.place → status world chunk ≡ Unclaimed → ⊥
@@ -147,60 +132,153 @@ module _ (setup : Setup) (words : List ℕ) (bodies : List (Option CommitBody)) 
       let one : bit_at found (32 + at.place) ≡ 1 = claimed in
       omega arith)
 
-  pub service_step : (next : World) (service : ServiceView) → service.taken ≡ world.service.taken → service.reading ≡ world.service.reading → next ≡ serviced world service → ∥ IsKept setup words bodies next ∥₁
-  service_step next service taken reading next_is =
-      subst (λ w. ∥ IsKept setup words bodies w ∥₁) (sym next_is) (∥∥₁_map kept (λ k. serviced_kept setup words bodies world service k taken reading))
+  -- ---- begin
 
-  pub look_shown : (chunk word header index : ℕ) (at : Spot) → at ≡ spot setup chunk → index ≡ setup.pages + chunk → chunk < length setup.spots
-      → word ≡ get_or words at.page 0 → header ≡ get_or words index 0
-      → ∥ (ShowsPage setup world (spot setup chunk) word (status world chunk) × ShowsHeader header (status world chunk)) ∥₁
-  look_shown chunk word header index at at_is index_is inside word_is header_is =
-      ∥∥₁_map kept (λ k. (
-        subst (λ w. ShowsPage setup world (spot setup chunk) w (status world chunk)) (sym (word_is ∙ ap (λ (s : Spot). get_or words s.page 0) at_is)) (k.shown.page chunk inside),
-        subst (λ w. ShowsHeader w (status world chunk)) (sym (header_is ∙ ap (λ i. get_or words i 0) index_is)) (k.shown.header chunk inside),
-      ))
+  pub stamp_step : (next : World) (place chunk id index header : ℕ) → index ≡ setup.pages + chunk → IsLaid setup → place < length setup.writers → place + 1 < 2 ^ 16
+      → 0 < times chunk (writer world place).claimed → (writer world place).stamped ≡ None → id ≡ length (writer world place).begun → id < 2 ^ 32 - 1
+      → header ≡ packed (record { chunk_id = id; writer_id = place + 1; count = 0; flags = 0 })
+      → next ≡ world_after world (Stamp place chunk) → ∥ IsKept setup (set words index header) slots next ∥₁
+  stamp_step next place chunk id index header index_is laid inside_w number_fits mine unstamped id_is id_fits header_is next_is =
+      subst (λ w. ∥ IsKept setup (set words index header) slots w ∥₁) (sym next_is)
+      (subst (λ i. ∥ IsKept setup (set words i header) slots (world_after world (Stamp place chunk)) ∥₁) (sym index_is)
+      (∥∥₁_map kept (λ k. stamp_kept setup words slots world place chunk header laid k inside_w (claimed_inside place chunk mine) mine unstamped
+      (subst (λ i. IsHeader setup header place i (record { count = 0; flags = 0 })) id_is record { word_is = header_is; id_fits = omega arith; writer_fits = number_fits; count_fits = omega arith; flags_fit = omega arith }))))
+
+  pub begin_step : (next : World) (place chunk found new : ℕ) (at : Spot) → at ≡ spot setup chunk → IsLaid setup → place < length setup.writers
+      → (writer world place).stamped ≡ Some (record { chunk = chunk; id = length (writer world place).begun })
+      → found ≡ get_or words at.page 0
+      → (HasState found at.place state.Free → SetsState found new at.place state.BeingWritten) → KeepsOthers found new at.place
+      → next ≡ moved world place (begins (writer world place) chunk (stored_at slots chunk).words) chunk (Writing place (length (writer world place).begun) (fresh (stored_at slots chunk).words))
+      → ∥ IsKept setup (set words at.page new) slots next ∥₁
+  begin_step next place chunk found new at at_is laid inside_w stamped is sets keeps next_is =
+      subst (λ w. ∥ IsKept setup (set words at.page new) slots w ∥₁) (sym next_is)
+      (subst (λ (s : Spot). found ≡ get_or words s.page 0 → (HasState found s.place state.Free → SetsState found new s.place state.BeingWritten) → KeepsOthers found new s.place
+      → ∥ IsKept setup (set words s.page new) slots (moved world place (begins (writer world place) chunk (stored_at slots chunk).words) chunk (Writing place (length (writer world place).begun) (fresh (stored_at slots chunk).words))) ∥₁) (sym at_is)
+      (λ read steps others. ∥∥₁_map kept (λ k. begin_kept setup words slots world place chunk new laid k inside_w (stamped_inside place chunk (length (writer world place).begun) stamped) stamped
+      (subst (λ w. HasState w (spot setup chunk).place state.Free → SetsState w new (spot setup chunk).place state.BeingWritten) read steps)
+      (subst (λ w. KeepsOthers w new (spot setup chunk).place) read others)))
+      is sets keeps)
+
+  -- ---- a body goes out or comes back
+
+  pub body_step : (slots' : List Stored) (chunk : ℕ) (body : Option CommitBody) → IsLaid setup → ∥ IsLent (status world chunk) ∥₁
+      → slots' ≡ set slots chunk (record (stored_at slots chunk) { body = body }) → ∥ IsKept setup words slots' world ∥₁
+  body_step slots' chunk body laid lent is =
+      subst (λ l. ∥ IsKept setup words l world ∥₁) (sym is)
+      (∥∥₁_elim lent squash₁ (λ out. ∥∥₁_map kept (λ k. body_kept setup words slots world chunk body laid k out)))
+
+  -- ---- set_header and publish
+
+  pub header_step : (next : World) (place chunk id index header count flags : ℕ) → index ≡ setup.pages + chunk → IsLaid setup → place < length setup.writers → place + 1 < 2 ^ 16
+      → IsHolding (writer world place) chunk id → id < 2 ^ 32 → count < 2 ^ 10 → flags < 2 ^ 6
+      → header ≡ packed (record { chunk_id = id; writer_id = place + 1; count = count; flags = flags })
+      → MayFollow (head_at (writer world place) id) (record { count = count; flags = flags })
+      → HasFragments (published (writer world place) id) (ends_by (writer world place) id count)
+      → sealed_to (ends_by (writer world place) id count) ≤ (spot setup chunk).payload_size
+      → next ≡ world_after world (SetHeader place chunk id count flags) → ∥ IsKept setup (set words index header) slots next ∥₁
+  header_step next place chunk id index header count flags index_is laid inside_w number_fits holding id_fits count_fits flags_fit header_is follows reads inside next_is =
+      subst (λ w. ∥ IsKept setup (set words index header) slots w ∥₁) (sym next_is)
+      (subst (λ i. ∥ IsKept setup (set words i header) slots (world_after world (SetHeader place chunk id count flags)) ∥₁) (sym index_is)
+      (∥∥₁_map kept (λ k. header_kept setup words slots world place chunk id header (record { count = count; flags = flags }) laid k inside_w holding
+      record { word_is = header_is; id_fits = id_fits; writer_fits = number_fits; count_fits = count_fits; flags_fit = flags_fit } follows reads inside)))
+
+  pub word_step : (next : World) (slots' : List Stored) (place chunk id index word : ℕ) → IsLaid setup → place < length setup.writers
+      → IsHolding (writer world place) chunk id → 8 * index < (spot setup chunk).payload_size
+      → ((m : ℕ) → m < 8 → 8 * index + m < sealed_to (draft_at (writer world place) id).ends → byte_of word m ≡ byte_at (draft_at (writer world place) id).words (8 * index + m))
+      → slots' ≡ set slots chunk (record (stored_at slots chunk) { words = set (stored_at slots chunk).words index word })
+      → next ≡ world_after world (Publish place chunk id index word) → ∥ IsKept setup words slots' next ∥₁
+  word_step next slots' place chunk id index word laid inside_w holding inside same is next_is =
+      subst (λ w. ∥ IsKept setup words slots' w ∥₁) (sym next_is)
+      (subst (λ l. ∥ IsKept setup words l (world_after world (Publish place chunk id index word)) ∥₁) (sym is)
+      (∥∥₁_map kept (λ k. publish_kept setup words slots world place chunk id index word laid k inside_w holding (word_inside place chunk id index holding inside).1
+      (λ m below less. same m below less ∙ byte_here (draft_at (writer world place) id).words index m below))))
+    where
+      byte_here : (l : List ℕ) (index m : ℕ) → m < 8 → byte_at l (8 * index + m) ≡ byte_of (get_or l index 0) m
+      byte_here l index m below =
+          ap (λ i. byte_of (get_or l i 0) ((8 * index + m) % 8)) (let at : (8 * index + m) / 8 ≡ index = omega arith in at)
+          ∙ ap (λ i. byte_of (get_or l index 0) i) (let rest : (8 * index + m) % 8 ≡ m = omega arith in rest)
+
+  -- ---- complete
+
+  pub complete_step : (next : World) (place chunk id found new : ℕ) (body : CommitBody) (at : Spot) → at ≡ spot setup chunk → IsLaid setup → place < length setup.writers
+      → IsHolding (writer world place) chunk id → (stored_at slots chunk).body ≡ Some body
+      → StandsWhole (spot setup chunk).payload_size (writer world place) id body
+      → found ≡ get_or words at.page 0
+      → (HasState found at.place state.BeingWritten → SetsState found new at.place state.Complete) → KeepsOthers found new at.place
+      → next ≡ moved world place (completes (writer world place) chunk id (content_of place id (head_at (writer world place) id) body)) chunk (Ready place id (content_of place id (head_at (writer world place) id) body))
+      → ∥ IsKept setup (set words at.page new) slots next ∥₁
+  complete_step next place chunk id found new body at at_is laid inside_w holding there whole is sets keeps next_is =
+      subst (λ w. ∥ IsKept setup (set words at.page new) slots w ∥₁) (sym next_is)
+      (subst (λ (s : Spot). found ≡ get_or words s.page 0 → (HasState found s.place state.BeingWritten → SetsState found new s.place state.Complete) → KeepsOthers found new s.place
+      → ∥ IsKept setup (set words s.page new) slots (moved world place (completes (writer world place) chunk id (content_of place id (head_at (writer world place) id) body)) chunk (Ready place id (content_of place id (head_at (writer world place) id) body))) ∥₁) (sym at_is)
+      (λ read steps others. ∥∥₁_map kept (λ k. complete_kept setup words slots world place chunk id new body laid k inside_w holding there whole
+      (subst (λ w. HasState w (spot setup chunk).place state.BeingWritten → SetsState w new (spot setup chunk).place state.Complete) read steps)
+      (subst (λ w. KeepsOthers w new (spot setup chunk).place) read others)))
+      is sets keeps)
+
+  -- ---- notes and looks
+
+  pub call_step : (next : World) (place : ℕ) (noted_call : call.Call) → place < length setup.writers → next ≡ noted world place (notes_call (writer world place) noted_call) → ∥ IsKept setup words slots next ∥₁
+  call_step next place noted_call inside next_is =
+      subst (λ w. ∥ IsKept setup words slots w ∥₁) (sym next_is) (∥∥₁_map kept (λ k. call_kept setup words slots world place noted_call k inside))
+
+  pub service_step : (next : World) (service : ServiceView) → service.looks ≡ world.service.looks → service.taken ≡ world.service.taken → service.reading ≡ world.service.reading
+      → next ≡ serviced world service → ∥ IsKept setup words slots next ∥₁
+  service_step next service looks taken reading next_is =
+      subst (λ w. ∥ IsKept setup words slots w ∥₁) (sym next_is) (∥∥₁_map kept (λ k. serviced_kept setup words slots world service k looks taken reading))
+
+  pub look_step : (next : World) (chunk word : ℕ) (header : ChunkHeader) → next ≡ world_after world (Look chunk word header) → ∥ IsKept setup words slots next ∥₁
+  look_step next chunk word header next_is =
+      subst (λ w. ∥ IsKept setup words slots w ∥₁) (sym next_is) (∥∥₁_map kept (λ k. look_kept setup words slots world chunk word (packed header) k))
+
+  -- the view of the seat after a step that changes it alone
+  pub view_now : (next : World) (place : ℕ) (view : WriterView) → place < length setup.writers → next.writers ≡ set world.writers place view → writer next place ≡ view
+  view_now next place view inside is = ap (λ l. get_or l place newcomer) is ∙ get_or-set_same world.writers place view newcomer (seat_inside place inside)
+
+  -- a step that changes one writer's view, told with the view that the seat has then
+  pub told_noted : (next : World) (place : ℕ) (view : WriterView) → place < length setup.writers → next ≡ noted world place view → next ≡ noted world place (writer next place)
+  told_noted next place view inside is = is ∙ ap (λ v. noted world place v) (sym (view_now next place view inside (ap (λ (w : World). w.writers) is)))
+
+  pub told_moved : (next : World) (place chunk : ℕ) (view : WriterView) (to : Status) → place < length setup.writers → next ≡ moved world place view chunk to → next ≡ moved world place (writer next place) chunk to
+  told_moved next place chunk view to inside is = is ∙ ap (λ v. moved world place v chunk to) (sym (view_now next place view inside (ap (λ (w : World). w.writers) is)))
 
   -- ---- take
 
-  -- what was found, and is complete
-  pub found_known : (place chunk word index : ℕ) (header : ChunkHeader) (at : Spot) → at ≡ spot setup chunk → index ≡ setup.pages + chunk → chunk < length setup.spots
-      → word ≡ get_or words at.page 0 → HasState word at.place state.Complete
-      → header ≡ unpacked (get_or words index 0) → header.writer_id ≡ place + 1
-      → ∥ IsFound setup bodies world place chunk header.chunk_id (record { count = header.count; flags = header.flags }) ∥₁
-  found_known place chunk word index header at at_is index_is inside word_is complete header_is writer_is =
-      ∥∥₁_map kept (λ k. found_at setup words bodies world place chunk word header at at_is k inside word_is complete (header_is ∙ ap (λ i. unpacked (get_or words i 0)) index_is) writer_is)
+  pub take_step : (next : World) (place chunk word new : ℕ) (header : ChunkHeader) → IsLaid setup → place < length setup.writers → chunk < length setup.spots
+      → word ≡ page_word setup words chunk
+      → ∥ ((content : Content) × (status world chunk ≡ Ready place (taken_of world.service place).count content)) ∥₁
+      → (HasState word (spot setup chunk).place state.Complete → SetsState word new (spot setup chunk).place state.BeingRead) → KeepsOthers word new (spot setup chunk).place
+      → next ≡ world_after world (Take place chunk word header)
+      → ∥ IsKept setup (set words (spot setup chunk).page new) slots next ∥₁
+  take_step next place chunk word new header laid inside_w inside_c word_is ready sets keeps next_is =
+      ∥∥₁_elim ready squash₁ (λ r. ∥∥₁_map kept (λ k.
+      subst (λ w. IsKept setup (set words (spot setup chunk).page new) slots w) (sym next_is)
+      (subst (λ t. IsKept setup (set words (spot setup chunk).page new) slots (served world (takes_in (looks_at world.service chunk word (packed header) None) place chunk) chunk t)) (sym (ap read_as r.1))
+      (take_kept setup words slots world place chunk word (packed header) new r.0 laid k inside_w inside_c r.1
+      (subst (λ w. HasState w (spot setup chunk).place state.Complete → SetsState w new (spot setup chunk).place state.BeingRead) word_is sets)
+      (subst (λ w. KeepsOthers w new (spot setup chunk).place) word_is keeps)))))
 
-  module _ (place chunk id : ℕ) (head : Head) (found : ∥ IsFound setup bodies world place chunk id head ∥₁) where
-    pub found_body : IsSome (body_at bodies chunk)
-    found_body = is_some_by (body_at bodies chunk) (∥∥₁_map found (λ f. (f.body, f.kept)))
-
-    pub found_size : (body : CommitBody) → body_at bodies chunk ≡ Some body → vec_len body.payload ≡ (spot setup chunk).payload_size
-    found_size body is = ∥∥₁_elim found (ℕ_set _ _) (λ f. (found_content setup bodies world place chunk id head body f is).1)
-
-    pub found_status : (body : CommitBody) → body_at bodies chunk ≡ Some body → ∥ status world chunk ≡ Ready place id (content_of place id head body) ∥₁
-    found_status body is = ∥∥₁_map found (λ f. f.ready ∙ ap (λ m. Ready place id m) (sym (found_content setup bodies world place chunk id head body f is).0))
-
-    pub take_step : (next : World) (bodies' : List (Option CommitBody)) (word header new : ℕ) (body : CommitBody) (at : Spot) → at ≡ spot setup chunk → body_at bodies chunk ≡ Some body
-        → bodies' ≡ set bodies chunk None → IsLaid setup → place < length setup.writers → chunk < length setup.spots → id ≡ (taken_of world.service place).count
-        → word ≡ get_or words at.page 0
-        → (HasState word at.place state.Complete → SetsState word new at.place state.BeingRead) → KeepsOthers word new at.place
-        → next ≡ served world (learns (takes_in (looks_at world.service chunk word header) place chunk) place (content_of place id head body)) chunk (Reading place id (content_of place id head body))
-        → ∥ IsKept setup (set words at.page new) bodies' next ∥₁
-    take_step next bodies' word header new body at at_is is bodies_is laid inside_w inside_c id_is word_is sets keeps next_is =
-        ∥∥₁_elim kept squash₁ (λ k. ∥∥₁_map found (λ f.
-        subst (λ w. IsKept setup (set words at.page new) bodies' w) (sym next_is)
-        (subst (λ b. IsKept setup (set words at.page new) b (served world (learns (takes_in (looks_at world.service chunk word header) place chunk) place (content_of place id head body)) chunk (Reading place id (content_of place id head body)))) (sym bodies_is)
-        (take_kept setup words bodies world place chunk word header new id (content_of place id head body) at at_is laid k inside_w inside_c id_is
-        (f.ready ∙ ap (λ m. Ready place id m) (sym (found_content setup bodies world place chunk id head body f is).0)) word_is sets keeps))))
+  pub learn_step : (next : World) (place chunk : ℕ) (header : ChunkHeader) (body : CommitBody) → place < length setup.writers
+      → (taken_of world.service place).count ≡ length (taken_of world.service place).contents + 1
+      → ∥ status world chunk ≡ Reading place (length (taken_of world.service place).contents) (content_of place header.chunk_id (record { count = header.count; flags = header.flags }) body) ∥₁
+      → next ≡ serviced world (learns world.service place (content_of place header.chunk_id (record { count = header.count; flags = header.flags }) body))
+      → ∥ IsKept setup words slots next ∥₁
+  learn_step next place chunk header body inside last reading next_is =
+      subst (λ w. ∥ IsKept setup words slots w ∥₁) (sym next_is)
+      (∥∥₁_elim reading squash₁ (λ r. ∥∥₁_map kept (λ k. learn_kept setup words slots world place chunk (content_of place header.chunk_id (record { count = header.count; flags = header.flags }) body) k inside last r)))
 
   -- ---- release
 
-  pub release_step : (next : World) (bodies' : List (Option CommitBody)) (chunk found new : ℕ) (body : CommitBody) (at : Spot) → at ≡ spot setup chunk
-      → bodies' ≡ set bodies chunk (Some body) → IsLaid setup → 0 < times chunk world.service.reading → vec_len body.payload ≡ (spot setup chunk).payload_size
+  pub free_step : (next : World) (chunk found new : ℕ) (body : CommitBody) (at : Spot) → at ≡ spot setup chunk → IsLaid setup → 0 < times chunk world.service.reading
+      → (stored_at slots chunk).body ≡ Some body → vec_len body.payload ≡ (spot setup chunk).payload_size
       → found ≡ get_or words at.page 0
       → (HasState found at.place state.BeingRead → Releases found new at.place) → KeepsOthers found new at.place
-      → next ≡ world_after world (Release chunk) → ∥ IsKept setup (set words at.page new) bodies' next ∥₁
-  release_step next bodies' chunk found new body at at_is bodies_is laid reading size is sets keeps next_is =
-      subst (λ w. ∥ IsKept setup (set words at.page new) bodies' w ∥₁) (sym next_is)
-      (subst (λ b. ∥ IsKept setup (set words at.page new) b (world_after world (Release chunk)) ∥₁) (sym bodies_is)
-      (∥∥₁_map kept (λ k. release_kept setup words bodies world chunk found new body at at_is laid k (read_inside chunk reading) reading record { whole = size } is sets keeps)))
+      → next ≡ served world (lets_go world.service chunk) chunk Unclaimed → ∥ IsKept setup (set words at.page new) slots next ∥₁
+  free_step next chunk found new body at at_is laid reading there size is sets keeps next_is =
+      subst (λ w. ∥ IsKept setup (set words at.page new) slots w ∥₁) (sym next_is)
+      (subst (λ (s : Spot). found ≡ get_or words s.page 0 → (HasState found s.place state.BeingRead → Releases found new s.place) → KeepsOthers found new s.place
+      → ∥ IsKept setup (set words s.page new) slots (served world (lets_go world.service chunk) chunk Unclaimed) ∥₁) (sym at_is)
+      (λ read steps others. ∥∥₁_map kept (λ k. release_kept setup words slots world chunk new body laid k reading there record { whole = size }
+      (subst (λ w. HasState w (spot setup chunk).place state.BeingRead → Releases w new (spot setup chunk).place) read steps)
+      (subst (λ w. KeepsOthers w new (spot setup chunk).place) read others)))
+      is sets keeps)

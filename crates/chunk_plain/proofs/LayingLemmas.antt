@@ -1,8 +1,8 @@
 -- The chunks of a set-up are laid out as a table needs them.
-use Rattle.std.proofs.Common.{◌≡◌, ℕ, zero, suc, ◌+◌, ◌-◌, ◌*◌, ◌<◌, ◌≤◌, ◌⊎◌, inl, inr, List, [], ◌∷◌, ◌++◌, length, get_or, subst, sym, refl, ◌∙◌, arith, ⊎_elim, length-append, append_assoc, append-nil, zero-add, add-zero}
+use Rattle.std.proofs.Common.{◌≡◌, ℕ, zero, suc, ◌+◌, ◌-◌, ◌*◌, ◌<◌, ◌≤◌, ◌⊎◌, inl, inr, List, [], ◌∷◌, ◌++◌, length, get_or, subst, sym, refl, ap, ◌∙◌, arith, ⊎_elim, length-append, append_assoc, append-nil, zero-add, add-zero}
 use Rattle.std.proofs.Math.Logic.{∥∥₁_elim}
 use Rattle.std.specs.Coded.{le_prop}
-use Rattle.std.proofs.lemmas.List.{get_or_append_left}
+use Rattle.std.proofs.lemmas.List.{get_or_append_left, get_or-append_right}
 use Rattle.std.proofs.lemmas.List.Elements.{All-head, All-tail}
 use Rattle.std.proofs.lemmas.Nat.{mul-le}
 use Rattle.std.specs.List.{All}
@@ -11,23 +11,24 @@ use native.Mathlib.Decide.{dec_le}
 use mathlib.Core.Logic.{dite}
 use Rattle.trace_base.specs.declared.limits.TheConstants.{MAX_PRODUCERS, MAX_PAGES}
 use Rattle.trace_base.specs.declared.policy.WriterSpec.{WriterSpec}
-use Rattle.page_geometry.specs.Sizes.{IsChunkCount, layout_number}
+use Rattle.page_geometry.specs.Sizes.{IsChunkCount, layout_number, payload_size}
+use Rattle.page_geometry.proofs.SizeLemmas.{payload_size_least, payload_size_most}
 use Rattle.page_geometry.specs.declared.geometry.Geometry.{Geometry}
 use Rattle.chunk_plain.specs.declared.setup.ProducerSpec.{ProducerSpec}
 use Rattle.chunk_plain.specs.declared.setup.Spot.{Spot}
 use Rattle.chunk_plain.specs.Setup.{no_spot, IsLaid}
-use Rattle.chunk_plain.specs.Laying.{spot_at, page_spots, pages_spots, spots_of, ranges_of, pages_in, chunks_in, setup_of}
+use Rattle.chunk_plain.specs.Laying.{spot_at, page_spots, pages_spots, spots_of, ranges_of, sizes_of, pages_in, chunks_in, setup_of}
 
 abbrev Bounded : ℕ → Type 0
-Bounded chunks = (chunks ≤ 14) × (layout_number chunks < 8)
+Bounded chunks = (chunks ≤ 14) × (layout_number chunks < 8) × (1 ≤ chunks)
 
 bounds : (chunks : ℕ) → IsChunkCount chunks → Bounded chunks
 unfolding layout_number
-bounds chunks (zero, _, is) = subst Bounded is (omega arith, omega arith)
-bounds chunks (suc zero, _, is) = subst Bounded is (omega arith, omega arith)
-bounds chunks (suc (suc zero), _, is) = subst Bounded is (omega arith, omega arith)
-bounds chunks (suc (suc (suc zero)), _, is) = subst Bounded is (omega arith, omega arith)
-bounds chunks (suc (suc (suc (suc zero))), _, is) = subst Bounded is (omega arith, omega arith)
+bounds chunks (zero, _, is) = subst Bounded is (omega arith, omega arith, omega arith)
+bounds chunks (suc zero, _, is) = subst Bounded is (omega arith, omega arith, omega arith)
+bounds chunks (suc (suc zero), _, is) = subst Bounded is (omega arith, omega arith, omega arith)
+bounds chunks (suc (suc (suc zero)), _, is) = subst Bounded is (omega arith, omega arith, omega arith)
+bounds chunks (suc (suc (suc (suc zero))), _, is) = subst Bounded is (omega arith, omega arith, omega arith)
 bounds chunks (suc (suc (suc (suc (suc _)))), inside, _) = absurd (omega (arith, inside))
 
 geometry_most : (geometry : Geometry) → geometry.chunks ≤ 14
@@ -36,6 +37,9 @@ geometry_most geometry = ∥∥₁_elim geometry.counted (hlevel le_prop) (λ co
 geometry_layout : (geometry : Geometry) → layout_number geometry.chunks < 8
 geometry_layout geometry = ∥∥₁_elim geometry.counted (hlevel le_prop) (λ counted. (bounds geometry.chunks counted).1)
 
+geometry_least : (geometry : Geometry) → 1 ≤ geometry.chunks
+geometry_least geometry = ∥∥₁_elim geometry.counted (hlevel le_prop) (λ counted. (bounds geometry.chunks counted).2)
+
 -- The chunks so far: those of whole pages before this page, and of it the first ones, so many, of this geometry.
 record LaidUpTo (spots : List Spot) (page place chunks layout : ℕ) : Type 0 where
   before : (c : ℕ) → c < length spots → ((get_or spots c no_spot).page < page)
@@ -43,6 +47,7 @@ record LaidUpTo (spots : List Spot) (page place chunks layout : ℕ) : Type 0 wh
   inside : (c : ℕ) → c < length spots → (get_or spots c no_spot).place < (get_or spots c no_spot).chunks
   most : (c : ℕ) → c < length spots → (get_or spots c no_spot).chunks ≤ 14
   numbered : (c : ℕ) → c < length spots → (get_or spots c no_spot).layout < 8
+  sized : (c : ℕ) → c < length spots → (284 ≤ (get_or spots c no_spot).payload_size) × ((get_or spots c no_spot).payload_size < 65536)
   apart : (c d : ℕ) → c < length spots → d < length spots → (get_or spots c no_spot).page ≡ (get_or spots d no_spot).page → (get_or spots c no_spot).place ≡ (get_or spots d no_spot).place → c ≡ d
   alike : (c d : ℕ) → c < length spots → d < length spots → (get_or spots c no_spot).page ≡ (get_or spots d no_spot).page
       → ((get_or spots c no_spot).chunks ≡ (get_or spots d no_spot).chunks) × ((get_or spots c no_spot).layout ≡ (get_or spots d no_spot).layout)
@@ -74,6 +79,8 @@ lay_push spots page n geometry fits o =
       inside = λ c below. snoc_read (λ _ x. x.place < x.chunks) spots new c below (o.inside c) (λ _. fits);
       most = λ c below. snoc_read (λ _ x. x.chunks ≤ 14) spots new c below (o.most c) (λ _. geometry_most geometry);
       numbered = λ c below. snoc_read (λ _ x. x.layout < 8) spots new c below (o.numbered c) (λ _. geometry_layout geometry);
+      sized = λ c below. snoc_read (λ _ x. (284 ≤ x.payload_size) × (x.payload_size < 65536)) spots new c below (o.sized c)
+          (λ _. (payload_size_least geometry, (let most = payload_size_most geometry in omega arith)));
       apart = λ c d below_c below_d.
           snoc_read (λ i x. Apart x i (get_or (spots ++ new ∷ []) d no_spot) d) spots new c below_c
           (λ low_c. snoc_read (λ j y. Apart (get_or spots c no_spot) c y j) spots new d below_d
@@ -100,6 +107,7 @@ lay_turn spots page next place chunks layout chunks' layout' later o =
       inside = o.inside;
       most = o.most;
       numbered = o.numbered;
+      sized = o.sized;
       apart = o.apart;
       alike = o.alike;
     }
@@ -112,6 +120,7 @@ lay_again spots page chunks layout chunks' layout' o =
       inside = o.inside;
       most = o.most;
       numbered = o.numbered;
+      sized = o.sized;
       apart = o.apart;
       alike = o.alike;
     }
@@ -148,6 +157,7 @@ nothing_laid page = record {
   inside = λ c below. absurd (omega arith);
   most = λ c below. absurd (omega arith);
   numbered = λ c below. absurd (omega arith);
+  sized = λ c below. absurd (omega arith);
   apart = λ c d below _. absurd (omega arith);
   alike = λ c d below _. absurd (omega arith);
 }
@@ -187,8 +197,62 @@ ranges_inside first page (producer ∷ producers) (suc i) =
     let tail = ranges_inside (first + chunks_in producer) (page + producer.pages) producers i in
     omega (arith, many, tail, length-append (pages_spots page producer.geometry producer.pages) (spots_of (page + producer.pages) producers))
 
-pub setup_laid : (producers : List ProducerSpec) (writers : List WriterSpec) → length producers ≤ MAX_PRODUCERS → All (λ producer. producer.pages ≤ MAX_PAGES) producers → IsLaid (setup_of producers writers)
-setup_laid producers writers some pages =
+-- each producer has a chunk
+some_chunk : (first : ℕ) (producers : List ProducerSpec) (i : ℕ) → All (λ producer. 1 ≤ producer.pages) producers → i < length (ranges_of first producers)
+    → 0 < (get_or (ranges_of first producers) i (record { first = 0; count = 0 })).count
+some_chunk first [] i some inside = absurd (omega arith)
+some_chunk first (producer ∷ producers) zero some inside =
+    let least : 1 ≤ producer.pages = All-head (λ (p : ProducerSpec). 1 ≤ p.pages) producer producers some in
+    let chunks = geometry_least producer.geometry in
+    mul-le 1 1 producer.pages producer.geometry.chunks least chunks
+some_chunk first (producer ∷ producers) (suc i) some inside =
+    some_chunk (first + chunks_in producer) producers i (All-tail (λ (p : ProducerSpec). 1 ≤ p.pages) producer producers some) (omega arith)
+
+-- the chunks of a producer's pages have the payload size of its geometry
+page_sized : (page : ℕ) (geometry : Geometry) (n c : ℕ) → c < n → (get_or (page_spots page geometry n) c no_spot).payload_size ≡ payload_size geometry.page_size geometry.chunks
+page_sized page geometry zero c below = absurd (omega arith)
+page_sized page geometry (suc n) c below =
+    snoc_read (λ _ x. x.payload_size ≡ payload_size geometry.page_size geometry.chunks) (page_spots page geometry n) (spot_at page n geometry) c
+    (let many = length-page_spots page geometry (suc n) in omega arith)
+    (λ low. page_sized page geometry n c (let many = length-page_spots page geometry n in omega arith))
+    (λ _. refl)
+
+pages_sized : (page : ℕ) (geometry : Geometry) (n c : ℕ) → c < length (pages_spots page geometry n) → (get_or (pages_spots page geometry n) c no_spot).payload_size ≡ payload_size geometry.page_size geometry.chunks
+pages_sized page geometry zero c below = absurd (omega arith)
+pages_sized page geometry (suc n) c below =
+    let before = pages_spots page geometry n in let last = page_spots (page + n) geometry geometry.chunks in
+    dite (dec_le (suc c) (length before))
+    (λ less. ap (λ (x : Spot). x.payload_size) (get_or_append_left before last no_spot c less) ∙ pages_sized page geometry n c less)
+    (λ above. ap (λ (x : Spot). x.payload_size) (get_or-append_right before last (length before) c no_spot refl (omega arith))
+    ∙ page_sized (page + n) geometry geometry.chunks (c - length before) (let many = length-append before last in let one = length-page_spots (page + n) geometry geometry.chunks in omega arith))
+
+-- a chunk of some producer isn't one of those before
+range_behind : (first : ℕ) (producers : List ProducerSpec) (i c : ℕ) → (get_or (ranges_of first producers) i (record { first = 0; count = 0 })).first ≤ c
+    → c < (get_or (ranges_of first producers) i (record { first = 0; count = 0 })).first + (get_or (ranges_of first producers) i (record { first = 0; count = 0 })).count → first ≤ c
+range_behind first [] i c least below = absurd (omega arith)
+range_behind first (producer ∷ producers) zero c least below = least
+range_behind first (producer ∷ producers) (suc i) c least below = let tail = range_behind (first + chunks_in producer) producers i c least below in omega arith
+
+range_sized : (first page : ℕ) (producers : List ProducerSpec) (i c : ℕ) → (get_or (ranges_of first producers) i (record { first = 0; count = 0 })).first ≤ c
+    → c < (get_or (ranges_of first producers) i (record { first = 0; count = 0 })).first + (get_or (ranges_of first producers) i (record { first = 0; count = 0 })).count
+    → (get_or (spots_of page producers) (c - first) no_spot).payload_size ≡ get_or (sizes_of producers) i 0
+range_sized first page [] i c least below = absurd (omega arith)
+range_sized first page (producer ∷ producers) zero c least below =
+    let mine = pages_spots page producer.geometry producer.pages in let others = spots_of (page + producer.pages) producers in
+    let many : length mine ≡ chunks_in producer = length-pages_spots page producer.geometry producer.pages in
+    let inside : c - first < length mine = omega arith in
+    ap (λ (x : Spot). x.payload_size) (get_or_append_left mine others no_spot (c - first) inside) ∙ pages_sized page producer.geometry producer.pages (c - first) inside
+range_sized first page (producer ∷ producers) (suc i) c least below =
+    let mine = pages_spots page producer.geometry producer.pages in let others = spots_of (page + producer.pages) producers in
+    let many : length mine ≡ chunks_in producer = length-pages_spots page producer.geometry producer.pages in
+    let behind = range_behind (first + chunks_in producer) producers i c least below in
+    ap (λ (x : Spot). x.payload_size) (get_or-append_right mine others (length mine) (c - first) no_spot refl (omega arith))
+    ∙ (ap (λ k. (get_or others k no_spot).payload_size) (let back : c - first - length mine ≡ c - (first + chunks_in producer) = omega arith in back)
+    ∙ range_sized (first + chunks_in producer) (page + producer.pages) producers i c least below)
+
+pub setup_laid : (producers : List ProducerSpec) (writers : List WriterSpec) → length producers ≤ MAX_PRODUCERS → All (λ producer. 1 ≤ producer.pages) producers
+    → All (λ producer. producer.pages ≤ MAX_PAGES) producers → IsLaid (setup_of producers writers)
+setup_laid producers writers few some pages =
     let o = subst (λ p. LaidUpTo (spots_of 0 producers) p 0 0 0) (zero-add (pages_in producers)) (lay_all [] 0 0 0 producers (nothing_laid 0)) in
     let most = few_spots 0 producers pages in
     record {
@@ -200,4 +264,8 @@ setup_laid producers writers some pages =
       apart = o.apart;
       alike = o.alike;
       ranges = λ producer. subst (λ n. (get_or (ranges_of 0 producers) (producer - 1) (record { first = 0; count = 0 })).first + (get_or (ranges_of 0 producers) (producer - 1) (record { first = 0; count = 0 })).count ≤ n) (zero-add (length (spots_of 0 producers))) (ranges_inside 0 0 producers (producer - 1));
+      some = λ producer has. some_chunk 0 producers (producer - 1) some (let least = has.least in let most = has.most in omega arith);
+      sizes = λ producer chunk own. ap (λ k. (get_or (spots_of 0 producers) k no_spot).payload_size) (let same : chunk ≡ chunk - 0 = omega arith in same) ∙ range_sized 0 0 producers (producer - 1) chunk own.least own.below;
+      least = λ c below. (o.sized c below).0;
+      most = λ c below. (o.sized c below).1;
     }

@@ -84,3 +84,9 @@ at_inside (z ∷ zs) x (suc i) at = let tail = at_inside zs x i at in omega arit
 -- at one place stands one element
 pub at_one : {A : Type 0} (xs : List A) (x y : A) (i : ℕ) → At xs i x → At xs i y → x ≡ y
 at_one xs x y i one other = some-injective x y (sym one ∙ other)
+
+-- at each place inside stands an element
+pub at_some : {A : Type 0} (xs : List A) (i : ℕ) → i < length xs → (x : A) × At xs i x
+at_some [] i inside = absurd (omega arith)
+at_some (x ∷ xs) zero inside = (x, refl)
+at_some (x ∷ xs) (suc i) inside = at_some xs i (omega arith)

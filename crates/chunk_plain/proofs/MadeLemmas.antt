@@ -1,15 +1,14 @@
 -- A table as it is made keeps what a table keeps.
-use Rattle.std.proofs.Common.{◌≡◌, ℕ, ◌+◌, Option, Some, None, List, [], ◌∷◌, ◌++◌, length, get_or, vec_len, subst, sym, refl, ap, ◌∙◌, arith, length-append}
+use Rattle.std.proofs.Common.{◌≡◌, ℕ, ◌+◌, ◌<◌, ◌≤◌, ◌/◌, List, [], ◌∷◌, ◌++◌, length, get_or, subst, sym, refl, ap, ◌∙◌, arith, length-append}
 use Rattle.std.proofs.lemmas.List.{get_or_append_left}
 use Rattle.std.proofs.Math.Seq.{get_or-append_seam}
 use native.Mathlib.Decide.{dec_le}
 use mathlib.Core.Logic.{dite}
-use Rattle.commit_body.specs.declared.body.CommitBody.{CommitBody}
 use Rattle.chunk_plain.specs.declared.setup.Spot.{Spot}
 use Rattle.chunk_plain.specs.Setup.{no_spot}
-use Rattle.chunk_plain.specs.Shows.{body_at}
 use Rattle.chunk_plain.specs.declared.plain_seats.PlainWriter.{PlainWriter}
-use Rattle.chunk_plain.specs.Made.{HasFreeBodies, HasSeats}
+use Rattle.chunk_plain.specs.Made.{IsFreeSlot, HasFreeSlots, AllZero, HasSeats}
+use Rattle.chunk_plain.specs.Stored.{Stored, nothing_stored, stored_at}
 use Rattle.std.proofs.Common.{zero, suc, map, replicate, inr, ◌*◌}
 use Rattle.std.proofs.lemmas.List.{length-map, length-replicate}
 use Rattle.std.proofs.lemmas.Nat.Bits.{bit_at-zero}
@@ -18,21 +17,20 @@ use Rattle.chunk_plain.specs.Setup.{Setup, spot}
 use Rattle.chunk_plain.specs.Views.{At, WriterView, Taken, newcomer, none_taken, taken_of}
 use Rattle.chunk_plain.specs.World.{Unclaimed, status, writer}
 use Rattle.chunk_plain.specs.Owned.{reads_of, Owns, Counts, IsOwned}
-use Rattle.chunk_plain.specs.Shows.{ShowsPage, ShowsHeader, ShowsBody, header_word}
+use Rattle.chunk_plain.specs.Shows.{ShowsPage, ShowsHeader, ShowsSlot, header_word}
+use Rattle.chunk_plain.specs.Words.{IsAtRest, IsServing}
 use Rattle.chunk_plain.specs.Plain.{first_world, IsKept}
 
-pub bodies_more : (spots : List Spot) (count : ℕ) (bodies : List (Option CommitBody)) (body : CommitBody) → HasFreeBodies spots count bodies
-    → vec_len body.payload ≡ (get_or spots count no_spot).payload_size → HasFreeBodies spots (count + 1) (bodies ++ Some body ∷ [])
-bodies_more spots count bodies body o size =
+pub slots_more : (spots : List Spot) (count : ℕ) (slots : List Stored) (slot : Stored) → HasFreeSlots spots count slots
+    → IsFreeSlot (get_or spots count no_spot).payload_size slot → HasFreeSlots spots (count + 1) (slots ++ slot ∷ [])
+slots_more spots count slots slot o free =
     record {
-      count_is = length-append bodies (Some body ∷ []) ∙ (let many = o.count_is in omega arith);
+      count_is = length-append slots (slot ∷ []) ∙ (let many = o.count_is in omega arith);
       each = λ chunk below. dite (dec_le (chunk + 1) count)
-          (λ less. let r = o.each chunk (omega arith) in (r.0, get_or_append_left bodies (Some body ∷ []) None chunk (let many = o.count_is in omega arith) ∙ r.1, r.2))
-          (λ last. let same : chunk ≡ count = omega arith in (
-            body,
-            ap (λ i. get_or (bodies ++ Some body ∷ []) i None) (same ∙ sym o.count_is) ∙ get_or-append_seam bodies (Some body) [] None,
-            record { whole = size ∙ ap (λ i. (get_or spots i no_spot).payload_size) (sym same) },
-          ));
+          (λ less. subst (IsFreeSlot (get_or spots chunk no_spot).payload_size) (sym (get_or_append_left slots (slot ∷ []) nothing_stored chunk (let many = o.count_is in omega arith))) (o.each chunk (omega arith)))
+          (λ last. let same : chunk ≡ count = omega arith in
+          subst (λ i. IsFreeSlot (get_or spots i no_spot).payload_size (get_or (slots ++ slot ∷ []) i nothing_stored)) (sym same)
+          (subst (IsFreeSlot (get_or spots count no_spot).payload_size) (sym (ap (λ i. get_or (slots ++ slot ∷ []) i nothing_stored) (sym o.count_is) ∙ get_or-append_seam slots slot [] nothing_stored)) free));
     }
 
 pub seats_more : (count : ℕ) (seats : List PlainWriter) → HasSeats count seats → HasSeats (count + 1) (seats ++ record { place = count } ∷ [])
@@ -76,6 +74,8 @@ nothing_counted place = record {
   wins = refl;
   next = λ stamp e. absurd cc;
   named = λ id chunk content e. absurd (some-ne-none _ (sym e));
+  drafts = λ id chunk draft e. absurd (some-ne-none _ (sym e));
+  wholes = λ id chunk content e. absurd (some-ne-none _ (sym e));
   completed = λ id below. absurd (omega arith);
   learnt = λ id content e. absurd (some-ne-none _ (sym e));
   level = omega arith;
@@ -93,12 +93,13 @@ first_owned setup =
       reads = λ c. subst (λ t. 0 ≡ reads_of t) (sym (free c)) refl;
       claimed_won = λ c claimed. absurd (claimed (free c));
       asked_won = λ k i ask at. absurd (some-ne-none ask (sym (subst (λ (v : WriterView). At v.asked i ask) (fresh k) at)));
+      looks = λ n look found at is. absurd (some-ne-none look (sym at));
       all_taken = length-map setup.writers (λ _. none_taken) ∙ sym (length-map setup.writers (λ _. newcomer));
     }
 
-pub first_kept : (setup : Setup) (bodies : List (Option CommitBody)) → HasFreeBodies setup.spots (length setup.spots) bodies
-    → IsKept setup (replicate (setup.pages + length setup.spots) 0) bodies (first_world setup)
-first_kept setup bodies o =
+pub first_kept : (setup : Setup) (slots : List Stored) → HasFreeSlots setup.spots (length setup.spots) slots
+    → IsKept setup (replicate (setup.pages + length setup.spots) 0) slots (first_world setup)
+first_kept setup slots o =
     let words = replicate (setup.pages + length setup.spots) 0 in
     let free : (c : ℕ) → status (first_world setup) c ≡ Unclaimed = λ c. all_same Unclaimed setup.spots c in
     let fresh : (k : ℕ) → writer (first_world setup) k ≡ newcomer = λ k. all_same newcomer setup.writers k in
@@ -106,7 +107,7 @@ first_kept setup bodies o =
       shown = record {
         chunk_count = length-map setup.spots (λ _. Unclaimed);
         word_count = length-replicate (setup.pages + length setup.spots) 0;
-        body_count = o.count_is;
+        slot_count = o.count_is;
         page = λ c below. subst (λ w. ShowsPage setup (first_world setup) (spot setup c) w (status (first_world setup) c)) (sym (all_zero (setup.pages + length setup.spots) (spot setup c).page))
             (subst (λ t. ShowsPage setup (first_world setup) (spot setup c) 0 t) (sym (free c))
             record {
@@ -115,11 +116,46 @@ first_kept setup bodies o =
               layout = inr ((λ bit below. bit_at-zero (28 + bit) ∙ sym (bit_at-zero bit)), (λ k i ask at. absurd (some-ne-none ask (sym (subst (λ (v : WriterView). At v.asked i ask) (fresh k) at)))));
               spare = λ bit _. bit_at-zero bit;
             });
-        header = λ c below. subst (λ t. ShowsHeader (header_word setup words c) t) (sym (free c)) tt;
-        body = λ c below. subst (λ t. ShowsBody (spot setup c).payload_size t (body_at bodies c)) (sym (free c)) (o.each c below);
+        header = λ c below. subst (λ t. ShowsHeader setup (header_word setup words c) t) (sym (free c)) tt;
+        slot = λ c below. let free_slot = o.each c below in
+            subst (λ t. ShowsSlot (spot setup c).payload_size t (stored_at slots c)) (sym (free c)) (record {
+              room = let many = ap (λ (l : List ℕ). length l) free_slot.words ∙ length-replicate (((spot setup c).payload_size + 7) / 8) 0 in omega arith;
+              words = tt;
+              body = (free_slot.body, free_slot.body_is, free_slot.free);
+            });
       };
       owned = first_owned setup;
       writers = length-map setup.writers (λ _. newcomer);
-      rests = λ k. ap (λ (v : WriterView). v.stamped) (fresh k);
-      level = λ k. ap (λ (t : Taken). t.count) (all_same none_taken setup.writers k) ∙ sym (ap (λ (t : Taken). length t.contents) (all_same none_taken setup.writers k));
     }
+
+pub all_zeros : (setup : Setup) (words : List ℕ) (slots : List Stored) → words ≡ replicate (setup.pages + length setup.spots) 0 → HasFreeSlots setup.spots (length setup.spots) slots → AllZero words slots
+all_zeros setup words slots is o =
+    record {
+      words_are = λ i. ap (λ (l : List ℕ). get_or l i 0) is ∙ all_zero (setup.pages + length setup.spots) i;
+      payloads_are = λ c i. dite (dec_le (c + 1) (length setup.spots))
+          (λ inside. ap (λ (l : List ℕ). get_or l i 0) (o.each c (omega arith)).words ∙ all_zero (((spot setup c).payload_size + 7) / 8) i)
+          (λ outside. ap (λ (slot : Stored). get_or slot.words i 0) (behind slots c (let many = o.count_is in omega arith)));
+    }
+  where
+    behind : (slots : List Stored) (c : ℕ) → length slots ≤ c → stored_at slots c ≡ nothing_stored
+    behind [] c above = refl
+    behind (slot ∷ slots) zero above = absurd (omega arith)
+    behind (slot ∷ slots) (suc c) above = behind slots c (omega arith)
+
+-- the seats of a table as it is made
+
+pub first_sits : (setup : Setup) (place : ℕ) → place < length setup.writers → IsAtRest setup place (writer (first_world setup) place)
+first_sits setup place inside =
+    subst (λ v. IsAtRest setup place v) (sym (all_same newcomer setup.writers place)) (record {
+      inside = inside;
+      stamped = refl;
+      asked = λ i ask at. absurd (some-ne-none ask (sym at));
+      claimed = λ chunk mine. absurd (omega arith);
+      begun = λ id entry at. absurd (some-ne-none entry (sym at));
+    })
+
+pub first_serves : (setup : Setup) → IsServing setup (first_world setup).service
+first_serves setup = record {
+  writers = length-map setup.writers (λ _. none_taken);
+  level = λ place. ap (λ (t : Taken). length t.contents) (all_same none_taken setup.writers place) ∙ sym (ap (λ (t : Taken). t.count) (all_same none_taken setup.writers place));
+}

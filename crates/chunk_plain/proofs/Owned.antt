@@ -1,14 +1,15 @@
 -- A world that is owned stays owned where one writer's view and one chunk change, and where the service's view and one chunk do.
-use Rattle.std.proofs.Common.{◌≡◌, ◌≢◌, ℕ, ◌<◌, ◌⊎◌, inl, inr, List, [], length, get_or, subst, sym, refl, ap, ◌∙◌, arith, ⊎_elim, length-set}
+use Rattle.std.proofs.Common.{◌≡◌, ◌≢◌, ℕ, ◌<◌, ◌⊎◌, inl, inr, Option, Some, List, [], length, set, get_or, subst, sym, refl, ap, ◌∙◌, arith, ⊎_elim, length-set}
 use Rattle.std.proofs.lemmas.List.{get_or-set_other}
 use Rattle.std.proofs.lemmas.Bool.Decides.{nat_tests}
 use native.Mathlib.Decide.{ℕ_discrete}
 use mathlib.Core.Logic.{dite}
-use Rattle.chunk_plain.specs.Views.{At, Ask, WriterView, ServiceView, Taken, newcomer, taken_of}
+use Rattle.chunk_plain.specs.Views.{At, Ask, Look, Found, WriterView, ServiceView, Taken, newcomer, taken_of}
 use Rattle.chunk_plain.specs.World.{World, Status, Unclaimed, Claimed, Stamped, Writing, Ready, Reading, status, writer}
-use Rattle.chunk_plain.specs.Steps.{moved, served, noted, serviced}
+use Rattle.chunk_plain.specs.Steps.{looks_at, taken_counts, moved, served, noted, serviced}
 use Rattle.chunk_plain.specs.Owned.{times, claims_of, reads_of, Owns, Counts, Won, IsOwned}
-use Rattle.chunk_plain.proofs.Lists.{changed, matrix}
+use Rattle.chunk_plain.specs.Drafts.{IsFound, IsThere}
+use Rattle.chunk_plain.proofs.Lists.{changed, matrix, at_more}
 
 -- the status isn't one of this writer's
 abbrev pub Foreign : ℕ → Status → Type 0
@@ -71,6 +72,18 @@ won_stays world place chunk about view is inside grows won = (
   won.5,
 )
 
+-- what was found is there still, where one writer's view changes and has of its begun chunks what was found
+looks_stay : (world : World) (place : ℕ) (view : WriterView) → IsOwned world → place < length world.writers
+    → ((about : ℕ) (found : Found) → IsThere (writer world place) about found → IsThere view about found)
+    → (n : ℕ) (look : Look) (found : Found) → At world.service.looks n look → look.found ≡ Some found → IsFound found × IsThere (get_or (set world.writers place view) found.place newcomer) look.chunk found
+looks_stay world place view o inside still n look found at is =
+    let old = o.looks n look found at is in (
+      old.0,
+      changed (λ (v : WriterView). IsThere v look.chunk found) world.writers place found.place view newcomer inside
+          (λ same. still look.chunk found (subst (λ k. IsThere (writer world k) look.chunk found) same old.1))
+          (λ _. old.1),
+    )
+
 -- the step of a writer
 pub writer_step : (world : World) (place chunk : ℕ) (view : WriterView) (is : Status) → IsOwned world → place < length world.writers → chunk < length world.chunks
     → Owns (taken_of world.service place).count place view chunk is
@@ -82,8 +95,9 @@ pub writer_step : (world : World) (place chunk : ℕ) (view : WriterView) (is : 
     → ((i : ℕ) (ask : Ask) → At (writer world place).asked i ask → At view.asked i ask)
     → ((i : ℕ) (ask : Ask) → At view.asked i ask → At (writer world place).asked i ask ⊎ (ask.chunk ≡ chunk))
     → Won (moved world place view chunk is) chunk
+    → ((about : ℕ) (found : Found) → IsThere (writer world place) about found → IsThere view about found)
     → IsOwned (moved world place view chunk is)
-writer_step world place chunk view is o inside_w inside_c cell row was_mine is_mine same_reads counts grows back won =
+writer_step world place chunk view is o inside_w inside_c cell row was_mine is_mine same_reads counts grows back won still =
     record {
       owns = matrix
           (λ u v d t. Owns (taken_of world.service u).count u v d t)
@@ -117,6 +131,7 @@ writer_step world place chunk view is o inside_w inside_c cell row was_mine is_m
           (λ (old : (w : ℕ) × (j : ℕ) × At (writer world w).asked j ask). won_stays world place chunk ask.chunk view is inside_w grows (o.asked_won old.0 old.1 ask old.2))
           (λ (same : ask.chunk ≡ chunk). subst (Won (moved world place view chunk is)) (sym same) won)
           (old_or_new u i ask at);
+      looks = looks_stay world place view o inside_w still;
       all_taken = o.all_taken ∙ sym (length-set world.writers place view);
     }
   where
@@ -133,8 +148,9 @@ pub noted_owned : (world : World) (place : ℕ) (view : WriterView) → IsOwned 
     → Counts (taken_of world.service place) place view
     → ((i : ℕ) (ask : Ask) → At (writer world place).asked i ask → At view.asked i ask)
     → ((i : ℕ) (ask : Ask) → At view.asked i ask → At (writer world place).asked i ask ⊎ Won world ask.chunk)
+    → ((about : ℕ) (found : Found) → IsThere (writer world place) about found → IsThere view about found)
     → IsOwned (noted world place view)
-noted_owned world place view o inside row counts grows back =
+noted_owned world place view o inside row counts grows back still =
     record {
       owns = λ u chunk. changed (λ v. Owns (taken_of world.service u).count u v chunk (status world chunk)) world.writers place u view newcomer inside
           (λ same. subst (λ k. Owns (taken_of world.service k).count k view chunk (status world chunk)) (sym same) (row chunk (o.owns place chunk)))
@@ -148,6 +164,7 @@ noted_owned world place view o inside row counts grows back =
           changed (λ (v : WriterView). At v.asked i ask → Won (noted world place view) ask.chunk) world.writers place u view newcomer inside
           (λ _ at. ⊎_elim (λ old. stays ask.chunk (o.asked_won place i ask old)) (λ won. stays ask.chunk won) (back i ask at))
           (λ _ at. stays ask.chunk (o.asked_won u i ask at));
+      looks = looks_stay world place view o inside still;
       all_taken = o.all_taken ∙ sym (length-set world.writers place view);
     }
   where
@@ -160,9 +177,9 @@ pub service_step : (world : World) (service : ServiceView) (chunk : ℕ) (is : S
     → ((place : ℕ) → Counts (taken_of service place) place (writer world place))
     → ((about : ℕ) → times about service.reading ≡ reads_of (status (served world service chunk is) about))
     → (status world chunk ≡ Unclaimed → ⊥)
-    → length service.taken ≡ length world.service.taken
+    → length service.taken ≡ length world.service.taken → service.looks ≡ world.service.looks
     → IsOwned (served world service chunk is)
-service_step world service chunk is o inside owns counts reads had taken =
+service_step world service chunk is o inside owns counts reads had taken looks =
     record {
       owns = owns;
       counts = counts;
@@ -172,17 +189,40 @@ service_step world service chunk is o inside owns counts reads had taken =
           (λ same. subst (Won world) (sym same) (o.claimed_won chunk had))
           (λ differs. o.claimed_won d (λ free. claimed (get_or-set_other world.chunks chunk d is Unclaimed differs ∙ free)));
       asked_won = o.asked_won;
+      looks = λ n look found at is. o.looks n look found (subst (λ (l : List Look). At l n look) looks at) is;
       all_taken = taken ∙ o.all_taken;
     }
 
 -- a step of the service that neither takes nor releases
-pub serviced_owned : (world : World) (service : ServiceView) → IsOwned world → service.taken ≡ world.service.taken → service.reading ≡ world.service.reading → IsOwned (serviced world service)
-serviced_owned world service o taken reading =
+serviced_with : (world : World) (service : ServiceView) → IsOwned world → service.taken ≡ world.service.taken → service.reading ≡ world.service.reading
+    → ((n : ℕ) (look : Look) (found : Found) → At service.looks n look → look.found ≡ Some found → IsFound found × IsThere (writer world found.place) look.chunk found)
+    → IsOwned (serviced world service)
+serviced_with world service o taken reading looks =
     record {
       owns = λ place chunk. subst (λ (l : List Taken). Owns (get_or l place (record { count = 0; contents = [] })).count place (writer world place) chunk (status world chunk)) (sym taken) (o.owns place chunk);
       counts = λ place. subst (λ (l : List Taken). Counts (get_or l place (record { count = 0; contents = [] })) place (writer world place)) (sym taken) (o.counts place);
       reads = λ chunk. subst (λ (l : List ℕ). times chunk l ≡ reads_of (status world chunk)) (sym reading) (o.reads chunk);
       claimed_won = o.claimed_won;
       asked_won = o.asked_won;
+      looks = looks;
       all_taken = subst (λ (l : List Taken). length l ≡ length world.writers) (sym taken) o.all_taken;
     }
+
+-- nor looks
+pub serviced_owned : (world : World) (service : ServiceView) → IsOwned world → service.looks ≡ world.service.looks → service.taken ≡ world.service.taken → service.reading ≡ world.service.reading
+    → IsOwned (serviced world service)
+serviced_owned world service o looks taken reading =
+    serviced_with world service o taken reading (λ n look found at is. o.looks n look found (subst (λ (l : List Look). At l n look) looks at) is)
+
+-- the service looks at a chunk: what it finds there of a chunk that is written is there
+pub looks_owned : (world : World) (chunk word header : ℕ) (found : Option Found) → IsOwned world
+    → ((one : Found) → found ≡ Some one → IsFound one × IsThere (writer world one.place) chunk one)
+    → IsOwned (serviced world (looks_at world.service chunk word header found))
+looks_owned world chunk word header found o finds =
+    let new : Look = record { chunk = chunk; word = word; header = header; found = found; taken = taken_counts world.service } in
+    serviced_with world (looks_at world.service chunk word header found) o refl refl
+    (λ n look one at is. ⊎_elim
+    (λ old. o.looks n look one old is)
+    (λ (last : (n ≡ length world.service.looks) × (new ≡ look)).
+    subst (λ (l : Look). l.found ≡ Some one → IsFound one × IsThere (writer world one.place) l.chunk one) last.1 (finds one) is)
+    (at_more world.service.looks new look n at))

@@ -1,18 +1,20 @@
 -- What a table of one thread keeps is ownership in its eight parts.
-use Rattle.std.proofs.Common.{◌≡◌, ℕ, ◌<◌, ◌⊎◌, inl, inr, Option, Some, List, length, subst, sym, refl, ap, ◌∙◌, arith, ⊎_elim}
+use Rattle.std.proofs.Common.{◌≡◌, ℕ, ◌<◌, ◌≤◌, ◌⊎◌, inl, inr, List, length, subst, sym, ap, ◌∙◌, arith, ⊎_elim}
 use Rattle.page_geometry.specs.PageBits.{HasState}
-use Rattle.page_geometry.specs.declared.chunk_state.ChunkState.TheVariants as state
-use Rattle.commit_body.specs.declared.body.CommitBody.{CommitBody}
 use Rattle.chunk_plain.specs.Setup.{Setup, spot}
-use Rattle.chunk_plain.specs.Views.{Head, Content}
-use Rattle.chunk_plain.specs.World.{World, Status, Unclaimed, Claimed, Stamped, Writing, Ready, Reading, status}
+use Rattle.chunk_plain.specs.Payload.{byte_at}
+use Rattle.chunk_plain.specs.Views.{At, Begun, Held, Completed, Found, taken_of}
+use Rattle.chunk_plain.specs.World.{World, Unclaimed, Claimed, Stamped, Writing, Ready, Reading, status, writer}
 use Rattle.chunk_plain.specs.Owned.{times, claims_of, reads_of, IsOwned}
-use Rattle.chunk_plain.specs.Shows.{state_of, claim_of, ShowsHeader, ShowsBody, IsBodyOf, page_word, header_word, body_at}
+use Rattle.chunk_plain.specs.Drafts.{StillHas, head_of}
+use Rattle.chunk_plain.specs.Stored.{Stored, stored_at}
+use Rattle.chunk_plain.specs.Shows.{state_of, claim_of, ShowsHeader, ShowsSlot, page_word, header_word}
 use Rattle.chunk_plain.specs.Plain.{IsKept}
-use Rattle.chunk_plain.specs.Ownership.{Claims, IsNobodys, IsClaimedByOne, Ownership}
+use Rattle.chunk_plain.specs.Ownership.{Claims, IsNobodys, IsClaimedByOne, IsAsFound, Ownership}
 use Rattle.chunk_plain.proofs.Owned.{claimed_status, claims_of-mine}
 use Rattle.chunk_plain.proofs.Kept.{claim_bit_free}
-use Rattle.chunk_plain.proofs.KeptService.{ready_status}
+use Rattle.chunk_plain.proofs.Lists.{at_inside, at_some}
+use Rattle.chunk_plain.proofs.States.{claimed_free, writing_status, ready_status, reading_status}
 use Rattle.chunk_plain.proofs.KeptWriter.{is_chunk}
 
 -- a chunk that a writer has as claimed has one of these statuses
@@ -29,33 +31,8 @@ nobodys world chunk owned free =
       read = λ has. let none : times chunk world.service.reading ≡ 0 = owned.reads chunk ∙ ap reads_of free in omega arith;
     }
 
--- a claimed chunk that is free in its page word
-claimed_free : (is : Status) (word place : ℕ) → HasState word place (state_of is) → HasState word place state.Free → claim_of is ≡ 1 → ((k : ℕ) × (is ≡ Claimed k)) ⊎ ((k id : ℕ) × (is ≡ Stamped k id))
-claimed_free Unclaimed word place has free one = absurd (omega arith)
-claimed_free (Claimed k) word place has free one = inl (k, refl)
-claimed_free (Stamped k i) word place has free one = inr (k, i, refl)
-claimed_free (Writing k i h) word place has free one = absurd (let low = has.low in let low' = free.low in omega arith)
-claimed_free (Ready k i m) word place has free one = absurd (let low = has.low in let low' = free.low in omega arith)
-claimed_free (Reading k i m) word place has free one = absurd (let high = has.high in let high' = free.high in omega arith)
-
-writing_status : (is : Status) (word place : ℕ) → HasState word place (state_of is) → HasState word place state.BeingWritten → (k id : ℕ) × (head : Head) × (is ≡ Writing k id head)
-writing_status Unclaimed word place has free = absurd (let low = has.low in let low' = free.low in omega arith)
-writing_status (Claimed k) word place has free = absurd (let low = has.low in let low' = free.low in omega arith)
-writing_status (Stamped k i) word place has free = absurd (let low = has.low in let low' = free.low in omega arith)
-writing_status (Writing k i h) word place has free = (k, i, h, refl)
-writing_status (Ready k i m) word place has free = absurd (let high = has.high in let high' = free.high in omega arith)
-writing_status (Reading k i m) word place has free = absurd (let high = has.high in let high' = free.high in omega arith)
-
-reading_status : (is : Status) (word place : ℕ) → HasState word place (state_of is) → HasState word place state.BeingRead → (k id : ℕ) × (content : Content) × (is ≡ Reading k id content)
-reading_status Unclaimed word place has free = absurd (let high = has.high in let high' = free.high in omega arith)
-reading_status (Claimed k) word place has free = absurd (let high = has.high in let high' = free.high in omega arith)
-reading_status (Stamped k i) word place has free = absurd (let high = has.high in let high' = free.high in omega arith)
-reading_status (Writing k i h) word place has free = absurd (let high = has.high in let high' = free.high in omega arith)
-reading_status (Ready k i m) word place has free = absurd (let low = has.low in let low' = free.low in omega arith)
-reading_status (Reading k i m) word place has free = (k, i, m, refl)
-
-claimed_one : (world : World) (chunk header place : ℕ) → IsOwned world → ShowsHeader header (status world chunk) → status world chunk ≡ Claimed place → IsClaimedByOne world chunk header
-claimed_one world chunk header place owned shows is =
+claimed_one : (setup : Setup) (world : World) (chunk header place : ℕ) → IsOwned world → ShowsHeader setup header (status world chunk) → status world chunk ≡ Claimed place → IsClaimedByOne setup world chunk header
+claimed_one setup world chunk header place owned shows is =
     record {
       place = place;
       claims = inl (subst (λ n. 0 < n) (sym ((owned.owns place chunk).claimed ∙ (ap (claims_of place) is ∙ claims_of-mine place))) (omega arith));
@@ -63,17 +40,62 @@ claimed_one world chunk header place owned shows is =
       stored = λ id e. let same = (owned.owns place chunk).stamp_is id e in absurd cc;
     }
 
-stamped_one : (world : World) (chunk header place id : ℕ) → IsOwned world → ShowsHeader header (status world chunk) → status world chunk ≡ Stamped place id → IsClaimedByOne world chunk header
-stamped_one world chunk header place id owned shows is =
+stamped_one : (setup : Setup) (world : World) (chunk header place id : ℕ) → IsOwned world → ShowsHeader setup header (status world chunk) → status world chunk ≡ Stamped place id → IsClaimedByOne setup world chunk header
+stamped_one setup world chunk header place id owned shows is =
     record {
       place = place;
       claims = inr (id, (owned.owns place chunk).stamped_is id is);
       only = λ other has. ⊎_elim (λ same. absurd cc) (λ same. let e = same.1 in cc) (claims_status world other chunk owned has);
-      stored = λ i e. subst (λ t. ShowsHeader header t) ((owned.owns place chunk).stamp_is i e) shows;
+      stored = λ i e. subst (λ t. ShowsHeader setup header t) ((owned.owns place chunk).stamp_is i e) shows;
     }
 
-pub ownership : (setup : Setup) (words : List ℕ) (bodies : List (Option CommitBody)) (world : World) → IsKept setup words bodies world → Ownership setup words bodies world
-ownership setup words bodies world kept =
+-- what was found of a chunk whose id isn't taken, by its entry among the begun ones
+pub as_found : (setup : Setup) (words : List ℕ) (slots : List Stored) (world : World) (chunk : ℕ) (found : Found) → IsKept setup words slots world
+    → (taken_of world.service found.place).count ≤ found.id
+    → (entry : Begun) → At (writer world found.place).begun found.id entry → StillHas chunk found entry
+    → IsAsFound setup world chunk (page_word setup words chunk) (header_word setup words chunk) (stored_at slots chunk) found
+as_found setup words slots world chunk found kept untaken (Held other draft) at has =
+    let is : status world chunk ≡ Writing found.place found.id draft = (kept.owned.owns found.place chunk).held_is found.id draft (subst (λ c. At (writer world found.place).begun found.id (Held c draft)) has.0 at) in
+    let inside : chunk < length setup.spots = is_chunk setup world chunk kept.shown.chunk_count (λ free. absurd cc) in
+    let slot : ShowsSlot (spot setup chunk).payload_size (Writing found.place found.id draft) (stored_at slots chunk) = subst (λ t. ShowsSlot (spot setup chunk).payload_size t (stored_at slots chunk)) is (kept.shown.slot chunk inside) in
+    record {
+      inside = inside;
+      state = inl (subst (λ t. HasState (page_word setup words chunk) (spot setup chunk).place (state_of t)) is (kept.shown.page chunk inside).state);
+      head = draft.head;
+      stored = subst (λ t. ShowsHeader setup (header_word setup words chunk) t) is (kept.shown.header chunk inside);
+      follows = has.1;
+      bytes = λ j below. ap (λ w. byte_at w j) slot.words.0 ∙ has.3 j below;
+    }
+as_found setup words slots world chunk found kept untaken (Completed other content) at has =
+    let is : status world chunk ≡ Ready found.place found.id content = (kept.owned.owns found.place chunk).completed_is found.id content (subst (λ c. At (writer world found.place).begun found.id (Completed c content)) has.0 at) untaken in
+    let inside : chunk < length setup.spots = is_chunk setup world chunk kept.shown.chunk_count (λ free. absurd cc) in
+    let slot : ShowsSlot (spot setup chunk).payload_size (Ready found.place found.id content) (stored_at slots chunk) = subst (λ t. ShowsSlot (spot setup chunk).payload_size t (stored_at slots chunk)) is (kept.shown.slot chunk inside) in
+    record {
+      inside = inside;
+      state = inr (subst (λ t. HasState (page_word setup words chunk) (spot setup chunk).place (state_of t)) is (kept.shown.page chunk inside).state);
+      head = head_of content;
+      stored = subst (λ t. ShowsHeader setup (header_word setup words chunk) t) is (kept.shown.header chunk inside);
+      follows = has.1;
+      bytes = λ j below. slot.words.bytes j (let less = has.2 in let whole = slot.words.whole in omega arith) ∙ has.3 j below;
+    }
+
+-- its finished fragments lie inside the payload
+pub found_inside : (setup : Setup) (words : List ℕ) (slots : List Stored) (world : World) (chunk : ℕ) (found : Found) → IsKept setup words slots world
+    → (taken_of world.service found.place).count ≤ found.id
+    → (entry : Begun) → At (writer world found.place).begun found.id entry → StillHas chunk found entry → length found.sealed ≤ (spot setup chunk).payload_size
+found_inside setup words slots world chunk found kept untaken (Held other draft) at has =
+    let is : status world chunk ≡ Writing found.place found.id draft = (kept.owned.owns found.place chunk).held_is found.id draft (subst (λ c. At (writer world found.place).begun found.id (Held c draft)) has.0 at) in
+    let inside : chunk < length setup.spots = is_chunk setup world chunk kept.shown.chunk_count (λ free. absurd cc) in
+    let slot : ShowsSlot (spot setup chunk).payload_size (Writing found.place found.id draft) (stored_at slots chunk) = subst (λ t. ShowsSlot (spot setup chunk).payload_size t (stored_at slots chunk)) is (kept.shown.slot chunk inside) in
+    let low = has.2 in let high = slot.words.1 in omega arith
+found_inside setup words slots world chunk found kept untaken (Completed other content) at has =
+    let is : status world chunk ≡ Ready found.place found.id content = (kept.owned.owns found.place chunk).completed_is found.id content (subst (λ c. At (writer world found.place).begun found.id (Completed c content)) has.0 at) untaken in
+    let inside : chunk < length setup.spots = is_chunk setup world chunk kept.shown.chunk_count (λ free. absurd cc) in
+    let slot : ShowsSlot (spot setup chunk).payload_size (Ready found.place found.id content) (stored_at slots chunk) = subst (λ t. ShowsSlot (spot setup chunk).payload_size t (stored_at slots chunk)) is (kept.shown.slot chunk inside) in
+    let low = has.2 in let whole = slot.words.whole in omega arith
+
+pub ownership : (setup : Setup) (words : List ℕ) (slots : List Stored) (world : World) → IsKept setup words slots world → Ownership setup words slots world
+ownership setup words slots world kept =
     let shown = kept.shown in let owned = kept.owned in
     record {
       unclaimed = λ chunk inside clear.
@@ -82,37 +104,45 @@ ownership setup words bodies world kept =
           (subst (λ t. HasState (page_word setup words chunk) (spot setup chunk).place (state_of t)) free page.state, nobodys world chunk owned free);
       claimed = λ chunk inside one free.
           let page = shown.page chunk inside in
-          ⊎_elim (λ (is : (k : ℕ) × (status world chunk ≡ Claimed k)). claimed_one world chunk (header_word setup words chunk) is.0 owned (shown.header chunk inside) is.1)
-          (λ (is : (k id : ℕ) × (status world chunk ≡ Stamped k id)). stamped_one world chunk (header_word setup words chunk) is.0 is.1 owned (shown.header chunk inside) is.2)
+          ⊎_elim (λ (is : (k : ℕ) × (status world chunk ≡ Claimed k)). claimed_one setup world chunk (header_word setup words chunk) is.0 owned (shown.header chunk inside) is.1)
+          (λ (is : (k id : ℕ) × (status world chunk ≡ Stamped k id)). stamped_one setup world chunk (header_word setup words chunk) is.0 is.1 owned (shown.header chunk inside) is.2)
           (claimed_free (status world chunk) (page_word setup words chunk) (spot setup chunk).place page.state free (sym page.claim ∙ one));
       written = λ chunk inside has.
           let is = writing_status (status world chunk) (page_word setup words chunk) (spot setup chunk).place (shown.page chunk inside).state has in let same = is.3 in
           record {
             place = is.0;
             id = is.1;
-            head = is.2;
+            draft = is.2;
             holds = (owned.owns is.0 chunk).writing_is is.1 is.2 same;
             only = λ other i h at. let e : status world chunk ≡ Writing other i h = (owned.owns other chunk).held_is i h at in let both : Writing is.0 is.1 is.2 ≡ Writing other i h = sym same ∙ e in (cc, cc);
-            stored = subst (λ t. ShowsHeader (header_word setup words chunk) t) same (shown.header chunk inside);
+            stored = subst (λ t. ShowsHeader setup (header_word setup words chunk) t) same (shown.header chunk inside);
+            words = let slot : ShowsSlot (spot setup chunk).payload_size (Writing is.0 is.1 is.2) (stored_at slots chunk) = subst (λ t. ShowsSlot (spot setup chunk).payload_size t (stored_at slots chunk)) same (shown.slot chunk inside) in slot.words.0;
           };
+      drafts = λ place chunk id draft holds. (owned.counts place).drafts id chunk draft holds;
+      wholes = λ place chunk id content completes. (owned.counts place).wholes id chunk content completes;
+      looked = λ n look found at is untaken.
+          let there = (owned.looks n look found at is).1 in
+          as_found setup words slots world look.chunk found kept untaken there.entry there.at there.has;
       complete = λ chunk inside has.
           let is = ready_status (status world chunk) (page_word setup words chunk) (spot setup chunk).place (shown.page chunk inside).state has in let same = is.3 in
           let at = (owned.owns is.0 chunk).ready_is is.1 is.2 same in
-          let body : (b : CommitBody) × (body_at bodies chunk ≡ Some b) × IsBodyOf (spot setup chunk).payload_size is.0 is.1 is.2 b = subst (λ t. ShowsBody (spot setup chunk).payload_size t (body_at bodies chunk)) same (shown.body chunk inside) in
+          let slot : ShowsSlot (spot setup chunk).payload_size (Ready is.0 is.1 is.2) (stored_at slots chunk) = subst (λ t. ShowsSlot (spot setup chunk).payload_size t (stored_at slots chunk)) same (shown.slot chunk inside) in
           record {
             place = is.0;
             id = is.1;
             content = is.2;
-            body = body.0;
+            body = slot.body.0;
             completes = at.0;
             untaken = at.1;
-            stored = subst (λ t. ShowsHeader (header_word setup words chunk) t) same (shown.header chunk inside);
-            kept = body.1;
-            body_is = body.2.content_is;
+            stored = subst (λ t. ShowsHeader setup (header_word setup words chunk) t) same (shown.header chunk inside);
+            payload = slot.words;
+            kept = slot.body.1;
+            body_is = slot.body.2;
           };
       read = λ chunk inside has.
           let is = reading_status (status world chunk) (page_word setup words chunk) (spot setup chunk).place (shown.page chunk inside).state has in let same = is.3 in
           let at = (owned.owns is.0 chunk).reading_is is.1 is.2 same in
+          let slot : ShowsSlot (spot setup chunk).payload_size (Reading is.0 is.1 is.2) (stored_at slots chunk) = subst (λ t. ShowsSlot (spot setup chunk).payload_size t (stored_at slots chunk)) same (shown.slot chunk inside) in
           record {
             once = owned.reads chunk ∙ ap reads_of same;
             unclaimed = λ place claims. ⊎_elim (λ e. absurd cc) (λ e. let f = e.1 in absurd cc) (claims_status world place chunk owned claims);
@@ -122,12 +152,17 @@ ownership setup words bodies world kept =
             content = is.2;
             completes = at.0;
             taken = at.1;
-            stored = subst (λ t. ShowsHeader (header_word setup words chunk) t) same (shown.header chunk inside);
+            stored = subst (λ t. ShowsHeader setup (header_word setup words chunk) t) same (shown.header chunk inside);
+            payload = slot.words;
           };
       layout = λ chunk inside. (shown.page chunk inside).layout;
       spare = λ chunk inside. (shown.page chunk inside).spare;
       taken = λ place id below. (owned.counts place).completed id below;
-      learnt = λ place id content at. (owned.counts place).learnt id content at;
+      learnt = λ place id content at. (
+        (let inside = at_inside (taken_of world.service place).contents content id at in let level = (owned.counts place).level in omega arith),
+        (owned.counts place).learnt id content at,
+      );
+      known = λ serving place id below. at_some (taken_of world.service place).contents id (let level = serving.level place in omega arith);
       untaken = λ place chunk id content at above.
           let is = (owned.owns place chunk).completed_is id content at above in
           let inside : chunk < length setup.spots = is_chunk setup world chunk shown.chunk_count (λ free. absurd cc) in

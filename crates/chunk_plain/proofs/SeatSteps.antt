@@ -1,24 +1,20 @@
--- Steps of one writer's seat in a row are a step of it.
-use Rattle.std.proofs.Common.{ℕ, refl, ◌∙◌}
-use Rattle.chunk_plain.specs.Setup.{Setup}
-use Rattle.chunk_plain.specs.Views.{WriterView, ServiceView}
-use Rattle.chunk_plain.specs.Words.{IsWriterStep}
+-- Steps of one seat in a row are a step of it.
+use Rattle.std.proofs.Common.{refl, ◌∙◌}
+use Rattle.chunk_plain.specs.Meaning.{Meaning, IsWriterStep, IsServiceStep}
 
-module _ {T W S : Type 0} (setup : T → Setup) (sits : T → W → Type 0) (place : W → ℕ) (view : T → W → WriterView)
-    (serves : T → S → Type 0) (service_view : T → S → ServiceView) where
-  pub stays : (table : T) (seat : W) → sits table seat → IsWriterStep setup sits place view serves service_view table seat table seat
+module _ {T W S : Type 0} (means : Meaning T W S) where
+  pub stays : (table : T) (seat : W) → means.sits table seat → IsWriterStep means table seat table seat
   stays table seat sits_ = record {
     setup_stays = refl;
     seat_stays = sits_;
     place_stays = refl;
     writers_stay = λ other there _. (there, refl);
     service_stays = λ other there. (there, refl);
+    reads_stay = λ other takes. takes;
   }
 
   pub steps_follow : (old : T) (before : W) (mid : T) (between : W) (new : T) (after : W)
-      → IsWriterStep setup sits place view serves service_view old before mid between
-      → IsWriterStep setup sits place view serves service_view mid between new after
-      → IsWriterStep setup sits place view serves service_view old before new after
+      → IsWriterStep means old before mid between → IsWriterStep means mid between new after → IsWriterStep means old before new after
   steps_follow old before mid between new after one two = record {
     setup_stays = two.setup_stays ∙ one.setup_stays;
     seat_stays = two.seat_stays;
@@ -31,4 +27,25 @@ module _ {T W S : Type 0} (setup : T → Setup) (sits : T → W → Type 0) (pla
         let first = one.service_stays other there in
         let second = two.service_stays other first.0 in
         (second.0, second.1 ∙ first.1);
+    reads_stay = λ other takes. two.reads_stay other (one.reads_stay other takes);
+  }
+
+  pub serves_on : (table : T) (seat : S) → means.serves table seat → IsServiceStep means table seat table seat
+  serves_on table seat serves_ = record {
+    setup_stays = refl;
+    seat_stays = serves_;
+    writers_stay = λ other there. (there, refl);
+    reads_stay = λ takes. takes;
+  }
+
+  pub services_follow : (old : T) (before : S) (mid : T) (between : S) (new : T) (after : S)
+      → IsServiceStep means old before mid between → IsServiceStep means mid between new after → IsServiceStep means old before new after
+  services_follow old before mid between new after one two = record {
+    setup_stays = two.setup_stays ∙ one.setup_stays;
+    seat_stays = two.seat_stays;
+    writers_stay = λ other there.
+        let first = one.writers_stay other there in
+        let second = two.writers_stay other first.0 in
+        (second.0, second.1 ∙ first.1);
+    reads_stay = λ takes. two.reads_stay (one.reads_stay takes);
   }

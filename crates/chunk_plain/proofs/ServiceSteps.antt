@@ -58,6 +58,8 @@ takes_owned world place chunk content o inside_w inside_c was =
       wins = q.wins;
       next = q.next;
       named = q.named;
+      drafts = q.drafts;
+      wholes = q.wholes;
       learnt = q.learnt;
       completed = λ id below. dite (ℕ_discrete id count) (λ is_last. (chunk, content, subst (λ (i : ℕ). At v.begun i (Completed chunk content)) (sym is_last) at)) (λ apart. q.completed id (omega arith));
       level = let level = q.level in omega arith;
@@ -68,6 +70,7 @@ takes_owned world place chunk content o inside_w inside_c was =
     (λ differs. times-other other chunk s.reading differs ∙ o.reads other))
     (λ free. absurd cc)
     (length-set s.taken place more)
+    refl
 
 -- the content of the chunk that was taken last of a writer joins the service's view
 pub learns_owned : (world : World) (place chunk : ℕ) (content : Content) → IsOwned world → place < length world.writers
@@ -88,6 +91,8 @@ learns_owned world place chunk content o inside_w room at =
             wins = q.wins;
             next = q.next;
             named = q.named;
+            drafts = q.drafts;
+            wholes = q.wholes;
             completed = q.completed;
             learnt = λ id m e. ⊎_elim
                 (λ old. q.learnt id m old)
@@ -99,6 +104,7 @@ learns_owned world place chunk content o inside_w room at =
       reads = o.reads;
       claimed_won = o.claimed_won;
       asked_won = o.asked_won;
+      looks = o.looks;
       all_taken = length-set s.taken place more ∙ o.all_taken;
     }
 
@@ -131,4 +137,5 @@ lets_go_owned world chunk place id content o inside was =
     (λ same. subst (λ (c : ℕ). times c (without chunk s.reading) ≡ 0) (sym same) (let less = times-without_same chunk s.reading (omega arith) in omega (arith, less, once)))
     (λ differs. times-without_other d chunk s.reading differs ∙ o.reads d))
     (λ free. absurd cc)
+    refl
     refl

@@ -1,15 +1,15 @@
--- A step that changes one chunk's words and body shows the new world, where the new words and body show the chunk and the page's others are as before.
-use Rattle.std.proofs.Common.{◌≡◌, ◌≢◌, ℕ, ◌+◌, ◌<◌, inl, inr, Option, None, List, length, set, get_or, subst, sym, refl, ap, ◌∙◌, arith, ⊎_elim, length-set}
+-- A step that changes one chunk's words and slot shows the new world, where the new words and slot show the chunk and the page's others are as before.
+use Rattle.std.proofs.Common.{◌≡◌, ◌≢◌, ℕ, ◌+◌, ◌<◌, inl, inr, List, length, set, get_or, subst, sym, refl, ap, ◌∙◌, arith, ⊎_elim, length-set}
 use Rattle.std.specs.Int.{bit_at}
 use Rattle.std.proofs.lemmas.List.{get_or-set_same, get_or-set_other, set-get_or}
 use native.Mathlib.Decide.{ℕ_discrete}
 use mathlib.Core.Logic.{dite}
 use Rattle.page_geometry.specs.PageBits.{HasLayout, KeepsOthers}
-use Rattle.commit_body.specs.declared.body.CommitBody.{CommitBody}
 use Rattle.chunk_plain.specs.declared.setup.Spot.{Spot}
 use Rattle.chunk_plain.specs.Setup.{Setup, spot, IsLaid}
 use Rattle.chunk_plain.specs.World.{World, Status, status}
-use Rattle.chunk_plain.specs.Shows.{state_of, NeverAsked, IsSpare, ShowsLayout, ShowsPage, ShowsHeader, ShowsBody, IsShown, page_word, header_word, body_at}
+use Rattle.chunk_plain.specs.Shows.{state_of, NeverAsked, IsSpare, ShowsLayout, ShowsPage, ShowsHeader, ShowsSlot, IsShown, page_word, header_word}
+use Rattle.chunk_plain.specs.Stored.{Stored, nothing_stored, stored_at}
 
 -- another chunk of the page whose word changes
 pub beside : (setup : Setup) (world next : World) (at other : Spot) (old new : ℕ) (is : Status) → KeepsOthers old new at.place
@@ -69,84 +69,97 @@ pages_turn setup words world next chunk page laid many shown inside others never
     subst (λ w. ShowsPage setup next (spot setup d) w (status world d)) (sym (get_or-set_other words at.page (spot setup d).page page 0 other_page))
     (aside setup world next (spot setup d) (page_word setup words d) (status world d) (never (spot setup d).page other_page) (shown d below)))))
 
--- the words and the body of one chunk change
-pub shown_turn : (setup : Setup) (words : List ℕ) (bodies : List (Option CommitBody)) (world next : World) (chunk page header : ℕ) (body : Option CommitBody)
-    → IsLaid setup → IsShown setup words bodies world → chunk < length setup.spots → length next.chunks ≡ length world.chunks
+-- the words and the slot of one chunk change
+pub shown_turn : (setup : Setup) (words : List ℕ) (slots : List Stored) (world next : World) (chunk page header : ℕ) (slot : Stored)
+    → IsLaid setup → IsShown setup words slots world → chunk < length setup.spots → length next.chunks ≡ length world.chunks
     → ((other : ℕ) → other ≢ chunk → status next other ≡ status world other)
     → ((number : ℕ) → number ≢ (spot setup chunk).page → NeverAsked setup world number → NeverAsked setup next number)
     → KeepsOthers (page_word setup words chunk) page (spot setup chunk).place
     → ShowsPage setup next (spot setup chunk) page (status next chunk)
-    → ShowsHeader header (status next chunk)
-    → ShowsBody (spot setup chunk).payload_size (status next chunk) body
-    → IsShown setup (set (set words (spot setup chunk).page page) (setup.pages + chunk) header) (set bodies chunk body) next
-shown_turn setup words bodies world next chunk page header body laid shown inside same_length others never keeps here_page here_header here_body =
+    → ShowsHeader setup header (status next chunk)
+    → ShowsSlot (spot setup chunk).payload_size (status next chunk) slot
+    → IsShown setup (set (set words (spot setup chunk).page page) (setup.pages + chunk) header) (set slots chunk slot) next
+shown_turn setup words slots world next chunk page header slot laid shown inside same_length others never keeps here_page here_header here_slot =
     let at = spot setup chunk in
     let one = set words at.page page in
     let one_length : length one ≡ setup.pages + length setup.spots = length-set words at.page page ∙ shown.word_count in
     record {
       chunk_count = same_length ∙ shown.chunk_count;
       word_count = length-set one (setup.pages + chunk) header ∙ one_length;
-      body_count = length-set bodies chunk body ∙ shown.body_count;
+      slot_count = length-set slots chunk slot ∙ shown.slot_count;
       page = λ d below.
           subst (λ w. ShowsPage setup next (spot setup d) w (status next d)) (sym (get_or-set_other one (setup.pages + chunk) (spot setup d).page header 0 (let low = laid.page d below in omega arith)))
           (pages_turn setup words world next chunk page laid shown.word_count shown.page inside others never keeps here_page d below);
       header = λ d below. dite (ℕ_discrete d chunk)
-          (λ same. subst (λ e. ShowsHeader (get_or (set one (setup.pages + chunk) header) (setup.pages + e) 0) (status next e)) (sym same)
-          (subst (λ w. ShowsHeader w (status next chunk)) (sym (get_or-set_same one (setup.pages + chunk) header 0 (omega arith))) here_header))
-          (λ differs. subst (λ w. ShowsHeader w (status next d))
+          (λ same. subst (λ e. ShowsHeader setup (get_or (set one (setup.pages + chunk) header) (setup.pages + e) 0) (status next e)) (sym same)
+          (subst (λ w. ShowsHeader setup w (status next chunk)) (sym (get_or-set_same one (setup.pages + chunk) header 0 (omega arith))) here_header))
+          (λ differs. subst (λ w. ShowsHeader setup w (status next d))
           (sym (get_or-set_other one (setup.pages + chunk) (setup.pages + d) header 0 (λ e. differs (omega arith)) ∙ get_or-set_other words at.page (setup.pages + d) page 0 (let low = laid.page chunk inside in omega arith)))
-          (subst (λ t. ShowsHeader (header_word setup words d) t) (sym (others d differs)) (shown.header d below)));
-      body = λ d below. dite (ℕ_discrete d chunk)
-          (λ same. subst (λ e. ShowsBody (spot setup e).payload_size (status next e) (get_or (set bodies chunk body) e None)) (sym same)
-          (subst (λ b. ShowsBody at.payload_size (status next chunk) b) (sym (get_or-set_same bodies chunk body None (let deep = shown.body_count in omega arith))) here_body))
-          (λ differs. subst (λ b. ShowsBody (spot setup d).payload_size (status next d) b) (sym (get_or-set_other bodies chunk d body None differs))
-          (subst (λ t. ShowsBody (spot setup d).payload_size t (body_at bodies d)) (sym (others d differs)) (shown.body d below)));
+          (subst (λ t. ShowsHeader setup (header_word setup words d) t) (sym (others d differs)) (shown.header d below)));
+      slot = λ d below. dite (ℕ_discrete d chunk)
+          (λ same. subst (λ e. ShowsSlot (spot setup e).payload_size (status next e) (get_or (set slots chunk slot) e nothing_stored)) (sym same)
+          (subst (λ b. ShowsSlot at.payload_size (status next chunk) b) (sym (get_or-set_same slots chunk slot nothing_stored (let deep = shown.slot_count in omega arith))) here_slot))
+          (λ differs. subst (λ b. ShowsSlot (spot setup d).payload_size (status next d) b) (sym (get_or-set_other slots chunk d slot nothing_stored differs))
+          (subst (λ t. ShowsSlot (spot setup d).payload_size t (stored_at slots d)) (sym (others d differs)) (shown.slot d below)));
     }
 
 keeps_same : (word place : ℕ) → KeepsOthers word word place
 keeps_same word place = record { states = λ other is below differs was. was; claims = λ other below differs. refl }
 
--- the page word changes, and the body
-pub shown_page : (setup : Setup) (words : List ℕ) (bodies : List (Option CommitBody)) (world next : World) (chunk page : ℕ) (body : Option CommitBody)
-    → IsLaid setup → IsShown setup words bodies world → chunk < length setup.spots → length next.chunks ≡ length world.chunks
+-- the page word changes, and the slot
+pub shown_page : (setup : Setup) (words : List ℕ) (slots : List Stored) (world next : World) (chunk page : ℕ) (slot : Stored)
+    → IsLaid setup → IsShown setup words slots world → chunk < length setup.spots → length next.chunks ≡ length world.chunks
     → ((other : ℕ) → other ≢ chunk → status next other ≡ status world other)
     → ((number : ℕ) → number ≢ (spot setup chunk).page → NeverAsked setup world number → NeverAsked setup next number)
     → KeepsOthers (page_word setup words chunk) page (spot setup chunk).place
     → ShowsPage setup next (spot setup chunk) page (status next chunk)
-    → ShowsHeader (header_word setup words chunk) (status next chunk)
-    → ShowsBody (spot setup chunk).payload_size (status next chunk) body
-    → IsShown setup (set words (spot setup chunk).page page) (set bodies chunk body) next
-shown_page setup words bodies world next chunk page body laid shown inside same_length others never keeps here_page here_header here_body =
+    → ShowsHeader setup (header_word setup words chunk) (status next chunk)
+    → ShowsSlot (spot setup chunk).payload_size (status next chunk) slot
+    → IsShown setup (set words (spot setup chunk).page page) (set slots chunk slot) next
+shown_page setup words slots world next chunk page slot laid shown inside same_length others never keeps here_page here_header here_slot =
     let one = set words (spot setup chunk).page page in
     let same : get_or one (setup.pages + chunk) 0 ≡ header_word setup words chunk = get_or-set_other words (spot setup chunk).page (setup.pages + chunk) page 0 (let low = laid.page chunk inside in omega arith) in
     let back : set one (setup.pages + chunk) (header_word setup words chunk) ≡ one = ap (λ x. set one (setup.pages + chunk) x) (sym same) ∙ set-get_or one (setup.pages + chunk) 0 in
-    subst (λ l. IsShown setup l (set bodies chunk body) next) back
-    (shown_turn setup words bodies world next chunk page (header_word setup words chunk) body laid shown inside same_length others never keeps here_page here_header here_body)
+    subst (λ l. IsShown setup l (set slots chunk slot) next) back
+    (shown_turn setup words slots world next chunk page (header_word setup words chunk) slot laid shown inside same_length others never keeps here_page here_header here_slot)
 
 -- the page word alone
-pub shown_page_only : (setup : Setup) (words : List ℕ) (bodies : List (Option CommitBody)) (world next : World) (chunk page : ℕ)
-    → IsLaid setup → IsShown setup words bodies world → chunk < length setup.spots → length next.chunks ≡ length world.chunks
+pub shown_page_only : (setup : Setup) (words : List ℕ) (slots : List Stored) (world next : World) (chunk page : ℕ)
+    → IsLaid setup → IsShown setup words slots world → chunk < length setup.spots → length next.chunks ≡ length world.chunks
     → ((other : ℕ) → other ≢ chunk → status next other ≡ status world other)
     → ((number : ℕ) → number ≢ (spot setup chunk).page → NeverAsked setup world number → NeverAsked setup next number)
     → KeepsOthers (page_word setup words chunk) page (spot setup chunk).place
     → ShowsPage setup next (spot setup chunk) page (status next chunk)
-    → ShowsHeader (header_word setup words chunk) (status next chunk)
-    → ShowsBody (spot setup chunk).payload_size (status next chunk) (body_at bodies chunk)
-    → IsShown setup (set words (spot setup chunk).page page) bodies next
-shown_page_only setup words bodies world next chunk page laid shown inside same_length others never keeps here_page here_header here_body =
-    subst (λ l. IsShown setup (set words (spot setup chunk).page page) l next) (set-get_or bodies chunk None)
-    (shown_page setup words bodies world next chunk page (body_at bodies chunk) laid shown inside same_length others never keeps here_page here_header here_body)
+    → ShowsHeader setup (header_word setup words chunk) (status next chunk)
+    → ShowsSlot (spot setup chunk).payload_size (status next chunk) (stored_at slots chunk)
+    → IsShown setup (set words (spot setup chunk).page page) slots next
+shown_page_only setup words slots world next chunk page laid shown inside same_length others never keeps here_page here_header here_slot =
+    subst (λ l. IsShown setup (set words (spot setup chunk).page page) l next) (set-get_or slots chunk nothing_stored)
+    (shown_page setup words slots world next chunk page (stored_at slots chunk) laid shown inside same_length others never keeps here_page here_header here_slot)
 
 -- the header word alone
-pub shown_header : (setup : Setup) (words : List ℕ) (bodies : List (Option CommitBody)) (world next : World) (chunk header : ℕ)
-    → IsLaid setup → IsShown setup words bodies world → chunk < length setup.spots → length next.chunks ≡ length world.chunks
+pub shown_header : (setup : Setup) (words : List ℕ) (slots : List Stored) (world next : World) (chunk header : ℕ)
+    → IsLaid setup → IsShown setup words slots world → chunk < length setup.spots → length next.chunks ≡ length world.chunks
     → ((other : ℕ) → other ≢ chunk → status next other ≡ status world other)
     → ((number : ℕ) → number ≢ (spot setup chunk).page → NeverAsked setup world number → NeverAsked setup next number)
     → ShowsPage setup next (spot setup chunk) (page_word setup words chunk) (status next chunk)
-    → ShowsHeader header (status next chunk)
-    → ShowsBody (spot setup chunk).payload_size (status next chunk) (body_at bodies chunk)
-    → IsShown setup (set words (setup.pages + chunk) header) bodies next
-shown_header setup words bodies world next chunk header laid shown inside same_length others never here_page here_header here_body =
-    subst (λ l. IsShown setup (set words (setup.pages + chunk) header) l next) (set-get_or bodies chunk None)
-    (subst (λ l. IsShown setup (set l (setup.pages + chunk) header) (set bodies chunk (body_at bodies chunk)) next) (set-get_or words (spot setup chunk).page 0)
-    (shown_turn setup words bodies world next chunk (page_word setup words chunk) header (body_at bodies chunk) laid shown inside same_length others never (keeps_same (page_word setup words chunk) (spot setup chunk).place) here_page here_header here_body))
+    → ShowsHeader setup header (status next chunk)
+    → ShowsSlot (spot setup chunk).payload_size (status next chunk) (stored_at slots chunk)
+    → IsShown setup (set words (setup.pages + chunk) header) slots next
+shown_header setup words slots world next chunk header laid shown inside same_length others never here_page here_header here_slot =
+    subst (λ l. IsShown setup (set words (setup.pages + chunk) header) l next) (set-get_or slots chunk nothing_stored)
+    (subst (λ l. IsShown setup (set l (setup.pages + chunk) header) (set slots chunk (stored_at slots chunk)) next) (set-get_or words (spot setup chunk).page 0)
+    (shown_turn setup words slots world next chunk (page_word setup words chunk) header (stored_at slots chunk) laid shown inside same_length others never (keeps_same (page_word setup words chunk) (spot setup chunk).place) here_page here_header here_slot))
+
+-- the slot alone
+pub shown_slot : (setup : Setup) (words : List ℕ) (slots : List Stored) (world next : World) (chunk : ℕ) (slot : Stored)
+    → IsLaid setup → IsShown setup words slots world → chunk < length setup.spots → length next.chunks ≡ length world.chunks
+    → ((other : ℕ) → other ≢ chunk → status next other ≡ status world other)
+    → ((number : ℕ) → number ≢ (spot setup chunk).page → NeverAsked setup world number → NeverAsked setup next number)
+    → ShowsPage setup next (spot setup chunk) (page_word setup words chunk) (status next chunk)
+    → ShowsHeader setup (header_word setup words chunk) (status next chunk)
+    → ShowsSlot (spot setup chunk).payload_size (status next chunk) slot
+    → IsShown setup words (set slots chunk slot) next
+shown_slot setup words slots world next chunk slot laid shown inside same_length others never here_page here_header here_slot =
+    subst (λ l. IsShown setup l (set slots chunk slot) next) (set-get_or words (spot setup chunk).page 0)
+    (shown_page setup words slots world next chunk (page_word setup words chunk) slot laid shown inside same_length others never (keeps_same (page_word setup words chunk) (spot setup chunk).place) here_page here_header here_slot)

@@ -3,9 +3,10 @@ use Rattle.std.proofs.Common.{◌≡◌, ℕ, ◌+◌, ◌<◌, inl, inr, Bool, 
 use Rattle.std.proofs.lemmas.List.{get_or-set_same}
 use Rattle.atomic_table.proofs.Lists.{at_longer, at_last}
 use Rattle.trace_model.specs.Calls.{Call}
-use Rattle.chunk_plain.specs.Views.{At, Ask, Begun, Held, Completed, Stamp, WriterView, newcomer}
+use Rattle.chunk_plain.specs.Views.{At, Ask, fresh, Begun, Held, Completed, Stamp, WriterView, newcomer}
 use Rattle.chunk_plain.specs.World.{World, Status, Unclaimed, Claimed, Stamped, Writing, status, writer}
-use Rattle.chunk_plain.specs.Steps.{claims, stamps, begins, no_head, notes_call, moved, noted}
+use Rattle.chunk_plain.specs.Steps.{claims, stamps, begins, notes_call, moved, noted}
+use Rattle.chunk_plain.specs.Drafts.{IsDraft}
 use Rattle.chunk_plain.specs.Owned.{times, claims_of, reads_of, stamps_in, wins_in, Won, IsOwned}
 use Rattle.chunk_plain.proofs.Lists.{times-here, times-other, times-without_same, times-without_other, length-without, at_more}
 use Rattle.chunk_plain.proofs.Owned.{Foreign, claims_of-mine, claimed_status, writer_step, noted_owned, won_stays}
@@ -63,6 +64,8 @@ claims_owned world place chunk found o inside_w inside_c free =
       wins = let more = wins_in-won v.asked ask refl in omega (arith, more, q.wins, length-append v.claimed (chunk ∷ []));
       next = q.next;
       named = q.named;
+      drafts = q.drafts;
+      wholes = q.wholes;
       completed = q.completed;
       learnt = q.learnt;
       level = q.level;
@@ -70,6 +73,7 @@ claims_owned world place chunk found o inside_w inside_c free =
     (λ i old at. at_longer v.asked (ask ∷ []) i old at)
     (λ i old at. ⊎_elim (λ before. inl before) (λ new. inr (sym (ap (λ (a : Ask). a.chunk) new.1))) (at_more v.asked ask old i at))
     (won_here world place chunk (length v.asked) (claims v chunk found true) (Claimed place) ask inside_w (at_last v.asked ask (length v.asked) refl) refl)
+    (λ about found there. record { entry = there.entry; at = there.at; has = there.has })
 
 -- a claim finds the chunk claimed
 pub misses_owned : (world : World) (place chunk found : ℕ) → IsOwned world → place < length world.writers → (status world chunk ≡ Unclaimed → ⊥)
@@ -79,9 +83,10 @@ misses_owned world place chunk found o inside taken =
     let ask : Ask = record { chunk = chunk; found = found; won = false; calls = length v.calls } in
     noted_owned world place (claims v chunk found false) o inside
     (λ other p. record { claimed = p.claimed; stamp_is = p.stamp_is; stamped_is = p.stamped_is; held_is = p.held_is; writing_is = p.writing_is; completed_is = p.completed_is; ready_is = p.ready_is; reading_is = p.reading_is })
-    record { wins = let same = wins_in-lost v.asked ask refl in omega (arith, same, q.wins); next = q.next; named = q.named; completed = q.completed; learnt = q.learnt; level = q.level }
+    record { wins = let same = wins_in-lost v.asked ask refl in omega (arith, same, q.wins); next = q.next; named = q.named; drafts = q.drafts; wholes = q.wholes; completed = q.completed; learnt = q.learnt; level = q.level }
     (λ i old at. at_longer v.asked (ask ∷ []) i old at)
     (λ i old at. ⊎_elim (λ before. inl before) (λ new. inr (subst (λ (a : Ask). Won world a.chunk) new.1 (o.claimed_won chunk taken))) (at_more v.asked ask old i at))
+    (λ about found there. record { entry = there.entry; at = there.at; has = there.has })
 
 -- a call is noted
 pub notes_call_owned : (world : World) (place : ℕ) (call : Call) → IsOwned world → place < length world.writers → IsOwned (noted world place (notes_call (writer world place) call))
@@ -89,9 +94,10 @@ notes_call_owned world place call o inside =
     let q = o.counts place in
     noted_owned world place (notes_call (writer world place) call) o inside
     (λ other p. record { claimed = p.claimed; stamp_is = p.stamp_is; stamped_is = p.stamped_is; held_is = p.held_is; writing_is = p.writing_is; completed_is = p.completed_is; ready_is = p.ready_is; reading_is = p.reading_is })
-    record { wins = q.wins; next = q.next; named = q.named; completed = q.completed; learnt = q.learnt; level = q.level }
+    record { wins = q.wins; next = q.next; named = q.named; drafts = q.drafts; wholes = q.wholes; completed = q.completed; learnt = q.learnt; level = q.level }
     (λ i old at. at)
     (λ i old at. inl at)
+    (λ about found there. record { entry = there.entry; at = there.at; has = there.has })
 
 -- the header of a claimed chunk is stored
 pub stamps_owned : (world : World) (place chunk : ℕ) → IsOwned world → place < length world.writers → chunk < length world.chunks
@@ -129,6 +135,8 @@ stamps_owned world place chunk o inside_w inside_c mine unstamped =
       wins = let less = length-without chunk v.claimed mine in let none : stamps_in v.stamped ≡ 0 = ap stamps_in unstamped in omega (arith, less, none, q.wins);
       next = λ stamp e. sym (ap (id_in n) e);
       named = q.named;
+      drafts = q.drafts;
+      wholes = q.wholes;
       completed = q.completed;
       learnt = q.learnt;
       level = q.level;
@@ -136,15 +144,16 @@ stamps_owned world place chunk o inside_w inside_c mine unstamped =
     (λ i ask at. at)
     (λ i ask at. inl at)
     (won_stays world place chunk chunk (stamps v chunk) (Stamped place n) inside_w (λ i ask at. at) (o.claimed_won chunk (λ free. absurd cc)))
+    (λ about found there. record { entry = there.entry; at = there.at; has = there.has })
 
 -- the chunk whose header was stored is begun
-pub begins_owned : (world : World) (place chunk : ℕ) → IsOwned world → place < length world.writers → chunk < length world.chunks
+pub begins_owned : (world : World) (place chunk : ℕ) (words : List ℕ) → IsOwned world → place < length world.writers → chunk < length world.chunks
     → (writer world place).stamped ≡ Some (record { chunk = chunk; id = length (writer world place).begun })
-    → IsOwned (moved world place (begins (writer world place) chunk) chunk (Writing place (length (writer world place).begun) no_head))
-begins_owned world place chunk o inside_w inside_c stamped =
+    → IsOwned (moved world place (begins (writer world place) chunk words) chunk (Writing place (length (writer world place).begun) (fresh words)))
+begins_owned world place chunk words o inside_w inside_c stamped =
     let v = writer world place in let w = o.owns place chunk in let q = o.counts place in let n = length v.begun in
     let was : status world chunk ≡ Stamped place n = w.stamp_is n stamped in
-    writer_step world place chunk (begins v chunk) (Writing place n no_head) o inside_w inside_c
+    writer_step world place chunk (begins v chunk words) (Writing place n (fresh words)) o inside_w inside_c
     record {
       claimed = w.claimed ∙ ap (claims_of place) was;
       stamp_is = λ id e. absurd cc;
@@ -152,12 +161,12 @@ begins_owned world place chunk o inside_w inside_c stamped =
       held_is = λ id head e. ⊎_elim
           (λ old. let before = w.held_is id head old in absurd cc)
           (λ new. let same = new.0 in let entry = new.1 in cc)
-          (at_more v.begun (Held chunk no_head) (Held chunk head) id e);
-      writing_is = λ id head e. let same : n ≡ id = cc in let entry : Held chunk no_head ≡ Held chunk head = cc in subst (λ (b : Begun). At (v.begun ++ Held chunk no_head ∷ []) id b) entry (at_last v.begun (Held chunk no_head) id same);
+          (at_more v.begun (Held chunk (fresh words)) (Held chunk head) id e);
+      writing_is = λ id head e. let same : n ≡ id = cc in let entry : Held chunk (fresh words) ≡ Held chunk head = cc in subst (λ (b : Begun). At (v.begun ++ Held chunk (fresh words) ∷ []) id b) entry (at_last v.begun (Held chunk (fresh words)) id same);
       completed_is = λ id content e above. ⊎_elim
           (λ old. let before = w.completed_is id content old above in absurd cc)
           (λ new. let entry = new.1 in absurd cc)
-          (at_more v.begun (Held chunk no_head) (Completed chunk content) id e);
+          (at_more v.begun (Held chunk (fresh words)) (Completed chunk content) id e);
       ready_is = λ id content e. absurd cc;
       reading_is = λ id content e. absurd cc;
     }
@@ -165,23 +174,29 @@ begins_owned world place chunk o inside_w inside_c stamped =
       claimed = p.claimed;
       stamp_is = λ id e. absurd cc;
       stamped_is = λ id e. absurd (differs (ap (chunk_in chunk) (sym (p.stamped_is id e) ∙ stamped)));
-      held_is = λ id head e. ⊎_elim (λ old. p.held_is id head old) (λ new. let entry = new.1 in absurd (differs cc)) (at_more v.begun (Held chunk no_head) (Held other head) id e);
-      writing_is = λ id head e. at_longer v.begun (Held chunk no_head ∷ []) id (Held other head) (p.writing_is id head e);
-      completed_is = λ id content e above. ⊎_elim (λ old. p.completed_is id content old above) (λ new. let entry = new.1 in absurd cc) (at_more v.begun (Held chunk no_head) (Completed other content) id e);
-      ready_is = λ id content e. let r = p.ready_is id content e in (at_longer v.begun (Held chunk no_head ∷ []) id (Completed other content) r.0, r.1);
-      reading_is = λ id content e. let r = p.reading_is id content e in (at_longer v.begun (Held chunk no_head ∷ []) id (Completed other content) r.0, r.1);
+      held_is = λ id head e. ⊎_elim (λ old. p.held_is id head old) (λ new. let entry = new.1 in absurd (differs cc)) (at_more v.begun (Held chunk (fresh words)) (Held other head) id e);
+      writing_is = λ id head e. at_longer v.begun (Held chunk (fresh words) ∷ []) id (Held other head) (p.writing_is id head e);
+      completed_is = λ id content e above. ⊎_elim (λ old. p.completed_is id content old above) (λ new. let entry = new.1 in absurd cc) (at_more v.begun (Held chunk (fresh words)) (Completed other content) id e);
+      ready_is = λ id content e. let r = p.ready_is id content e in (at_longer v.begun (Held chunk (fresh words) ∷ []) id (Completed other content) r.0, r.1);
+      reading_is = λ id content e. let r = p.reading_is id content e in (at_longer v.begun (Held chunk (fresh words) ∷ []) id (Completed other content) r.0, r.1);
     })
     (λ other differs. subst (Foreign other) (sym was) (λ e. differs (sym e)))
     (λ other differs e. differs (sym e))
     (ap reads_of (sym was))
     record {
-      wins = let one : stamps_in v.stamped ≡ 1 = ap stamps_in stamped in omega (arith, one, q.wins, length-append v.begun (Held chunk no_head ∷ []));
+      wins = let one : stamps_in v.stamped ≡ 1 = ap stamps_in stamped in omega (arith, one, q.wins, length-append v.begun (Held chunk (fresh words) ∷ []));
       next = λ stamp e. absurd cc;
-      named = λ id c content e. ⊎_elim (λ old. q.named id c content old) (λ new. let entry = new.1 in absurd cc) (at_more v.begun (Held chunk no_head) (Completed c content) id e);
-      completed = λ id below. let r = q.completed id below in (r.0, r.1, at_longer v.begun (Held chunk no_head ∷ []) id (Completed r.0 r.1) r.2);
-      learnt = λ id content e. let r = q.learnt id content e in (r.0, at_longer v.begun (Held chunk no_head ∷ []) id (Completed r.0 content) r.1);
+      named = λ id c content e. ⊎_elim (λ old. q.named id c content old) (λ new. let entry = new.1 in absurd cc) (at_more v.begun (Held chunk (fresh words)) (Completed c content) id e);
+      drafts = λ id c draft e. ⊎_elim
+          (λ old. q.drafts id c draft old)
+          (λ new. let same : fresh words ≡ draft = cc in subst IsDraft same (record { count = refl; reads = λ k below. absurd (omega arith) }))
+          (at_more v.begun (Held chunk (fresh words)) (Held c draft) id e);
+      wholes = λ id c content e. ⊎_elim (λ old. q.wholes id c content old) (λ new. let entry = new.1 in absurd cc) (at_more v.begun (Held chunk (fresh words)) (Completed c content) id e);
+      completed = λ id below. let r = q.completed id below in (r.0, r.1, at_longer v.begun (Held chunk (fresh words) ∷ []) id (Completed r.0 r.1) r.2);
+      learnt = λ id content e. let r = q.learnt id content e in (r.0, at_longer v.begun (Held chunk (fresh words) ∷ []) id (Completed r.0 content) r.1);
       level = q.level;
     }
     (λ i ask at. at)
     (λ i ask at. inl at)
-    (won_stays world place chunk chunk (begins v chunk) (Writing place n no_head) inside_w (λ i ask at. at) (o.claimed_won chunk (λ free. absurd cc)))
+    (won_stays world place chunk chunk (begins v chunk words) (Writing place n (fresh words)) inside_w (λ i ask at. at) (o.claimed_won chunk (λ free. absurd cc)))
+    (λ about found there. record { entry = there.entry; at = at_longer v.begun (Held chunk (fresh words) ∷ []) found.id there.entry there.at; has = there.has })

@@ -1,5 +1,5 @@
 -- How the chunks of producers are laid out: all pages of the first producer, then those of the next, and so on; in each page its chunks in order.
-use Rattle.std.specs.Prelude.{ℕ, zero, suc, ◌+◌, ◌*◌, List, [], ◌∷◌, ◌++◌}
+use Rattle.std.specs.Prelude.{ℕ, zero, suc, ◌+◌, ◌*◌, List, [], ◌∷◌, ◌++◌, map}
 use Rattle.trace_base.specs.declared.policy.WriterSpec.{WriterSpec}
 use Rattle.page_geometry.specs.Sizes.{layout_number, payload_size}
 use Rattle.page_geometry.specs.declared.geometry.Geometry.{Geometry}
@@ -42,6 +42,10 @@ ranges_of first [] = []
 ranges_of first (producer ∷ producers) =
     record { first = first; count = chunks_in producer } ∷ ranges_of (first + chunks_in producer) producers
 
+-- the payload size of each producer's chunks
+abbrev pub sizes_of : List ProducerSpec → List ℕ
+sizes_of producers = map (λ (producer : ProducerSpec). payload_size producer.geometry.page_size producer.geometry.chunks) producers
+
 abbrev pub pages_in : List ProducerSpec → ℕ
 pages_in [] = 0
 pages_in (producer ∷ producers) = producer.pages + pages_in producers
@@ -52,5 +56,6 @@ setup_of producers writers = record {
   pages = pages_in producers;
   spots = spots_of 0 producers;
   ranges = ranges_of 0 producers;
+  sizes = sizes_of producers;
   writers = writers;
 }

@@ -1,15 +1,28 @@
 -- A table as it is made.
-use Rattle.std.specs.Prelude.{◌≡◌, ℕ, ◌<◌, List, length, Option, Some, slice_index_or}
+use Rattle.std.specs.Prelude.{◌≡◌, ℕ, ◌+◌, ◌<◌, ◌/◌, List, length, replicate, Some, slice_index_or}
 use Rattle.commit_body.specs.declared.body.CommitBody.{CommitBody}
 use Rattle.chunk_plain.specs.declared.setup.Spot.{Spot}
 use Rattle.chunk_plain.specs.declared.plain_seats.PlainWriter.{PlainWriter}
 use Rattle.chunk_plain.specs.Setup.{no_spot}
-use Rattle.chunk_plain.specs.Shows.{body_at, IsFreeBody}
+use Rattle.chunk_plain.specs.Stored.{Stored, stored_at}
+use Rattle.chunk_plain.specs.Shows.{IsFreeBody}
 
--- there is a body for each of the first so many chunks, of its payload's size
-pub record HasFreeBodies (spots : List Spot) (count : ℕ) (bodies : List (Option CommitBody)) : Type 0 where
-  pub count_is : length bodies ≡ count
-  pub each : (chunk : ℕ) → chunk < count → (body : CommitBody) × (body_at bodies chunk ≡ Some body) × IsFreeBody (slice_index_or spots chunk no_spot).payload_size body
+-- the words of a slot are 0, as many as hold the payload, and its body is there
+pub record IsFreeSlot (size : ℕ) (slot : Stored) : Type 0 where
+  pub words : slot.words ≡ replicate ((size + 7) / 8) 0
+  pub body : CommitBody
+  pub body_is : slot.body ≡ Some body
+  pub free : IsFreeBody size body
+
+-- there is such a slot for each of the first so many chunks
+pub record HasFreeSlots (spots : List Spot) (count : ℕ) (slots : List Stored) : Type 0 where
+  pub count_is : length slots ≡ count
+  pub each : (chunk : ℕ) → chunk < count → IsFreeSlot (slice_index_or spots chunk no_spot).payload_size (stored_at slots chunk)
+
+-- every word of the table is 0: page words, header words and payload words
+pub record AllZero (words : List ℕ) (slots : List Stored) : Type 0 where
+  pub words_are : (index : ℕ) → slice_index_or words index 0 ≡ 0
+  pub payloads_are : (chunk index : ℕ) → slice_index_or (stored_at slots chunk).words index 0 ≡ 0
 
 -- the seats of so many writers, in their order: each has its place
 pub record HasSeats (count : ℕ) (seats : List PlainWriter) : Type 0 where

@@ -1,8 +1,10 @@
 -- Ownership in a world: who has each chunk, between any two steps. It is said as facts on one writer and one chunk, on one writer, and on one
 -- chunk. Since each status names one writer and one id, that exactly one seat has a chunk is then true by the form.
 use Rattle.std.specs.Prelude.{◌≡◌, ℕ, ◌+◌, ◌<◌, ◌≤◌, ◌==◌, true, Option, Some, None, List, [], ◌∷◌, length, if◌then◌else◌}
-use Rattle.chunk_plain.specs.Views.{At, Ask, Head, Content, Held, Completed, Stamp, WriterView, Taken, taken_of}
+use Rattle.chunk_plain.specs.Setup.{sequence_of}
+use Rattle.chunk_plain.specs.Views.{At, Ask, Draft, Content, Begun, Held, Completed, Stamp, WriterView, Taken, Look, Found, taken_of}
 use Rattle.chunk_plain.specs.World.{World, Status, Unclaimed, Claimed, Stamped, Writing, Ready, Reading, status, writer}
+use Rattle.chunk_plain.specs.Drafts.{IsDraft, HasFinished, IsFound, IsThere}
 
 -- how often the number stands in the list
 abbrev pub times : ℕ → List ℕ → ℕ
@@ -25,9 +27,9 @@ pub record Owns (count place : ℕ) (view : WriterView) (chunk : ℕ) (is : Stat
   pub claimed : times chunk view.claimed ≡ claims_of place is
   pub stamp_is : (id : ℕ) → view.stamped ≡ Some (record { chunk = chunk; id = id }) → is ≡ Stamped place id
   pub stamped_is : (id : ℕ) → is ≡ Stamped place id → view.stamped ≡ Some (record { chunk = chunk; id = id })
-  -- held, under one id and with one header
-  pub held_is : (id : ℕ) (head : Head) → At view.begun id (Held chunk head) → is ≡ Writing place id head
-  pub writing_is : (id : ℕ) (head : Head) → is ≡ Writing place id head → At view.begun id (Held chunk head)
+  -- held, under one id and with one draft
+  pub held_is : (id : ℕ) (draft : Draft) → At view.begun id (Held chunk draft) → is ≡ Writing place id draft
+  pub writing_is : (id : ℕ) (draft : Draft) → is ≡ Writing place id draft → At view.begun id (Held chunk draft)
   -- completed and not taken: the chunk has this content
   pub completed_is : (id : ℕ) (content : Content) → At view.begun id (Completed chunk content) → count ≤ id → is ≡ Ready place id content
   pub ready_is : (id : ℕ) (content : Content) → is ≡ Ready place id content → At view.begun id (Completed chunk content) × (count ≤ id)
@@ -37,6 +39,12 @@ pub record Owns (count place : ℕ) (view : WriterView) (chunk : ℕ) (is : Stat
 abbrev pub stamps_in : Option Stamp → ℕ
 stamps_in None = 0
 stamps_in (Some _) = 1
+
+-- how many chunks a writer holds
+abbrev pub held_count : List Begun → ℕ
+held_count [] = 0
+held_count (Held chunk draft ∷ begun) = held_count begun + 1
+held_count (Completed chunk content ∷ begun) = held_count begun
 
 -- how many of the claims won
 abbrev pub wins_in : List Ask → ℕ
@@ -49,7 +57,10 @@ pub record Counts (taken : Taken) (place : ℕ) (view : WriterView) : Type 0 whe
   pub wins : wins_in view.asked ≡ length view.claimed + stamps_in view.stamped + length view.begun
   pub next : (stamp : Stamp) → view.stamped ≡ Some stamp → stamp.id ≡ length view.begun
   -- a completed chunk's image has its id and the writer's sequence
-  pub named : (id chunk : ℕ) (content : Content) → At view.begun id (Completed chunk content) → (content.image.chunk_id ≡ id) × (content.image.sequence ≡ place + 2)
+  pub named : (id chunk : ℕ) (content : Content) → At view.begun id (Completed chunk content) → (content.image.chunk_id ≡ id) × (content.image.sequence ≡ sequence_of place)
+  -- the bytes of each chunk read as its finished fragments
+  pub drafts : (id chunk : ℕ) (draft : Draft) → At view.begun id (Held chunk draft) → IsDraft draft
+  pub wholes : (id chunk : ℕ) (content : Content) → At view.begun id (Completed chunk content) → HasFinished content
   pub completed : (id : ℕ) → id < taken.count → (chunk : ℕ) × (content : Content) × At view.begun id (Completed chunk content)
   -- the contents that the service has are those that the writer completed
   pub learnt : (id : ℕ) (content : Content) → At taken.contents id content → (chunk : ℕ) × At view.begun id (Completed chunk content)
@@ -66,4 +77,7 @@ pub record IsOwned (world : World) : Type 0 where
   -- a chunk that somebody has was won, and so was one that somebody claimed in vain
   pub claimed_won : (chunk : ℕ) → (status world chunk ≡ Unclaimed → ⊥) → Won world chunk
   pub asked_won : (place i : ℕ) (ask : Ask) → At (writer world place).asked i ask → Won world ask.chunk
+  -- what the service found of a chunk that was being written is there still, taken or not
+  pub looks : (n : ℕ) (look : Look) (found : Found) → At world.service.looks n look → look.found ≡ Some found
+      → IsFound found × IsThere (writer world found.place) look.chunk found
   pub all_taken : length world.service.taken ≡ length world.writers

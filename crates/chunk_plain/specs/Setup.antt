@@ -1,6 +1,7 @@
 -- The set-up of a table. Chunks are numbered over all producers, by producer, page and place, and pages by producer and page.
 use Rattle.std.specs.Prelude.{◌≡◌, ℕ, ◌+◌, ◌-◌, ◌^◌, ◌<◌, ◌≤◌, List, length, slice_index_or}
-use Rattle.trace_base.specs.declared.limits.TheConstants.{MAX_CHUNKS_PER_PAGE}
+use Rattle.trace_base.specs.declared.limits.TheConstants.{FIRST_SEQUENCE, MAX_CHUNKS_PER_PAGE, MAX_PAGE_SIZE}
+use Rattle.page_geometry.specs.declared.geometry.TheConstants.{MIN_PAYLOAD_SIZE}
 use Rattle.trace_base.specs.declared.policy.WriterPolicy.TheVariants.{Drops}
 use Rattle.trace_base.specs.declared.policy.WriterSpec.{WriterSpec}
 use Rattle.chunk_plain.specs.declared.setup.Spot.{Spot}
@@ -13,6 +14,8 @@ pub record Setup : Type 0 where
   pub spots : List Spot
   -- by producer
   pub ranges : List ChunkRange
+  -- by producer: the payload size of its chunks
+  pub sizes : List ℕ
   pub writers : List WriterSpec
 
 abbrev pub no_spot : Spot
@@ -24,6 +27,10 @@ spot setup chunk = slice_index_or setup.spots chunk no_spot
 -- the chunks of a producer with this number, counted from 1
 abbrev pub range_of : Setup → ℕ → ChunkRange
 range_of setup producer = slice_index_or setup.ranges (producer - 1) (record { first = 0; count = 0 })
+
+-- the payload size of its chunks
+abbrev pub size_of : Setup → ℕ → ℕ
+size_of setup producer = slice_index_or setup.sizes (producer - 1) 0
 
 -- the producer of the writer at this place
 abbrev pub producer_of : Setup → ℕ → ℕ
@@ -51,5 +58,18 @@ pub record IsLaid (setup : Setup) : Type 0 where
       → (spot setup chunk).page ≡ (spot setup other).page → (spot setup chunk).place ≡ (spot setup other).place → chunk ≡ other
   pub alike : (chunk other : ℕ) → chunk < length setup.spots → other < length setup.spots → (spot setup chunk).page ≡ (spot setup other).page
       → ((spot setup chunk).chunks ≡ (spot setup other).chunks) × ((spot setup chunk).layout ≡ (spot setup other).layout)
-  -- the chunks of each producer are there
+  -- the chunks of each producer are there, at least one, and all have payloads of one size
   pub ranges : (producer : ℕ) → (range_of setup producer).first + (range_of setup producer).count ≤ length setup.spots
+  pub some : (producer : ℕ) → HasProducer setup producer → 0 < (range_of setup producer).count
+  pub sizes : (producer chunk : ℕ) → IsChunkOf setup producer chunk → (spot setup chunk).payload_size ≡ size_of setup producer
+  pub least : (chunk : ℕ) → chunk < length setup.spots → MIN_PAYLOAD_SIZE ≤ (spot setup chunk).payload_size
+  pub most : (chunk : ℕ) → chunk < length setup.spots → (spot setup chunk).payload_size < MAX_PAGE_SIZE
+
+-- The id of the chunk at this position among those that the writer began. A view names a chunk by its position; a header word, a token and a
+-- caller by its id. The two are the same number here, and this is where they would part.
+abbrev pub id_at : Setup → (place position : ℕ) → ℕ
+id_at setup place position = position
+
+-- the sequence of the writer at this place
+abbrev pub sequence_of : ℕ → ℕ
+sequence_of place = place + FIRST_SEQUENCE

@@ -1,5 +1,6 @@
--- What the words and the bodies of a table show of its world. Of each page there is a word, and behind these of each chunk a header word.
-use Rattle.std.specs.Prelude.{◌≡◌, ℕ, ◌+◌, ◌*◌, ◌^◌, ◌<◌, ◌≤◌, ◌⊎◌, Option, Some, None, List, length, map, vec_len, slice_index, slice_index_or}
+-- What the words of a table show of its world. Of each page there is a word, and behind these of each chunk a header word; beside them each chunk
+-- has a slot with its payload words.
+use Rattle.std.specs.Prelude.{◌≡◌, ℕ, ◌+◌, ◌*◌, ◌^◌, ◌<◌, ◌≤◌, ◌⊎◌, Option, Some, List, length, map, vec_len, slice_index}
 use Rattle.std.specs.Int.{bit_at}
 use Rattle.page_geometry.specs.declared.page_word.TheConstants.{CLAIM_BIT, LAYOUT_BIT}
 use Rattle.page_geometry.specs.declared.chunk_state.ChunkState.{ChunkState}
@@ -9,17 +10,19 @@ use Rattle.page_geometry.specs.PageBits.{HasState, HasLayout}
 use Rattle.commit_body.specs.declared.body.CommitBody.{CommitBody}
 use Rattle.commit_body.specs.Patches.{patch_value}
 use Rattle.chunk_plain.specs.declared.setup.Spot.{Spot}
-use Rattle.chunk_plain.specs.Setup.{Setup, spot}
-use Rattle.chunk_plain.specs.Views.{At, Ask, Head, Content}
+use Rattle.chunk_plain.specs.Setup.{Setup, spot, id_at, sequence_of}
+use Rattle.chunk_plain.specs.Payload.{byte_at, byte_in, sealed_to}
+use Rattle.chunk_plain.specs.Views.{At, Ask, Head, no_head, Content}
 use Rattle.chunk_plain.specs.World.{World, Status, Unclaimed, Claimed, Stamped, Writing, Ready, Reading, status, writer}
-use Rattle.chunk_plain.specs.Steps.{no_head}
+use Rattle.chunk_plain.specs.Drafts.{head_of}
+use Rattle.chunk_plain.specs.Stored.{Stored, stored_at}
 
 -- the state of a chunk in its page word
 abbrev pub state_of : Status → ChunkState
 state_of Unclaimed = state.Free
 state_of (Claimed place) = state.Free
 state_of (Stamped place id) = state.Free
-state_of (Writing place id head) = state.BeingWritten
+state_of (Writing place id draft) = state.BeingWritten
 state_of (Ready place id content) = state.Complete
 state_of (Reading place id content) = state.BeingRead
 
@@ -48,49 +51,72 @@ pub record ShowsPage (setup : Setup) (world : World) (at : Spot) (word : ℕ) (i
   pub spare : (bit : ℕ) → IsSpare at.chunks bit → bit_at word bit ≡ 0
 
 -- the header word is that of the writer at this place, with this id; each field is in its range
-pub record IsHeader (word place id : ℕ) (head : Head) : Type 0 where
-  pub word_is : word ≡ packed (record { chunk_id = id; writer_id = place + 1; count = head.count; flags = head.flags })
-  pub id_fits : id < 2 ^ 32
+pub record IsHeader (setup : Setup) (word place id : ℕ) (head : Head) : Type 0 where
+  pub word_is : word ≡ packed (record { chunk_id = id_at setup place id; writer_id = place + 1; count = head.count; flags = head.flags })
+  pub id_fits : id_at setup place id < 2 ^ 32
   pub writer_fits : place + 1 < 2 ^ 16
   pub count_fits : head.count < 2 ^ 10
   pub flags_fit : head.flags < 2 ^ 6
 
-abbrev pub head_of : Content → Head
-head_of content = record { count = content.image.count; flags = content.image.flags }
-
-abbrev pub ShowsHeader : ℕ → Status → Type 0
-ShowsHeader word Unclaimed = Unit {0}
-ShowsHeader word (Claimed place) = Unit {0}
-ShowsHeader word (Stamped place id) = IsHeader word place id no_head
-ShowsHeader word (Writing place id head) = IsHeader word place id head
-ShowsHeader word (Ready place id content) = IsHeader word place id (head_of content)
-ShowsHeader word (Reading place id content) = IsHeader word place id (head_of content)
+abbrev pub ShowsHeader : Setup → ℕ → Status → Type 0
+ShowsHeader setup word Unclaimed = Unit {0}
+ShowsHeader setup word (Claimed place) = Unit {0}
+ShowsHeader setup word (Stamped place id) = IsHeader setup word place id no_head
+ShowsHeader setup word (Writing place id draft) = IsHeader setup word place id draft.head
+ShowsHeader setup word (Ready place id content) = IsHeader setup word place id (head_of content)
+ShowsHeader setup word (Reading place id content) = IsHeader setup word place id (head_of content)
 
 -- what a chunk with this header and this body has, once it is complete
 abbrev pub content_of : ℕ → ℕ → Head → CommitBody → Content
 content_of place id head body = record {
-  image = record { sequence = place + 2; chunk_id = id; count = head.count; flags = head.flags; payload = body.payload.items };
+  image = record { sequence = sequence_of place; chunk_id = id; count = head.count; flags = head.flags; payload = body.payload.items };
   patches = map patch_value body.patches.value.items;
   target = body.target;
 }
 
--- the body of a chunk that nobody has begun: it has its payload's size
+-- the words hold the payload, which has its chunk's size
+pub record HoldsPayload (size : ℕ) (words payload : List ℕ) : Type 0 where
+  pub whole : length payload ≡ size
+  pub bytes : (j : ℕ) → j < size → byte_at words j ≡ byte_in payload j
+
+-- The payload words of a chunk that is written are those in its writer's view. Its finished fragments lie inside the payload.
+abbrev pub ShowsWords : ℕ → Status → List ℕ → Type 0
+ShowsWords size (Writing place id draft) words = (words ≡ draft.words) × (sealed_to draft.ends ≤ size)
+ShowsWords size (Ready place id content) words = HoldsPayload size words content.image.payload
+ShowsWords size (Reading place id content) words = HoldsPayload size words content.image.payload
+ShowsWords size _ words = Unit {0}
+
+-- what the bytes of a payload show that was loaded from there
+abbrev pub ShowsPayload : Status → List ℕ → Type 0
+ShowsPayload (Writing place id draft) bytes = (j : ℕ) → j < length bytes → byte_in bytes j ≡ byte_at draft.words j
+ShowsPayload (Ready place id content) bytes = bytes ≡ content.image.payload
+ShowsPayload (Reading place id content) bytes = bytes ≡ content.image.payload
+ShowsPayload _ bytes = Unit {0}
+
+-- a body of a chunk that holds nothing: it has room for its payload
 pub record IsFreeBody (size : ℕ) (body : CommitBody) : Type 0 where
   pub whole : vec_len body.payload ≡ size
 
--- the body of a complete chunk
-pub record IsBodyOf (size place id : ℕ) (content : Content) (body : CommitBody) : Type 0 where
+-- the body of a complete chunk: what it brings beside the payload
+pub record IsBodyOf (size : ℕ) (content : Content) (body : CommitBody) : Type 0 where
   pub whole : vec_len body.payload ≡ size
-  pub content_is : content_of place id (head_of content) body ≡ content
+  pub patches_are : map patch_value body.patches.value.items ≡ content.patches
+  pub target_is : body.target ≡ content.target
 
--- where the body of a chunk is: in the table as long as no token has it
+-- where the body of a chunk is: in the table as long as no token may have it
 abbrev pub ShowsBody : ℕ → Status → Option CommitBody → Type 0
 ShowsBody size Unclaimed kept = (body : CommitBody) × (kept ≡ Some body) × IsFreeBody size body
 ShowsBody size (Claimed place) kept = (body : CommitBody) × (kept ≡ Some body) × IsFreeBody size body
-ShowsBody size (Stamped place id) kept = Unit {0}
-ShowsBody size (Writing place id head) kept = kept ≡ None
-ShowsBody size (Ready place id content) kept = (body : CommitBody) × (kept ≡ Some body) × IsBodyOf size place id content body
-ShowsBody size (Reading place id content) kept = kept ≡ None
+ShowsBody size (Stamped place id) kept = (body : CommitBody) × (kept ≡ Some body) × IsFreeBody size body
+ShowsBody size (Writing place id draft) kept = Unit {0}
+ShowsBody size (Ready place id content) kept = (body : CommitBody) × (kept ≡ Some body) × IsBodyOf size content body
+ShowsBody size (Reading place id content) kept = Unit {0}
+
+-- the slot of a chunk, which has room for its payload
+pub record ShowsSlot (size : ℕ) (is : Status) (slot : Stored) : Type 0 where
+  pub room : size ≤ 8 * length slot.words
+  pub words : ShowsWords size is slot.words
+  pub body : ShowsBody size is slot.body
 
 abbrev pub page_word : Setup → List ℕ → ℕ → ℕ
 page_word setup words chunk = slice_index words (spot setup chunk).page
@@ -98,14 +124,11 @@ page_word setup words chunk = slice_index words (spot setup chunk).page
 abbrev pub header_word : Setup → List ℕ → ℕ → ℕ
 header_word setup words chunk = slice_index words (setup.pages + chunk)
 
-abbrev pub body_at : List (Option CommitBody) → ℕ → Option CommitBody
-body_at bodies chunk = slice_index_or bodies chunk None
-
--- words and bodies show the world
-pub record IsShown (setup : Setup) (words : List ℕ) (bodies : List (Option CommitBody)) (world : World) : Type 0 where
+-- words and slots show the world
+pub record IsShown (setup : Setup) (words : List ℕ) (slots : List Stored) (world : World) : Type 0 where
   pub chunk_count : length world.chunks ≡ length setup.spots
   pub word_count : length words ≡ setup.pages + length setup.spots
-  pub body_count : length bodies ≡ length setup.spots
+  pub slot_count : length slots ≡ length setup.spots
   pub page : (chunk : ℕ) → chunk < length setup.spots → ShowsPage setup world (spot setup chunk) (page_word setup words chunk) (status world chunk)
-  pub header : (chunk : ℕ) → chunk < length setup.spots → ShowsHeader (header_word setup words chunk) (status world chunk)
-  pub body : (chunk : ℕ) → chunk < length setup.spots → ShowsBody (spot setup chunk).payload_size (status world chunk) (body_at bodies chunk)
+  pub header : (chunk : ℕ) → chunk < length setup.spots → ShowsHeader setup (header_word setup words chunk) (status world chunk)
+  pub slot : (chunk : ℕ) → chunk < length setup.spots → ShowsSlot (spot setup chunk).payload_size (status world chunk) (stored_at slots chunk)

@@ -1,7 +1,7 @@
 -- What each step does to the view of the seat that makes it, and to the world: one row of the writers, and one chunk.
-use Rattle.std.specs.Prelude.{ℕ, ◌+◌, ◌==◌, Bool, true, false, Some, None, List, [], ◌∷◌, ◌++◌, map, length, slice_set, if◌then◌else◌}
+use Rattle.std.specs.Prelude.{ℕ, ◌+◌, ◌==◌, Bool, true, false, Option, Some, None, List, [], ◌∷◌, ◌++◌, map, length, slice_set, if◌then◌else◌}
 use Rattle.trace_model.specs.Calls.{Call}
-use Rattle.chunk_plain.specs.Views.{Ask, Head, Content, Held, Completed, WriterView, Taken, Noted, Commit, Committed, ServiceView, taken_of}
+use Rattle.chunk_plain.specs.Views.{Ask, Head, Draft, fresh, Content, Held, Completed, WriterView, Taken, Found, Noted, Commit, Committed, ServiceView, taken_of}
 use Rattle.chunk_plain.specs.World.{World, Status}
 
 -- the list without the first element that is this one
@@ -26,16 +26,21 @@ abbrev pub stamps : WriterView → ℕ → WriterView
 stamps view chunk =
     record view { claimed = without chunk view.claimed; stamped = Some (record { chunk = chunk; id = length view.begun }) }
 
-abbrev pub no_head : Head
-no_head = record { count = 0; flags = 0 }
+-- the chunk whose header was stored is begun, with the payload words that stand in it
+abbrev pub begins : WriterView → ℕ → List ℕ → WriterView
+begins view chunk words = record view { stamped = None; begun = view.begun ++ Held chunk (fresh words) ∷ [] }
 
--- the chunk whose header was stored is begun
-abbrev pub begins : WriterView → ℕ → WriterView
-begins view chunk = record view { stamped = None; begun = view.begun ++ Held chunk no_head ∷ [] }
+-- another thing stands in a held chunk
+abbrev pub redrafts : WriterView → ℕ → ℕ → Draft → WriterView
+redrafts view chunk id draft = record view { begun = slice_set view.begun id (Held chunk draft) }
 
--- the header of a held chunk is stored anew
-abbrev pub restamps : WriterView → ℕ → ℕ → Head → WriterView
-restamps view chunk id head = record view { begun = slice_set view.begun id (Held chunk head) }
+-- the header of a held chunk is stored anew; with it come the ends of the fragments that are finished then
+abbrev pub with_head : Draft → Head → List ℕ → Draft
+with_head draft head ends = record draft { head = head; ends = ends }
+
+-- a payload word of a held chunk is stored
+abbrev pub with_word : Draft → ℕ → ℕ → Draft
+with_word draft index word = record draft { words = slice_set draft.words index word }
 
 abbrev pub completes : WriterView → ℕ → ℕ → Content → WriterView
 completes view chunk id content = record view { begun = slice_set view.begun id (Completed chunk content) }
@@ -49,9 +54,10 @@ notes_call view call = record view { calls = view.calls ++ call ∷ [] }
 abbrev pub taken_counts : ServiceView → List ℕ
 taken_counts service = map (λ (taken : Taken). taken.count) service.taken
 
-abbrev pub looks_at : ServiceView → ℕ → ℕ → ℕ → ServiceView
-looks_at service chunk word header =
-    record service { looks = service.looks ++ record { chunk = chunk; word = word; header = header; taken = taken_counts service } ∷ [] }
+abbrev pub looks_at : ServiceView → ℕ → ℕ → ℕ → Option Found → ServiceView
+looks_at service chunk word header found = record service {
+  looks = service.looks ++ record { chunk = chunk; word = word; header = header; found = found; taken = taken_counts service } ∷ [];
+}
 
 -- the next chunk of this writer is taken: the service reads it
 abbrev pub takes_in : ServiceView → ℕ → ℕ → ServiceView

@@ -27,15 +27,32 @@ pub record Head : Type 0 where
   pub count : ℕ
   pub flags : ℕ
 
+abbrev pub no_head : Head
+no_head = record { count = 0; flags = 0 }
+
+-- What stands in a chunk that is written: its header, its payload words, and the ends of the fragments before the last one counted. Its writer
+-- knows a word by what it published; a word that it didn't publish is in its view without its knowing the value.
+pub record Draft : Type 0 where
+  pub head : Head
+  pub words : List ℕ
+  pub ends : List ℕ
+
+-- a chunk as it is begun, with the words that stand in it
+abbrev pub fresh : List ℕ → Draft
+fresh words = record { head = no_head; words = words; ends = [] }
+
+abbrev pub no_draft : Draft
+no_draft = fresh []
+
 -- a completed chunk, whole: its image, and the patches and the target in its commit body
 pub record Content : Type 0 where
   pub image : Image
   pub patches : List Patch
   pub target : ℕ
 
--- what became of a chunk that a writer began: the writer holds it, with this header, or has completed it
+-- what became of a chunk that a writer began: the writer holds it, and this stands in it; or has completed it
 pub data Begun : Type 0 where
-  Held : (chunk : ℕ) → Head → Begun
+  Held : (chunk : ℕ) → Draft → Begun
   Completed : (chunk : ℕ) → Content → Begun
 
 -- a claimed chunk whose header is stored with this id, and which isn't begun yet
@@ -68,12 +85,23 @@ pub record Taken : Type 0 where
 abbrev pub none_taken : Taken
 none_taken = record { count = 0; contents = [] }
 
+-- A chunk that was found being written: by which writer and under which id, its header, the ends of the fragments before the last one counted,
+-- and the bytes of these fragments as they stood.
+pub record Found : Type 0 where
+  pub place : ℕ
+  pub id : ℕ
+  pub head : Head
+  pub ends : List ℕ
+  pub sealed : List ℕ
+
 -- what the service found at a chunk
 pub record Look : Type 0 where
   pub chunk : ℕ
   -- its page word and its header word
   pub word : ℕ
   pub header : ℕ
+  -- what stood in it, where it was being written
+  pub found : Option Found
   -- how many chunks of each writer were taken by then
   pub taken : List ℕ
 

@@ -1,9 +1,11 @@
--- What a call on a table does to the views of its seats.
-use Rattle.std.specs.Prelude.{◌≡◌, ◌≢◌, ℕ, ◌+◌, ◌-◌, ◌%◌, ◌<◌, ◌≤◌, Bool, List, [], map, slice_index_or, vec_len, if◌then◌else◌}
+-- What a call on a table does to the views of its seats, and what the views have between two calls.
+use Rattle.std.specs.Prelude.{◌≡◌, ℕ, ◌+◌, ◌-◌, ◌*◌, ◌<◌, ◌≤◌, ◌⊎◌, Bool, true, Option, Some, None, List, [], length, map, vec_len, if◌then◌else◌}
 use Rattle.std.specs.Int.{bit_at}
+use Rattle.trace_base.specs.declared.limits.TheConstants.{MAX_FRAGMENTS}
+use Rattle.page_geometry.specs.declared.chunk_header.TheConstants.{MAX_FLAGS}
 use Rattle.page_geometry.specs.declared.page_word.TheConstants.{CLAIM_BIT}
 use Rattle.page_geometry.specs.declared.chunk_header.ChunkHeader.{ChunkHeader}
-use Rattle.page_geometry.specs.declared.chunk_state.ChunkState.TheVariants.{Complete}
+use Rattle.page_geometry.specs.declared.chunk_state.ChunkState.TheVariants.{BeingWritten, Complete}
 use Rattle.page_geometry.specs.PageBits.{HasState}
 use Rattle.page_geometry.specs.Header.{packed}
 use Rattle.commit_body.specs.declared.body.Patch.{Patch}
@@ -16,53 +18,53 @@ use Rattle.chunk_plain.specs.declared.notes.ServiceEvent.TheVariants as event
 use Rattle.chunk_plain.specs.declared.tokens.Held.{Held as HeldToken}
 use Rattle.chunk_plain.specs.declared.tokens.Taken.{Taken as TakenToken}
 use Rattle.chunk_plain.specs.declared.tokens.NotComplete.{NotComplete}
-use Rattle.chunk_plain.specs.Setup.{Setup, spot}
-use Rattle.chunk_plain.specs.Views.{At, Head, Content, Begun, Held, Completed, WriterView, ServiceView, Noted, Arrive, Partial, Patched, Closed, Read, Committed}
-use Rattle.chunk_plain.specs.Steps.{no_head, claims, looks_at, takes_in, learns}
+use Rattle.chunk_plain.specs.Setup.{Setup, spot, producer_of, IsChunkOf, id_at}
+use Rattle.chunk_plain.specs.Payload.{byte_at, byte_in, sealed_to}
+use Rattle.chunk_plain.specs.Views.{At, Ask, Content, Begun, Held, Completed, WriterView, Found, Look, ServiceView, taken_of, Noted, Arrive, Partial, Patched, Closed, Read, Committed}
+use Rattle.chunk_plain.specs.Steps.{claims, stamps, begins, redrafts, looks_at, takes_in, learns}
 use Rattle.chunk_plain.specs.Owned.{times}
+use Rattle.chunk_plain.specs.Drafts.{MayFollow, IsFound, head_of, draft_at, head_at, published}
 use Rattle.chunk_plain.specs.Shows.{content_of}
 
--- Seats
+-- Between two calls
 
--- A step of a writer's seat leaves all else of the table: its set-up, and the views of the other seats.
-pub record IsWriterStep {T W S : Type 0} (setup : T → Setup) (sits : T → W → Type 0) (place : W → ℕ) (view : T → W → WriterView)
-    (serves : T → S → Type 0) (service_view : T → S → ServiceView) (old : T) (seat : W) (new : T) (after : W) : Type 0 where
-  pub setup_stays : setup new ≡ setup old
-  pub seat_stays : sits new after
-  pub place_stays : place after ≡ place seat
-  pub writers_stay : (other : W) → sits old other → place other ≢ place seat → sits new other × (view new other ≡ view old other)
-  pub service_stays : (other : S) → serves old other → serves new other × (service_view new other ≡ service_view old other)
+abbrev pub chunk_of : Begun → ℕ
+chunk_of (Held chunk draft) = chunk
+chunk_of (Completed chunk content) = chunk
 
--- and so does a step of the service's seat
-pub record IsServiceStep {T W S : Type 0} (setup : T → Setup) (sits : T → W → Type 0) (view : T → W → WriterView)
-    (serves : T → S → Type 0) (old new : T) (after : S) : Type 0 where
-  pub setup_stays : setup new ≡ setup old
-  pub seat_stays : serves new after
-  pub writers_stay : (other : W) → sits old other → sits new other × (view new other ≡ view old other)
+-- a writer's seat: no header of it is stored in a chunk that it hasn't begun, and it has to do with its own producer's chunks alone
+pub record IsAtRest (setup : Setup) (place : ℕ) (view : WriterView) : Type 0 where
+  pub inside : place < length setup.writers
+  pub stamped : view.stamped ≡ None
+  pub asked : (i : ℕ) (ask : Ask) → At view.asked i ask → IsChunkOf setup (producer_of setup place) ask.chunk
+  pub claimed : (chunk : ℕ) → 0 < times chunk view.claimed → IsChunkOf setup (producer_of setup place) chunk
+  pub begun : (id : ℕ) (entry : Begun) → At view.begun id entry → IsChunkOf setup (producer_of setup place) (chunk_of entry)
+
+-- the service's seat: its view has the content of each chunk that it took
+pub record IsServing (setup : Setup) (view : ServiceView) : Type 0 where
+  pub writers : length view.taken ≡ length setup.writers
+  pub level : (place : ℕ) → length (taken_of view place).contents ≡ (taken_of view place).count
+
+-- Once the content of an id is in the view, what a look found of it are its first fragments, and it has at least as many as were counted then.
+abbrev pub LearntAsFound : ServiceView → Type 0
+LearntAsFound view = (n : ℕ) (look : Look) (found : Found) (content : Content) → At view.looks n look → look.found ≡ Some found
+    → At (taken_of view found.place).contents found.id content
+    → MayFollow found.head (head_of content) × (length found.sealed ≤ length content.image.payload)
+    × ((j : ℕ) → j < length found.sealed → byte_in content.image.payload j ≡ byte_in found.sealed j)
 
 -- Writers
 
--- The claim bit of the chunk in the page word that a claim found tells whether it won, and the claim joins the view.
+-- The claim bit of the chunk in the page word that a claim found tells whether it won, and the claim joins the view. A claim that won is of a chunk
+-- that the writer hasn't claimed yet.
 pub record TriesClaim (setup : Setup) (chunk : ℕ) (won : Bool) (old new : WriterView) : Type 0 where
   pub found : ℕ
   pub bit : bit_at found (CLAIM_BIT + (spot setup chunk).place) ≡ (if won then 0 else 1)
+  pub fresh : won ≡ true → times chunk old.claimed ≡ 0
   pub view : new ≡ claims old chunk found won
 
 -- the writer has claimed the chunk and not begun it
 abbrev pub HasClaimed : WriterView → ℕ → Type 0
 HasClaimed view chunk = 0 < times chunk view.claimed
-
-abbrev pub head_in : Begun → Head
-head_in (Held chunk head) = head
-head_in (Completed chunk content) = no_head
-
--- the header of the chunk that the writer holds under this id
-abbrev pub head_at : WriterView → ℕ → Head
-head_at view id = head_in (slice_index_or view.begun id (Held 0 no_head))
-
--- the writer holds the chunk under this id
-abbrev pub IsHolding : WriterView → ℕ → ℕ → Type 0
-IsHolding view chunk id = At view.begun id (Held chunk (head_at view id))
 
 -- a chunk that was just begun: its payload has the chunk's size, and no patches are in its body
 pub record IsBegun (setup : Setup) (chunk id : ℕ) (held : HeldToken) : Type 0 where
@@ -71,16 +73,72 @@ pub record IsBegun (setup : Setup) (chunk id : ℕ) (held : HeldToken) : Type 0 
   pub whole : vec_len held.body.payload ≡ (spot setup chunk).payload_size
   pub empty : held.body.patches.value.items ≡ []
 
--- A header may be stored over another where the count doesn't fall, and, once it isn't 0, flag 1 stays.
-pub record MayFollow (old new : Head) : Type 0 where
-  pub count_grows : old.count ≤ new.count
-  pub front_stays : old.count ≢ 0 → new.flags % 2 ≡ old.flags % 2
+-- the chunk is begun, with the payload words that stand in it
+pub record BeginsChunk (setup : Setup) (chunk : ℕ) (old new : WriterView) : Type 0 where
+  pub words : List ℕ
+  pub room : (spot setup chunk).payload_size ≤ 8 * length words
+  pub view : new ≡ begins (stamps old chunk) chunk words
+
+-- a writer's copy of a payload has the bytes of its finished fragments as they were published
+abbrev pub KeepsSealed : WriterView → ℕ → List ℕ → Type 0
+KeepsSealed view id copy =
+    (j : ℕ) → j < sealed_to (draft_at view id).ends → (j < length copy) × (published view id j ≡ byte_in copy j)
+
+-- a writer's copy of a payload was published whole
+abbrev pub IsPublished : WriterView → ℕ → List ℕ → Type 0
+IsPublished view id copy = (j : ℕ) → j < length copy → published view id j ≡ byte_in copy j
+
+-- Some bytes of a copy were published: each byte of the range is the copy's now, and each other one is as before or the copy's, since words are
+-- stored whole.
+pub record Publishes (copy : List ℕ) (from to : ℕ) (old new : List ℕ) : Type 0 where
+  pub count : length new ≡ length old
+  pub range : (j : ℕ) → from ≤ j → j < to → byte_at new j ≡ byte_in copy j
+  pub others : (j : ℕ) → j < length copy → (byte_at new j ≡ byte_at old j) ⊎ (byte_at new j ≡ byte_in copy j)
+
+-- and nothing else of the view changed
+pub record PublishesBytes (chunk id from to : ℕ) (copy : List ℕ) (old new : WriterView) : Type 0 where
+  pub words : List ℕ
+  pub bytes : Publishes copy from to (draft_at old id).words words
+  pub view : new ≡ redrafts old chunk id (record (draft_at old id) { words = words })
 
 -- what a held chunk has once it is completed
 abbrev pub completed_content : ℕ → WriterView → HeldToken → Content
 completed_content place view held = content_of place held.id (head_at view held.id) held.body
 
 -- The service
+
+-- what was found in a chunk that was being written: of the writer and the id in its header, which isn't taken yet
+pub record IsOfHeader (setup : Setup) (header : ChunkHeader) (view : ServiceView) (found : Found) : Type 0 where
+  pub place_is : found.place + 1 ≡ header.writer_id
+  pub id_is : id_at setup found.place found.id ≡ header.chunk_id
+  pub head_is : found.head ≡ record { count = header.count; flags = header.flags }
+  pub untaken : (taken_of view found.place).count ≤ found.id
+  pub finished : IsFound found
+
+-- a look finds what stands in the chunk exactly where it is being written
+pub record FindsWritten (setup : Setup) (chunk word : ℕ) (header : ChunkHeader) (view : ServiceView) (found : Option Found) : Type 0 where
+  pub some : HasState word (spot setup chunk).place BeingWritten → (one : Found) × (found ≡ Some one) × IsOfHeader setup header view one
+  pub none : (HasState word (spot setup chunk).place BeingWritten → ⊥) → found ≡ None
+
+-- the chunk was looked at: page word, header and what stood in it join the view
+pub record LooksAt (setup : Setup) (chunk word : ℕ) (header : ChunkHeader) (old new : ServiceView) : Type 0 where
+  pub found : Option Found
+  pub finds : FindsWritten setup chunk word header old found
+  pub view : new ≡ looks_at old chunk word (packed header) found
+
+-- the bytes of the chunk begin with those that a look found there, as long as the id isn't taken
+abbrev pub ShowsFound : ServiceView → ℕ → List ℕ → Type 0
+ShowsFound view chunk bytes = (n : ℕ) (look : Look) (found : Found) → At view.looks n look → look.chunk ≡ chunk → look.found ≡ Some found
+    → (taken_of view found.place).count ≤ found.id
+    → (j : ℕ) → j < length found.sealed → byte_in bytes j ≡ byte_in found.sealed j
+
+-- the bytes are the payload of a content that the view has
+pub record IsTakenPayload (view : ServiceView) (bytes : List ℕ) : Type 0 where
+  pub place : ℕ
+  pub id : ℕ
+  pub content : Content
+  pub at : At (taken_of view place).contents id content
+  pub bytes_are : bytes ≡ content.image.payload
 
 -- the content of a chunk that was taken of the writer at this place
 abbrev pub taken_content : ℕ → TakenToken → Content
@@ -94,13 +152,15 @@ pub record TakesChunk (setup : Setup) (chunk writer id : ℕ) (taken : TakenToke
   pub chunk_is : taken.chunk ≡ chunk
   pub writer_is : taken.header.writer_id ≡ writer
   pub id_is : taken.header.chunk_id ≡ id
+  pub count_fits : taken.header.count ≤ MAX_FRAGMENTS
+  pub flags_fit : taken.header.flags ≤ MAX_FLAGS
   pub whole : vec_len taken.body.payload ≡ (spot setup chunk).payload_size
-  pub view : new ≡ learns (takes_in (looks_at old chunk word (packed taken.header)) (writer - 1) chunk) (writer - 1) (taken_content (writer - 1) taken)
+  pub view : new ≡ learns (takes_in (looks_at old chunk word (packed taken.header) None) (writer - 1) chunk) (writer - 1) (taken_content (writer - 1) taken)
 
 -- The chunk was found in another state than complete, or with another writer or id in its header; the view has only the look.
 pub record FindsOther (setup : Setup) (chunk writer id : ℕ) (found : NotComplete) (old new : ServiceView) : Type 0 where
   pub other : HasState found.word.0 (spot setup chunk).place Complete → found.header.writer_id ≡ writer → found.header.chunk_id ≡ id → ⊥
-  pub view : new ≡ looks_at old chunk found.word.0 (packed found.header)
+  pub look : LooksAt setup chunk found.word.0 found.header old new
 
 -- Notes
 

@@ -1,6 +1,6 @@
 -- The world of a table of chunks, as plain data: what each chunk is used for, and the view of each seat.
 use Rattle.std.specs.Prelude.{ℕ, List, [], slice_index_or}
-use Rattle.chunk_plain.specs.Views.{Head, Content, WriterView, ServiceView, newcomer, newcomer_service}
+use Rattle.chunk_plain.specs.Views.{Draft, Content, WriterView, ServiceView, newcomer, newcomer_service}
 
 -- what a chunk is used for, by which writer and under which id, with what it then holds
 pub data Status : Type 0 where
@@ -10,7 +10,7 @@ pub data Status : Type 0 where
   -- claimed, and its header is stored
   Stamped : (writer id : ℕ) → Status
   -- its writer is writing it
-  Writing : (writer id : ℕ) → Head → Status
+  Writing : (writer id : ℕ) → Draft → Status
   -- it is complete, and waits for the service
   Ready : (writer id : ℕ) → Content → Status
   -- the service is reading it

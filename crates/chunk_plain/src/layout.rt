@@ -2,7 +2,7 @@
 ghost use Rattle.std.specs.Prelude.{◌≡◌, ℕ, [], ◌+◌, ◌-◌, ◌*◌, ◌^◌, ◌<◌, ◌≤◌, ◌++◌, All, length, IfOk, OnOk, vec_len};
 ghost use Rattle.trace_base.specs.declared.limits.TheConstants.{MAX_CHUNKS_PER_PAGE, MAX_PRODUCERS, MAX_WRITERS, MAX_PAGES};
 ghost use Rattle.chunk_plain.specs.Setup.{spot, range_of};
-ghost use Rattle.chunk_plain.specs.Laying.{page_spots, pages_spots, spots_of, ranges_of, pages_in, setup_of};
+ghost use Rattle.chunk_plain.specs.Laying.{page_spots, pages_spots, spots_of, ranges_of, sizes_of, pages_in, setup_of};
 
 use crate::setup::{ChunkRange, ProducerSpec, Spot};
 use page_geometry::Geometry;
@@ -16,6 +16,7 @@ pub struct Layout {
     pages: u32,
     spots: Vec<Spot>,
     ranges: Vec<ChunkRange>,
+    sizes: Vec<u32>,
     writers: Vec<WriterSpec>,
 }
 
@@ -24,9 +25,9 @@ impl Model for Layout {
 
     ghost Value = { Setup };
 
-    ghost view = { λ layout. record { pages = layout.pages; spots = layout.spots.items; ranges = layout.ranges.items; writers = layout.writers.items } };
+    ghost view = { λ layout. record { pages = layout.pages; spots = layout.spots.items; ranges = layout.ranges.items; sizes = layout.sizes.items; writers = layout.writers.items } };
 
-    ghost invariant = { λ layout. IsLaid (record { pages = layout.pages; spots = layout.spots.items; ranges = layout.ranges.items; writers = layout.writers.items }) };
+    ghost invariant = { λ layout. IsLaid (record { pages = layout.pages; spots = layout.spots.items; ranges = layout.ranges.items; sizes = layout.sizes.items; writers = layout.writers.items }) };
 }
 
 impl Layout {
@@ -81,16 +82,19 @@ impl Layout {
         writers: &[WriterSpec],
     ) -> Result<Layout, AllocError>
         requires producers { length producers.now ≤ MAX_PRODUCERS }
+        requires some_page { All (λ producer. 1 ≤ producer.pages) producers.now }
         requires pages { All (λ producer. producer.pages ≤ MAX_PAGES) producers.now }
         ensures { IfOk result (λ layout. layout ≡ setup_of producers.now writers.now) }
     {
         let mut spots = Vec::new(alloc);
         let mut ranges = Vec::new(alloc);
         let pages = add_producers(&mut spots, &mut ranges, producers)?;
+        let sizes = payload_sizes(alloc, producers)?;
         Ok(Layout {
             pages,
             spots,
             ranges,
+            sizes,
             writers: writers.to_vec(alloc)?,
         })
     }
@@ -120,6 +124,17 @@ fn add_producers(
         first += count;
     }
     Ok(pages)
+}
+
+/// The payload size of each producer's chunks.
+fn payload_sizes(alloc: Global, producers: &[ProducerSpec]) -> Result<Vec<u32>, AllocError>
+    ensures { IfOk result (λ sizes. sizes.items ≡ sizes_of producers.now) }
+{
+    let mut sizes = Vec::new(alloc);
+    for producer in producers {
+        sizes.push(producer.geometry.payload_size())?;
+    }
+    Ok(sizes)
 }
 
 /// Adds the chunks of so many pages, from this one on.

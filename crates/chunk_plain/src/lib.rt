@@ -5,13 +5,16 @@
 //! owned by exactly one seat, or waits for the service whole, as its writer completed it.
 #![tactic(auto)]
 
-mod bodies;
+mod bytes;
 pub mod laws;
 mod layout;
 mod notes;
 mod plain;
 mod plain_seats;
+mod plain_steps;
+mod plain_words;
 mod setup;
+mod slots;
 mod step;
 #[cfg(test)]
 mod tests;
@@ -24,5 +27,5 @@ pub use notes::{ServiceEvent, WriterCall};
 pub use plain::PlainTable;
 pub use plain_seats::{PlainService, PlainWriter};
 pub use setup::{ChunkRange, ProducerSpec, Spot};
-pub use tokens::{Claimed, Held, NotComplete, Seen, Taken};
+pub use tokens::{Claimed, Held, ID_LIMIT, MAX_HELD, NotComplete, Seen, Taken};
 pub use words::Words;

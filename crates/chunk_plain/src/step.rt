@@ -1,4 +1,4 @@
-//! What each call of the table of one thread does, as a value.
+//! What each step of the table of one thread does, as a value.
 use crate::notes::{ServiceEvent, WriterCall};
 use commit_body::{CommitBody, Patch};
 use page_geometry::ChunkHeader;
@@ -12,9 +12,14 @@ pub enum Step<'a> {
         found: u64,
         won: bool,
     },
+    Stamp {
+        place: u16,
+        chunk: u32,
+    },
     Begin {
         place: u16,
         chunk: u32,
+        words: &'a [u64],
     },
     SetHeader {
         place: u16,
@@ -22,6 +27,13 @@ pub enum Step<'a> {
         id: u32,
         count: u16,
         flags: u8,
+    },
+    Publish {
+        place: u16,
+        chunk: u32,
+        id: u32,
+        index: usize,
+        word: u64,
     },
     Complete {
         place: u16,
@@ -38,6 +50,10 @@ pub enum Step<'a> {
         place: u16,
         chunk: u32,
         word: u64,
+        header: ChunkHeader,
+    },
+    Learn {
+        place: u16,
         header: ChunkHeader,
         body: &'a CommitBody,
     },

@@ -3,13 +3,21 @@
 use commit_body::CommitBody;
 use page_geometry::{ChunkHeader, PageWord};
 
+/// How many chunks a writer holds at once: the one that it fills, and the next one where it claims
+/// that before it completes the first.
+pub const MAX_HELD: usize = 2;
+
+/// Chunk ids are below this.
+pub const ID_LIMIT: u32 = 4_294_967_295;
+
 /// A chunk that a writer claimed and hasn't begun.
 #[derive(Debug)]
 pub struct Claimed {
     pub chunk: u32,
 }
 
-/// A chunk that a writer writes, with its body. The writer writes into the body itself.
+/// A chunk that a writer writes, with its body. The writer writes into the body itself; the payload
+/// in it is a copy of its own, of which the chunk has what the writer published.
 #[derive(Debug)]
 pub struct Held {
     pub chunk: u32,
@@ -17,7 +25,8 @@ pub struct Held {
     pub body: CommitBody,
 }
 
-/// A chunk that the service took, with its header and its body.
+/// A chunk that the service took, with its header and its body. The payload in it was loaded from
+/// the chunk.
 #[derive(Debug)]
 pub struct Taken {
     pub chunk: u32,

@@ -1,19 +1,23 @@
 //! The calls on a table of chunks, whatever its words lie in.
-ghost use Rattle.std.specs.Prelude.{◌≡◌, ℕ, ◌+◌, ◌-◌, ◌^◌, ◌<◌, ◌≤◌, ◌↔◌, Bool, true, false, Option, Some, None, length, vec_len, IfSome, IfNone, IfOk, IfErr, IsSome};
+ghost use Rattle.std.specs.Prelude.{◌≡◌, ℕ, ◌+◌, ◌-◌, ◌<◌, ◌≤◌, true, false, Option, Some, [], length, vec_len, IfSome, IfNone, IfOk, IfErr};
 ghost use Rattle.page_geometry.specs.declared.chunk_header.TheConstants.{MAX_FLAGS};
 ghost use Rattle.page_geometry.specs.Header.{packed};
 ghost use Rattle.trace_base.specs.declared.limits.TheConstants.{MAX_FRAGMENTS};
-ghost use Rattle.chunk_plain.specs.Setup.{Setup, spot, producer_of, IsChunkOf, IsLaid};
-ghost use Rattle.chunk_plain.specs.Views.{WriterView, ServiceView, taken_of};
-ghost use Rattle.chunk_plain.specs.World.{World, Status, Unclaimed, Claimed as ClaimedBy, Writing, Ready, Reading, status, writer};
-ghost use Rattle.chunk_plain.specs.Steps.{stamps, begins, restamps, completes, notes_call, looks_at, lets_go, notes, notes_commit, no_head, moved, served, noted, serviced};
-ghost use Rattle.chunk_plain.specs.Owned.{times, IsOwned};
-ghost use Rattle.chunk_plain.specs.Shows.{ShowsPage, ShowsHeader};
-ghost use Rattle.chunk_plain.specs.Words.{IsWriterStep, IsServiceStep, TriesClaim, HasClaimed, head_at, IsHolding, IsBegun, MayFollow, completed_content, taken_content, TakesChunk, FindsOther, call_of, event_of, IsReadEvent, committed_of};
+ghost use Rattle.chunk_plain.specs.declared.tokens.TheConstants.{MAX_HELD, ID_LIMIT};
+ghost use Rattle.chunk_plain.specs.Setup.{spot, producer_of, IsChunkOf, IsLaid, id_at};
+ghost use Rattle.chunk_plain.specs.Payload.{sealed_to, HasFragments};
+ghost use Rattle.chunk_plain.specs.Views.{taken_of};
+ghost use Rattle.chunk_plain.specs.World.{World, Unclaimed, Claimed as ClaimedBy, Writing, Ready, Reading, status, writer};
+ghost use Rattle.chunk_plain.specs.Steps.{redrafts, with_head, completes, notes_call, lets_go, notes, notes_commit, moved, served, noted, serviced};
+ghost use Rattle.chunk_plain.specs.Owned.{times, held_count, IsOwned};
+ghost use Rattle.chunk_plain.specs.Drafts.{MayFollow, draft_at, head_at, published, ends_by, IsHolding};
+ghost use Rattle.chunk_plain.specs.Shows.{ShowsPage, ShowsHeader, ShowsPayload};
+ghost use Rattle.chunk_plain.specs.Meaning.{Meaning, IsWriterStep, IsServiceStep};
+ghost use Rattle.chunk_plain.specs.Words.{IsAtRest, IsServing, LearntAsFound, TriesClaim, HasClaimed, IsBegun, BeginsChunk, KeepsSealed, IsPublished, PublishesBytes, completed_content, LooksAt, ShowsFound, IsTakenPayload, taken_content, TakesChunk, FindsOther, call_of, event_of, IsReadEvent, committed_of};
 
 use crate::notes::{ServiceEvent, WriterCall};
 use crate::tokens::{Claimed, Held, NotComplete, Seen, Taken};
-use commit_body::{CommitBody, Patch};
+use commit_body::Patch;
 use page_geometry::ChunkHeader;
 
 /// A table of chunks that writers fill and the service empties. Each call is made by one seat and
@@ -24,91 +28,119 @@ pub trait Words {
 
     type Service;
 
-    ghost setup: { Self → Setup };
-
-    // the seat is one of this table's
-    ghost sits: { Self → Self.Writer → Type 0 };
-
-    // the writer's place in the list that the table was made with, from 0: its number is one more
-    ghost place: { Self.Writer → ℕ };
-
-    ghost view: { Self → Self.Writer → WriterView };
-
-    ghost serves: { Self → Self.Service → Type 0 };
-
-    ghost service_view: { Self → Self.Service → ServiceView };
-
-    // the world, where the table tells it
-    ghost told: { Self → Option World };
-
-    // `note` takes a read from this seat
-    ghost takes_reads: { Self → Self.Service → Type 0 };
+    ghost means: { Meaning Self Self.Writer Self.Service };
 
     /// None exactly where the page word that was found has the chunk's claim bit set.
     fn claim_try(&mut self, seat: &mut Self::Writer, chunk: u32) -> Option<Claimed>
-        requires seat { sits self.old seat.old }
-        requires chunk { IsChunkOf (setup self.old) (producer_of (setup self.old) (place seat.old)) chunk }
+        requires seat { means.sits self.old seat.old }
+        requires chunk { IsChunkOf (means.setup self.old) (producer_of (means.setup self.old) (means.place seat.old)) chunk }
         ensures chunk { IfSome result (λ claimed. claimed.chunk ≡ chunk) }
-        ensures won { IfSome result (λ claimed. TriesClaim (setup self.old) chunk true (view self.old seat.old) (view self.new seat.new)) }
-        ensures lost { IfNone result (TriesClaim (setup self.old) chunk false (view self.old seat.old) (view self.new seat.new)) }
-        ensures step { IsWriterStep setup sits place view serves service_view self.old seat.old self.new seat.new }
-        ensures told_won { IfSome result (λ _. (world : World) → told self.old ≡ Some world → ∥ status world chunk ≡ Unclaimed ∥₁
-            × (told self.new ≡ Some (moved world (place seat.old) (view self.new seat.new) chunk (ClaimedBy (place seat.old))))) }
-        ensures told_lost { IfNone result ((world : World) → told self.old ≡ Some world → (status world chunk ≡ Unclaimed → ⊥)
-            × (told self.new ≡ Some (noted world (place seat.old) (view self.new seat.new)))) };
+        ensures won { IfSome result (λ _. TriesClaim (means.setup self.old) chunk true (means.view self.old seat.old) (means.view self.new seat.new)) }
+        ensures lost { IfNone result (TriesClaim (means.setup self.old) chunk false (means.view self.old seat.old) (means.view self.new seat.new)) }
+        ensures step { IsWriterStep means self.old seat.old self.new seat.new }
+        ensures told_won { IfSome result (λ _. (world : World) → means.told self.old ≡ Some world → ∥ status world chunk ≡ Unclaimed ∥₁
+            × (means.told self.new ≡ Some (moved world (means.place seat.old) (means.view self.new seat.new) chunk (ClaimedBy (means.place seat.old))))) }
+        ensures told_lost { IfNone result ((world : World) → means.told self.old ≡ Some world → (status world chunk ≡ Unclaimed → ⊥)
+            × (means.told self.new ≡ Some (noted world (means.place seat.old) (means.view self.new seat.new)))) };
 
     /// The header of the chunk is stored with count 0, and then its state is set. The patches that
-    /// the body brought before are dropped.
+    /// the body brought before are dropped; what its payload holds is left over from other chunks.
     fn begin(&mut self, seat: &mut Self::Writer, claimed: Claimed, id: u32) -> Held
-        requires seat { sits self.old seat.old }
-        requires claimed { HasClaimed (view self.old seat.old) claimed.chunk }
-        requires id { id ≡ length (view self.old seat.old).begun }
-        requires id_fits { id < 2 ^ 32 - 1 }
-        ensures held { IsBegun (setup self.old) claimed.chunk id result }
-        ensures view { view self.new seat.new ≡ begins (stamps (view self.old seat.old) claimed.chunk) claimed.chunk }
-        ensures step { IsWriterStep setup sits place view serves service_view self.old seat.old self.new seat.new }
-        ensures told { (world : World) → told self.old ≡ Some world
-            → told self.new ≡ Some (moved world (place seat.old) (view self.new seat.new) claimed.chunk (Writing (place seat.old) id no_head)) };
+        requires seat { means.sits self.old seat.old }
+        requires claimed { HasClaimed (means.view self.old seat.old) claimed.chunk }
+        requires few { held_count (means.view self.old seat.old).begun < MAX_HELD }
+        requires id { id ≡ id_at (means.setup self.old) (means.place seat.old) (length (means.view self.old seat.old).begun) }
+        requires id_fits { id < ID_LIMIT }
+        ensures held { IsBegun (means.setup self.old) claimed.chunk id result }
+        ensures view { BeginsChunk (means.setup self.old) claimed.chunk (means.view self.old seat.old) (means.view self.new seat.new) }
+        ensures step { IsWriterStep means self.old seat.old self.new seat.new }
+        ensures told { (world : World) → means.told self.old ≡ Some world
+            → means.told self.new ≡ Some (moved world (means.place seat.old) (means.view self.new seat.new) claimed.chunk
+            (Writing (means.place seat.old) id (draft_at (means.view self.new seat.new) id))) };
 
-    /// The body of a held chunk. A caller that wants to know what becomes of it writes into
-    /// `held.body` itself.
-    fn body<'a>(&'a mut self, held: &'a mut Held) -> &'a mut CommitBody
-        ensures { result.now ≡ held.old.body };
+    /// Stores each payload word that has a byte of this range of the held payload. What was counted
+    /// and finished before must stand in the copy as it was published: it may be read meanwhile.
+    fn publish(&mut self, seat: &mut Self::Writer, held: &mut Held, from: u32, to: u32)
+        requires seat { means.sits self.old seat.old }
+        requires held { IsHolding (means.view self.old seat.old) held.old.chunk held.old.id }
+        requires size { vec_len held.old.body.payload ≡ (spot (means.setup self.old) held.old.chunk).payload_size }
+        requires order { from ≤ to }
+        requires inside { to ≤ (spot (means.setup self.old) held.old.chunk).payload_size }
+        requires kept { KeepsSealed (means.view self.old seat.old) held.old.id held.old.body.payload.items }
+        ensures held { held.new ≡ held.old }
+        ensures view { PublishesBytes held.old.chunk held.old.id from to held.old.body.payload.items
+            (means.view self.old seat.old) (means.view self.new seat.new) }
+        ensures step { IsWriterStep means self.old seat.old self.new seat.new }
+        ensures told { (world : World) → means.told self.old ≡ Some world
+            → means.told self.new ≡ Some (moved world (means.place seat.old) (means.view self.new seat.new) held.old.chunk
+            (Writing (means.place seat.old) held.old.id (draft_at (means.view self.new seat.new) held.old.id))) };
 
+    /// Stores the header. The fragments before the last one counted are finished from now on: what
+    /// was published of the payload reads as so many.
     fn set_header(&mut self, seat: &mut Self::Writer, held: &mut Held, count: u16, flags: u8)
-        requires seat { sits self.old seat.old }
-        requires held { IsHolding (view self.old seat.old) held.old.chunk held.old.id }
+        requires seat { means.sits self.old seat.old }
+        requires held { IsHolding (means.view self.old seat.old) held.old.chunk held.old.id }
         requires count_fits { count ≤ MAX_FRAGMENTS }
         requires flags_fit { flags ≤ MAX_FLAGS }
-        requires follows { MayFollow (head_at (view self.old seat.old) held.old.id) (record { count = count; flags = flags }) }
+        requires follows { MayFollow (head_at (means.view self.old seat.old) held.old.id) (record { count = count; flags = flags }) }
+        requires reads { HasFragments (published (means.view self.old seat.old) held.old.id) (ends_by (means.view self.old seat.old) held.old.id count) }
+        requires inside { sealed_to (ends_by (means.view self.old seat.old) held.old.id count) ≤ (spot (means.setup self.old) held.old.chunk).payload_size }
         ensures held { held.new ≡ held.old }
-        ensures view { view self.new seat.new ≡ restamps (view self.old seat.old) held.old.chunk held.old.id (record { count = count; flags = flags }) }
-        ensures step { IsWriterStep setup sits place view serves service_view self.old seat.old self.new seat.new }
-        ensures told { (world : World) → told self.old ≡ Some world
-            → told self.new ≡ Some (moved world (place seat.old) (view self.new seat.new) held.old.chunk (Writing (place seat.old) held.old.id (record { count = count; flags = flags }))) };
+        ensures view { means.view self.new seat.new ≡ redrafts (means.view self.old seat.old) held.old.chunk held.old.id
+            (with_head (draft_at (means.view self.old seat.old) held.old.id) (record { count = count; flags = flags })
+            (ends_by (means.view self.old seat.old) held.old.id count)) }
+        ensures step { IsWriterStep means self.old seat.old self.new seat.new }
+        ensures told { (world : World) → means.told self.old ≡ Some world
+            → means.told self.new ≡ Some (moved world (means.place seat.old) (means.view self.new seat.new) held.old.chunk
+            (Writing (means.place seat.old) held.old.id (draft_at (means.view self.new seat.new) held.old.id))) };
 
-    /// The body goes back into the table, and then the state is set.
+    /// The body goes back into the table, and then the state is set. Every byte of the payload was
+    /// published.
     fn complete(&mut self, seat: &mut Self::Writer, held: Held)
-        requires seat { sits self.old seat.old }
-        requires held { IsHolding (view self.old seat.old) held.chunk held.id }
-        requires size { vec_len held.body.payload ≡ (spot (setup self.old) held.chunk).payload_size }
-        ensures view { view self.new seat.new ≡ completes (view self.old seat.old) held.chunk held.id (completed_content (place seat.old) (view self.old seat.old) held) }
-        ensures step { IsWriterStep setup sits place view serves service_view self.old seat.old self.new seat.new }
-        ensures told { (world : World) → told self.old ≡ Some world
-            → told self.new ≡ Some (moved world (place seat.old) (view self.new seat.new) held.chunk (Ready (place seat.old) held.id (completed_content (place seat.old) (view self.old seat.old) held))) };
+        requires seat { means.sits self.old seat.old }
+        requires held { IsHolding (means.view self.old seat.old) held.chunk held.id }
+        requires size { vec_len held.body.payload ≡ (spot (means.setup self.old) held.chunk).payload_size }
+        requires published { IsPublished (means.view self.old seat.old) held.id held.body.payload.items }
+        ensures view { means.view self.new seat.new ≡ completes (means.view self.old seat.old) held.chunk held.id
+            (completed_content (means.place seat.old) (means.view self.old seat.old) held) }
+        ensures step { IsWriterStep means self.old seat.old self.new seat.new }
+        ensures told { (world : World) → means.told self.old ≡ Some world
+            → means.told self.new ≡ Some (moved world (means.place seat.old) (means.view self.new seat.new) held.chunk
+            (Ready (means.place seat.old) held.id (completed_content (means.place seat.old) (means.view self.old seat.old) held))) };
 
-    /// Two loads: the chunk's page word and its header word.
+    /// Two loads: the chunk's page word and its header word. Where the chunk is being written, what
+    /// its finished fragments are joins the view; `load` tells them.
     fn look(&mut self, seat: &mut Self::Service, chunk: u32) -> Seen
-        requires seat { serves self.old seat.old }
-        requires chunk { chunk < length (setup self.old).spots }
-        ensures view { service_view self.new seat.new ≡ looks_at (service_view self.old seat.old) chunk result.word.0 (packed result.header) }
-        ensures step { IsServiceStep setup sits view serves self.old self.new seat.new }
-        ensures shown { (world : World) → told self.old ≡ Some world
-            → ∥ ShowsPage (setup self.old) world (spot (setup self.old) chunk) result.word.0 (status world chunk) × ShowsHeader (packed result.header) (status world chunk) ∥₁ }
-        ensures told { (world : World) → told self.old ≡ Some world → told self.new ≡ Some (serviced world (service_view self.new seat.new)) };
+        requires seat { means.serves self.old seat.old }
+        requires chunk { chunk < length (means.setup self.old).spots }
+        ensures count_fits { result.header.count ≤ MAX_FRAGMENTS }
+        ensures flags_fit { result.header.flags ≤ MAX_FLAGS }
+        ensures view { LooksAt (means.setup self.old) chunk result.word.0 result.header
+            (means.service_view self.old seat.old) (means.service_view self.new seat.new) }
+        ensures step { IsServiceStep means self.old seat.old self.new seat.new }
+        ensures shown { (world : World) → means.told self.old ≡ Some world
+            → ∥ ShowsPage (means.setup self.old) world (spot (means.setup self.old) chunk) result.word.0 (status world chunk)
+            × ShowsHeader (means.setup self.old) (packed result.header) (status world chunk) ∥₁ }
+        ensures told { (world : World) → means.told self.old ≡ Some world
+            → means.told self.new ≡ Some (serviced world (means.service_view self.new seat.new)) };
 
-    /// Takes the next chunk of the writer with this number. After `NotComplete` nothing has changed
-    /// but the view, which has the look.
+    /// One load for each payload word of the chunk.
+    fn load(&mut self, seat: &mut Self::Service, chunk: u32, into: &mut [u8])
+        requires seat { means.serves self.old seat.old }
+        requires chunk { chunk < length (means.setup self.old).spots }
+        requires size { length into.old ≡ (spot (means.setup self.old) chunk).payload_size }
+        ensures size { length into.new ≡ length into.old }
+        ensures view { means.service_view self.new seat.new ≡ means.service_view self.old seat.old }
+        ensures found { ShowsFound (means.service_view self.old seat.old) chunk into.new }
+        ensures read { 0 < times chunk (means.service_view self.old seat.old).reading
+            → ∥ IsTakenPayload (means.service_view self.old seat.old) into.new ∥₁ }
+        ensures step { IsServiceStep means self.old seat.old self.new seat.new }
+        ensures shown { (world : World) → means.told self.old ≡ Some world → ∥ ShowsPayload (status world chunk) into.new ∥₁ }
+        ensures told { (world : World) → means.told self.old ≡ Some world → means.told self.new ≡ Some world };
+
+    /// Takes the next chunk of the writer with this number: its state is set, its payload is loaded,
+    /// and then its content joins the view. After `NotComplete` nothing has changed but the view,
+    /// which has the look.
     fn take(
         &mut self,
         seat: &mut Self::Service,
@@ -116,40 +148,47 @@ pub trait Words {
         writer: u16,
         id: u32,
     ) -> Result<Taken, NotComplete>
-        requires seat { serves self.old seat.old }
-        requires chunk { chunk < length (setup self.old).spots }
+        requires seat { means.serves self.old seat.old }
+        requires chunk { chunk < length (means.setup self.old).spots }
         requires writer { 1 ≤ writer }
-        requires writers { writer ≤ length (setup self.old).writers }
-        requires id { id ≡ (taken_of (service_view self.old seat.old) (writer - 1)).count }
-        ensures taken { IfOk result (λ taken. TakesChunk (setup self.old) chunk writer id taken (service_view self.old seat.old) (service_view self.new seat.new)) }
-        ensures other { IfErr result (λ found. FindsOther (setup self.old) chunk writer id found (service_view self.old seat.old) (service_view self.new seat.new)) }
-        ensures step { IsServiceStep setup sits view serves self.old self.new seat.new }
-        ensures told_taken { IfOk result (λ taken. (world : World) → told self.old ≡ Some world
+        requires writers { writer ≤ length (means.setup self.old).writers }
+        requires id { id ≡ id_at (means.setup self.old) (writer - 1) (taken_of (means.service_view self.old seat.old) (writer - 1)).count }
+        requires none_out { (means.service_view self.old seat.old).reading ≡ [] }
+        ensures taken { IfOk result (λ taken. TakesChunk (means.setup self.old) chunk writer id taken
+            (means.service_view self.old seat.old) (means.service_view self.new seat.new)) }
+        ensures other { IfErr result (λ found. FindsOther (means.setup self.old) chunk writer id found
+            (means.service_view self.old seat.old) (means.service_view self.new seat.new)) }
+        ensures step { IsServiceStep means self.old seat.old self.new seat.new }
+        ensures told_taken { IfOk result (λ taken. (world : World) → means.told self.old ≡ Some world
             → ∥ status world chunk ≡ Ready (writer - 1) id (taken_content (writer - 1) taken) ∥₁
-            × (told self.new ≡ Some (served world (service_view self.new seat.new) chunk (Reading (writer - 1) id (taken_content (writer - 1) taken))))) }
-        ensures told_other { IfErr result (λ found. (world : World) → told self.old ≡ Some world → told self.new ≡ Some (serviced world (service_view self.new seat.new))) };
+            × (means.told self.new ≡ Some (served world (means.service_view self.new seat.new) chunk (Reading (writer - 1) id (taken_content (writer - 1) taken))))) }
+        ensures told_other { IfErr result (λ _. (world : World) → means.told self.old ≡ Some world
+            → means.told self.new ≡ Some (serviced world (means.service_view self.new seat.new))) };
 
     /// The body goes back into the table, and then the chunk is free.
     fn release(&mut self, seat: &mut Self::Service, taken: Taken)
-        requires seat { serves self.old seat.old }
-        requires reading { 0 < times taken.chunk (service_view self.old seat.old).reading }
-        requires size { vec_len taken.body.payload ≡ (spot (setup self.old) taken.chunk).payload_size }
-        ensures view { service_view self.new seat.new ≡ lets_go (service_view self.old seat.old) taken.chunk }
-        ensures step { IsServiceStep setup sits view serves self.old self.new seat.new }
-        ensures told { (world : World) → told self.old ≡ Some world → told self.new ≡ Some (served world (service_view self.new seat.new) taken.chunk Unclaimed) };
+        requires seat { means.serves self.old seat.old }
+        requires reading { 0 < times taken.chunk (means.service_view self.old seat.old).reading }
+        requires size { vec_len taken.body.payload ≡ (spot (means.setup self.old) taken.chunk).payload_size }
+        ensures view { means.service_view self.new seat.new ≡ lets_go (means.service_view self.old seat.old) taken.chunk }
+        ensures step { IsServiceStep means self.old seat.old self.new seat.new }
+        ensures told { (world : World) → means.told self.old ≡ Some world
+            → means.told self.new ≡ Some (served world (means.service_view self.new seat.new) taken.chunk Unclaimed) };
 
     fn note_call(&mut self, seat: &mut Self::Writer, call: WriterCall<'_>)
-        requires { sits self.old seat.old }
-        ensures view { view self.new seat.new ≡ notes_call (view self.old seat.old) (call_of call.entry) }
-        ensures step { IsWriterStep setup sits place view serves service_view self.old seat.old self.new seat.new }
-        ensures told { (world : World) → told self.old ≡ Some world → told self.new ≡ Some (noted world (place seat.old) (view self.new seat.new)) };
+        requires { means.sits self.old seat.old }
+        ensures view { means.view self.new seat.new ≡ notes_call (means.view self.old seat.old) (call_of call.entry) }
+        ensures step { IsWriterStep means self.old seat.old self.new seat.new }
+        ensures told { (world : World) → means.told self.old ≡ Some world
+            → means.told self.new ≡ Some (noted world (means.place seat.old) (means.view self.new seat.new)) };
 
     fn note(&mut self, seat: &mut Self::Service, event: ServiceEvent)
-        requires seat { serves self.old seat.old }
-        requires read { IsReadEvent event → takes_reads self.old seat.old }
-        ensures view { service_view self.new seat.new ≡ notes (service_view self.old seat.old) (event_of event) }
-        ensures step { IsServiceStep setup sits view serves self.old self.new seat.new }
-        ensures told { (world : World) → told self.old ≡ Some world → told self.new ≡ Some (serviced world (service_view self.new seat.new)) };
+        requires seat { means.serves self.old seat.old }
+        requires read { IsReadEvent event → means.takes_reads self.old seat.old }
+        ensures view { means.service_view self.new seat.new ≡ notes (means.service_view self.old seat.old) (event_of event) }
+        ensures step { IsServiceStep means self.old seat.old self.new seat.new }
+        ensures told { (world : World) → means.told self.old ≡ Some world
+            → means.told self.new ≡ Some (serviced world (means.service_view self.new seat.new)) };
 
     /// An image came by a commit, with these patches.
     fn note_commit(
@@ -159,23 +198,34 @@ pub trait Words {
         payload: &[u8],
         patches: &[Patch],
     )
-        requires { serves self.old seat.old }
-        ensures view { service_view self.new seat.new ≡ notes_commit (service_view self.old seat.old) (committed_of header payload.now patches.now) }
-        ensures step { IsServiceStep setup sits view serves self.old self.new seat.new }
-        ensures told { (world : World) → told self.old ≡ Some world → told self.new ≡ Some (serviced world (service_view self.new seat.new)) };
+        requires { means.serves self.old seat.old }
+        ensures view { means.service_view self.new seat.new ≡ notes_commit (means.service_view self.old seat.old) (committed_of header payload.now patches.now) }
+        ensures step { IsServiceStep means self.old seat.old self.new seat.new }
+        ensures told { (world : World) → means.told self.old ≡ Some world
+            → means.told self.new ≡ Some (serviced world (means.service_view self.new seat.new)) };
 
-    ghost laid: { (table : Self) → IsLaid (setup table) };
+    ghost laid: { (table : Self) → IsLaid (means.setup table) };
+
+    // what a seat has between two calls
+    ghost rests: { (table : Self) (seat : Self.Writer) → means.sits table seat → IsAtRest (means.setup table) (means.place seat) (means.view table seat) };
+
+    ghost serving: { (table : Self) (seat : Self.Service) → means.serves table seat → IsServing (means.setup table) (means.service_view table seat) };
+
+    // what was found of a chunk while it was written is in its content
+    ghost learnt: { (table : Self) (seat : Self.Service) → means.serves table seat → LearntAsFound (means.service_view table seat) };
 
     // a seat's view is its part of the world that the table tells
-    ghost told_view: { (table : Self) (seat : Self.Writer) (world : World) → told table ≡ Some world → sits table seat → view table seat ≡ writer world (place seat) };
+    ghost told_view: { (table : Self) (seat : Self.Writer) (world : World) → means.told table ≡ Some world → means.sits table seat
+        → means.view table seat ≡ writer world (means.place seat) };
 
-    ghost told_service_view: { (table : Self) (seat : Self.Service) (world : World) → told table ≡ Some world → serves table seat → service_view table seat ≡ world.service };
+    ghost told_service_view: { (table : Self) (seat : Self.Service) (world : World) → means.told table ≡ Some world → means.serves table seat
+        → means.service_view table seat ≡ world.service };
 
     // it has each writer and each chunk of the table
-    ghost told_writers: { (table : Self) (world : World) → told table ≡ Some world → length world.writers ≡ length (setup table).writers };
+    ghost told_writers: { (table : Self) (world : World) → means.told table ≡ Some world → length world.writers ≡ length (means.setup table).writers };
 
-    ghost told_chunks: { (table : Self) (world : World) → told table ≡ Some world → length world.chunks ≡ length (setup table).spots };
+    ghost told_chunks: { (table : Self) (world : World) → means.told table ≡ Some world → length world.chunks ≡ length (means.setup table).spots };
 
     // it is owned
-    ghost told_owned: { (table : Self) (world : World) → told table ≡ Some world → ∥ IsOwned world ∥₁ };
+    ghost told_owned: { (table : Self) (world : World) → means.told table ≡ Some world → ∥ IsOwned world ∥₁ };
 }

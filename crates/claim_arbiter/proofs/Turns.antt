@@ -1,5 +1,5 @@
 -- A writer's claims in turn: one more that is lost, and the one that wins.
-use Rattle.std.proofs.Common.{◌≡◌, ℕ, ◌+◌, ◌<◌, true, false, Option, Some, List, [], ◌∷◌, ◌++◌, length, get_or, set, subst, sym, refl, ap, ◌∙◌, arith, append-nil, append_assoc, length-append, below_more}
+use Rattle.std.proofs.Common.{◌≡◌, ℕ, ◌+◌, ◌<◌, true, false, Option, Some, None, List, [], ◌∷◌, ◌++◌, length, get_or, set, subst, sym, refl, ap, ◌∙◌, arith, append-nil, append_assoc, length-append, below_more}
 use Rattle.std.specs.Int.{bit_at}
 use Rattle.std.proofs.lemmas.List.{get_or_append_left, set-set, set-get_or}
 use Rattle.std.proofs.lemmas.Bool.Decides.{nat_tests}
@@ -7,11 +7,13 @@ use Rattle.std.proofs.Math.Seq.{get_or-append_seam}
 use native.Mathlib.Decide.{ℕ_discrete}
 use mathlib.Core.Logic.{dite}
 use Rattle.chunk_plain.specs.Setup.{Setup, spot}
-use Rattle.chunk_plain.specs.Views.{Ask, WriterView, newcomer}
+use Rattle.chunk_plain.specs.Payload.{sealed_to}
+use Rattle.chunk_plain.specs.Views.{Ask, Held, Draft, fresh, no_draft, WriterView, newcomer}
+use Rattle.chunk_plain.specs.Drafts.{draft_in, draft_at}
 use Rattle.chunk_plain.specs.World.{World, Unclaimed, Claimed, Writing, status, writer}
-use Rattle.chunk_plain.specs.Steps.{claims, stamps, begins, without, no_head, moved, noted}
+use Rattle.chunk_plain.specs.Steps.{claims, stamps, begins, without, moved, noted}
 use Rattle.chunk_plain.specs.Owned.{times}
-use Rattle.chunk_plain.specs.Words.{TriesClaim}
+use Rattle.chunk_plain.specs.Words.{TriesClaim, BeginsChunk}
 use Rattle.claim_arbiter.specs.Claiming.{lost_asks, AllClaimed, AsksInVain, ClaimsInTurn, NoneFree}
 
 lost_more : (calls first chunk found : ℕ) (words : List ℕ) → first + length words ≡ chunk
@@ -65,11 +67,14 @@ without_last x (y ∷ ys) none =
 
 -- the next claim wins, and the chunk is begun
 pub turn_won : (setup : Setup) (first count most chunk : ℕ) (old mid won new : WriterView) → first + count ≡ chunk → count < most
-    → AsksInVain setup first count old mid → TriesClaim setup chunk true mid won → new ≡ begins (stamps won chunk) chunk
+    → AsksInVain setup first count old mid → TriesClaim setup chunk true mid won → BeginsChunk setup chunk won new → old.stamped ≡ None
     → ClaimsInTurn setup first most chunk old new
-turn_won setup first count most chunk old mid won new is inside vain wins begun =
+turn_won setup first count most chunk old mid won new is inside vain wins begun rests =
     let at : first + length vain.words ≡ chunk = let many = vain.count_is in omega arith in
-    let view = begun ∙ ap (λ v. begins (stamps v chunk) chunk) (wins.view ∙ ap (λ v. claims v chunk wins.found true) vain.view) in
+    let asked = old.asked ++ lost_asks (length old.calls) first vain.words ++ record { chunk = chunk; found = wins.found; won = true; calls = length old.calls } ∷ [] in
+    let begun_list = old.begun ++ Held chunk (fresh begun.words) ∷ [] in
+    let view = begun.view ∙ ap (λ v. begins (stamps v chunk) chunk begun.words) (wins.view ∙ ap (λ v. claims v chunk wins.found true) vain.view) in
+    let none : times chunk old.claimed ≡ 0 = sym (ap (λ (v : WriterView). times chunk v.claimed) vain.view) ∙ wins.fresh refl in
     record {
       least = omega arith;
       below = omega arith;
@@ -78,8 +83,10 @@ turn_won setup first count most chunk old mid won new is inside vain wins begun 
       claimed = vain.claimed;
       found = wins.found;
       free = wins.bit;
-      view = view;
-      claimed_stays = λ none. ap (λ (v : WriterView). v.claimed) view ∙ without_last chunk old.claimed none;
+      payload = begun.words;
+      room = begun.room;
+      view = view ∙ (ap (λ l. record old { asked = asked; claimed = l; stamped = None; begun = begun_list }) (without_last chunk old.claimed none)
+          ∙ ap (λ x. record old { asked = asked; stamped = x; begun = begun_list }) (sym rests));
     }
 
 -- no claim changes what the writer began
@@ -93,17 +100,18 @@ pub noted_again : (world : World) (place other : ℕ) (u v : WriterView) → oth
 noted_again world place other u v is = ap (λ p. noted (noted world place u) p v) is ∙ ap (λ l. record world { writers = l }) (set-set world.writers place u v)
 
 -- the chunk was claimed and then begun, whatever the view was before
-pub told_begun : (told : Option World) (world : World) (place other last chunk c id : ℕ) (u v w : WriterView) → other ≡ place → last ≡ place → c ≡ chunk
-    → told ≡ Some (moved (moved (noted world place u) other v chunk (Claimed other)) last w c (Writing last id no_head))
-    → told ≡ Some (moved world place w chunk (Writing place id no_head))
-told_begun told world place other last chunk c id u v w other_is last_is chunk_is is =
-    let first = subst (λ p. told ≡ Some (moved (moved (noted world place u) p v chunk (Claimed p)) last w c (Writing last id no_head))) other_is is in
-    let second = subst (λ p. told ≡ Some (moved (moved (noted world place u) place v chunk (Claimed place)) p w c (Writing p id no_head))) last_is first in
-    let third = subst (λ d. told ≡ Some (moved (moved (noted world place u) place v chunk (Claimed place)) place w d (Writing place id no_head))) chunk_is second in
-    let chunks = set-set world.chunks chunk (Claimed place) (Writing place id no_head) in
+pub told_begun : (told : Option World) (world : World) (place other last chunk c id : ℕ) (u v w : WriterView) (draft : Draft) → other ≡ place → last ≡ place → c ≡ chunk
+    → told ≡ Some (moved (moved (noted world place u) other v chunk (Claimed other)) last w c (Writing last id draft))
+    → told ≡ Some (moved world place w chunk (Writing place id draft))
+told_begun told world place other last chunk c id u v w draft other_is last_is chunk_is is =
+    let to = Writing place id draft in
+    let first = subst (λ p. told ≡ Some (moved (moved (noted world place u) p v chunk (Claimed p)) last w c (Writing last id draft))) other_is is in
+    let second = subst (λ p. told ≡ Some (moved (moved (noted world place u) place v chunk (Claimed place)) p w c (Writing p id draft))) last_is first in
+    let third = subst (λ d. told ≡ Some (moved (moved (noted world place u) place v chunk (Claimed place)) place w d to)) chunk_is second in
+    let chunks = set-set world.chunks chunk (Claimed place) to in
     let writers = set-set (set world.writers place u) place v w ∙ set-set world.writers place u w in
     third ∙ (ap (λ l. Some (record world { chunks = l; writers = set (set (set world.writers place u) place v) place w })) chunks
-    ∙ ap (λ l. Some (record world { chunks = set world.chunks chunk (Writing place id no_head); writers = l })) writers)
+    ∙ ap (λ l. Some (record world { chunks = set world.chunks chunk to; writers = l })) writers)
 
 -- nothing was asked for yet, so the world is as it was
 pub noted_same : (world : World) (place : ℕ) (view : WriterView) → view ≡ writer world place → Some world ≡ Some (noted world place view)
@@ -115,3 +123,15 @@ none_free world first chunk before here = λ c least below free.
     dite (ℕ_discrete c chunk)
     (λ same. here (subst (λ i. status world i ≡ Unclaimed) same free))
     (λ differs. before c least (omega arith) free)
+
+-- what a claim leaves of the chunks that the writer holds
+pub held_same : (setup : Setup) (first count chunk : ℕ) (old mid won : WriterView) → AsksInVain setup first count old mid → TriesClaim setup chunk true mid won → won.begun ≡ old.begun
+held_same setup first count chunk old mid won vain wins = ap (λ (v : WriterView). v.begun) wins.view ∙ ap (λ (v : WriterView). v.begun) vain.view
+
+-- nothing is finished in a chunk that was just begun
+pub turn_sealed : (setup : Setup) (first most chunk : ℕ) (old new : WriterView) (id : ℕ) → ClaimsInTurn setup first most chunk old new → id ≡ length old.begun → sealed_to (draft_at new id).ends ≡ 0
+turn_sealed setup first most chunk old new id turn is =
+    let draft_is : draft_at new id ≡ fresh turn.payload = ap (λ v. draft_at v id) turn.view
+    ∙ (ap (λ i. draft_in (get_or (old.begun ++ Held chunk (fresh turn.payload) ∷ []) i (Held 0 no_draft))) is
+    ∙ ap draft_in (get_or-append_seam old.begun (Held chunk (fresh turn.payload)) [] (Held 0 no_draft))) in
+    ap (λ (d : Draft). sealed_to d.ends) draft_is

@@ -1,13 +1,11 @@
 -- What becomes of a view and a world where a writer asks for the chunks of a range, in rising order and once each, until a claim wins.
-use Rattle.std.specs.Prelude.{◌≡◌, ℕ, ◌+◌, ◌<◌, ◌≤◌, true, false, None, List, [], ◌∷◌, ◌++◌, length, slice_index}
+use Rattle.std.specs.Prelude.{◌≡◌, ℕ, ◌+◌, ◌*◌, ◌<◌, ◌≤◌, true, false, List, [], ◌∷◌, ◌++◌, length, slice_index}
 use Rattle.std.specs.Int.{bit_at}
 use Rattle.page_geometry.specs.declared.page_word.TheConstants.{CLAIM_BIT}
 use Rattle.chunk_plain.specs.declared.setup.ChunkRange.{ChunkRange}
 use Rattle.chunk_plain.specs.Setup.{Setup, spot}
-use Rattle.chunk_plain.specs.Views.{Ask, Held, WriterView}
+use Rattle.chunk_plain.specs.Views.{Ask, Held, fresh, WriterView}
 use Rattle.chunk_plain.specs.World.{World, Unclaimed, status}
-use Rattle.chunk_plain.specs.Steps.{no_head, without}
-use Rattle.chunk_plain.specs.Owned.{times}
 use Rattle.claim_arbiter.specs.declared.arbiter.Arbiter.{Arbiter}
 
 -- the chunks of an arbiter, as a set-up has those of a producer
@@ -41,15 +39,14 @@ pub record ClaimsInTurn (setup : Setup) (first count chunk : ℕ) (old new : Wri
   -- the page word that the won claim found
   pub found : ℕ
   pub free : bit_at found (CLAIM_BIT + (spot setup chunk).place) ≡ 0
-  pub view : new ≡ record {
+  -- the payload words that stand in it, which have room for its payload
+  pub payload : List ℕ
+  pub room : (spot setup chunk).payload_size ≤ 8 * length payload
+  -- what it has claimed without beginning it, and its header that waits, are as before
+  pub view : new ≡ record old {
     asked = old.asked ++ lost_asks (length old.calls) first words ++ record { chunk = chunk; found = found; won = true; calls = length old.calls } ∷ [];
-    claimed = without chunk (old.claimed ++ chunk ∷ []);
-    stamped = None;
-    begun = old.begun ++ Held chunk no_head ∷ [];
-    calls = old.calls;
+    begun = old.begun ++ Held chunk (fresh payload) ∷ [];
   }
-  -- a writer that hasn't claimed the chunk before has claimed what it had
-  pub claimed_stays : times chunk old.claimed ≡ 0 → new.claimed ≡ old.claimed
 
 -- no chunk from the first of these up to the last is unclaimed
 abbrev pub NoneFree : World → ℕ → ℕ → Type 0

@@ -1,9 +1,13 @@
 //! Claims in rising order.
-ghost use Rattle.std.specs.Prelude.{◌≡◌, ℕ, ◌+◌, ◌-◌, ◌^◌, ◌<◌, ◌≤◌, Some, None, length, IfSome, IfNone};
-ghost use Rattle.chunk_plain.specs.Setup.{range_of, producer_of};
+ghost use Rattle.std.specs.Prelude.{◌≡◌, ℕ, ◌+◌, ◌-◌, ◌<◌, ◌≤◌, Some, None, length, IfSome, IfNone};
+ghost use Rattle.chunk_plain.specs.declared.tokens.TheConstants.{MAX_HELD, ID_LIMIT};
+ghost use Rattle.chunk_plain.specs.Setup.{range_of, producer_of, id_at};
 ghost use Rattle.chunk_plain.specs.World.{World, Unclaimed, Writing, status};
-ghost use Rattle.chunk_plain.specs.Steps.{no_head, moved, noted};
-ghost use Rattle.chunk_plain.specs.Words.{IsWriterStep, IsHolding, IsBegun};
+ghost use Rattle.chunk_plain.specs.Steps.{moved, noted};
+ghost use Rattle.chunk_plain.specs.Owned.{held_count};
+ghost use Rattle.chunk_plain.specs.Drafts.{draft_at, IsHolding};
+ghost use Rattle.chunk_plain.specs.Meaning.{IsWriterStep};
+ghost use Rattle.chunk_plain.specs.Words.{IsBegun};
 ghost use Rattle.claim_arbiter.specs.Claiming.{range_in, AsksInVain, ClaimsInTurn, NoneFree};
 
 use chunk_plain::{Held, Words};
@@ -34,22 +38,28 @@ pub fn claim_over<W: Words, L: Ledger>(
     id: u32,
     steps: &mut Steps<L>,
 ) -> Option<Held>
-    requires seat { W.sits table.old seat.old }
-    requires range { range_of (W.setup table.old) (producer_of (W.setup table.old) (W.place seat.old)) ≡ range_in arbiter.now }
-    requires id { id ≡ length (W.view table.old seat.old).begun }
-    requires id_fits { id < 2 ^ 32 - 1 }
-    ensures lost { IfNone result (AsksInVain (W.setup table.old) arbiter.now.first arbiter.now.chunks (W.view table.old seat.old) (W.view table.new seat.new)) }
-    ensures won { IfSome result (λ held. ClaimsInTurn (W.setup table.old) arbiter.now.first arbiter.now.chunks held.chunk (W.view table.old seat.old) (W.view table.new seat.new)) }
-    ensures begun { IfSome result (λ held. IsBegun (W.setup table.old) held.chunk id held) }
-    ensures holding { IfSome result (λ held. IsHolding (W.view table.new seat.new) held.chunk id) }
-    ensures step { IsWriterStep W.setup W.sits W.place W.view W.serves W.service_view table.old seat.old table.new seat.new }
+    requires seat { W.means.sits table.old seat.old }
+    requires range { range_of (W.means.setup table.old) (producer_of (W.means.setup table.old) (W.means.place seat.old)) ≡ range_in arbiter.now }
+    requires few { held_count (W.means.view table.old seat.old).begun < MAX_HELD }
+    requires id { id ≡ id_at (W.means.setup table.old) (W.means.place seat.old) (length (W.means.view table.old seat.old).begun) }
+    requires id_fits { id < ID_LIMIT }
+    ensures lost { IfNone result (AsksInVain (W.means.setup table.old) arbiter.now.first arbiter.now.chunks
+        (W.means.view table.old seat.old) (W.means.view table.new seat.new)) }
+    ensures won { IfSome result (λ held. ClaimsInTurn (W.means.setup table.old) arbiter.now.first arbiter.now.chunks held.chunk
+        (W.means.view table.old seat.old) (W.means.view table.new seat.new)) }
+    ensures begun { IfSome result (λ held. IsBegun (W.means.setup table.old) held.chunk id held) }
+    ensures holding { IfSome result (λ held. IsHolding (W.means.view table.new seat.new) held.chunk id) }
+    ensures step { IsWriterStep W.means table.old seat.old table.new seat.new }
     ensures steps_lost { IfNone result (steps.new ≡ steps.old + arbiter.now.chunks) }
     ensures steps_won { IfSome result (λ held. steps.new ≡ steps.old + (held.chunk - arbiter.now.first) + 2) }
     ensures few_steps { steps.new ≤ steps.old + arbiter.now.chunks + 1 }
-    ensures told_lost { IfNone result ((world : World) → W.told table.old ≡ Some world → NoneFree world arbiter.now.first (arbiter.now.first + arbiter.now.chunks)
-        × (W.told table.new ≡ Some (noted world (W.place seat.old) (W.view table.new seat.new)))) }
-    ensures told_won { IfSome result (λ held. (world : World) → W.told table.old ≡ Some world → NoneFree world arbiter.now.first held.chunk × ∥ status world held.chunk ≡ Unclaimed ∥₁
-        × (W.told table.new ≡ Some (moved world (W.place seat.old) (W.view table.new seat.new) held.chunk (Writing (W.place seat.old) id no_head)))) }
+    ensures told_lost { IfNone result ((world : World) → W.means.told table.old ≡ Some world
+        → NoneFree world arbiter.now.first (arbiter.now.first + arbiter.now.chunks)
+        × (W.means.told table.new ≡ Some (noted world (W.means.place seat.old) (W.means.view table.new seat.new)))) }
+    ensures told_won { IfSome result (λ held. (world : World) → W.means.told table.old ≡ Some world
+        → NoneFree world arbiter.now.first held.chunk × ∥ status world held.chunk ≡ Unclaimed ∥₁
+        × (W.means.told table.new ≡ Some (moved world (W.means.place seat.old) (W.means.view table.new seat.new) held.chunk
+        (Writing (W.means.place seat.old) id (draft_at (W.means.view table.new seat.new) id))))) }
 {
     for chunk in arbiter.first..arbiter.first + arbiter.chunks {
         steps.tick();

@@ -1,7 +1,9 @@
 //! Five writers of one producer ask in turn for its four chunks, which lie in two pages.
-ghost use Rattle.std.specs.Prelude.{◌≡◌, ℕ, ◌+◌, ◌-◌, ◌^◌, ◌<◌, length};
-ghost use Rattle.chunk_plain.specs.Setup.{range_of, producer_of};
-ghost use Rattle.chunk_plain.specs.Words.{IsWriterStep};
+ghost use Rattle.std.specs.Prelude.{◌≡◌, ℕ, ◌+◌, ◌-◌, ◌<◌, length};
+ghost use Rattle.chunk_plain.specs.declared.tokens.TheConstants.{MAX_HELD, ID_LIMIT};
+ghost use Rattle.chunk_plain.specs.Setup.{range_of, producer_of, id_at};
+ghost use Rattle.chunk_plain.specs.Owned.{held_count};
+ghost use Rattle.chunk_plain.specs.Meaning.{IsWriterStep};
 ghost use Rattle.claim_arbiter.specs.Claiming.{range_in};
 
 use crate::{Arbiter, claim_over};
@@ -22,14 +24,17 @@ fn fill<W: Words, L: Ledger>(
     id: u32,
     steps: &mut Steps<L>,
 ) -> Option<u32>
-    requires seat { W.sits table.old seat.old }
-    requires range { range_of (W.setup table.old) (producer_of (W.setup table.old) (W.place seat.old)) ≡ range_in arbiter.now }
-    requires id { id ≡ length (W.view table.old seat.old).begun }
-    requires id_fits { id < 2 ^ 32 - 1 }
-    ensures step { IsWriterStep W.setup W.sits W.place W.view W.serves W.service_view table.old seat.old table.new seat.new }
+    requires seat { W.means.sits table.old seat.old }
+    requires range { range_of (W.means.setup table.old) (producer_of (W.means.setup table.old) (W.means.place seat.old)) ≡ range_in arbiter.now }
+    requires few { held_count (W.means.view table.old seat.old).begun < MAX_HELD }
+    requires id { id ≡ id_at (W.means.setup table.old) (W.means.place seat.old) (length (W.means.view table.old seat.old).begun) }
+    requires id_fits { id < ID_LIMIT }
+    ensures step { IsWriterStep W.means table.old seat.old table.new seat.new }
 {
-    let held = claim_over(arbiter, table, seat, id, steps)?;
+    let mut held = claim_over(arbiter, table, seat, id, steps)?;
     let chunk = held.chunk;
+    let size = held.body.payload.len() as u32;
+    table.publish(seat, &mut held, 0, size);
     table.complete(seat, held);
     Some(chunk)
 }

@@ -1,7 +1,9 @@
-use Rattle.std.proofs.Common.{◌≡◌, ◌+◌, ◌-◌, ◌∙◌, true, false, Some, subst, sym, refl, ap, arith}
+use Rattle.std.proofs.Common.{◌≡◌, ◌+◌, ◌-◌, ◌<◌, ◌∙◌, true, false, Some, subst, sym, refl, ap, arith}
 use Rattle.chunk_plain.specs.World.{Unclaimed, Claimed, Writing, status}
-use Rattle.chunk_plain.specs.Steps.{begins, stamps, no_head, moved, noted}
-use Rattle.chunk_plain.specs.Words.{HasClaimed, TriesClaim}
+use Rattle.chunk_plain.specs.Steps.{moved, noted}
+use Rattle.chunk_plain.specs.Owned.{held_count}
+use Rattle.chunk_plain.specs.Drafts.{draft_at}
+use Rattle.chunk_plain.specs.Words.{HasClaimed, TriesClaim, BeginsChunk}
 use Rattle.chunk_plain.proofs.Holding.{claims_has, begins_holds}
 use Rattle.chunk_plain.proofs.SeatSteps.{stays, steps_follow}
 use Rattle.claim_arbiter.specs.Claiming.{AsksInVain, ClaimsInTurn, NoneFree}
@@ -11,77 +13,86 @@ use Rattle.claim_arbiter.proofs.arbiter.claim_over.Goals as goal
 pub loop-chunk-init : goal.loop-chunk-init
 loop-chunk-init g c =
     let table = c.args.table.now in let seat = c.args.seat.now in let first = c.args.arbiter.now.first in
-    let setup = g.W.Words.setup table in let view = g.W.Words.view table seat in
+    let setup = g.W.Words.means.setup table in let view = g.W.Words.means.view table seat in
     let zero_is : 0 ≡ first - first = omega arith in
     record {
-      step = stays g.W.Words.setup g.W.Words.sits g.W.Words.place g.W.Words.view g.W.Words.serves g.W.Words.service_view table seat c.requires.seat;
+      step = stays g.W.Words.means table seat c.requires.seat;
       vain = subst (λ n. AsksInVain setup first n view view) zero_is (turns.vain_none setup first view);
       counted = refl {a = c.args.steps.now + first};
       told = λ world told. (
         (λ chunk least below free. absurd (omega arith)),
-        told ∙ turns.noted_same world (g.W.Words.place seat) view (g.met.W.Words.told_view table seat world told c.requires.seat),
+        told ∙ turns.noted_same world (g.W.Words.means.place seat) view (g.met.W.Words.told_view table seat world told c.requires.seat),
       );
     }
 
 pub begin-requires-clause-claimed : goal.begin-requires-clause-claimed
 begin-requires-clause-claimed g c =
     let won = c.in-Some.ensures.won in
-    subst (λ d. HasClaimed (g.W.Words.view c.claim_try.new.self c.claim_try.new.seat) d) (sym c.in-Some.ensures.chunk)
-    (claims_has (g.W.Words.view c.loop-chunk.table c.loop-chunk.seat) (g.W.Words.view c.claim_try.new.self c.claim_try.new.seat) c.loop-chunk.chunk won.found won.view)
+    subst (λ d. HasClaimed (g.W.Words.means.view c.claim_try.new.self c.claim_try.new.seat) d) (sym c.in-Some.ensures.chunk)
+    (claims_has (g.W.Words.means.view c.loop-chunk.table c.loop-chunk.seat) (g.W.Words.means.view c.claim_try.new.self c.claim_try.new.seat) c.loop-chunk.chunk won.found won.view)
+
+pub begin-requires-clause-few : goal.begin-requires-clause-few
+begin-requires-clause-few g c =
+    let i = c.loop-chunk.invariant in let mid = g.W.Words.means.view c.loop-chunk.table c.loop-chunk.seat in
+    let won = g.W.Words.means.view c.claim_try.new.self c.claim_try.new.seat in
+    let wins = subst (λ s. TriesClaim s c.loop-chunk.chunk true mid won) i.step.setup_stays c.in-Some.ensures.won in
+    let same = turns.held_same (g.W.Words.means.setup c.args.table.now) c.args.arbiter.now.first (c.loop-chunk.chunk - c.args.arbiter.now.first) c.loop-chunk.chunk (g.W.Words.means.view c.args.table.now c.args.seat.now) mid won i.vain wins in
+    subst (λ l. held_count l < 2) (sym same) c.requires.few
 
 pub returns-in-Some-clause-won : goal.returns-in-Some-clause-won
 returns-in-Some-clause-won g c =
     let i = c.loop-chunk.invariant in let chunk = c.loop-chunk.chunk in let first = c.args.arbiter.now.first in let chunks = c.args.arbiter.now.chunks in
-    let setup = g.W.Words.setup c.args.table.now in let old = g.W.Words.view c.args.table.now c.args.seat.now in
-    let mid = g.W.Words.view c.loop-chunk.table c.loop-chunk.seat in let won = g.W.Words.view c.claim_try.new.self c.claim_try.new.seat in
-    let new = g.W.Words.view c.begin.new.self c.begin.new.seat in
+    let setup = g.W.Words.means.setup c.args.table.now in let old = g.W.Words.means.view c.args.table.now c.args.seat.now in
+    let mid = g.W.Words.means.view c.loop-chunk.table c.loop-chunk.seat in let won = g.W.Words.means.view c.claim_try.new.self c.claim_try.new.seat in
+    let new = g.W.Words.means.view c.begin.new.self c.begin.new.seat in
     let wins = subst (λ s. TriesClaim s chunk true mid won) i.step.setup_stays c.in-Some.ensures.won in
-    let begun = subst (λ d. new ≡ begins (stamps won d) d) c.in-Some.ensures.chunk c.begin.ensures.view in
+    let setup_is = c.in-Some.ensures.step.setup_stays ∙ i.step.setup_stays in
+    let begun = subst (λ s. BeginsChunk s chunk won new) setup_is (subst (λ d. BeginsChunk (g.W.Words.means.setup c.claim_try.new.self) d won new) c.in-Some.ensures.chunk c.begin.ensures.view) in
+    let rests = (g.met.W.Words.rests c.args.table.now c.args.seat.now c.requires.seat).stamped in
     subst (λ d. ClaimsInTurn setup first chunks d old new) (sym (c.begin.ensures.held.chunk_is ∙ c.in-Some.ensures.chunk))
-    (turns.turn_won setup first (chunk - first) chunks chunk old mid won new (omega arith) (omega arith) i.vain wins begun)
+    (turns.turn_won setup first (chunk - first) chunks chunk old mid won new (omega arith) (omega arith) i.vain wins begun rests)
 
 pub returns-in-Some-clause-holding : goal.returns-in-Some-clause-holding
 returns-in-Some-clause-holding g c =
-    let i = c.loop-chunk.invariant in let mid = g.W.Words.view c.loop-chunk.table c.loop-chunk.seat in
-    let won = g.W.Words.view c.claim_try.new.self c.claim_try.new.seat in
+    let i = c.loop-chunk.invariant in let mid = g.W.Words.means.view c.loop-chunk.table c.loop-chunk.seat in
+    let won = g.W.Words.means.view c.claim_try.new.self c.claim_try.new.seat in
     let wins = subst (λ s. TriesClaim s c.loop-chunk.chunk true mid won) i.step.setup_stays c.in-Some.ensures.won in
-    let same = turns.begun_same (g.W.Words.setup c.args.table.now) c.args.arbiter.now.first (c.loop-chunk.chunk - c.args.arbiter.now.first) c.loop-chunk.chunk (g.W.Words.view c.args.table.now c.args.seat.now) mid won i.vain wins in
-    begins_holds won (g.W.Words.view c.begin.new.self c.begin.new.seat) c.in-Some.claimed.chunk c.args.id c.begin.result.chunk c.args.id
+    let same = turns.begun_same (g.W.Words.means.setup c.args.table.now) c.args.arbiter.now.first (c.loop-chunk.chunk - c.args.arbiter.now.first) c.loop-chunk.chunk (g.W.Words.means.view c.args.table.now c.args.seat.now) mid won i.vain wins in
+    begins_holds (g.W.Words.means.setup c.claim_try.new.self) won (g.W.Words.means.view c.begin.new.self c.begin.new.seat) c.in-Some.claimed.chunk c.args.id c.begin.result.chunk c.args.id
     c.begin.ensures.view (c.requires.id ∙ sym same) c.begin.ensures.held.chunk_is (refl {a = c.args.id})
 
 pub returns-in-Some-clause-told_won : goal.returns-in-Some-clause-told_won
 returns-in-Some-clause-told_won g c = λ world told.
     let i = c.loop-chunk.invariant in let chunk = c.loop-chunk.chunk in let first = c.args.arbiter.now.first in
-    let place = g.W.Words.place c.args.seat.now in let other = g.W.Words.place c.loop-chunk.seat in let last = g.W.Words.place c.claim_try.new.seat in
-    let mid = g.W.Words.view c.loop-chunk.table c.loop-chunk.seat in let won = g.W.Words.view c.claim_try.new.self c.claim_try.new.seat in
-    let new = g.W.Words.view c.begin.new.self c.begin.new.seat in
+    let place = g.W.Words.means.place c.args.seat.now in let other = g.W.Words.means.place c.loop-chunk.seat in let last = g.W.Words.means.place c.claim_try.new.seat in
+    let mid = g.W.Words.means.view c.loop-chunk.table c.loop-chunk.seat in let won = g.W.Words.means.view c.claim_try.new.self c.claim_try.new.seat in
+    let new = g.W.Words.means.view c.begin.new.self c.begin.new.seat in
     let before = i.told world told in
     let claimed = c.in-Some.ensures.told_won (noted world place mid) before.1 in
     let begun = c.begin.ensures.told (moved (noted world place mid) other won chunk (Claimed other)) claimed.1 in
     let chunk_is = c.begin.ensures.held.chunk_is ∙ c.in-Some.ensures.chunk in
     let last_is = c.in-Some.ensures.step.place_stays ∙ i.step.place_stays in
-    let at = turns.told_begun (g.W.Words.told c.begin.new.self) world place other last chunk c.in-Some.claimed.chunk c.args.id mid won new i.step.place_stays last_is c.in-Some.ensures.chunk begun in
-    subst (λ d. NoneFree world first d × ∥ status world d ≡ Unclaimed ∥₁ × (g.W.Words.told c.begin.new.self ≡ Some (moved world place new d (Writing place c.args.id no_head)))) (sym chunk_is)
+    let at = turns.told_begun (g.W.Words.means.told c.begin.new.self) world place other last chunk c.in-Some.claimed.chunk c.args.id mid won new (draft_at new c.args.id) i.step.place_stays last_is c.in-Some.ensures.chunk begun in
+    subst (λ d. NoneFree world first d × ∥ status world d ≡ Unclaimed ∥₁ × (g.W.Words.means.told c.begin.new.self ≡ Some (moved world place new d (Writing place c.args.id (draft_at new c.args.id))))) (sym chunk_is)
     (before.0, claimed.0, at)
 
 pub loop-chunk-preserved : goal.loop-chunk-preserved
 loop-chunk-preserved g c =
     let i = c.loop-chunk.invariant in let chunk = c.loop-chunk.chunk in let first = c.args.arbiter.now.first in
-    let place = g.W.Words.place c.args.seat.now in
-    let setup = g.W.Words.setup c.args.table.now in let old = g.W.Words.view c.args.table.now c.args.seat.now in
-    let mid = g.W.Words.view c.loop-chunk.table c.loop-chunk.seat in let new = g.W.Words.view c.claim_try.new.self c.claim_try.new.seat in
+    let place = g.W.Words.means.place c.args.seat.now in
+    let setup = g.W.Words.means.setup c.args.table.now in let old = g.W.Words.means.view c.args.table.now c.args.seat.now in
+    let mid = g.W.Words.means.view c.loop-chunk.table c.loop-chunk.seat in let new = g.W.Words.means.view c.claim_try.new.self c.claim_try.new.seat in
     let lost = subst (λ s. TriesClaim s chunk false mid new) i.step.setup_stays c.in_default.ensures.lost in
     let count_is : chunk - first + 1 ≡ chunk + 1 - first = omega arith in
     record {
-      step = steps_follow g.W.Words.setup g.W.Words.sits g.W.Words.place g.W.Words.view g.W.Words.serves g.W.Words.service_view
-          c.args.table.now c.args.seat.now c.loop-chunk.table c.loop-chunk.seat c.claim_try.new.self c.claim_try.new.seat i.step c.in_default.ensures.step;
+      step = steps_follow g.W.Words.means c.args.table.now c.args.seat.now c.loop-chunk.table c.loop-chunk.seat c.claim_try.new.self c.claim_try.new.seat i.step c.in_default.ensures.step;
       vain = subst (λ n. AsksInVain setup first n old new) count_is (turns.vain_more setup first (chunk - first) chunk old mid new (omega arith) i.vain lost);
       counted = omega arith;
       told = λ world told.
           let before = i.told world told in
           let after = c.in_default.ensures.told_lost (noted world place mid) before.1 in (
             turns.none_free world first chunk before.0 after.0,
-            after.1 ∙ ap (λ w. Some w) (turns.noted_again world place (g.W.Words.place c.loop-chunk.seat) mid new i.step.place_stays),
+            after.1 ∙ ap (λ w. Some w) (turns.noted_again world place (g.W.Words.means.place c.loop-chunk.seat) mid new i.step.place_stays),
           );
     }
 

@@ -1,10 +1,11 @@
-use Rattle.std.proofs.Common.{◌≡◌, ℕ, ◌<◌, ◌≤◌, length}
+use Rattle.std.proofs.Common.{◌≡◌, ℕ, ◌<◌, ◌≤◌, []}
 use Rattle.chunk_plain.specs.World.{writer}
+use Rattle.chunk_plain.specs.Words.{IsAtRest}
 use Rattle.claim_arbiter.proofs.tests.filled_by_five.Given as goal
 
 -- the set-up stays, and the writers that haven't asked yet have begun nothing
 abbrev pub invariant-loop-place : goal.invariant-loop-place
 invariant-loop-place g l = record {
   setup : l.table.layout ≡ l.initial.table.layout;
-  waits : (place : ℕ) → l.place ≤ place → place < 5 → length (writer l.table.seat.me.0 place).begun ≡ 0;
+  waits : (place : ℕ) → l.place ≤ place → place < 5 → IsAtRest l.table.layout place (writer l.table.seat.me.0 place) × ((writer l.table.seat.me.0 place).begun ≡ []);
 }

@@ -1,9 +1,0 @@
-use Rattle.std.proofs.Common.{refl}
-use Rattle.chunk_plain.proofs.Known as known
-use Rattle.chunk_plain.proofs.plain.PlainTableWords.note.Goals as goal
-use Rattle.chunk_plain.specs.Steps.{notes}
-use Rattle.chunk_plain.specs.Words.{event_of}
-
-pub invariant_of-self-clause-kept : goal.invariant_of-self-clause-kept
-invariant_of-self-clause-kept c = let self = c.args.self.now in
-    known.service_step self.layout self.words.items self.bodies.items self.seat.me.0 self.kept c.make_step.new.seat.me.0 (notes self.seat.me.0.service (event_of c.args.event)) refl refl c.make_step.ensures.world

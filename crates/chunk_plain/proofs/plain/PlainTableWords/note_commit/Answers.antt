@@ -1,9 +1,0 @@
-use Rattle.std.proofs.Common.{refl}
-use Rattle.chunk_plain.proofs.Known as known
-use Rattle.chunk_plain.proofs.plain.PlainTableWords.note_commit.Goals as goal
-use Rattle.chunk_plain.specs.Steps.{notes_commit}
-use Rattle.chunk_plain.specs.Words.{committed_of}
-
-pub invariant_of-self-clause-kept : goal.invariant_of-self-clause-kept
-invariant_of-self-clause-kept c = let self = c.args.self.now in
-    known.service_step self.layout self.words.items self.bodies.items self.seat.me.0 self.kept c.make_step.new.seat.me.0 (notes_commit self.seat.me.0.service (committed_of c.args.header c.args.payload.now c.args.patches.now)) refl refl c.make_step.ensures.world

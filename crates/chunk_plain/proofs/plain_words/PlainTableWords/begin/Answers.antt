@@ -1,0 +1,101 @@
+use Rattle.std.proofs.lemmas.List.{get_or-set_same}
+use Rattle.std.proofs.Common.{◌≡◌, ◌*◌, ◌≤◌, ◌∙◌, arith, ap, sym, subst, refl, length, List, Some, IsSome}
+use Rattle.chunk_plain.specs.Setup.{spot}
+use Rattle.chunk_plain.specs.Views.{fresh}
+use Rattle.chunk_plain.specs.World.{World, Unclaimed, Writing, status, writer}
+use Rattle.chunk_plain.specs.Steps.{stamps, begins, moved}
+use Rattle.chunk_plain.specs.Drafts.{draft_at}
+use Rattle.chunk_plain.specs.Stored.{Stored, stored_at}
+use Rattle.chunk_plain.specs.Plain.{IsLent}
+use Rattle.chunk_plain.proofs.Holding.{begins_draft}
+use Rattle.chunk_plain.proofs.Known as known
+use Rattle.chunk_plain.proofs.Resting as resting
+use Rattle.chunk_plain.proofs.plain_words.PlainTableWords.begin.Goals as goal
+
+pub take_body-body-requires-clause-lent : goal.take_body-body-requires-clause-lent
+take_body-body-requires-clause-lent c =
+    let self = c.args.self.now in let place = c.args.seat.now.place in let chunk = c.args.claimed.chunk in
+    let one = c.store_first_header.new.self in let two = c.set_written.new.self in
+    let words = (stored_at one.slots.items chunk).words in
+    let inside_w = known.seat_inside self.layout self.words.items self.slots.items self.seat.me.0 self.kept place c.requires.seat.inside in
+    let world_is = resting.begun_world self.seat.me.0 one.seat.me.0 two.seat.me.0 place chunk words inside_w c.store_first_header.ensures.world c.set_written.ensures.world in
+    let many = known.chunks_inside self.layout self.words.items self.slots.items self.seat.me.0 self.kept in
+    let inside_c = known.claimed_inside self.layout self.words.items self.slots.items self.seat.me.0 self.kept place chunk c.requires.claimed in
+    let to = Writing place (length (writer self.seat.me.0 place).begun) (fresh words) in
+    let is : status two.seat.me.0 chunk ≡ to = ap (λ (w : World). status w chunk) world_is ∙ get_or-set_same self.seat.me.0.chunks chunk to Unclaimed (omega (arith, many)) in
+    ∣ subst IsLent (sym is) tt ∣₁
+
+pub take_body-body-requires-clause-there : goal.take_body-body-requires-clause-there
+take_body-body-requires-clause-there c = let self = c.args.self.now in
+    let same = c.set_written.ensures.slots ∙ c.store_first_header.ensures.slots in
+    subst (λ (l : List Stored). IsSome (stored_at l c.args.claimed.chunk).body) (sym same) (known.claimed_body self.layout self.words.items self.slots.items self.seat.me.0 self.kept c.args.seat.now.place c.args.claimed.chunk c.requires.claimed)
+
+pub returns-clause-held : goal.returns-clause-held
+returns-clause-held c = let self = c.args.self.now in
+    let same = c.set_written.ensures.slots ∙ c.store_first_header.ensures.slots in
+    record {
+      chunk_is = refl;
+      id_is = refl;
+      whole = known.claimed_size self.layout self.words.items self.slots.items self.seat.me.0 self.kept c.args.seat.now.place c.args.claimed.chunk c.take_body-body.result c.requires.claimed
+          (sym (ap (λ (l : List Stored). (stored_at l c.args.claimed.chunk).body) same) ∙ c.take_body-body.ensures.body);
+      empty = c.clear.ensures;
+    }
+
+pub returns-clause-view : goal.returns-clause-view
+returns-clause-view c =
+    let self = c.args.self.now in let place = c.args.seat.now.place in let chunk = c.args.claimed.chunk in
+    let one = c.store_first_header.new.self in let two = c.set_written.new.self in
+    let words = (stored_at one.slots.items chunk).words in
+    let inside_w = known.seat_inside self.layout self.words.items self.slots.items self.seat.me.0 self.kept place c.requires.seat.inside in
+    let world_is = resting.begun_world self.seat.me.0 one.seat.me.0 two.seat.me.0 place chunk words inside_w c.store_first_header.ensures.world c.set_written.ensures.world in
+    let three = c.take_body-body.new.self in
+    let last_is = c.take_body-body.ensures.world ∙ world_is in
+    let view = begins (stamps (writer self.seat.me.0 place) chunk) chunk words in
+    record {
+      words = words;
+      room = subst (λ (l : List Stored). (spot self.layout chunk).payload_size ≤ 8 * length (stored_at l chunk).words) (sym c.store_first_header.ensures.slots)
+          (known.room self.layout self.words.items self.slots.items self.seat.me.0 self.kept chunk (known.claimed_inside self.layout self.words.items self.slots.items self.seat.me.0 self.kept place chunk c.requires.claimed));
+      view = known.view_now self.layout self.words.items self.slots.items self.seat.me.0 self.kept three.seat.me.0 place view c.requires.seat.inside (ap (λ (w : World). w.writers) last_is);
+    }
+
+pub returns-clause-step : goal.returns-clause-step
+returns-clause-step c =
+    let self = c.args.self.now in let place = c.args.seat.now.place in let chunk = c.args.claimed.chunk in
+    let one = c.store_first_header.new.self in let two = c.set_written.new.self in
+    let words = (stored_at one.slots.items chunk).words in
+    let inside_w = known.seat_inside self.layout self.words.items self.slots.items self.seat.me.0 self.kept place c.requires.seat.inside in
+    let world_is = resting.begun_world self.seat.me.0 one.seat.me.0 two.seat.me.0 place chunk words inside_w c.store_first_header.ensures.world c.set_written.ensures.world in
+    let next = c.take_body-body.new.self.seat.me.0 in
+    let last_is = c.take_body-body.ensures.world ∙ world_is in
+    let view = begins (stamps (writer self.seat.me.0 place) chunk) chunk words in
+    let layout_is = c.take_body-body.ensures.layout ∙ (c.set_written.ensures.layout ∙ c.store_first_header.ensures.layout) in
+    let writers_are = ap (λ (w : World). w.writers) last_is in
+    record {
+      setup_stays = layout_is;
+      seat_stays = resting.seat_stays self.layout _ place view (writer next place) layout_is
+          (known.view_now self.layout self.words.items self.slots.items self.seat.me.0 self.kept next place view c.requires.seat.inside writers_are)
+          (resting.begins_rest self.layout place (writer self.seat.me.0 place) c.requires.seat chunk words c.requires.claimed);
+      place_stays = refl;
+      writers_stay = λ other there differs. resting.others_stay self.layout _ self.seat.me.0 next place view other.place layout_is writers_are there differs;
+      service_stays = λ other serves. resting.serving_stays self.layout _ self.seat.me.0.service next.service layout_is (ap (λ (w : World). w.service) last_is) serves;
+      reads_stay = λ other takes. takes;
+    }
+
+pub returns-clause-told : goal.returns-clause-told
+returns-clause-told c = λ world e.
+    let self = c.args.self.now in let place = c.args.seat.now.place in let chunk = c.args.claimed.chunk in
+    let one = c.store_first_header.new.self in let two = c.set_written.new.self in
+    let words = (stored_at one.slots.items chunk).words in
+    let inside_w = known.seat_inside self.layout self.words.items self.slots.items self.seat.me.0 self.kept place c.requires.seat.inside in
+    let world_is = resting.begun_world self.seat.me.0 one.seat.me.0 two.seat.me.0 place chunk words inside_w c.store_first_header.ensures.world c.set_written.ensures.world in
+    let next = c.take_body-body.new.self.seat.me.0 in
+    let last_is = c.take_body-body.ensures.world ∙ world_is in
+    let view = begins (stamps (writer self.seat.me.0 place) chunk) chunk words in
+    let same : self.seat.me.0 ≡ world = cc in
+    let view_is = known.view_now self.layout self.words.items self.slots.items self.seat.me.0 self.kept next place view c.requires.seat.inside (ap (λ (w : World). w.writers) last_is) in
+    let draft_is : draft_at (writer next place) c.args.id ≡ fresh words = ap (λ v. draft_at v c.args.id) view_is ∙ (ap (λ i. draft_at view i) c.requires.id ∙ begins_draft (writer self.seat.me.0 place) chunk words) in
+    subst (λ (w : World). Some next ≡ Some (moved w place (writer next place) chunk (Writing place c.args.id (draft_at (writer next place) c.args.id)))) same
+    (ap (λ (w : World). Some w) (last_is
+    ∙ (ap (λ i. moved self.seat.me.0 place view chunk (Writing place i (fresh words))) (sym c.requires.id)
+    ∙ (ap (λ d. moved self.seat.me.0 place view chunk (Writing place c.args.id d)) (sym draft_is)
+    ∙ ap (λ v. moved self.seat.me.0 place v chunk (Writing place c.args.id (draft_at (writer next place) c.args.id))) (sym view_is)))))

@@ -1,0 +1,47 @@
+use Rattle.std.proofs.Common.{◌≡◌, ℕ, ◌+◌, ◌-◌, ◌<◌, ◌≤◌, ◌∙◌, length, subst, sym, ap, refl, arith, None}
+use Rattle.page_geometry.specs.Header.{packed}
+use Rattle.chunk_plain.specs.Setup.{Setup, spot}
+use Rattle.chunk_plain.specs.Words.{KeepsSealed, taken_content}
+use Rattle.chunk_plain.proofs.Holding.{takes_reads}
+use Rattle.chunk_plain.proofs.TestFragments.{chunk_inside}
+use Rattle.chunk_plain.proofs.tests.scrape_and_take.Goals as goal
+
+pub finish-requires-clause-sealed : goal.finish-requires-clause-sealed
+finish-requires-clause-sealed g c =
+    let seat = c.write.new.seat in
+    let sits = c.in_ok-held.ensures.step.seat_stays in
+    let looked = c.look-seen.ensures.step.writers_stay seat sits in
+    let loaded = c.load.ensures.step.writers_stay seat looked.0 in
+    let same = loaded.1 ∙ looked.1 in
+    subst (λ v. KeepsSealed v c.in_ok-held.held.id c.in_ok-held.held.body.payload.items) (sym same) c.in_ok-held.ensures.sealed
+
+pub take-requires-clause-chunk : goal.take-requires-clause-chunk
+take-requires-clause-chunk g c =
+    let setup_is = c.finish.ensures.step.setup_stays ∙ (c.load.ensures.step.setup_stays ∙ (c.look-seen.ensures.step.setup_stays ∙ c.in_ok-held.ensures.step.setup_stays)) in
+    let laid = g.met.W.Words.laid c.args.table.now in
+    let inside = chunk_inside (g.W.Words.means.setup c.args.table.now) _ c.args.chunk laid c.requires.chunk in
+    subst (λ (s : Setup). c.args.chunk < length s.spots) (sym setup_is) inside
+
+pub first_five-requires : goal.first_five-requires
+first_five-requires g c =
+    let setup_is = c.finish.ensures.step.setup_stays ∙ (c.load.ensures.step.setup_stays ∙ (c.look-seen.ensures.step.setup_stays ∙ c.in_ok-held.ensures.step.setup_stays)) in
+    let laid = g.met.W.Words.laid c.args.table.now in
+    let inside = chunk_inside (g.W.Words.means.setup c.args.table.now) _ c.args.chunk laid c.requires.chunk in
+    let least = laid.least c.args.chunk inside in
+    let size = c.load.ensures.size ∙ c.requires.size in
+    omega (arith, size, least)
+
+pub first_five-requires-2 : goal.first_five-requires-2
+first_five-requires-2 g c =
+    let setup_is = c.finish.ensures.step.setup_stays ∙ (c.load.ensures.step.setup_stays ∙ (c.look-seen.ensures.step.setup_stays ∙ c.in_ok-held.ensures.step.setup_stays)) in
+    let laid = g.met.W.Words.laid c.args.table.now in
+    let inside = chunk_inside (g.W.Words.means.setup c.args.table.now) _ c.args.chunk laid c.requires.chunk in
+    let least = laid.least c.args.chunk inside in
+    let size = c.in-Ok.ensures.taken.whole ∙ ap (λ (s : Setup). (spot s c.args.chunk).payload_size) setup_is in
+    omega (arith, size, least, c.deref.ensures.len)
+
+pub release-requires-clause-reading : goal.release-requires-clause-reading
+release-requires-clause-reading g c =
+    let taken = c.in-Ok.ensures.taken in
+    takes_reads (g.W.Words.means.service_view c.finish.new.table c.load.new.seat) (g.W.Words.means.service_view c.take.new.self c.take.new.seat) c.args.chunk c.in-Ok.taken.chunk
+    taken.word (packed c.in-Ok.taken.header) 0 None (taken_content 0 c.in-Ok.taken) taken.view taken.chunk_is

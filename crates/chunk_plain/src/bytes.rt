@@ -1,0 +1,43 @@
+//! Payload bytes in words, eight a word, the lowest first.
+ghost use Rattle.std.specs.Prelude.{◌≡◌, ℕ, ◌+◌, ◌*◌, ◌/◌, ◌<◌, ◌≤◌, length};
+ghost use Rattle.chunk_plain.specs.Payload.{byte_of, byte_at, byte_in};
+
+/// The word with the bytes from a place on, and zeros behind the last of them.
+pub fn pack(from: &[u8], at: usize) -> u64
+    requires { at ≤ length from.now }
+    ensures { (m : ℕ) → m < 8 → at + m < length from.now → byte_of result m ≡ byte_in from.now (at + m) }
+{
+    let rest = &from[at..];
+    if let Some(eight) = rest.first_chunk::<8>() {
+        return u64::from_le_bytes(*eight);
+    }
+    let mut eight = [0; 8];
+    for m in 0..rest.len() {
+        eight[m] = rest[m];
+    }
+    u64::from_le_bytes(eight)
+}
+
+/// The place behind the last word that has a byte of this range; where it has none, its first word's.
+pub fn word_end(from: u32, to: u32) -> usize
+    ensures least { from / 8 ≤ result }
+    ensures some { from < to → (to ≤ 8 * result) × (8 * result < to + 8) }
+    ensures none { to ≤ from → result ≡ from / 8 }
+{
+    if from < to {
+        (to as usize - 1) / 8 + 1
+    } else {
+        from as usize / 8
+    }
+}
+
+/// Fills the bytes from the words.
+pub fn unpack(words: &[u64], into: &mut [u8])
+    requires { length into.old ≤ 8 * length words.now }
+    ensures size { length into.new ≡ length into.old }
+    ensures bytes { (j : ℕ) → j < length into.new → byte_in into.new j ≡ byte_at words.now j }
+{
+    for j in 0..into.len() {
+        into[j] = words[j / 8].to_le_bytes()[j % 8];
+    }
+}

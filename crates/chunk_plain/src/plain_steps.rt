@@ -1,0 +1,251 @@
+//! The steps of the table of one thread that a call makes one behind another. Each is a method whose
+//! condition is what the step before it leaves, and behind each the table keeps what it keeps
+//! between two calls: so the order of the steps is the one in which threads will see them.
+ghost use Rattle.std.specs.Prelude.{◌≡◌, ℕ, ◌+◌, ◌*◌, ◌^◌, ◌<◌, ◌≤◌, Option, Some, None, length, vec_len, slice_set, slice_index_or, IsSome, IfSome};
+ghost use Rattle.page_geometry.specs.Header.{packed, unpacked};
+ghost use Rattle.page_geometry.specs.declared.chunk_header.TheConstants.{MAX_FLAGS};
+ghost use Rattle.trace_base.specs.declared.limits.TheConstants.{MAX_FRAGMENTS};
+ghost use Rattle.page_geometry.specs.declared.chunk_state.ChunkState.TheVariants.{Complete as CompleteState};
+ghost use Rattle.page_geometry.specs.PageBits.{HasState};
+ghost use Rattle.chunk_plain.specs.declared.tokens.TheConstants.{ID_LIMIT};
+ghost use Rattle.chunk_plain.specs.declared.step.Step.TheVariants.{Stamp, Publish, Look, Take, Learn};
+ghost use Rattle.chunk_plain.specs.Setup.{Setup, spot};
+ghost use Rattle.chunk_plain.specs.Payload.{byte_of, byte_at, byte_in, sealed_to};
+ghost use Rattle.chunk_plain.specs.Views.{Content, fresh, taken_of};
+ghost use Rattle.chunk_plain.specs.World.{World, Unclaimed, Writing, Ready, Reading, status, writer};
+ghost use Rattle.chunk_plain.specs.Steps.{begins, completes, moved, served, lets_go};
+ghost use Rattle.chunk_plain.specs.Owned.{times};
+ghost use Rattle.chunk_plain.specs.Drafts.{IsHolding, draft_at, head_at};
+ghost use Rattle.chunk_plain.specs.Stored.{stored_at};
+ghost use Rattle.chunk_plain.specs.Shows.{content_of, page_word, header_word};
+ghost use Rattle.chunk_plain.specs.Words.{HasClaimed, LooksAt};
+ghost use Rattle.chunk_plain.specs.Plain.{IsLent, StandsWhole, world_after};
+
+use crate::bytes::unpack;
+use crate::plain::PlainTable;
+use crate::slots::{body_of, put_body, put_word, take_body, words_of};
+use crate::step::Step;
+use crate::tokens::Seen;
+use crate::worlds::make_step;
+use commit_body::CommitBody;
+use page_geometry::masks::{begin_mask, complete_mask, release_mask, take_mask};
+use page_geometry::{ChunkHeader, PageWord};
+
+impl PlainTable {
+    /// Stores the header of a claimed chunk, with count 0.
+    pub(crate) fn store_first_header(&mut self, place: u16, chunk: u32, id: u32)
+        requires place { place < length self.old.layout.writers }
+        requires claimed { HasClaimed (writer self.old.seat.me.0 place) chunk }
+        requires unstamped { (writer self.old.seat.me.0 place).stamped ≡ None }
+        requires id { id ≡ length (writer self.old.seat.me.0 place).begun }
+        requires id_fits { id < ID_LIMIT }
+        ensures layout { self.new.layout ≡ self.old.layout }
+        ensures slots { self.new.slots.items ≡ self.old.slots.items }
+        ensures world { self.new.seat.me.0 ≡ world_after self.old.seat.me.0 (Stamp place chunk) }
+    {
+        let header = ChunkHeader {
+            chunk_id: id,
+            writer_id: place + 1,
+            count: 0,
+            flags: 0,
+        };
+        let at = self.layout.header_index(chunk);
+        self.words[at] = header.pack();
+        let world = &self.world;
+        make_step(&world.shared, &mut self.seat, &Step::Stamp { place, chunk });
+    }
+
+    /// Begins a chunk whose header is stored.
+    pub(crate) fn set_written(&mut self, place: u16, chunk: u32)
+        requires place { place < length self.old.layout.writers }
+        requires stamped { (writer self.old.seat.me.0 place).stamped ≡ Some (record { chunk = chunk; id = length (writer self.old.seat.me.0 place).begun }) }
+        ensures layout { self.new.layout ≡ self.old.layout }
+        ensures slots { self.new.slots.items ≡ self.old.slots.items }
+        ensures world { self.new.seat.me.0 ≡ moved self.old.seat.me.0 place (begins (writer self.old.seat.me.0 place) chunk (stored_at self.old.slots.items chunk).words) chunk
+            (Writing place (length (writer self.old.seat.me.0 place).begun) (fresh (stored_at self.old.slots.items chunk).words)) }
+    {
+        let spot = self.layout.spot(chunk);
+        let page = spot.page as usize;
+        let found = self.words[page];
+        self.words[page] = found | begin_mask(spot.place);
+        let step = Step::Begin {
+            place,
+            chunk,
+            words: words_of(&self.slots, chunk),
+        };
+        let world = &self.world;
+        make_step(&world.shared, &mut self.seat, &step);
+    }
+
+    /// Takes the body of a chunk out that is being written or read.
+    pub(crate) fn take_body(&mut self, chunk: u32) -> CommitBody
+        requires lent { ∥ IsLent (status self.old.seat.me.0 chunk) ∥₁ }
+        requires there { IsSome (stored_at self.old.slots.items chunk).body }
+        ensures body { (stored_at self.old.slots.items chunk).body ≡ Some result }
+        ensures layout { self.new.layout ≡ self.old.layout }
+        ensures words { (stored_at self.new.slots.items chunk).words ≡ (stored_at self.old.slots.items chunk).words }
+        ensures world { self.new.seat.me.0 ≡ self.old.seat.me.0 }
+    {
+        take_body(&mut self.slots, chunk)
+    }
+
+    /// Puts the body of a chunk back that is being written or read.
+    pub(crate) fn put_body(&mut self, chunk: u32, body: CommitBody)
+        requires lent { ∥ IsLent (status self.old.seat.me.0 chunk) ∥₁ }
+        ensures body { (stored_at self.new.slots.items chunk).body ≡ Some body }
+        ensures layout { self.new.layout ≡ self.old.layout }
+        ensures world { self.new.seat.me.0 ≡ self.old.seat.me.0 }
+    {
+        put_body(&mut self.slots, chunk, body);
+    }
+
+    /// Stores a payload word of a held chunk.
+    pub(crate) fn store_word(&mut self, place: u16, chunk: u32, id: u32, index: usize, word: u64)
+        requires place { place < length self.old.layout.writers }
+        requires held { IsHolding (writer self.old.seat.me.0 place) chunk id }
+        requires inside { 8 * index < (spot self.old.layout chunk).payload_size }
+        requires kept { (m : ℕ) → m < 8 → 8 * index + m < sealed_to (draft_at (writer self.old.seat.me.0 place) id).ends
+            → byte_of word m ≡ byte_at (draft_at (writer self.old.seat.me.0 place) id).words (8 * index + m) }
+        ensures layout { self.new.layout ≡ self.old.layout }
+        ensures index { index < length (draft_at (writer self.old.seat.me.0 place) id).words }
+        ensures world { self.new.seat.me.0 ≡ world_after self.old.seat.me.0 (Publish place chunk id index word) }
+    {
+        put_word(&mut self.slots, chunk, index, word);
+        let step = Step::Publish {
+            place,
+            chunk,
+            id,
+            index,
+            word,
+        };
+        let world = &self.world;
+        make_step(&world.shared, &mut self.seat, &step);
+    }
+
+    /// Completes a chunk whose body is back, and whose words hold its payload.
+    pub(crate) fn set_complete(&mut self, place: u16, chunk: u32, id: u32)
+        requires place { place < length self.old.layout.writers }
+        requires held { IsHolding (writer self.old.seat.me.0 place) chunk id }
+        requires body { IsSome (stored_at self.old.slots.items chunk).body }
+        requires whole { IfSome (stored_at self.old.slots.items chunk).body (λ body. StandsWhole (spot self.old.layout chunk).payload_size (writer self.old.seat.me.0 place) id body) }
+        ensures layout { self.new.layout ≡ self.old.layout }
+        ensures world { IfSome (stored_at self.old.slots.items chunk).body (λ body.
+            self.new.seat.me.0 ≡ moved self.old.seat.me.0 place
+            (completes (writer self.old.seat.me.0 place) chunk id (content_of place id (head_at (writer self.old.seat.me.0 place) id) body)) chunk
+            (Ready place id (content_of place id (head_at (writer self.old.seat.me.0 place) id) body))) }
+    {
+        let spot = self.layout.spot(chunk);
+        let page = spot.page as usize;
+        let found = self.words[page];
+        self.words[page] = found | complete_mask(spot.place);
+        let step = Step::Complete {
+            place,
+            chunk,
+            id,
+            body: body_of(&self.slots, chunk),
+        };
+        let world = &self.world;
+        make_step(&world.shared, &mut self.seat, &step);
+    }
+
+    /// Reads the page word and the header word of a chunk.
+    pub(crate) fn peek(&self, chunk: u32) -> Seen
+        requires { chunk < length self.now.layout.spots }
+        ensures word { result.word.0 ≡ page_word self.now.layout self.now.words.items chunk }
+        ensures header { packed result.header ≡ header_word self.now.layout self.now.words.items chunk }
+        ensures fields { result.header ≡ unpacked (header_word self.now.layout self.now.words.items chunk) }
+        ensures count_fits { result.header.count ≤ MAX_FRAGMENTS }
+        ensures flags_fit { result.header.flags ≤ MAX_FLAGS }
+    {
+        let spot = self.layout.spot(chunk);
+        let word = PageWord(self.words[spot.page as usize]);
+        let header = ChunkHeader::unpack(self.words[self.layout.header_index(chunk)]);
+        Seen { word, header }
+    }
+
+    /// Notes what was found there.
+    pub(crate) fn note_look(&mut self, chunk: u32, seen: Seen)
+        requires chunk { chunk < length self.old.layout.spots }
+        requires word { seen.word.0 ≡ page_word self.old.layout self.old.words.items chunk }
+        requires header { packed seen.header ≡ header_word self.old.layout self.old.words.items chunk }
+        requires fields { seen.header ≡ unpacked (header_word self.old.layout self.old.words.items chunk) }
+        ensures layout { self.new.layout ≡ self.old.layout }
+        ensures world { self.new.seat.me.0 ≡ world_after self.old.seat.me.0 (Look chunk seen.word.0 seen.header) }
+        ensures looks { LooksAt self.old.layout chunk seen.word.0 seen.header self.old.seat.me.0.service self.new.seat.me.0.service }
+    {
+        let step = Step::Look {
+            chunk,
+            word: seen.word.0,
+            header: seen.header,
+        };
+        let world = &self.world;
+        make_step(&world.shared, &mut self.seat, &step);
+    }
+
+    /// Takes a chunk that was found complete, with this header.
+    pub(crate) fn set_read(&mut self, place: u16, chunk: u32, word: u64, header: ChunkHeader)
+        requires place { place < length self.old.layout.writers }
+        requires chunk { chunk < length self.old.layout.spots }
+        requires word { word ≡ page_word self.old.layout self.old.words.items chunk }
+        requires complete { HasState word (spot self.old.layout chunk).place CompleteState }
+        requires ready { ∥ ((content : Content) × (status self.old.seat.me.0 chunk ≡ Ready place (taken_of self.old.seat.me.0.service place).count content)) ∥₁ }
+        ensures layout { self.new.layout ≡ self.old.layout }
+        ensures slots { self.new.slots.items ≡ self.old.slots.items }
+        ensures world { self.new.seat.me.0 ≡ world_after self.old.seat.me.0 (Take place chunk word header) }
+    {
+        let spot = self.layout.spot(chunk);
+        self.words[spot.page as usize] = word & take_mask(spot.place);
+        let step = Step::Take {
+            place,
+            chunk,
+            word,
+            header,
+        };
+        let world = &self.world;
+        make_step(&world.shared, &mut self.seat, &step);
+    }
+
+    /// Loads the payload of a chunk that the service reads.
+    pub(crate) fn load_taken(&self, chunk: u32, into: &mut [u8])
+        requires reading { 0 < times chunk self.now.seat.me.0.service.reading }
+        requires size { length into.old ≡ (spot self.now.layout chunk).payload_size }
+        ensures size { length into.new ≡ length into.old }
+        ensures bytes { (j : ℕ) → j < length into.new → byte_in into.new j ≡ byte_at (stored_at self.now.slots.items chunk).words j }
+    {
+        unpack(words_of(&self.slots, chunk), into);
+    }
+
+    /// Notes the content of the chunk that was taken last of a writer.
+    pub(crate) fn learn(&mut self, place: u16, chunk: u32, header: ChunkHeader, body: &CommitBody)
+        requires place { place < length self.old.layout.writers }
+        requires last { (taken_of self.old.seat.me.0.service place).count ≡ length (taken_of self.old.seat.me.0.service place).contents + 1 }
+        requires content { ∥ status self.old.seat.me.0 chunk ≡ Reading place (length (taken_of self.old.seat.me.0.service place).contents)
+            (content_of place header.chunk_id (record { count = header.count; flags = header.flags }) body.now) ∥₁ }
+        ensures layout { self.new.layout ≡ self.old.layout }
+        ensures world { self.new.seat.me.0 ≡ world_after self.old.seat.me.0 (Learn place header body.entry) }
+    {
+        let step = Step::Learn {
+            place,
+            header,
+            body,
+        };
+        let world = &self.world;
+        make_step(&world.shared, &mut self.seat, &step);
+    }
+
+    /// Frees a chunk that the service reads, and whose body is back.
+    pub(crate) fn set_free(&mut self, chunk: u32)
+        requires reading { 0 < times chunk self.old.seat.me.0.service.reading }
+        requires body { IsSome (stored_at self.old.slots.items chunk).body }
+        requires size { IfSome (stored_at self.old.slots.items chunk).body (λ body. vec_len body.payload ≡ (spot self.old.layout chunk).payload_size) }
+        ensures layout { self.new.layout ≡ self.old.layout }
+        ensures world { self.new.seat.me.0 ≡ served self.old.seat.me.0 (lets_go self.old.seat.me.0.service chunk) chunk Unclaimed }
+    {
+        let spot = self.layout.spot(chunk);
+        let page = spot.page as usize;
+        let found = self.words[page];
+        self.words[page] = found & release_mask(spot.place);
+        let world = &self.world;
+        make_step(&world.shared, &mut self.seat, &Step::Release { chunk });
+    }
+}

@@ -1,0 +1,217 @@
+//! The calls on the table of one thread.
+ghost use Rattle.std.specs.Prelude.{◌≡◌, ℕ, ◌+◌, ◌-◌, ◌<◌, ◌≤◌, Option, Some, None, length, vec_len};
+ghost use Rattle.std.proofs.Common.{ap, sym, subst, unwrap_or, ◌∙◌};
+ghost use Rattle.std.proofs.Math.Logic.{∥∥₁_map, ∥∥₁_elim};
+ghost use Rattle.std.proofs.Math.Nat.{ℕ_set};
+ghost use Rattle.std.specs.Coded.{le_prop};
+ghost use mathlib.Core.Option.{some-injective};
+ghost use Rattle.chunk_plain.specs.Views.{Completed};
+ghost use Rattle.chunk_plain.specs.Drafts.{StillHas};
+ghost use Rattle.chunk_plain.specs.Plain.{IsKept};
+ghost use Rattle.chunk_plain.specs.World.{World, writer, nowhere};
+ghost use Rattle.chunk_plain.specs.Owned.{IsOwned};
+ghost use Rattle.chunk_plain.specs.Words.{IsAtRest, IsServing};
+
+use crate::bytes::{pack, unpack, word_end};
+use crate::notes::{ServiceEvent, WriterCall};
+use crate::plain::PlainTable;
+use crate::plain_seats::{PlainService, PlainWriter};
+use crate::slots::words_of;
+use crate::step::Step;
+use crate::tokens::{Claimed, Held, NotComplete, Seen, Taken};
+use crate::words::Words;
+use crate::worlds::make_step;
+use commit_body::Patch;
+use page_geometry::masks::claim_mask;
+use page_geometry::{ChunkHeader, ChunkState, PageWord};
+
+impl Words for PlainTable {
+    type Writer = PlainWriter;
+
+    type Service = PlainService;
+
+    ghost means = { record {
+      setup = λ table. table.layout;
+      sits = λ table seat. IsAtRest table.layout seat.place (writer table.seat.me.0 seat.place);
+      place = λ seat. seat.place;
+      view = λ table seat. writer table.seat.me.0 seat.place;
+      serves = λ table _. IsServing table.layout table.seat.me.0.service;
+      service_view = λ table _. table.seat.me.0.service;
+      told = λ table. Some table.seat.me.0;
+      takes_reads = λ _ _. Unit {0};
+    } };
+
+    ghost laid = { λ table. table.laid };
+
+    ghost rests = { λ table seat sits. sits };
+
+    ghost serving = { λ table seat serves. serves };
+
+    ghost learnt = { λ table seat serves n look found content at is has.
+        let fact : IsKept table.layout table.words.items table.slots.items table.seat.me.0 → (chunk : ℕ) × StillHas look.chunk found (Completed chunk content) = λ kept.
+        let there = (kept.owned.looks n look found at is).1 in
+        let done = (kept.owned.counts found.place).learnt found.id content has in
+        (done.0, subst (StillHas look.chunk found) (some-injective there.entry (Completed done.0 content) (sym there.at ∙ done.1)) there.has) in (
+          record {
+            count_grows = ∥∥₁_elim table.kept (Prim.hlevel le_prop) (λ kept. (fact kept).1.1.count_grows);
+            front_stays = λ some. ∥∥₁_elim table.kept (ℕ_set _ _) (λ kept. (fact kept).1.1.front_stays some);
+          },
+          ∥∥₁_elim table.kept (Prim.hlevel le_prop) (λ kept. (fact kept).1.2),
+          λ j below. ∥∥₁_elim table.kept (ℕ_set _ _) (λ kept. (fact kept).1.3 j below),
+        ) };
+
+    ghost told_view = { λ table seat world told sits. ap (λ (known : Option World). writer (unwrap_or known nowhere) seat.place) told };
+
+    ghost told_service_view = { λ table seat world told serves. ap (λ (known : Option World). (unwrap_or known nowhere).service) told };
+
+    ghost told_writers = { λ table world told. ap (λ (known : Option World). length (unwrap_or known nowhere).writers) (sym told) ∙ ∥∥₁_elim table.kept (ℕ_set _ _) (λ kept. kept.writers) };
+
+    ghost told_chunks = { λ table world told. ap (λ (known : Option World). length (unwrap_or known nowhere).chunks) (sym told) ∙ ∥∥₁_elim table.kept (ℕ_set _ _) (λ kept. kept.shown.chunk_count) };
+
+    ghost told_owned = { λ table world told. subst (λ (known : Option World). ∥ IsOwned (unwrap_or known nowhere) ∥₁) told (∥∥₁_map table.kept (λ kept. kept.owned)) };
+
+    fn claim_try(&mut self, seat: &mut PlainWriter, chunk: u32) -> Option<Claimed> {
+        let spot = self.layout.spot(chunk);
+        let page = spot.page as usize;
+        let found = self.words[page];
+        let claimed = PageWord(found).claimed(spot.place);
+        self.words[page] = found | claim_mask(spot.place, spot.layout);
+        let step = Step::Claim {
+            place: seat.place,
+            chunk,
+            found,
+            won: !claimed,
+        };
+        let world = &self.world;
+        make_step(&world.shared, &mut self.seat, &step);
+        if claimed {
+            None
+        } else {
+            Some(Claimed { chunk })
+        }
+    }
+
+    fn begin(&mut self, seat: &mut PlainWriter, claimed: Claimed, id: u32) -> Held {
+        let Claimed { chunk } = claimed;
+        self.store_first_header(seat.place, chunk, id);
+        self.set_written(seat.place, chunk);
+        let mut body = self.take_body(chunk);
+        body.patches.clear();
+        Held { chunk, id, body }
+    }
+
+    fn publish(&mut self, seat: &mut PlainWriter, held: &mut Held, from: u32, to: u32) {
+        let first = from as usize / 8;
+        let end = word_end(from, to);
+        for index in first..end {
+            let word = pack(&held.body.payload, 8 * index);
+            self.store_word(seat.place, held.chunk, held.id, index, word);
+        }
+    }
+
+    fn set_header(&mut self, seat: &mut PlainWriter, held: &mut Held, count: u16, flags: u8) {
+        let chunk = held.chunk;
+        let id = held.id;
+        let header = ChunkHeader {
+            chunk_id: id,
+            writer_id: seat.place + 1,
+            count,
+            flags,
+        };
+        let at = self.layout.header_index(chunk);
+        self.words[at] = header.pack();
+        let step = Step::SetHeader {
+            place: seat.place,
+            chunk,
+            id,
+            count,
+            flags,
+        };
+        let world = &self.world;
+        make_step(&world.shared, &mut self.seat, &step);
+    }
+
+    fn complete(&mut self, seat: &mut PlainWriter, held: Held) {
+        let Held { chunk, id, body } = held;
+        self.put_body(chunk, body);
+        self.set_complete(seat.place, chunk, id);
+    }
+
+    fn look(&mut self, _seat: &mut PlainService, chunk: u32) -> Seen {
+        let seen = self.peek(chunk);
+        self.note_look(chunk, seen);
+        seen
+    }
+
+    fn load(&mut self, _seat: &mut PlainService, chunk: u32, into: &mut [u8]) {
+        unpack(words_of(&self.slots, chunk), into);
+    }
+
+    fn take(
+        &mut self,
+        _seat: &mut PlainService,
+        chunk: u32,
+        writer: u16,
+        id: u32,
+    ) -> Result<Taken, NotComplete> {
+        let seen = self.peek(chunk);
+        let Seen { word, header } = seen;
+        let place = self.layout.spot(chunk).place;
+        if word.state(place) != ChunkState::Complete
+            || header.writer_id != writer
+            || header.chunk_id != id
+        {
+            self.note_look(chunk, seen);
+            return Err(NotComplete { word, header });
+        }
+        self.set_read(writer - 1, chunk, word.0, header);
+        let mut body = self.take_body(chunk);
+        self.load_taken(chunk, &mut body.payload);
+        self.learn(writer - 1, chunk, header, &body);
+        Ok(Taken {
+            chunk,
+            header,
+            body,
+        })
+    }
+
+    fn release(&mut self, _seat: &mut PlainService, taken: Taken) {
+        let Taken {
+            chunk,
+            header: _,
+            body: emptied,
+        } = taken;
+        self.put_body(chunk, emptied);
+        self.set_free(chunk);
+    }
+
+    fn note_call(&mut self, seat: &mut PlainWriter, call: WriterCall<'_>) {
+        let step = Step::Call {
+            place: seat.place,
+            call,
+        };
+        let world = &self.world;
+        make_step(&world.shared, &mut self.seat, &step);
+    }
+
+    fn note(&mut self, _seat: &mut PlainService, event: ServiceEvent) {
+        let world = &self.world;
+        make_step(&world.shared, &mut self.seat, &Step::Event { event });
+    }
+
+    fn note_commit(
+        &mut self,
+        _seat: &mut PlainService,
+        header: ChunkHeader,
+        payload: &[u8],
+        patches: &[Patch],
+    ) {
+        let step = Step::Commit {
+            header,
+            payload,
+            patches,
+        };
+        let world = &self.world;
+        make_step(&world.shared, &mut self.seat, &step);
+    }
+}
