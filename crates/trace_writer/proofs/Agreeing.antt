@@ -13,8 +13,8 @@ use Rattle.cut_steps.specs.Writing.{with_open}
 use Rattle.cut_steps.proofs.WritingSteps.{writing_holes}
 use Rattle.commit_body.specs.Pending.{Pending}
 use Rattle.chunk_plain.specs.Setup.{Setup}
-use Rattle.chunk_plain.specs.Steps.{notes_call}
 use Rattle.chunk_plain.specs.Views.{WriterView}
+use Rattle.chunk_plain.specs.Steps.{notes_call}
 use Rattle.trace_writer.specs.declared.flow.Flow.{Flow}
 use Rattle.trace_writer.specs.declared.flow.Flow.TheVariants as flow
 use Rattle.trace_writer.specs.declared.fragment.OpenFragment.{OpenFragment}

@@ -2,10 +2,11 @@
 use Rattle.std.proofs.Common.{◌≡◌, ◌∙◌, ℕ, ◌+◌, ◌-◌, true, List, [], ◌∷◌, ◌++◌, length, Option, Some, None, IfNone, refl, sym, ap, subst, arith, length-append}
 use Rattle.chunk_plain.specs.declared.tokens.Held.{Held as HeldToken}
 use Rattle.chunk_plain.specs.Setup.{Setup}
-use Rattle.chunk_plain.specs.Views.{Ask, Begun, Held, WriterView, ServiceView}
+use Rattle.chunk_plain.specs.Views.{Ask, Begun, Held, WriterView, ServiceView, fresh}
+use Rattle.chunk_plain.specs.Drafts.{draft_at}
+use Rattle.chunk_plain.specs.Steps.{moved, noted}
+use Rattle.chunk_plain.specs.Meaning.{Meaning, IsWriterStep}
 use Rattle.chunk_plain.specs.World.{World, Unclaimed, Writing, status}
-use Rattle.chunk_plain.specs.Steps.{no_head, moved, noted}
-use Rattle.chunk_plain.specs.Words.{IsWriterStep}
 use Rattle.chunk_plain.proofs.SeatSteps.{steps_follow}
 use Rattle.claim_arbiter.specs.Claiming.{AsksInVain, ClaimsInTurn, NoneFree, lost_asks}
 use Rattle.trace_writer.specs.declared.route.Route.{Route}
@@ -33,7 +34,8 @@ pub wins_in_turn : (setup : Setup) (route : Route) (chunk : ℕ) (old mid new : 
 wins_in_turn setup route chunk old mid new so_far claims = record {
   least = claims.least;
   below = claims.below;
-  begun = ap (λ (v : WriterView). v.begun) claims.view ∙ ap (λ (xs : List Begun). xs ++ Held chunk no_head ∷ []) so_far.begun;
+  words = claims.payload;
+  begun = ap (λ (v : WriterView). v.begun) claims.view ∙ ap (λ (xs : List Begun). xs ++ Held chunk (fresh claims.payload) ∷ []) so_far.begun;
   calls = ap (λ (v : WriterView). v.calls) claims.view ∙ so_far.calls;
 }
 
@@ -50,7 +52,7 @@ won_counts setup first count chunk old new steps later claims is =
     let won : Ask = record { chunk = chunk; found = claims.found; won = true; calls = length old.calls } in
     let lost : List Ask = lost_asks (length old.calls) first claims.words in
     let asks : length new.asked ≡ length (old.asked ++ lost ++ won ∷ []) = ap (λ (v : WriterView). length v.asked) claims.view in
-    let begun : length new.begun ≡ length (old.begun ++ Held chunk no_head ∷ []) = ap (λ (v : WriterView). length v.begun) claims.view in
+    let begun : length new.begun ≡ length (old.begun ++ Held chunk (fresh claims.payload) ∷ []) = ap (λ (v : WriterView). length v.begun) claims.view in
     omega (
       arith,
       is,
@@ -60,7 +62,7 @@ won_counts setup first count chunk old new steps later claims is =
       length-append (old.asked ++ lost) (won ∷ []),
       length-append old.asked lost,
       length-lost_asks (length old.calls) first claims.words,
-      length-append old.begun (Held chunk no_head ∷ []),
+      length-append old.begun (Held chunk (fresh claims.payload) ∷ []),
     )
 
 pub lost_counts : (setup : Setup) (first count : ℕ) (old new : WriterView) (steps later : ℕ) → AsksInVain setup first count old new
@@ -71,28 +73,27 @@ lost_counts setup first count old new steps later vain is =
     let begun : length new.begun ≡ length old.begun = ap (λ (v : WriterView). length v.begun) vain.view in
     omega (arith, is, asks, begun, vain.count_is, length-append old.asked lost, length-lost_asks (length old.calls) first vain.words)
 
-module _ {T W S : Type 0} (setup : T → Setup) (sits : T → W → Type 0) (place : W → ℕ) (view : T → W → WriterView)
-    (serves : T → S → Type 0) (service_view : T → S → ServiceView) (told : T → Option World) where
-  pub gets_chunk : (route : Route) (chunk id : ℕ) (old : T) (seat : W) (new : T) (after : W) → IsWriterStep setup sits place view serves service_view old seat new after
-      → ClaimsInTurn (setup old) route.arbiter.first route.arbiter.chunks chunk (view old seat) (view new after)
-      → ((world : World) → told old ≡ Some world → NoneFree world route.arbiter.first chunk × ∥ status world chunk ≡ Unclaimed ∥₁
-      × (told new ≡ Some (moved world (place seat) (view new after) chunk (Writing (place seat) id no_head))))
-      → GetsChunk setup sits place view serves service_view told route old seat new after
+module _ {T W S : Type 0} (means : Meaning T W S) where
+  pub gets_chunk : (route : Route) (chunk id : ℕ) (old : T) (seat : W) (new : T) (after : W) → IsWriterStep means old seat new after
+      → ClaimsInTurn (means.setup old) route.arbiter.first route.arbiter.chunks chunk (means.view old seat) (means.view new after)
+      → ((world : World) → means.told old ≡ Some world → NoneFree world route.arbiter.first chunk × ∥ status world chunk ≡ Unclaimed ∥₁
+      × (means.told new ≡ Some (moved world (means.place seat) (means.view new after) chunk (Writing (means.place seat) id (draft_at (means.view new after) id)))))
+      → GetsChunk means route old seat new after
   gets_chunk route chunk id old seat new after step claims tells = record {
     step = step;
     chunk = chunk;
     claims = claims;
-    frees_none = frees_moved told old new (place seat) chunk (view new after) (Writing (place seat) id no_head) (writing_used (place seat) id no_head)
+    frees_none = frees_moved means.told old new (means.place seat) chunk (means.view new after) (Writing (means.place seat) id (draft_at (means.view new after) id)) (writing_used (means.place seat) id (draft_at (means.view new after) id))
         (λ world is. (tells world is).2);
   }
 
-  pub out_now : (route : Route) (old : T) (seat : W) (new : T) (after : W) → IsWriterStep setup sits place view serves service_view old seat new after
-      → AsksInVain (setup old) route.arbiter.first route.arbiter.chunks (view old seat) (view new after) → NoneHeld (view old seat).begun
-      → ((world : World) → told old ≡ Some world → NoneFree world route.arbiter.first (route.arbiter.first + route.arbiter.chunks)
-      × (told new ≡ Some (noted world (place seat) (view new after))))
-      → IsOutNow setup sits place view serves service_view told route old seat new after
+  pub out_now : (route : Route) (old : T) (seat : W) (new : T) (after : W) → IsWriterStep means old seat new after
+      → AsksInVain (means.setup old) route.arbiter.first route.arbiter.chunks (means.view old seat) (means.view new after) → NoneHeld (means.view old seat).begun
+      → ((world : World) → means.told old ≡ Some world → NoneFree world route.arbiter.first (route.arbiter.first + route.arbiter.chunks)
+      × (means.told new ≡ Some (noted world (means.place seat) (means.view new after))))
+      → IsOutNow means route old seat new after
   out_now route old seat new after step vain none tells =
-      let begun : (view new after).begun ≡ (view old seat).begun = ap (λ (v : WriterView). v.begun) vain.view in
+      let begun : (means.view new after).begun ≡ (means.view old seat).begun = ap (λ (v : WriterView). v.begun) vain.view in
       record {
         step = step;
         words = vain.words;
@@ -101,31 +102,31 @@ module _ {T W S : Type 0} (setup : T → Setup) (sits : T → W → Type 0) (pla
         asked = ap (λ (v : WriterView). v.asked) vain.view;
         claimed = ap (λ (v : WriterView). v.claimed) vain.view;
         stamped = ap (λ (v : WriterView). v.stamped) vain.view;
-        chunks = subst (λ (chunks : List Begun). KeepsChunks (view old seat).begun chunks) (sym begun) (keeps_same (view old seat).begun);
+        chunks = subst (λ (chunks : List Begun). KeepsChunks (means.view old seat).begun chunks) (sym begun) (keeps_same (means.view old seat).begun);
         none_held = subst NoneHeld (sym begun) none;
-        none_free = λ world is. (noted world (place seat) (view new after), (tells world is).1, (tells world is).0);
+        none_free = λ world is. (noted world (means.place seat) (means.view new after), (tells world is).1, (tells world is).0);
       }
 
   -- the same where the writer still holds a chunk, and completes it behind the round
-  pub out_after : (route : Route) (old : T) (seat : W) (mid : T) (between : W) (new : T) (after : W) → IsWriterStep setup sits place view serves service_view old seat mid between
-      → AsksInVain (setup old) route.arbiter.first route.arbiter.chunks (view old seat) (view mid between)
-      → ((world : World) → told old ≡ Some world → NoneFree world route.arbiter.first (route.arbiter.first + route.arbiter.chunks)
-      × (told mid ≡ Some (noted world (place seat) (view mid between))))
-      → IsQuiet setup sits place view serves service_view told mid between new after → NoneHeld (view new after).begun
-      → IsOutNow setup sits place view serves service_view told route old seat new after
+  pub out_after : (route : Route) (old : T) (seat : W) (mid : T) (between : W) (new : T) (after : W) → IsWriterStep means old seat mid between
+      → AsksInVain (means.setup old) route.arbiter.first route.arbiter.chunks (means.view old seat) (means.view mid between)
+      → ((world : World) → means.told old ≡ Some world → NoneFree world route.arbiter.first (route.arbiter.first + route.arbiter.chunks)
+      × (means.told mid ≡ Some (noted world (means.place seat) (means.view mid between))))
+      → IsQuiet means mid between new after → NoneHeld (means.view new after).begun
+      → IsOutNow means route old seat new after
   out_after route old seat mid between new after step vain tells quiet none =
       record {
-        step = steps_follow setup sits place view serves service_view old seat mid between new after step quiet.step;
+        step = steps_follow means old seat mid between new after step quiet.step;
         words = vain.words;
         count_is = vain.count_is;
         all_claimed = vain.claimed;
         asked = quiet.asked ∙ ap (λ (v : WriterView). v.asked) vain.view;
         claimed = quiet.claimed ∙ ap (λ (v : WriterView). v.claimed) vain.view;
         stamped = quiet.stamped ∙ ap (λ (v : WriterView). v.stamped) vain.view;
-        chunks = subst (λ (begun : List Begun). KeepsChunks begun (view new after).begun) (ap (λ (v : WriterView). v.begun) vain.view) quiet.chunks;
+        chunks = subst (λ (begun : List Begun). KeepsChunks begun (means.view new after).begun) (ap (λ (v : WriterView). v.begun) vain.view) quiet.chunks;
         none_held = none;
         none_free = λ world is.
             let found = tells world is in
-            let kept = quiet.frees_none (noted world (place seat) (view mid between)) found.1 in
+            let kept = quiet.frees_none (noted world (means.place seat) (means.view mid between)) found.1 in
             (kept.0, kept.1, λ chunk least below free. found.0 chunk least below (kept.2 chunk free));
       }

@@ -1,5 +1,5 @@
 -- A writer that agrees with its view begins a packet, at a place that was found or at none.
-use Rattle.std.proofs.Common.{◌≡◌, ◌∙◌, ℕ, ◌+◌, ◌-◌, ◌*◌, ◌≤◌, ◌==◌, cond, min, Bool, true, false, Some, List, [], ◌∷◌, length, take, vec_len, refl, sym, ap, subst, arith, map, true≢false, eqb-true, Option, None}
+use Rattle.std.proofs.Common.{◌++◌, ◌≡◌, ◌∙◌, ℕ, ◌+◌, ◌-◌, ◌*◌, ◌≤◌, ◌==◌, cond, min, Bool, true, false, Some, List, [], ◌∷◌, length, take, vec_len, refl, sym, ap, subst, arith, map, true≢false, eqb-true, Option, None}
 use Rattle.trace_base.specs.declared.limits.TheConstants.{MAX_PACKET_LEN}
 use Rattle.trace_base.specs.declared.policy.WriterPolicy.TheVariants.{Stalls}
 use Rattle.trace_model.specs.Calls as call
@@ -9,7 +9,7 @@ use Rattle.commit_body.specs.Pending.{Pending}
 use Rattle.chunk_plain.specs.declared.tokens.Held.{Held as HeldToken}
 use Rattle.chunk_plain.specs.Setup.{Setup}
 use Rattle.chunk_plain.specs.Views.{Begun, WriterView}
-use Rattle.chunk_plain.specs.Steps.{restamps, notes_call}
+use Rattle.chunk_plain.specs.Steps.{redrafts, notes_call}
 use Rattle.cut_steps.specs.RawChains.{raw_chains}
 use Rattle.cut_steps.proofs.Beginning.{between_lost}
 use Rattle.cut_steps.proofs.StateLaws.{states_are_cuts}
@@ -18,7 +18,7 @@ use Rattle.trace_writer.specs.declared.fragment.OpenFragment.{OpenFragment}
 use Rattle.trace_writer.specs.declared.packet.OpenPacket.{OpenPacket}
 use Rattle.trace_writer.specs.declared.state.State.TheVariants.{Writing, Dropping, Stalled}
 use Rattle.trace_writer.specs.declared.state.Writer.{Writer}
-use Rattle.trace_writer.specs.Headers.{held_head}
+use Rattle.trace_writer.specs.Drafted.{CountsNext}
 use Rattle.trace_writer.specs.Site.{Site, site_of}
 use Rattle.trace_writer.specs.Filled.{ShowsPages}
 use Rattle.trace_writer.specs.Ids.{HasIds, last_id, least_filled}
@@ -121,20 +121,20 @@ pub record IsFronted (follows : Bool) (first fragment : OpenFragment) : Type 0 w
 bare_of : Account → Packet
 bare_of account = record (begun_packet true account) { text = record { levels = [] ∷ []; closed = [] } }
 
-fronted_inside : (site : Site) (account : Account) (view new : WriterView) (pending : Pending) (chunk : HeldChunk) (first fragment : OpenFragment) (follows : Bool)
+fronted_inside : (site : Site) (account : Account) (view new : WriterView) (pending : Pending) (chunk : HeldChunk) (first fragment : OpenFragment) (follows : Bool) (counted : WriterView)
     → follows ≡ newest_is_lost account.packets → IsFronted follows first fragment → IsStarted chunk first → IsRoomy site account view pending chunk
-    → new.begun ≡ (restamps view chunk.held.chunk chunk.held.id (held_head (chunk.count + 1) chunk.continues)).begun
+    → CountsNext chunk view counted → new.begun ≡ counted.begun
     → InFragment site (begun_packet true account) account.packets new pending fragment []
 unfolding bare_of
-fronted_inside site account view new pending chunk first fragment true follows fronted started roomy begun =
+fronted_inside site account view new pending chunk first fragment true counted follows fronted started roomy counts begun =
     let bare : InFragment site (bare_of account) account.packets new pending first [] =
-    roomy.begins (bare_of account) new first (record { kept = refl; given_up = refl; finished = refl; follows_flush = refl; levels = refl; closed = refl }) started begun in
+    roomy.begins (bare_of account) counted new first (record { kept = refl; given_up = refl; finished = refl; follows_flush = refl; levels = refl; closed = refl }) started counts begun in
     let marked : InFragment site (with_more (mark_where true) (bare_of account)) account.packets new pending fragment [] =
     inside_more site (bare_of account) account.packets new pending first fragment (mark_where true) (fronted.put refl) (fronted.at refl) bare in
     subst (λ (b : Bool). InFragment site (record (begun_packet true account) { text = record { levels = mark_where b ∷ []; closed = [] } }) account.packets new pending fragment []) follows marked
-fronted_inside site account view new pending chunk first fragment false follows fronted started roomy begun =
+fronted_inside site account view new pending chunk first fragment false counted follows fronted started roomy counts begun =
     let bare : InFragment site (bare_of account) account.packets new pending first [] =
-    roomy.begins (bare_of account) new first (record { kept = refl; given_up = refl; finished = refl; follows_flush = refl; levels = refl; closed = refl }) started begun in
+    roomy.begins (bare_of account) counted new first (record { kept = refl; given_up = refl; finished = refl; follows_flush = refl; levels = refl; closed = refl }) started counts begun in
     let same : InFragment site (bare_of account) account.packets new pending fragment [] =
     subst (λ (f : OpenFragment). InFragment site (bare_of account) account.packets new pending f []) (sym (fronted.none refl)) bare in
     subst (λ (b : Bool). InFragment site (record (begun_packet true account) { text = record { levels = mark_where b ∷ []; closed = [] } }) account.packets new pending fragment []) follows same
@@ -176,19 +176,19 @@ placed_ids chunk fragment at ids =
     either false e = ids
 
 -- It begins in the chunk that was found.
-pub begin_behind : (setup : Setup) (place : ℕ) (view new : WriterView) (writer after : Writer) (chunk : HeldChunk) (first fragment : OpenFragment) (open_one : OpenPacket)
+pub begin_behind : (setup : Setup) (place : ℕ) (view mid new : WriterView) (writer after : Writer) (chunk : HeldChunk) (first fragment : OpenFragment) (open_one : OpenPacket)
     → open_one.len ≡ 0 → open_one.starts.items ≡ []
     → IsStarted chunk first → IsFronted writer.follows_loss first fragment
-    → new ≡ notes_call (restamps view chunk.held.chunk chunk.held.id (held_head (chunk.count + 1) chunk.continues)) (call.Begun true)
+    → CountsNext chunk view mid → new ≡ notes_call mid (call.Begun true)
     → after ≡ record writer { state = Writing fragment; packet = Some open_one; begun = min (writer.begun + 1) 18446744073709551615 }
     → IsRoomy (site_of setup place writer.route) (account_of view.calls) view writer.pending chunk
     → AgreesBetween setup place view writer → Agrees setup place new after
-begin_behind setup place view new writer after chunk first fragment open_one len starts started fronted notes is roomy agrees =
+begin_behind setup place view mid new writer after chunk first fragment open_one len starts started fronted counts notes is roomy agrees =
     let site : Site = site_of setup place writer.route in
     let account : Account = account_of view.calls in
     let packet : Packet = begun_packet true account in
     let later : Account = record { packets = packet ∷ account.packets; flushed = false } in
-    let calls : account_of new.calls ≡ later = ap (λ (v : WriterView). account_of v.calls) notes ∙ account_one view.calls (call.Begun true) in
+    let calls : account_of new.calls ≡ later = ap (λ (v : WriterView). account_of v.calls) notes ∙ ap (λ (v : WriterView). account_of (v.calls ++ call.Begun true ∷ [])) counts.view ∙ account_one view.calls (call.Begun true) in
     let at : IsPlaced chunk fragment = placed chunk first fragment writer.follows_loss fronted started in
     let ids : HasIds fragment MAX_PACKET_LEN = placed_ids chunk fragment at roomy.ids in
     let length_same : MAX_PACKET_LEN + length (front_of packet) - length (body_of packet) ≡ MAX_PACKET_LEN = omega arith in
@@ -199,7 +199,7 @@ begin_behind setup place view new writer after chunk first fragment open_one len
         older = account.packets;
         packets = ap (λ (a : Account). a.packets) calls;
         unflushed = ap (λ (a : Account). a.flushed) calls;
-        inside = fronted_inside site account view new writer.pending chunk first fragment writer.follows_loss agrees.follows fronted started roomy (ap (λ (v : WriterView). v.begun) notes);
+        inside = fronted_inside site account view new writer.pending chunk first fragment writer.follows_loss mid agrees.follows fronted started roomy counts (ap (λ (v : WriterView). v.begun) notes);
         byte = λ goes begins. absurd (let some = roomy.apart (sym at.continues ∙ goes) in omega (arith, some, at.start, begins));
         ids = subst (HasIds fragment) (sym length_same) ids;
       };

@@ -16,8 +16,8 @@ use Rattle.commit_body.specs.Patches.{holes_outside}
 use Rattle.commit_body.specs.Pending.{Pending, ClosesHole, patch_for}
 use Rattle.commit_body.proofs.InnerFirst.{inner_first_closed}
 use Rattle.chunk_plain.specs.Setup.{Setup, spot}
-use Rattle.chunk_plain.specs.Steps.{notes_call}
 use Rattle.chunk_plain.specs.Views.{WriterView}
+use Rattle.chunk_plain.specs.Steps.{notes_call}
 use Rattle.cut_steps.specs.RawChains.{earlier_pieces, current_piece, offset_behind}
 use Rattle.cut_steps.specs.Pending.{hole_at, patches_so_far}
 use Rattle.cut_steps.specs.Growth.{HasBytes}
@@ -37,7 +37,7 @@ use Rattle.trace_writer.specs.States.{InFragment}
 use Rattle.trace_writer.specs.Agreement.{IsMeasured, IsWritingInto, IsInPacketOf, Agrees}
 use Rattle.trace_writer.proofs.Holes.{outside_here, outside_later}
 use Rattle.trace_writer.proofs.Payloads.{written_moved, written_offset, written_put}
-use Rattle.trace_writer.proofs.Putting.{held_same}
+use Rattle.trace_writer.proofs.Putting.{held_same, drafted_same}
 use Rattle.trace_writer.proofs.Measuring.{Last, last_of, Innermost, innermost, long_ended, measured_ended}
 use Rattle.trace_writer.proofs.Agreeing.{Grows, IsOpen, open_newest, writing_agrees, agrees_writing, agrees_dropping}
 use Rattle.trace_writer.proofs.RunOn.{inside_seen}
@@ -108,8 +108,9 @@ inside_ended site packet older view before after fragment next level outer other
           done = i.done;
           now = later;
           completed = i.completed;
-          begun = held_same view.begun i.completed fragment.held.chunk next.held.chunk fragment.count next.count fragment.continues next.continues
-              put.same.chunk put.same.count put.same.continues i.begun;
+          draft = i.draft;
+          begun = held_same view.begun i.completed fragment.held.chunk next.held.chunk i.draft put.same.chunk i.begun;
+          drafted = drafted_same i.draft fragment.count next.count fragment.continues next.continues i.done put.same.count put.same.continues i.drafted;
           shown = i.shown;
           id = put.same.id ∙ i.id;
           sized = ap (λ (n : ℕ). (spot site.setup n).payload_size) put.same.chunk ∙ i.sized;
@@ -146,7 +147,9 @@ inside_ended site packet older view before after fragment next level outer other
           done = i.done;
           now = i.now;
           completed = i.completed;
+          draft = i.draft;
           begun = i.begun;
+          drafted = i.drafted;
           shown = i.shown;
           id = i.id;
           sized = i.sized;

@@ -5,8 +5,8 @@ use Rattle.trace_model.specs.Calls.{Call}
 use Rattle.trace_model.specs.Packets.{Packet, Account, packets_of, noted, on_newest, newest_is_lost, is_possible}
 use Rattle.chunk_plain.specs.Setup.{Setup}
 use Rattle.chunk_plain.specs.Views.{WriterView, ServiceView}
+use Rattle.chunk_plain.specs.Meaning.{Meaning, IsWriterStep}
 use Rattle.chunk_plain.specs.World.{World}
-use Rattle.chunk_plain.specs.Words.{IsWriterStep}
 use Rattle.chunk_plain.proofs.SeatSteps.{stays}
 use Rattle.trace_writer.specs.declared.fault.Begun.{Begun as BegunPacket}
 use Rattle.trace_writer.specs.declared.fault.CallFault.{CallFault}
@@ -56,75 +56,73 @@ never_none core asked found some is = absurd (let wrong : Some found ≡ None = 
 -- Calls that claim
 
 -- What a call leaves beside its own contract: the writer agrees, the helper has what it needs, and the others are as they were.
-pub record CoreLeft {H T W S : Type 0} (setup : T → Setup) (sits : T → W → Type 0) (place : W → ℕ) (view : T → W → WriterView)
-    (serves : T → S → Type 0) (service_view : T → S → ServiceView) (needs : H → T → Type 0)
+pub record CoreLeft {H T W S : Type 0} (means : Meaning T W S) (needs : H → T → Type 0)
     (helper : H) (old : T) (core : WriterCore W) (left : H) (new : T) (after : WriterCore W) : Type 0 where
-  pub agrees : CoreAgrees (setup old) (place core.seat) (view new after.seat) after
+  pub agrees : CoreAgrees (means.setup old) (means.place core.seat) (means.view new after.seat) after
   pub needed : needs left new
-  pub others : LeavesOthers setup sits place view old core.seat new after.seat
-  pub alone : core.writer.route.spec.policy ≡ Drops → (left ≡ helper) × IsWriterStep setup sits place view serves service_view old core.seat new after.seat
+  pub others : LeavesOthers means old core.seat new after.seat
+  pub alone : core.writer.route.spec.policy ≡ Drops → (left ≡ helper) × IsWriterStep means old core.seat new after.seat
 
-module _ {H T W S : Type 0} (setup : T → Setup) (sits : T → W → Type 0) (place : W → ℕ) (view : T → W → WriterView)
-    (serves : T → S → Type 0) (service_view : T → S → ServiceView) (told : T → Option World) (needs : H → T → Type 0) (helps : H → T → ℕ → Bool → H → T → Type 0) where
+module _ {H T W S : Type 0} (means : Meaning T W S) (needs : H → T → Type 0) (helps : H → T → ℕ → Bool → H → T → Type 0) where
   -- nothing was done
-  pub left_same : (helper : H) (old : T) (core : WriterCore W) → sits old core.seat → needs helper old → CoreAgrees (setup old) (place core.seat) (view old core.seat) core
-      → CoreLeft setup sits place view serves service_view needs helper old core helper old core
+  pub left_same : (helper : H) (old : T) (core : WriterCore W) → means.sits old core.seat → needs helper old → CoreAgrees (means.setup old) (means.place core.seat) (means.view old core.seat) core
+      → CoreLeft means needs helper old core helper old core
   left_same helper old core there needed agrees = record {
     agrees = agrees;
     needed = needed;
     others = record { setup_stays = refl; seat_stays = there; place_stays = refl; writers_stay = λ other stood differs. (stood, refl) };
-    alone = λ drops. (refl, stays setup sits place view serves service_view old core.seat there);
+    alone = λ drops. (refl, stays means old core.seat there);
   }
 
-  left_stays : (helper : H) (old : T) (core : WriterCore W) (left : H) (new : T) (after : WriterCore W) → sits old core.seat → needs helper old
-      → CoreAgrees (setup old) (place core.seat) (view old core.seat) core → after ≡ core → new ≡ old → left ≡ helper
-      → CoreLeft setup sits place view serves service_view needs helper old core left new after
+  left_stays : (helper : H) (old : T) (core : WriterCore W) (left : H) (new : T) (after : WriterCore W) → means.sits old core.seat → needs helper old
+      → CoreAgrees (means.setup old) (means.place core.seat) (means.view old core.seat) core → after ≡ core → new ≡ old → left ≡ helper
+      → CoreLeft means needs helper old core left new after
   left_stays helper old core left new after there needed agrees after_is new_is left_is =
-      subst (λ (h : H). CoreLeft setup sits place view serves service_view needs helper old core h new after) (sym left_is)
-      (subst (λ (t : T). CoreLeft setup sits place view serves service_view needs helper old core helper t after) (sym new_is)
-      (subst (λ (c : WriterCore W). CoreLeft setup sits place view serves service_view needs helper old core helper old c) (sym after_is)
+      subst (λ (h : H). CoreLeft means needs helper old core h new after) (sym left_is)
+      (subst (λ (t : T). CoreLeft means needs helper old core helper t after) (sym new_is)
+      (subst (λ (c : WriterCore W). CoreLeft means needs helper old core helper old c) (sym after_is)
       (left_same helper old core there needed agrees)))
 
   -- a field call
   pub left_written : (helper : H) (old : T) (core : WriterCore W) (steps : ℕ) (left : H) (new : T) (after : WriterCore W) (later : ℕ) (call : Call) (change : Packet → Packet)
-      → sits old core.seat → needs helper old → CoreAgrees (setup old) (place core.seat) (view old core.seat) core → in_packet (view old core.seat) ≡ true
-      → ((account : Account) → noted account call ≡ on_newest change account) → KeepsFate change → is_possible (packets_of (view old core.seat).calls) call ≡ true
-      → Agrees (setup old) (place core.seat) (view new after.seat) after.writer
+      → means.sits old core.seat → needs helper old → CoreAgrees (means.setup old) (means.place core.seat) (means.view old core.seat) core → in_packet (means.view old core.seat) ≡ true
+      → ((account : Account) → noted account call ≡ on_newest change account) → KeepsFate change → is_possible (packets_of (means.view old core.seat).calls) call ≡ true
+      → Agrees (means.setup old) (means.place core.seat) (means.view new after.seat) after.writer
       → (is_stalled core ≡ true → (after ≡ core) × (new ≡ old) × (left ≡ helper))
       → (is_stalled core ≡ false → (stopped : Bool)
-      × IsAsked setup sits place view serves service_view told needs helps core.writer.route helper old core.seat steps stopped (written_as stopped core.writer.route.spec.policy call)
+      × IsAsked means needs helps core.writer.route helper old core.seat steps stopped (written_as stopped core.writer.route.spec.policy call)
       (is_stalled after) left new after.seat later
-      × (stopped ≡ true → newest_is_lost (packets_of (view old core.seat).calls) ≡ false))
-      → CoreLeft setup sits place view serves service_view needs helper old core left new after × (in_packet (view new after.seat) ≡ true)
+      × (stopped ≡ true → newest_is_lost (packets_of (means.view old core.seat).calls) ≡ false))
+      → CoreLeft means needs helper old core left new after × (in_packet (means.view new after.seat) ≡ true)
   left_written helper old core steps left new after later call change there needed ok writes noted_is keeps possible agrees waits done =
       either_way (is_stalled core) (λ goes. goes_on (done goes)) (λ stalled. same (waits stalled))
     where
-      same : (after ≡ core) × (new ≡ old) × (left ≡ helper) → CoreLeft setup sits place view serves service_view needs helper old core left new after × (in_packet (view new after.seat) ≡ true)
+      same : (after ≡ core) × (new ≡ old) × (left ≡ helper) → CoreLeft means needs helper old core left new after × (in_packet (means.view new after.seat) ≡ true)
       same is = (
         left_stays helper old core left new after there needed ok is.0 is.1 is.2,
-        ap (λ (t : T). in_packet (view t after.seat)) is.1 ∙ ap (λ (c : WriterCore W). in_packet (view old c.seat)) is.0 ∙ writes,
+        ap (λ (t : T). in_packet (means.view t after.seat)) is.1 ∙ ap (λ (c : WriterCore W). in_packet (means.view old c.seat)) is.0 ∙ writes,
       )
 
       goes_on : (stopped : Bool)
-          × IsAsked setup sits place view serves service_view told needs helps core.writer.route helper old core.seat steps stopped (written_as stopped core.writer.route.spec.policy call)
+          × IsAsked means needs helps core.writer.route helper old core.seat steps stopped (written_as stopped core.writer.route.spec.policy call)
           (is_stalled after) left new after.seat later
-          × (stopped ≡ true → newest_is_lost (packets_of (view old core.seat).calls) ≡ false)
-          → CoreLeft setup sits place view serves service_view needs helper old core left new after × (in_packet (view new after.seat) ≡ true)
+          × (stopped ≡ true → newest_is_lost (packets_of (means.view old core.seat).calls) ≡ false)
+          → CoreLeft means needs helper old core left new after × (in_packet (means.view new after.seat) ≡ true)
       goes_on d =
           let policy = core.writer.route.spec.policy in
-          let inside : in_packet (view new after.seat) ≡ true =
-          written_in (view old core.seat) (view new after.seat) call change policy d.0 noted_is keeps.finished d.1.notes ∙ writes in (
+          let inside : in_packet (means.view new after.seat) ≡ true =
+          written_in (means.view old core.seat) (means.view new after.seat) call change policy d.0 noted_is keeps.finished d.1.notes ∙ writes in (
             record {
               agrees = record {
                 writes = agrees;
-                claims = claims_kept setup sits place view serves service_view told needs helps (setup old) (place core.seat) core.writer.route helper old core.seat steps d.0 (written_as d.0 policy call) (is_stalled after) left new after.seat later
-                    ok.writes.route.range d.1 (field_loses (view old core.seat) (view new after.seat) call change policy d.0 noted_is keeps d.1.notes) ok.claims;
-                possible = field_possible (view old core.seat) (view new after.seat) call change policy d.0 noted_is keeps possible writes d.1.notes d.2 ok.possible;
-                holds = inside_holds (setup old) (place core.seat) (view new after.seat) after.writer agrees inside;
+                claims = claims_kept means needs helps (means.setup old) (means.place core.seat) core.writer.route helper old core.seat steps d.0 (written_as d.0 policy call) (is_stalled after) left new after.seat later
+                    ok.writes.route.range d.1 (field_loses (means.view old core.seat) (means.view new after.seat) call change policy d.0 noted_is keeps d.1.notes) ok.claims;
+                possible = field_possible (means.view old core.seat) (means.view new after.seat) call change policy d.0 noted_is keeps possible writes d.1.notes d.2 ok.possible;
+                holds = inside_holds (means.setup old) (means.place core.seat) (means.view new after.seat) after.writer agrees inside;
               };
               needed = d.1.needed;
               others = d.1.others;
-              alone = asked_drops setup sits place view serves service_view told needs helps core.writer.route helper old core.seat steps d.0 (written_as d.0 policy call) (is_stalled after) left new after.seat later there d.1;
+              alone = asked_drops means needs helps core.writer.route helper old core.seat steps d.0 (written_as d.0 policy call) (is_stalled after) left new after.seat later there d.1;
             },
             inside,
           )
@@ -133,47 +131,47 @@ module _ {H T W S : Type 0} (setup : T → Setup) (sits : T → W → Type 0) (p
       → ((account : Account) → noted account call ≡ on_newest change account) → KeepsOpen change
       → (is_stalled core ≡ true → (after ≡ core) × (new ≡ old) × (left ≡ helper))
       → (is_stalled core ≡ false → (stopped : Bool)
-      × IsAsked setup sits place view serves service_view told needs helps core.writer.route helper old core.seat steps stopped (written_as stopped core.writer.route.spec.policy call)
+      × IsAsked means needs helps core.writer.route helper old core.seat steps stopped (written_as stopped core.writer.route.spec.policy call)
       (is_stalled after) left new after.seat later
-      × (stopped ≡ true → newest_is_lost (packets_of (view old core.seat).calls) ≡ false))
-      → open_depth (view new after.seat) ≡ open_depth (view old core.seat)
+      × (stopped ≡ true → newest_is_lost (packets_of (means.view old core.seat).calls) ≡ false))
+      → open_depth (means.view new after.seat) ≡ open_depth (means.view old core.seat)
   deep_written helper old core steps left new after later call change noted_is keeps waits done =
       either_way (is_stalled core)
-      (λ goes. let d = done goes in written_deep (view old core.seat) (view new after.seat) call change core.writer.route.spec.policy d.0 noted_is keeps d.1.notes)
-      (λ stalled. let is = waits stalled in ap (λ (t : T). open_depth (view t after.seat)) is.1 ∙ ap (λ (c : WriterCore W). open_depth (view old c.seat)) is.0)
+      (λ goes. let d = done goes in written_deep (means.view old core.seat) (means.view new after.seat) call change core.writer.route.spec.policy d.0 noted_is keeps d.1.notes)
+      (λ stalled. let is = waits stalled in ap (λ (t : T). open_depth (means.view t after.seat)) is.1 ∙ ap (λ (c : WriterCore W). open_depth (means.view old c.seat)) is.0)
 
   -- a packet's begin
   pub left_begun : (helper : H) (old : T) (core : WriterCore W) (steps : ℕ) (stopped : Bool) (left : H) (new : T) (after : WriterCore W) (later : ℕ)
-      → sits old core.seat → needs helper old → CoreAgrees (setup old) (place core.seat) (view old core.seat) core → in_packet (view old core.seat) ≡ false
-      → Agrees (setup old) (place core.seat) (view new after.seat) after.writer
+      → means.sits old core.seat → needs helper old → CoreAgrees (means.setup old) (means.place core.seat) (means.view old core.seat) core → in_packet (means.view old core.seat) ≡ false
+      → Agrees (means.setup old) (means.place core.seat) (means.view new after.seat) after.writer
       → (is_stalled core ≡ true → (after ≡ core) × (new ≡ old) × (left ≡ helper))
       → (is_stalled core ≡ false
-      → IsAsked setup sits place view serves service_view told needs helps core.writer.route helper old core.seat steps stopped (begun_as stopped core.writer.route.spec.policy)
+      → IsAsked means needs helps core.writer.route helper old core.seat steps stopped (begun_as stopped core.writer.route.spec.policy)
       (is_stalled after) left new after.seat later)
-      → CoreLeft setup sits place view serves service_view needs helper old core left new after
+      → CoreLeft means needs helper old core left new after
   left_begun helper old core steps stopped left new after later there needed ok none agrees waits done =
       either_way (is_stalled core) (λ goes. goes_on (done goes)) (λ stalled. same (waits stalled))
     where
-      same : (after ≡ core) × (new ≡ old) × (left ≡ helper) → CoreLeft setup sits place view serves service_view needs helper old core left new after
+      same : (after ≡ core) × (new ≡ old) × (left ≡ helper) → CoreLeft means needs helper old core left new after
       same is = left_stays helper old core left new after there needed ok is.0 is.1 is.2
 
-      goes_on : IsAsked setup sits place view serves service_view told needs helps core.writer.route helper old core.seat steps stopped (begun_as stopped core.writer.route.spec.policy)
+      goes_on : IsAsked means needs helps core.writer.route helper old core.seat steps stopped (begun_as stopped core.writer.route.spec.policy)
           (is_stalled after) left new after.seat later
-          → CoreLeft setup sits place view serves service_view needs helper old core left new after
+          → CoreLeft means needs helper old core left new after
       goes_on d =
           let policy = core.writer.route.spec.policy in
           record {
             agrees = record {
               writes = agrees;
-              claims = claims_kept setup sits place view serves service_view told needs helps (setup old) (place core.seat) core.writer.route helper old core.seat steps stopped (begun_as stopped policy) (is_stalled after) left new after.seat later
-                  ok.writes.route.range d (begin_loses (view old core.seat) (view new after.seat) policy stopped d.notes) ok.claims;
-              possible = begin_possible (view old core.seat) (view new after.seat) policy stopped none d.notes ok.possible;
-              holds = λ goes. inside_holds (setup old) (place core.seat) (view new after.seat) after.writer agrees
-                  (begins_in (view old core.seat) (view new after.seat) policy stopped (is_stalled after) d.notes d.stalls goes).0 goes;
+              claims = claims_kept means needs helps (means.setup old) (means.place core.seat) core.writer.route helper old core.seat steps stopped (begun_as stopped policy) (is_stalled after) left new after.seat later
+                  ok.writes.route.range d (begin_loses (means.view old core.seat) (means.view new after.seat) policy stopped d.notes) ok.claims;
+              possible = begin_possible (means.view old core.seat) (means.view new after.seat) policy stopped none d.notes ok.possible;
+              holds = λ goes. inside_holds (means.setup old) (means.place core.seat) (means.view new after.seat) after.writer agrees
+                  (begins_in (means.view old core.seat) (means.view new after.seat) policy stopped (is_stalled after) d.notes d.stalls goes).0 goes;
             };
             needed = d.needed;
             others = d.others;
-            alone = asked_drops setup sits place view serves service_view told needs helps core.writer.route helper old core.seat steps stopped (begun_as stopped policy) (is_stalled after) left new after.seat later there d;
+            alone = asked_drops means needs helps core.writer.route helper old core.seat steps stopped (begun_as stopped policy) (is_stalled after) left new after.seat later there d;
           }
 
   -- a packet that was begun is inside, and no message is open in it
@@ -181,11 +179,11 @@ module _ {H T W S : Type 0} (setup : T → Setup) (sits : T → W → Type 0) (p
       → (is_stalled core ≡ true → answer ≡ Err fault_of.Stalled)
       → (is_stalled core ≡ false → MatchResult answer (λ _. is_stalled after ≡ false) (λ fault. (fault ≡ fault_of.Stalled) × (is_stalled after ≡ true)))
       → (is_stalled core ≡ false
-      → IsAsked setup sits place view serves service_view told needs helps core.writer.route helper old core.seat steps (stops_with answer) (begun_as (stops_with answer) core.writer.route.spec.policy)
+      → IsAsked means needs helps core.writer.route helper old core.seat steps (stops_with answer) (begun_as (stops_with answer) core.writer.route.spec.policy)
       (is_stalled after) left new after.seat later)
-      → IfOk answer (λ _. in_packet (view new after.seat) ≡ true) × IfOk answer (λ _. open_depth (view new after.seat) ≡ 0)
+      → IfOk answer (λ _. in_packet (means.view new after.seat) ≡ true) × IfOk answer (λ _. open_depth (means.view new after.seat) ≡ 0)
   begun_inside helper old core steps left new after later (Err fault) waits answers done = (tt, tt)
   begun_inside helper old core steps left new after later (Ok begun) waits answers done =
       either_way (is_stalled core)
-      (λ goes. let d = done goes in begins_in (view old core.seat) (view new after.seat) core.writer.route.spec.policy (stops_with (Ok begun)) (is_stalled after) d.notes d.stalls (answers goes))
+      (λ goes. let d = done goes in begins_in (means.view old core.seat) (means.view new after.seat) core.writer.route.spec.policy (stops_with (Ok begun)) (is_stalled after) d.notes d.stalls (answers goes))
       (λ stalled. absurd (let wrong : Ok begun ≡ Err fault_of.Stalled = waits stalled in cc))

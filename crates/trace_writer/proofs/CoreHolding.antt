@@ -3,8 +3,9 @@ use Rattle.std.proofs.Common.{◌≡◌, ◌∙◌, ℕ, ◌<◌, ◌||◌, Bool
 use Rattle.trace_model.specs.Calls.{Ended, Finished, Flushed}
 use Rattle.trace_model.specs.Packets.{Packet, Account, account_of, packets_of, on_newest, finished_packet, newest_is_lost, is_lost, is_writing}
 use Rattle.commit_body.specs.Pending.{Pending}
-use Rattle.chunk_plain.specs.Setup.{Setup}
 use Rattle.chunk_plain.specs.Views.{WriterView, ServiceView}
+use Rattle.chunk_plain.specs.Meaning.{Meaning}
+use Rattle.chunk_plain.specs.Setup.{Setup}
 use Rattle.chunk_plain.specs.World.{World}
 use Rattle.trace_writer.specs.declared.packet.OpenPacket.{OpenPacket}
 use Rattle.trace_writer.specs.declared.state.State.{State}
@@ -72,54 +73,53 @@ flushed_holds account = by account.packets
     by [] = refl
     by (packet ∷ older) = ap not (or_true (is_lost packet))
 
-module _ {T W S : Type 0} (setup : T → Setup) (sits : T → W → Type 0) (place : W → ℕ) (view : T → W → WriterView)
-    (serves : T → S → Type 0) (service_view : T → S → ServiceView) (told : T → Option World) where
+module _ {T W S : Type 0} (means : Meaning T W S) where
   -- a stalled writer's call leaves all
-  pub core_still : (old : T) (core : WriterCore W) (new : T) (after : WriterCore W) → CoreAgrees (setup old) (place core.seat) (view old core.seat) core → after ≡ core → new ≡ old
-      → CoreAgrees (setup old) (place core.seat) (view new after.seat) after
+  pub core_still : (old : T) (core : WriterCore W) (new : T) (after : WriterCore W) → CoreAgrees (means.setup old) (means.place core.seat) (means.view old core.seat) core → after ≡ core → new ≡ old
+      → CoreAgrees (means.setup old) (means.place core.seat) (means.view new after.seat) after
   core_still old core new after ok after_is new_is =
-      subst (λ (t : T). CoreAgrees (setup old) (place core.seat) (view t after.seat) after) (sym new_is)
-      (subst (λ (c : WriterCore W). CoreAgrees (setup old) (place core.seat) (view old c.seat) c) (sym after_is) ok)
+      subst (λ (t : T). CoreAgrees (means.setup old) (means.place core.seat) (means.view t after.seat) after) (sym new_is)
+      (subst (λ (c : WriterCore W). CoreAgrees (means.setup old) (means.place core.seat) (means.view old c.seat) c) (sym after_is) ok)
 
-  pub core_ended : (old : T) (core : WriterCore W) (new : T) (after : WriterCore W) → CoreAgrees (setup old) (place core.seat) (view old core.seat) core
-      → 0 < open_depth (view old core.seat) → IsQuiet setup sits place view serves service_view told old core.seat new after.seat
-      → Agrees (setup old) (place core.seat) (view new after.seat) after.writer → (view new after.seat).calls ≡ (view old core.seat).calls ++ Ended ∷ []
-      → CoreAgrees (setup old) (place core.seat) (view new after.seat) after
+  pub core_ended : (old : T) (core : WriterCore W) (new : T) (after : WriterCore W) → CoreAgrees (means.setup old) (means.place core.seat) (means.view old core.seat) core
+      → 0 < open_depth (means.view old core.seat) → IsQuiet means old core.seat new after.seat
+      → Agrees (means.setup old) (means.place core.seat) (means.view new after.seat) after.writer → (means.view new after.seat).calls ≡ (means.view old core.seat).calls ++ Ended ∷ []
+      → CoreAgrees (means.setup old) (means.place core.seat) (means.view new after.seat) after
   core_ended old core new after ok deep quiet agrees notes =
-      let was = view old core.seat in let is = view new after.seat in record {
+      let was = means.view old core.seat in let is = means.view new after.seat in record {
         writes = agrees;
-        claims = claims_quiet setup sits place view serves service_view told (setup old) (place core.seat) old core.seat new after.seat quiet (ended_loses was is notes) ok.claims;
+        claims = claims_quiet means (means.setup old) (means.place core.seat) old core.seat new after.seat quiet (ended_loses was is notes) ok.claims;
         possible = ended_possible was is notes (deep_writing was deep) deep ok.possible;
-        holds = inside_holds (setup old) (place core.seat) is after.writer agrees (ended_in was is notes deep).0;
+        holds = inside_holds (means.setup old) (means.place core.seat) is after.writer agrees (ended_in was is notes deep).0;
       }
 
-  pub core_finished : (old : T) (core : WriterCore W) (new : T) (after : WriterCore W) → CoreAgrees (setup old) (place core.seat) (view old core.seat) core
-      → in_packet (view old core.seat) ≡ true → open_depth (view old core.seat) ≡ 0 → is_stalled core ≡ false
-      → IsQuiet setup sits place view serves service_view told old core.seat new after.seat
-      → Agrees (setup old) (place core.seat) (view new after.seat) after.writer → (view new after.seat).calls ≡ (view old core.seat).calls ++ Finished ∷ []
-      → is_empty after.writer.state ≡ after.writer.follows_loss → CoreAgrees (setup old) (place core.seat) (view new after.seat) after
+  pub core_finished : (old : T) (core : WriterCore W) (new : T) (after : WriterCore W) → CoreAgrees (means.setup old) (means.place core.seat) (means.view old core.seat) core
+      → in_packet (means.view old core.seat) ≡ true → open_depth (means.view old core.seat) ≡ 0 → is_stalled core ≡ false
+      → IsQuiet means old core.seat new after.seat
+      → Agrees (means.setup old) (means.place core.seat) (means.view new after.seat) after.writer → (means.view new after.seat).calls ≡ (means.view old core.seat).calls ++ Finished ∷ []
+      → is_empty after.writer.state ≡ after.writer.follows_loss → CoreAgrees (means.setup old) (means.place core.seat) (means.view new after.seat) after
   core_finished old core new after ok writes shallow goes quiet agrees notes held =
-      let was = view old core.seat in let is = view new after.seat in
+      let was = means.view old core.seat in let is = means.view new after.seat in
       let account : account_of is.calls ≡ on_newest finished_packet (account_of was.calls) = ap account_of notes ∙ account_one was.calls Finished in
       record {
         writes = agrees;
-        claims = claims_quiet setup sits place view serves service_view told (setup old) (place core.seat) old core.seat new after.seat quiet (finished_loses was is notes) ok.claims;
+        claims = claims_quiet means (means.setup old) (means.place core.seat) old core.seat new after.seat quiet (finished_loses was is notes) ok.claims;
         possible = finished_possible was is notes writes shallow ok.possible;
         holds = λ still. finished_holds (packets_of was.calls) (account_of was.calls).flushed (is_empty after.writer.state)
-            (unflushed_is (site_of (setup old) (place core.seat) core.writer.route) (account_of was.calls) was core.writer.pending core.writer.packet core.writer.state ok.writes.state
-            (ok.writes.inside ∙ begun_is_writing (setup old) (place core.seat) was core.writer ok.writes ∙ writes) goes) writes
-            (held ∙ agrees.follows (begun_is_writing (setup old) (place core.seat) is after.writer agrees ∙ finished_out was is notes) ∙ ap (λ (a : Account). newest_is_lost a.packets) account)
+            (unflushed_is (site_of (means.setup old) (means.place core.seat) core.writer.route) (account_of was.calls) was core.writer.pending core.writer.packet core.writer.state ok.writes.state
+            (ok.writes.inside ∙ begun_is_writing (means.setup old) (means.place core.seat) was core.writer ok.writes ∙ writes) goes) writes
+            (held ∙ agrees.follows (begun_is_writing (means.setup old) (means.place core.seat) is after.writer agrees ∙ finished_out was is notes) ∙ ap (λ (a : Account). newest_is_lost a.packets) account)
             ∙ sym (ap holds_newest account);
       }
 
-  pub core_flushed : (old : T) (core : WriterCore W) (new : T) (after : WriterCore W) → CoreAgrees (setup old) (place core.seat) (view old core.seat) core
-      → in_packet (view old core.seat) ≡ false → IsQuiet setup sits place view serves service_view told old core.seat new after.seat
-      → Agrees (setup old) (place core.seat) (view new after.seat) after.writer → (view new after.seat).calls ≡ (view old core.seat).calls ++ Flushed ∷ []
-      → is_empty after.writer.state ≡ true → CoreAgrees (setup old) (place core.seat) (view new after.seat) after
+  pub core_flushed : (old : T) (core : WriterCore W) (new : T) (after : WriterCore W) → CoreAgrees (means.setup old) (means.place core.seat) (means.view old core.seat) core
+      → in_packet (means.view old core.seat) ≡ false → IsQuiet means old core.seat new after.seat
+      → Agrees (means.setup old) (means.place core.seat) (means.view new after.seat) after.writer → (means.view new after.seat).calls ≡ (means.view old core.seat).calls ++ Flushed ∷ []
+      → is_empty after.writer.state ≡ true → CoreAgrees (means.setup old) (means.place core.seat) (means.view new after.seat) after
   core_flushed old core new after ok none quiet agrees notes empty =
-      let was = view old core.seat in let is = view new after.seat in record {
+      let was = means.view old core.seat in let is = means.view new after.seat in record {
         writes = agrees;
-        claims = claims_quiet setup sits place view serves service_view told (setup old) (place core.seat) old core.seat new after.seat quiet (flushed_loses was is notes) ok.claims;
+        claims = claims_quiet means (means.setup old) (means.place core.seat) old core.seat new after.seat quiet (flushed_loses was is notes) ok.claims;
         possible = flushed_possible was is notes none ok.possible;
         holds = λ still. ap not empty ∙ sym (ap holds_newest (ap account_of notes ∙ account_one was.calls Flushed) ∙ flushed_holds (account_of was.calls));
       }

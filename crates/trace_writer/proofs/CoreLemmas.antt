@@ -10,7 +10,7 @@ use Rattle.trace_model.specs.Encoding.{bytes_head, bytes_field, nested_tag}
 use Rattle.trace_model.specs.Pages.{Page}
 use Rattle.trace_model.specs.Packets.{Packet, Account, account_of, on_newest, with_more, packets_of, body_of, front_of, is_writing}
 use Rattle.chunk_plain.specs.Setup.{Setup}
-use Rattle.chunk_plain.specs.Views.{Begun, Held, Completed, Head, WriterView}
+use Rattle.chunk_plain.specs.Views.{Begun, Held, Completed, WriterView, Draft}
 use Rattle.trace_writer.specs.declared.fault.CallFault.{CallFault}
 use Rattle.trace_writer.specs.declared.fault.CallFault.TheVariants.{Reserved, TooDeep, PacketTooLong}
 use Rattle.trace_writer.specs.declared.chunk.HeldChunk.{HeldChunk}
@@ -21,7 +21,7 @@ use Rattle.trace_writer.specs.declared.state.Writer.{Writer}
 use Rattle.trace_writer.specs.Refusals.{field_refusal, nested_refusal}
 use Rattle.trace_writer.specs.Agreement.{Agrees, StateAgrees, IsInPacketOf, is_begun, len_of, depth_of}
 use Rattle.trace_writer.specs.Core.{in_packet, newest_depth, newest_len, open_depth, field_fault, nested_fault}
-use Rattle.trace_writer.specs.Outcomes.{completed_images}
+use Rattle.chunk_plain.specs.Histories.{completed_images}
 use Rattle.trace_writer.specs.Filled.{ShowsPages}
 use Rattle.trace_writer.specs.Headers.{held_head}
 use Rattle.trace_writer.specs.Site.{Site, site_of}
@@ -170,7 +170,7 @@ pub record CountsHeld (id : ℕ) (begun : List Begun) : Type 0 where
   pub begun_is : length begun ≡ id + 1
   pub completed_is : id ≡ length (completed_images begun)
 
-counts_held : (site : Site) (id chunk : ℕ) (head : Head) (begun completed : List Begun) (pages : List Page) → begun ≡ completed ++ Held chunk head ∷ []
+counts_held : (site : Site) (id chunk : ℕ) (head : Draft) (begun completed : List Begun) (pages : List Page) → begun ≡ completed ++ Held chunk head ∷ []
     → ShowsPages site 0 completed pages → id ≡ length pages → CountsHeld id begun
 counts_held site id chunk head begun completed pages is shown id_is =
     let long : length completed ≡ length pages = shows_long site 0 completed pages shown in
@@ -184,13 +184,13 @@ pub between_counts : (setup : Setup) (place : ℕ) (view : WriterView) (writer :
     → Agrees setup place view writer → CountsHeld chunk.held.id view.begun
 between_counts setup place view writer chunk state agrees =
     let behind = subst (StateAgrees (site_of setup place writer.route) (account_of view.calls) view writer.pending) state agrees.state in
-    counts_held (site_of setup place writer.route) chunk.held.id chunk.held.chunk (held_head chunk.count chunk.continues) view.begun behind.completed behind.pages behind.begun behind.shown behind.id
+    counts_held (site_of setup place writer.route) chunk.held.id chunk.held.chunk behind.draft view.begun behind.completed behind.pages behind.begun behind.shown behind.id
 
 pub writing_counts : (setup : Setup) (place : ℕ) (view : WriterView) (writer : Writer) (fragment : OpenFragment) → writer.state ≡ Writing fragment
     → Agrees setup place view writer → CountsHeld fragment.held.id view.begun
 writing_counts setup place view writer fragment state agrees =
     let into = subst (StateAgrees (site_of setup place writer.route) (account_of view.calls) view writer.pending) state agrees.state in
-    counts_held (site_of setup place writer.route) fragment.held.id fragment.held.chunk (held_head fragment.count fragment.continues) view.begun into.inside.completed into.inside.pages
+    counts_held (site_of setup place writer.route) fragment.held.id fragment.held.chunk into.inside.draft view.begun into.inside.completed into.inside.pages
     into.inside.begun into.inside.shown into.inside.id
 
 -- and where none is held

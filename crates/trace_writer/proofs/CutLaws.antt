@@ -11,7 +11,7 @@ use Rattle.commit_body.specs.declared.hole.Hole.{Hole}
 use Rattle.commit_body.specs.Patches.{hole_chunks, with_lasts}
 use Rattle.commit_body.specs.Pending.{Pending}
 use Rattle.chunk_plain.specs.Setup.{Setup}
-use Rattle.chunk_plain.specs.Views.{Begun, Held, Completed, Head, Content, WriterView}
+use Rattle.chunk_plain.specs.Views.{Begun, Held, Completed, Content, WriterView, Draft}
 use Rattle.cut_steps.specs.RawChains.{raw_chains, page_with, offset_behind}
 use Rattle.cut_steps.specs.Between.{IsBetween}
 use Rattle.cut_steps.proofs.RawCutLemmas.{raw_cut_is_cut}
@@ -30,7 +30,8 @@ use Rattle.trace_writer.specs.Filled.{ShowsPages, HasByte}
 use Rattle.trace_writer.specs.States.{InFragment, IsIdle, IsBehind, IsStuck}
 use Rattle.trace_writer.specs.Agreement.{StateAgrees, IsInPacketOf, is_begun, is_inside}
 use Rattle.trace_writer.specs.Laws.{AgreeingIsCut}
-use Rattle.trace_writer.specs.Outcomes.{completed_images, completed_patches, held_image, fragment_payload, held_images, held_patches, HasCut}
+use Rattle.chunk_plain.specs.Histories.{completed_images, completed_patches}
+use Rattle.trace_writer.specs.Outcomes.{held_image, fragment_payload, held_images, held_patches, HasCut}
 use Rattle.trace_writer.proofs.Finishing.{laid_all}
 use Rattle.trace_writer.proofs.Holes.{lasts_reverse}
 use Rattle.trace_writer.proofs.Idling.{ended_page}
@@ -63,12 +64,12 @@ shown_patches site id (Completed chunk content ∷ begun) (page ∷ pages) shown
     ∙ ap (λ (lists : List (List Patch)). page.patches ∷ lists) (shown_patches site (suc id) begun pages shown.1)
 
 -- a held chunk behind them is none of them
-pub images_held : (completed : List Begun) (chunk : ℕ) (head : Head) → completed_images (completed ++ Held chunk head ∷ []) ≡ completed_images completed
+pub images_held : (completed : List Begun) (chunk : ℕ) (head : Draft) → completed_images (completed ++ Held chunk head ∷ []) ≡ completed_images completed
 images_held [] chunk head = refl
 images_held (Held c h ∷ begun) chunk head = images_held begun chunk head
 images_held (Completed c content ∷ begun) chunk head = ap (λ (images : List Image). content.image ∷ images) (images_held begun chunk head)
 
-patches_held : (completed : List Begun) (chunk : ℕ) (head : Head) → completed_patches (completed ++ Held chunk head ∷ []) ≡ completed_patches completed
+patches_held : (completed : List Begun) (chunk : ℕ) (head : Draft) → completed_patches (completed ++ Held chunk head ∷ []) ≡ completed_patches completed
 patches_held [] chunk head = refl
 patches_held (Held c h ∷ begun) chunk head = patches_held begun chunk head
 patches_held (Completed c content ∷ begun) chunk head = ap (λ (lists : List (List Patch)). content.patches ∷ lists) (patches_held begun chunk head)
@@ -110,7 +111,7 @@ stuck_cut site view stuck = record {
 
 -- A chunk is held: it is the last page
 
-held_cut : (site : Site) (view : WriterView) (completed : List Begun) (pages : List Page) (page : Page) (chunk id : ℕ) (head : Head) (image : Image)
+held_cut : (site : Site) (view : WriterView) (completed : List Begun) (pages : List Page) (page : Page) (chunk id : ℕ) (head : Draft) (image : Image)
     → view.begun ≡ completed ++ Held chunk head ∷ [] → ShowsPages site 0 completed pages → id ≡ length pages → image ≡ image_of (site.place + 2) id page
     → CutsInto site.size (account_of view.calls).packets (pages ++ page ∷ [])
     → HasCut site.size (site.place + 2) view.calls (completed_images view.begun ++ image ∷ []) (completed_patches view.begun ++ page.patches ∷ []) (image ∷ [])
@@ -157,7 +158,7 @@ between_is_cut site view pending chunk behind =
       whole = ap length (sym payload_is) ∙ sym chunk.held.body.payload.ok.0 ∙ behind.whole;
       dropped = λ marked. absurd (cc);
     } in
-    held_cut site view behind.completed behind.pages page chunk.held.chunk chunk.held.id (held_head chunk.count chunk.continues)
+    held_cut site view behind.completed behind.pages page chunk.held.chunk chunk.held.id behind.draft
     (held_image site.place chunk.held.id chunk.count chunk.continues chunk.held.body.payload.items) behind.begun behind.shown behind.id
     (held_image_is site chunk.held.id chunk.count chunk.held.body.payload.items chunk.continues fragments behind.filled.rest patches behind.filled.count_is payload_is)
     (raw_cut_is_cut site.size packets (behind.pages ++ page ∷ [])
@@ -182,7 +183,7 @@ writing_is_cut site view pending fragment packet older packets inside byte =
     let run = full_run payload fragment.start fragment.at fragment.count site.size inside.done inside.now fragment.continues false patches inside.written
     (sym fragment.held.body.payload.ok.0 ∙ inside.whole) fragment.few in
     let full : IsFull site.size page = record { some = run.some; most = run.most; whole = run.whole; dropped = λ marked. absurd (cc) } in
-    held_cut site view inside.completed inside.pages page fragment.held.chunk fragment.held.id (held_head fragment.count fragment.continues)
+    held_cut site view inside.completed inside.pages page fragment.held.chunk fragment.held.id inside.draft
     (held_image site.place fragment.held.id fragment.count fragment.continues (fragment_payload fragment)) inside.begun inside.shown inside.id
     (held_image_is site fragment.held.id fragment.count (fragment_payload fragment) fragment.continues fragments inside.written.rest patches count_is payload_is)
     (subst (λ (ps : List Packet). CutsInto site.size ps (inside.pages ++ page ∷ [])) (sym packets)

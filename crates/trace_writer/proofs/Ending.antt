@@ -1,12 +1,14 @@
 -- A writer that agrees with its view ends a lost packet, or its held chunk.
-use Rattle.std.proofs.Common.{◌≡◌, ◌∙◌, ℕ, ◌+◌, ◌≤◌, true, false, inl, Option, None, List, [], ◌∷◌, ◌++◌, length, refl, sym, ap, subst, arith, length-append}
+use Rattle.std.proofs.Common.{◌≡◌, ◌∙◌, ℕ, ◌+◌, ◌≤◌, true, false, inl, Option, None, List, [], ◌∷◌, ◌++◌, length, vec_len, ◌-◌, refl, sym, ap, subst, arith, append_assoc, length-append}
+use Rattle.std.proofs.lemmas.List.Concat.{flat_map-append}
 use Rattle.trace_model.specs.Calls.{Finished, Flushed}
+use Rattle.trace_model.specs.Pages.{framed}
 use Rattle.trace_model.specs.Packets.{Packet, Account, account_of, finished_packet, is_writing, newest_is_lost}
 use Rattle.commit_body.specs.Pending.{Pending}
 use Rattle.chunk_plain.specs.Setup.{Setup}
-use Rattle.chunk_plain.specs.Views.{Head, Held, WriterView}
-use Rattle.chunk_plain.specs.Steps.{restamps, completes, notes_call}
-use Rattle.chunk_plain.specs.Words.{IsHolding, head_at}
+use Rattle.chunk_plain.specs.Views.{Draft, Held, WriterView}
+use Rattle.chunk_plain.specs.Drafts.{IsHolding, head_at}
+use Rattle.chunk_plain.specs.Steps.{redrafts, completes, notes_call}
 use Rattle.trace_writer.specs.declared.chunk.HeldChunk.{HeldChunk}
 use Rattle.trace_writer.specs.declared.packet.OpenPacket.{OpenPacket}
 use Rattle.trace_writer.specs.declared.route.Route.{Route}
@@ -14,11 +16,14 @@ use Rattle.trace_writer.specs.declared.state.State.{State}
 use Rattle.trace_writer.specs.declared.state.State.TheVariants.{Idle, Between, Dropping}
 use Rattle.trace_writer.specs.declared.state.Writer.{Writer}
 use Rattle.trace_writer.specs.Headers.{held_head}
+use Rattle.trace_writer.specs.Filled.{frames}
+use Rattle.trace_writer.specs.Drafted.{IsFit}
 use Rattle.trace_writer.specs.Site.{Site, IsRoute, site_of}
 use Rattle.trace_writer.specs.States.{IsIdle, IsBehind}
 use Rattle.trace_writer.specs.Agreement.{Agrees, StateAgrees, IsThrownAway, IsInPacketOf, is_begun, is_inside, counted}
 use Rattle.trace_writer.proofs.Accounts.{dropped_in, dropped-changed, account_one, on_newest-packets, account_is}
-use Rattle.trace_writer.proofs.Seats.{holds_here, head_here, shows_long}
+use Rattle.trace_writer.proofs.Seats.{draft_here, shows_long}
+use Rattle.trace_writer.proofs.Publishing.{fits}
 use Rattle.trace_writer.proofs.Idling.{newest_of, changed_idle, flushed_idle, completed_idle, behind_content, begun_one_more, flushed_fresh}
 
 -- a lost packet is finished
@@ -84,24 +89,24 @@ flush_idle setup place view new writer after next_id state none notes is agrees 
     (flushed_agrees setup place view new writer (record writer { state = Idle next_id }) next_id writer.pending none (ap (λ (v : WriterView). v.calls) notes) refl refl refl refl refl refl refl
     (w.0 ∙ sym (ap length begun)) (flushed_idle site (account_of view.calls) view new writer.pending begun w.1) agrees)
 
-pub flush_held : (setup : Setup) (place : ℕ) (view between new : WriterView) (writer after : Writer) (pending : Pending) (chunk : HeldChunk) (head : Head) (next_id : ℕ)
+pub flush_held : (setup : Setup) (place : ℕ) (view between new : WriterView) (writer after : Writer) (pending : Pending) (chunk : HeldChunk) (next_id : ℕ)
     → writer.state ≡ Between chunk → is_begun writer.packet ≡ false → chunk.count ≤ 1023 → next_id ≡ chunk.held.id + 1
     → pending ≡ record writer.pending { unsent = [] }
-    → between ≡ completes (restamps view chunk.held.chunk chunk.held.id head) chunk.held.chunk chunk.held.id (behind_content (site_of setup place writer.route) writer.pending chunk)
+    → between ≡ completes view chunk.held.chunk chunk.held.id (behind_content (site_of setup place writer.route) writer.pending chunk)
     → new ≡ notes_call between Flushed
     → after ≡ record writer { state = Idle next_id; pending = pending }
     → Agrees setup place view writer → Agrees setup place new after
-flush_held setup place view between new writer after pending chunk head next_id state none few next pending_is completes_it notes is agrees =
+flush_held setup place view between new writer after pending chunk next_id state none few next pending_is completes_it notes is agrees =
     let site : Site = site_of setup place writer.route in
     let behind : IsBehind site (account_of view.calls) view writer.pending chunk = subst (StateAgrees site (account_of view.calls) view writer.pending) state agrees.state in
     let begun : new.begun ≡ between.begun = ap (λ (v : WriterView). v.begun) notes in
     let idle : IsIdle site (record (account_of view.calls) { flushed = true }) new pending =
-    completed_idle site (account_of view.calls) true view between new writer.pending pending chunk head few pending_is completes_it begun (λ chains e. flushed_fresh site.size (account_of view.calls).packets chains) (inl refl) behind in
+    completed_idle site (account_of view.calls) true view between new writer.pending pending chunk few pending_is completes_it begun (λ chains e. flushed_fresh site.size (account_of view.calls).packets chains) (inl refl) behind in
     let calls : new.calls ≡ view.calls ++ Flushed ∷ [] =
     ap (λ (v : WriterView). v.calls) notes ∙ ap (λ (v : WriterView). v.calls ++ Flushed ∷ []) completes_it in
     subst (Agrees setup place new) (sym is)
     (flushed_agrees setup place view new writer (record writer { state = Idle next_id; pending = pending }) next_id pending none calls refl refl refl refl refl refl refl
-    (next ∙ sym (ap length begun ∙ begun_one_more site (account_of view.calls) view between writer.pending chunk head (behind_content site writer.pending chunk) completes_it behind)) idle agrees)
+    (next ∙ sym (ap length begun ∙ begun_one_more site (account_of view.calls) view between writer.pending chunk (behind_content site writer.pending chunk) completes_it behind)) idle agrees)
 
 pub idle_of : (setup : Setup) (place : ℕ) (view : WriterView) (writer : Writer) (next_id : ℕ) → writer.state ≡ Idle next_id → Agrees setup place view writer
     → IsIdle (site_of setup place writer.route) (account_of view.calls) view writer.pending
@@ -114,20 +119,45 @@ pub behind_of : (setup : Setup) (place : ℕ) (view : WriterView) (writer : Writ
     → IsBehind (site_of setup place writer.route) (account_of view.calls) view writer.pending chunk
 behind_of setup place view writer chunk state agrees = subst (StateAgrees (site_of setup place writer.route) (account_of view.calls) view writer.pending) state agrees.state
 
-pub behind_holds : (site : Site) (account : Account) (view : WriterView) (pending : Pending) (chunk : HeldChunk) → IsBehind site account view pending chunk
-    → IsHolding view chunk.held.chunk chunk.held.id
-behind_holds site account view pending chunk behind =
-    holds_here view behind.completed [] chunk.held.chunk chunk.held.id (held_head chunk.count chunk.continues) behind.begun
-    (behind.id ∙ sym (shows_long site 0 behind.completed behind.pages behind.shown))
+-- as it stands, or with its header anew
+pub behind_fits : (site : Site) (account : Account) (view : WriterView) (pending : Pending) (chunk : HeldChunk) → IsBehind site account view pending chunk
+    → IsFit site.setup view chunk (chunk.count - 1) (vec_len chunk.held.body.payload)
+behind_fits site account view pending chunk behind =
+    let all : List (List ℕ) = behind.first ∷ behind.others in
+    let rest : List ℕ = frames (behind.last ∷ []) ++ behind.filled.rest in
+    let payload : chunk.held.body.payload.items ≡ frames behind.before ++ rest = behind.filled.payload_is
+    ∙ ap (λ (xs : List (List ℕ)). frames xs ++ behind.filled.rest) behind.parts
+    ∙ ap (λ (xs : List ℕ). xs ++ behind.filled.rest) (flat_map-append framed behind.before (behind.last ∷ []))
+    ∙ append_assoc (frames behind.before) (frames (behind.last ∷ [])) behind.filled.rest in
+    let long : length chunk.held.body.payload.items ≡ vec_len chunk.held.body.payload = sym chunk.held.body.payload.ok.0 in
+    let many = ap (λ (xs : List (List ℕ)). length xs) behind.parts in
+    fits site.setup view chunk behind.draft chunk.continues behind.completed [] (chunk.count - 1) chunk.count (vec_len chunk.held.body.payload) behind.before behind.before rest rest
+    behind.begun (behind.id ∙ sym (shows_long site 0 behind.completed behind.pages behind.shown)) (behind.whole ∙ sym behind.sized) payload
+    (omega (arith, behind.filled.count_is, many, length-append behind.before (behind.last ∷ []))) (omega (arith, long, ap length payload, length-append (frames behind.before) rest))
+    payload behind.sealed behind.drafted
+
+pub behind_fits_next : (site : Site) (account : Account) (view : WriterView) (pending : Pending) (chunk : HeldChunk) → IsBehind site account view pending chunk
+    → IsFit site.setup view chunk chunk.count chunk.at
+behind_fits_next site account view pending chunk behind =
+    let all : List (List ℕ) = behind.first ∷ behind.others in
+    let rest : List ℕ = frames (behind.last ∷ []) ++ behind.filled.rest in
+    let payload : chunk.held.body.payload.items ≡ frames behind.before ++ rest = behind.filled.payload_is
+    ∙ ap (λ (xs : List (List ℕ)). frames xs ++ behind.filled.rest) behind.parts
+    ∙ ap (λ (xs : List ℕ). xs ++ behind.filled.rest) (flat_map-append framed behind.before (behind.last ∷ []))
+    ∙ append_assoc (frames behind.before) (frames (behind.last ∷ [])) behind.filled.rest in
+    fits site.setup view chunk behind.draft chunk.continues behind.completed [] chunk.count chunk.count chunk.at all behind.before behind.filled.rest rest
+    behind.begun (behind.id ∙ sym (shows_long site 0 behind.completed behind.pages behind.shown)) (behind.whole ∙ sym behind.sized) behind.filled.payload_is
+    behind.filled.count_is (omega (arith, behind.filled.at_is)) payload behind.sealed behind.drafted
 
 pub behind_head : (site : Site) (account : Account) (view : WriterView) (pending : Pending) (chunk : HeldChunk) → IsBehind site account view pending chunk
     → head_at view chunk.held.id ≡ held_head chunk.count chunk.continues
 behind_head site account view pending chunk behind =
-    head_here view behind.completed [] chunk.held.chunk chunk.held.id (held_head chunk.count chunk.continues) behind.begun
-    (behind.id ∙ sym (shows_long site 0 behind.completed behind.pages behind.shown))
+    ap (λ (d : Draft). d.head) (draft_here view behind.completed [] chunk.held.chunk chunk.held.id behind.draft behind.begun
+    (behind.id ∙ sym (shows_long site 0 behind.completed behind.pages behind.shown)))
+    ∙ behind.drafted.head
 
 pub behind_id : (site : Site) (account : Account) (view : WriterView) (pending : Pending) (chunk : HeldChunk) → IsBehind site account view pending chunk
     → chunk.held.id + 1 ≡ length view.begun
 behind_id site account view pending chunk behind =
-    let many : length view.begun ≡ length behind.completed + 1 = ap length behind.begun ∙ length-append behind.completed (Held chunk.held.chunk (held_head chunk.count chunk.continues) ∷ []) in
+    let many : length view.begun ≡ length behind.completed + 1 = ap length behind.begun ∙ length-append behind.completed (Held chunk.held.chunk behind.draft ∷ []) in
     omega (arith, many, shows_long site 0 behind.completed behind.pages behind.shown, behind.id)

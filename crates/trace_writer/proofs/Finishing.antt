@@ -14,8 +14,8 @@ use Rattle.commit_body.specs.declared.hole.Hole.{Hole}
 use Rattle.commit_body.specs.Pending.{Pending}
 use Rattle.chunk_plain.specs.Setup.{spot}
 use Rattle.chunk_plain.specs.Setup.{Setup}
-use Rattle.chunk_plain.specs.Steps.{notes_call}
 use Rattle.chunk_plain.specs.Views.{Held, WriterView}
+use Rattle.chunk_plain.specs.Steps.{notes_call}
 use Rattle.cut_steps.specs.RawChains.{raw_chains, page_with, offset_behind, current_piece, current_pieces, current_chain, chains_before, earlier_pieces}
 use Rattle.cut_steps.specs.Pending.{hole_at}
 use Rattle.cut_steps.specs.Writing.{IsWriting}
@@ -27,7 +27,7 @@ use Rattle.trace_writer.specs.declared.chunk.HeldChunk.{HeldChunk}
 use Rattle.trace_writer.specs.declared.fragment.OpenFragment.{OpenFragment}
 use Rattle.trace_writer.specs.declared.state.State.TheVariants.{Between, Writing}
 use Rattle.trace_writer.specs.declared.state.Writer.{Writer}
-use Rattle.trace_writer.specs.Headers.{held_head}
+use Rattle.trace_writer.specs.Drafted.{IsDrafted}
 use Rattle.trace_writer.specs.Site.{Site, site_of}
 use Rattle.trace_writer.specs.Agreement.{Agrees, StateAgrees, IsWritingInto, IsInPacketOf, is_begun, depth_of, counted}
 use Rattle.trace_writer.proofs.Accounts.{dropped_in, dropped-changed, account_one, on_newest-packets, begun_is, none_open as no_places_open}
@@ -61,6 +61,7 @@ pub record IsEnded (fragment : OpenFragment) (chunk : HeldChunk) : Type 0 where
   pub id : chunk.held.id ≡ fragment.held.id
   pub bytes : chunk.held.body.payload.items ≡ with_bytes fragment.held.body.payload.items fragment.start (redundant (fragment.at - fragment.start - 4))
   pub len : vec_len chunk.held.body.payload ≡ vec_len fragment.held.body.payload
+  pub sealed : chunk.sealed ≡ fragment.start
   pub at : chunk.at ≡ fragment.at
   pub count : chunk.count ≡ fragment.count
   pub continues : chunk.continues ≡ fragment.continues
@@ -135,10 +136,14 @@ finished_behind site packet older view new pending fragment chunk within few no_
       first = parts.first;
       others = parts.others;
       completed = inside.completed;
-      begun = same ∙ inside.begun
-          ∙ ap (λ (n : ℕ). inside.completed ++ Held n (held_head fragment.count fragment.continues) ∷ []) (sym ended.chunk_is)
-          ∙ ap (λ (n : ℕ). inside.completed ++ Held chunk.held.chunk (held_head n fragment.continues) ∷ []) (sym ended.count)
-          ∙ ap (λ (b : Bool). inside.completed ++ Held chunk.held.chunk (held_head chunk.count b) ∷ []) (sym ended.continues);
+      draft = inside.draft;
+      begun = same ∙ inside.begun ∙ ap (λ (n : ℕ). inside.completed ++ Held n inside.draft ∷ []) (sym ended.chunk_is);
+      before = done;
+      last = now;
+      parts = sym parts.is;
+      sealed = ended.sealed ∙ written.start_is;
+      drafted = subst (λ (n : ℕ). IsDrafted inside.draft n chunk.continues done) (sym ended.count)
+          (subst (λ (b : Bool). IsDrafted inside.draft fragment.count b done) (sym ended.continues) inside.drafted);
       shown = inside.shown;
       id = ended.id ∙ inside.id;
       sized = ap (λ (n : ℕ). (spot site.setup n).payload_size) ended.chunk_is ∙ inside.sized;

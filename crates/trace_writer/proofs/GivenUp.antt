@@ -21,9 +21,9 @@ use Rattle.commit_body.specs.Pending.{Pending, ClosesHole, patch_for}
 use Rattle.commit_body.proofs.InnerFirst.{inner_first_closed}
 use Rattle.chunk_plain.specs.declared.tokens.Held.{Held as HeldToken}
 use Rattle.chunk_plain.specs.Setup.{spot}
-use Rattle.chunk_plain.specs.Words.{head_at, IsHolding}
-use Rattle.chunk_plain.specs.Steps.{restamps, completes}
-use Rattle.chunk_plain.specs.Views.{Begun, Held, Completed, WriterView}
+use Rattle.chunk_plain.specs.Views.{Begun, Held, Completed, WriterView, Draft}
+use Rattle.chunk_plain.specs.Drafts.{head_at, IsHolding}
+use Rattle.chunk_plain.specs.Steps.{redrafts, completes}
 use Rattle.cut_steps.specs.RawChains.{raw_chains, earlier_pieces, current_piece, offset_behind}
 use Rattle.cut_steps.specs.Pending.{patches_so_far}
 use Rattle.cut_steps.specs.GivingUp.{GivesUp}
@@ -33,19 +33,22 @@ use Rattle.cut_steps.proofs.WritingSteps.{with_more-none}
 use Rattle.cut_steps.proofs.GrowingPlaces.{length_bytes-one}
 use Rattle.cut_steps.proofs.StepLemmas.{last_runs_on-one}
 use Rattle.cut_steps.proofs.GivesUpSteps.{gives_up, gives_up_nested, gives_up_stands_here, gives_up_here, gives_up_later, gave_up}
+use Rattle.cut_steps.proofs.Places.{with_bytes_right}
 use Rattle.trace_writer.specs.declared.chunk.HeldChunk.{HeldChunk}
 use Rattle.trace_writer.specs.declared.fragment.OpenFragment.{OpenFragment}
 use Rattle.trace_writer.specs.Fragment.{IsSameChunk, IsPutInto, AnswersClose, Closes}
 use Rattle.trace_writer.specs.Headers.{completed_chunk, flags_value, held_head}
 use Rattle.trace_writer.specs.Site.{Site}
-use Rattle.trace_writer.specs.Filled.{IsWritten, ShowsPages}
+use Rattle.trace_writer.specs.Filled.{frames, IsWritten, ShowsPages}
+use Rattle.trace_writer.specs.Drafted.{IsFit}
 use Rattle.trace_base.specs.declared.policy.WriterPolicy.{WriterPolicy}
 use Rattle.trace_base.specs.declared.policy.WriterPolicy.TheVariants.{Drops}
 use Rattle.trace_writer.specs.Flows.{StopsAs, StopsHere}
 use Rattle.trace_writer.specs.States.{InFragment, IsIdle}
 use Rattle.trace_writer.proofs.Holes.{outside_here, outside_later}
 use Rattle.trace_writer.proofs.Payloads.{written_moved, written_offset, written_long, written_put, written_dropped, lost_page, full_lost}
-use Rattle.trace_writer.proofs.Seats.{shows_long, content_is, shows_one, completed_here, holds_here, head_here}
+use Rattle.trace_writer.proofs.Seats.{shows_long, content_is, shows_one, completed_here, draft_here}
+use Rattle.trace_writer.proofs.Publishing.{fits}
 
 -- The packet, of which this text was to be written, is being given up in the fragment.
 pub record GivesIn (site : Site) (packet : Packet) (older : List Packet) (pages : List Page) (done : List (List ℕ)) (pending : Pending) (fragment : OpenFragment) (text : Text) : Type 0 where
@@ -215,7 +218,7 @@ pub record EndsGivenUp (site : Site) (old new : WriterView) (before after : Pend
   pub none_left : after ≡ record pending { unsent = [] }
   pub payload : List ℕ
   pub payload_is : payload ≡ with_bytes last.held.body.payload.items last.start drop_mark
-  pub begun : (completed : List Begun) → old.begun ≡ completed ++ Held first.held.chunk (held_head first.count first.continues) ∷ [] → first.held.id ≡ length completed
+  pub begun : (completed : List Begun) (draft : Draft) → old.begun ≡ completed ++ Held first.held.chunk draft ∷ [] → first.held.id ≡ length completed
       → new.begun ≡ completed ++ Completed first.held.chunk (completed_chunk site.place first.held.id first.count (flags_value first.continues false false) payload (with_lasts [] pending.unsent) site.buffer) ∷ []
 
 fresh_lost : (size : ℕ) (packet : Packet) (older : List Packet) (text : Text) (chains : List Chain) → packet.kept ≡ true → packet.given_up ≡ Some text
@@ -264,7 +267,7 @@ given_idle site packet next older old new before after first text kept_is flush 
     record {
       pages = pages;
       shown = subst (λ (begun : List Begun). ShowsPages site 0 begun pages)
-          (sym (e.begun w.completed w.begun (w.id ∙ sym (shows_long site 0 w.completed w.pages w.shown))))
+          (sym (e.begun w.completed w.draft w.begun (w.id ∙ sym (shows_long site 0 w.completed w.pages w.shown))))
           (shows_one site 0 first.held.id first.held.chunk w.completed w.pages _ page w.shown last_is (content_is site first.held.id first.count e.payload page count laid_is));
       holes = ap (λ (p : Pending). p.holes) e.none_left ∙ e.none_open;
       unsent = ap (λ (p : Pending). p.unsent) e.none_left;
@@ -279,7 +282,7 @@ given_idle site packet next older old new before after first text kept_is flush 
 -- the view of the writer once the chunk is completed
 abbrev completion : Site → WriterView → List ℕ → List Patch → ℕ → ℕ → ℕ → Bool → List Hole → WriterView
 completion site old payload unsent chunk id count continues holes =
-    completes (restamps old chunk id (record { count = count; flags = flags_value continues false false })) chunk id
+    completes old chunk id
     (completed_chunk site.place id count (flags_value continues false false) payload (with_lasts (hole_chunks holes) unsent) site.buffer)
 
 none_open : (holes : List Hole) → length holes ≤ 0 → holes ≡ []
@@ -315,8 +318,7 @@ ends_given_up site old new before mid after first last chunk closes none held by
       none_left = after_is;
       payload = payload;
       payload_is = bytes;
-      begun = λ completed begun at.
-          completed_here old new completed [] first.held.chunk first.held.id (held_head first.count first.continues) (held_head first.count first.continues) _ begun at is;
+      begun = λ completed draft begun at. completed_here old new completed [] first.held.chunk first.held.id draft _ begun at is;
     }
 
 -- What is lost of the packet
@@ -352,14 +354,31 @@ loses_rest site old new before after first drops filled e = record {
 
 -- The chunk that is to be completed
 
-pub dropped_holds : (site : Site) (packet : Packet) (older : List Packet) (view : WriterView) (before mid : Pending) (first last : OpenFragment) (chunk : HeldChunk)
+pub dropped_fits : (site : Site) (packet : Packet) (older : List Packet) (view : WriterView) (before mid : Pending) (first last : OpenFragment) (chunk : HeldChunk)
     → InFragment site packet older view before first [] → ClosesIn site view before mid first last
-    → chunk.held ≡ record last.held { body = record last.held.body { payload = chunk.held.body.payload } } → IsHolding view chunk.held.chunk chunk.held.id
-dropped_holds site packet older view before mid first last chunk w h held =
+    → chunk.held ≡ record last.held { body = record last.held.body { payload = chunk.held.body.payload } }
+    → chunk.held.body.payload.items ≡ with_bytes last.held.body.payload.items last.start drop_mark
+    → vec_len chunk.held.body.payload ≡ vec_len last.held.body.payload → chunk.sealed ≡ last.start → chunk.count ≡ last.count
+    → IsFit site.setup view chunk (chunk.count - 1) (vec_len chunk.held.body.payload)
+dropped_fits site packet older view before mid first last chunk w h held bytes len sealed count_is =
     let id : chunk.held.id ≡ first.held.id = ap (λ (t : HeldToken). t.id) held ∙ h.same.id in
     let chunk_is : chunk.held.chunk ≡ first.held.chunk = ap (λ (t : HeldToken). t.chunk) held ∙ h.same.chunk in
-    subst (λ (c : ℕ). IsHolding view c chunk.held.id) (sym chunk_is)
-    (holds_here view w.completed [] first.held.chunk chunk.held.id (held_head first.count first.continues) w.begun (id ∙ w.id ∙ sym (shows_long site 0 w.completed w.pages w.shown)))
+    let start : last.start ≡ length (frames w.done) = h.same.start ∙ w.written.start_is in
+    let g : GivesIn site packet older w.pages w.done mid last (with_open (with_more [] packet)).text =
+    h.gives packet older (with_open (with_more [] packet)).text w (given_nested site packet older view before first w) in
+    let behind : List ℕ = g.written.four ++ (g.now ++ g.written.rest) in
+    let payload : chunk.held.body.payload.items ≡ frames w.done ++ with_bytes behind 0 drop_mark =
+    bytes ∙ ap (λ (xs : List ℕ). with_bytes xs last.start drop_mark) g.written.payload_is
+    ∙ ap (λ (n : ℕ). with_bytes (frames w.done ++ behind) n drop_mark) (omega (arith, start))
+    ∙ with_bytes_right (frames w.done) behind drop_mark 0 in
+    let long : length chunk.held.body.payload.items ≡ vec_len chunk.held.body.payload = sym chunk.held.body.payload.ok.0 in
+    fits site.setup view chunk w.draft first.continues w.completed [] (chunk.count - 1) first.count (vec_len chunk.held.body.payload) w.done w.done
+    (with_bytes behind 0 drop_mark) (with_bytes behind 0 drop_mark)
+    (w.begun ∙ ap (λ (c : ℕ). w.completed ++ Held c w.draft ∷ []) (sym chunk_is))
+    (id ∙ w.id ∙ sym (shows_long site 0 w.completed w.pages w.shown))
+    (len ∙ h.same.len ∙ w.whole ∙ sym w.sized ∙ ap (λ (c : ℕ). (spot site.setup c).payload_size) (sym chunk_is))
+    payload (omega (arith, count_is, h.same.count, w.written.count_is)) (omega (arith, long, ap length payload, length-append (frames w.done) (with_bytes behind 0 drop_mark)))
+    payload (sealed ∙ start) w.drafted
 
 pub dropped_head : (site : Site) (packet : Packet) (older : List Packet) (view : WriterView) (before mid : Pending) (first last : OpenFragment) (chunk : HeldChunk)
     → InFragment site packet older view before first [] → ClosesIn site view before mid first last
@@ -367,15 +386,7 @@ pub dropped_head : (site : Site) (packet : Packet) (older : List Packet) (view :
     → chunk.count ≡ last.count → chunk.continues ≡ last.continues → head_at view chunk.held.id ≡ held_head chunk.count chunk.continues
 dropped_head site packet older view before mid first last chunk w h held count_is continues_is =
     let id : chunk.held.id ≡ first.held.id = ap (λ (t : HeldToken). t.id) held ∙ h.same.id in
-    head_here view w.completed [] first.held.chunk chunk.held.id (held_head first.count first.continues) w.begun (id ∙ w.id ∙ sym (shows_long site 0 w.completed w.pages w.shown))
+    ap (λ (d : Draft). d.head) (draft_here view w.completed [] first.held.chunk chunk.held.id w.draft w.begun (id ∙ w.id ∙ sym (shows_long site 0 w.completed w.pages w.shown)))
+    ∙ w.drafted.head
     ∙ ap (λ (n : ℕ). held_head n first.continues) (sym (count_is ∙ h.same.count))
     ∙ ap (λ (c : Bool). held_head chunk.count c) (sym (continues_is ∙ h.same.continues))
-
-pub dropped_size : (site : Site) (packet : Packet) (older : List Packet) (view : WriterView) (before mid : Pending) (first last : OpenFragment) (chunk : HeldChunk)
-    → InFragment site packet older view before first [] → ClosesIn site view before mid first last
-    → chunk.held ≡ record last.held { body = record last.held.body { payload = chunk.held.body.payload } }
-    → vec_len chunk.held.body.payload ≡ vec_len last.held.body.payload
-    → vec_len chunk.held.body.payload ≡ (spot site.setup chunk.held.chunk).payload_size
-dropped_size site packet older view before mid first last chunk w h held len =
-    let chunk_is : chunk.held.chunk ≡ first.held.chunk = ap (λ (t : HeldToken). t.chunk) held ∙ h.same.chunk in
-    len ∙ h.same.len ∙ w.whole ∙ sym w.sized ∙ ap (λ (c : ℕ). (spot site.setup c).payload_size) (sym chunk_is)

@@ -9,7 +9,7 @@ use Rattle.commit_body.specs.declared.hole.Hole.{Hole}
 use Rattle.commit_body.specs.Patches.{hole_chunks, with_lasts}
 use Rattle.commit_body.specs.Pending.{Pending}
 use Rattle.chunk_plain.specs.Views.{Begun, Completed, Head, Content, WriterView}
-use Rattle.chunk_plain.specs.Steps.{restamps, completes}
+use Rattle.chunk_plain.specs.Steps.{redrafts, completes}
 use Rattle.cut_steps.specs.RawChains.{raw_chains, page_with, offset_behind}
 use Rattle.cut_steps.specs.Between.{IsBetween}
 use Rattle.cut_steps.proofs.StepLemmas.{last_runs_on-one}
@@ -88,14 +88,14 @@ behind_content site pending chunk =
     (with_lasts (hole_chunks pending.holes) pending.unsent) site.buffer
 
 -- The held chunk is completed, and a packet is to begin in a new one.
-pub completed_idle : (site : Site) (account : Account) (flushed : Bool) (view new later : WriterView) (pending after : Pending) (chunk : HeldChunk) (head : Head)
+pub completed_idle : (site : Site) (account : Account) (flushed : Bool) (view new later : WriterView) (pending after : Pending) (chunk : HeldChunk)
     → chunk.count ≤ 1023 → after ≡ record pending { unsent = [] }
-    → new ≡ completes (restamps view chunk.held.chunk chunk.held.id head) chunk.held.chunk chunk.held.id (behind_content site pending chunk)
+    → new ≡ completes view chunk.held.chunk chunk.held.id (behind_content site pending chunk)
     → later.begun ≡ new.begun
     → ((chains : List Chain) → is_fresh site.size account.flushed account.packets chains ≡ true → is_fresh site.size flushed account.packets chains ≡ true)
     → (flushed ≡ true) ⊎ (has_room site.size chunk ≡ false)
     → IsBehind site account view pending chunk → IsIdle site (record account { flushed = flushed }) later after
-completed_idle site account flushed view new later pending after chunk head few pending_is is same keeps why behind =
+completed_idle site account flushed view new later pending after chunk few pending_is is same keeps why behind =
     let fragments : List (List ℕ) = behind.first ∷ behind.others in
     let patches : List Patch = with_lasts (hole_chunks pending.holes) pending.unsent in
     let page : Page = ended_page chunk.continues fragments behind.filled.rest patches in
@@ -105,7 +105,7 @@ completed_idle site account flushed view new later pending after chunk head few 
     content_is site chunk.held.id chunk.count chunk.held.body.payload.items page behind.filled.count_is
     (behind.filled.payload_is ∙ sym (laid_all fragments behind.filled.rest)) in
     let begun : new.begun ≡ behind.completed ++ Completed chunk.held.chunk (behind_content site pending chunk) ∷ [] =
-    completed_here view new behind.completed [] chunk.held.chunk chunk.held.id (held_head chunk.count chunk.continues) head (behind_content site pending chunk) behind.begun
+    completed_here view new behind.completed [] chunk.held.chunk chunk.held.id behind.draft (behind_content site pending chunk) behind.begun
     (behind.id ∙ sym long) is in
     let same_chains : raw_chains pages ≡ raw_chains (behind.pages ++ page_with chunk.continues fragments ∷ []) =
     raw_chains-one behind.pages page (page_with chunk.continues fragments) refl refl refl refl in
@@ -138,11 +138,11 @@ completed_idle site account flushed view new later pending after chunk head few 
     why_fresh chains fresh (inr e) = keeps chains (fresh ∙ ap not e)
 
 -- the held chunk stays the last one that was begun
-pub begun_one_more : (site : Site) (account : Account) (view new : WriterView) (pending : Pending) (chunk : HeldChunk) (head : Head) (content : Content)
-    → new ≡ completes (restamps view chunk.held.chunk chunk.held.id head) chunk.held.chunk chunk.held.id content
+pub begun_one_more : (site : Site) (account : Account) (view new : WriterView) (pending : Pending) (chunk : HeldChunk) (content : Content)
+    → new ≡ completes view chunk.held.chunk chunk.held.id content
     → IsBehind site account view pending chunk → length new.begun ≡ chunk.held.id + 1
-begun_one_more site account view new pending chunk head content is behind =
+begun_one_more site account view new pending chunk content is behind =
     let long : length behind.completed ≡ length behind.pages = shows_long site 0 behind.completed behind.pages behind.shown in
-    ap length (completed_here view new behind.completed [] chunk.held.chunk chunk.held.id (held_head chunk.count chunk.continues) head content behind.begun (behind.id ∙ sym long) is)
+    ap length (completed_here view new behind.completed [] chunk.held.chunk chunk.held.id behind.draft content behind.begun (behind.id ∙ sym long) is)
     ∙ length-append behind.completed (Completed chunk.held.chunk content ∷ [])
     ∙ omega (arith, long, behind.id)

@@ -12,8 +12,8 @@ use Rattle.trace_model.specs.Images.{with_bytes}
 use Rattle.trace_model.specs.Packets.{Packet, Account, account_of, noted, on_newest, with_more}
 use Rattle.trace_model.proofs.EncodingLemmas.{length-repeat}
 use Rattle.chunk_plain.specs.Setup.{Setup}
-use Rattle.chunk_plain.specs.Steps.{notes_call}
 use Rattle.chunk_plain.specs.Views.{WriterView}
+use Rattle.chunk_plain.specs.Steps.{notes_call}
 use Rattle.cut_steps.specs.Writing.{with_open}
 use Rattle.cut_steps.proofs.Places.{with_bytes_mid}
 use Rattle.trace_writer.specs.declared.fragment.OpenFragment.{OpenFragment}

@@ -7,12 +7,12 @@ use Rattle.trace_base.specs.declared.policy.WriterPolicy.{WriterPolicy}
 use Rattle.trace_base.specs.declared.policy.WriterPolicy.TheVariants.{Drops, Stalls}
 use Rattle.trace_model.specs.Calls.{Call}
 use Rattle.trace_model.specs.Packets.{packets_of}
+use Rattle.chunk_plain.specs.Views.{Ask, Begun, Held, Completed, Draft, WriterView, ServiceView, fresh}
+use Rattle.chunk_plain.specs.Meaning.{Meaning}
+use Rattle.chunk_plain.specs.Owned.{times}
 use Rattle.chunk_plain.specs.declared.setup.ChunkRange.{ChunkRange}
 use Rattle.chunk_plain.specs.Setup.{Setup, range_of, producer_of, IsChunkOf}
-use Rattle.chunk_plain.specs.Views.{Ask, Begun, Held, Completed, Head, WriterView, ServiceView}
 use Rattle.chunk_plain.specs.World.{World}
-use Rattle.chunk_plain.specs.Steps.{no_head}
-use Rattle.chunk_plain.specs.Owned.{times}
 use Rattle.claim_arbiter.specs.Claiming.{ClaimsInTurn, lost_asks, range_in}
 use Rattle.trace_writer.specs.declared.route.Route.{Route}
 use Rattle.trace_writer.specs.Asked.{IsAsked}
@@ -45,7 +45,7 @@ chunks_kept setup producer (Completed chunk content ∷ old) (Held other next �
 chunks_kept setup producer (Completed chunk content ∷ old) (Completed other later ∷ new) keeps own =
     (subst (λ (c : ℕ). IsChunkOf setup producer c) (sym keeps.0) own.0, chunks_kept setup producer old new keeps.1 own.1)
 
-chunks_more : (setup : Setup) (producer chunk : ℕ) (head : Head) (begun : List Begun) → IsChunkOf setup producer chunk → AreOwnChunks setup producer begun
+chunks_more : (setup : Setup) (producer chunk : ℕ) (head : Draft) (begun : List Begun) → IsChunkOf setup producer chunk → AreOwnChunks setup producer begun
     → AreOwnChunks setup producer (begun ++ Held chunk head ∷ [])
 chunks_more setup producer chunk head [] own all = (own, tt)
 chunks_more setup producer chunk head (Held c h ∷ begun) own all = (all.0, chunks_more setup producer chunk head begun own all.1)
@@ -92,15 +92,15 @@ most_gets setup now producer chunk route old new range claims kept =
     let own : IsChunkOf setup producer chunk = record { least = omega (arith, first, claims.least); below = omega (arith, first, count, claims.below) } in
     let asked : new.asked ≡ old.asked ++ lost ++ won ∷ [] = ap (λ (v : WriterView). v.asked) claims.view in (
       record {
-        unclaimed = claims.claimed_stays (ap (times chunk) kept.unclaimed) ∙ kept.unclaimed;
-        unstamped = ap (λ (v : WriterView). v.stamped) claims.view;
+        unclaimed = ap (λ (v : WriterView). v.claimed) claims.view ∙ kept.unclaimed;
+        unstamped = ap (λ (v : WriterView). v.stamped) claims.view ∙ kept.unstamped;
         own_asks = subst (λ (asks : List Ask). AreOwnAsks setup producer asks) (sym asked)
             (own_both setup producer (old.asked ++ lost) (won ∷ [])
             (own_both setup producer old.asked lost kept.own_asks
             (own_lost setup producer (length old.calls) route.arbiter.first claims.words (omega (arith, first)) (omega (arith, first, count, claims.count_is, claims.below))))
             (own, tt));
         own_chunks = subst (λ (begun : List Begun). AreOwnChunks setup producer begun) (sym (ap (λ (v : WriterView). v.begun) claims.view))
-            (chunks_more setup producer chunk no_head old.begun own kept.own_chunks);
+            (chunks_more setup producer chunk (fresh claims.payload) old.begun own kept.own_chunks);
       },
       λ other has. subst (λ (asks : List Ask). HasAsked asks other) (sym asked)
           (has_before (old.asked ++ lost) (won ∷ []) other (has_before old.asked lost other has)),
@@ -114,43 +114,42 @@ keeps_then policy there producer stopped old mid new grows on = record {
   all = on.all;
 }
 
-module _ {T W S : Type 0} (setup : T → Setup) (sits : T → W → Type 0) (place : W → ℕ) (view : T → W → WriterView)
-    (serves : T → S → Type 0) (service_view : T → S → ServiceView) (told : T → Option World) where
-  most_quiet : (there : Setup) (producer : ℕ) (old : T) (seat : W) (new : T) (after : W) → IsQuiet setup sits place view serves service_view told old seat new after
-      → KeepsMost there producer (view old seat) → KeepsMost there producer (view new after)
+module _ {T W S : Type 0} (means : Meaning T W S) where
+  most_quiet : (there : Setup) (producer : ℕ) (old : T) (seat : W) (new : T) (after : W) → IsQuiet means old seat new after
+      → KeepsMost there producer (means.view old seat) → KeepsMost there producer (means.view new after)
   most_quiet there producer old seat new after quiet kept = record {
     unclaimed = quiet.claimed ∙ kept.unclaimed;
     unstamped = quiet.stamped ∙ kept.unstamped;
     own_asks = subst (λ (asks : List Ask). AreOwnAsks there producer asks) (sym quiet.asked) kept.own_asks;
-    own_chunks = chunks_kept there producer (view old seat).begun (view new after).begun quiet.chunks kept.own_chunks;
+    own_chunks = chunks_kept there producer (means.view old seat).begun (means.view new after).begun quiet.chunks kept.own_chunks;
   }
 
   most_out : (there : Setup) (producer : ℕ) (route : Route) (old : T) (seat : W) (new : T) (after : W) → range_of there producer ≡ range_in route.arbiter
-      → IsOutNow setup sits place view serves service_view told route old seat new after → KeepsMost there producer (view old seat)
-      → KeepsMost there producer (view new after) × ((other : ℕ) → HasAsked (view old seat).asked other → HasAsked (view new after).asked other)
-      × ((other : ℕ) → IsChunkOf there producer other → HasAsked (view new after).asked other)
+      → IsOutNow means route old seat new after → KeepsMost there producer (means.view old seat)
+      → KeepsMost there producer (means.view new after) × ((other : ℕ) → HasAsked (means.view old seat).asked other → HasAsked (means.view new after).asked other)
+      × ((other : ℕ) → IsChunkOf there producer other → HasAsked (means.view new after).asked other)
   most_out there producer route old seat new after range out kept =
-      let lost : List Ask = lost_asks (length (view old seat).calls) route.arbiter.first out.words in
+      let lost : List Ask = lost_asks (length (means.view old seat).calls) route.arbiter.first out.words in
       let first : (range_of there producer).first ≡ route.arbiter.first = ap (λ (r : ChunkRange). r.first) range in
       let count : (range_of there producer).count ≡ route.arbiter.chunks = ap (λ (r : ChunkRange). r.count) range in (
         record {
           unclaimed = out.claimed ∙ kept.unclaimed;
           unstamped = out.stamped ∙ kept.unstamped;
           own_asks = subst (λ (asks : List Ask). AreOwnAsks there producer asks) (sym out.asked)
-              (own_both there producer (view old seat).asked lost kept.own_asks
-              (own_lost there producer (length (view old seat).calls) route.arbiter.first out.words (omega (arith, first)) (omega (arith, first, count, out.count_is))));
-          own_chunks = chunks_kept there producer (view old seat).begun (view new after).begun out.chunks kept.own_chunks;
+              (own_both there producer (means.view old seat).asked lost kept.own_asks
+              (own_lost there producer (length (means.view old seat).calls) route.arbiter.first out.words (omega (arith, first)) (omega (arith, first, count, out.count_is))));
+          own_chunks = chunks_kept there producer (means.view old seat).begun (means.view new after).begun out.chunks kept.own_chunks;
         },
-        λ other has. subst (λ (asks : List Ask). HasAsked asks other) (sym out.asked) (has_before (view old seat).asked lost other has),
+        λ other has. subst (λ (asks : List Ask). HasAsked asks other) (sym out.asked) (has_before (means.view old seat).asked lost other has),
         λ other inside. subst (λ (asks : List Ask). HasAsked asks other) (sym out.asked)
-            (has_behind (view old seat).asked lost other
+            (has_behind (means.view old seat).asked lost other
             (let least = inside.least in let below = inside.below in
-            has_lost (length (view old seat).calls) route.arbiter.first out.words other (omega (arith, first, least)) (omega (arith, first, count, below, out.count_is)))),
+            has_lost (length (means.view old seat).calls) route.arbiter.first out.words other (omega (arith, first, least)) (omega (arith, first, count, below, out.count_is)))),
       )
 
-  pub claims_quiet : (there : Setup) (at : ℕ) (old : T) (seat : W) (new : T) (after : W) → IsQuiet setup sits place view serves service_view told old seat new after
-      → lost_count (packets_of (view new after).calls) ≡ lost_count (packets_of (view old seat).calls)
-      → KeepsClaims there at (view old seat) → KeepsClaims there at (view new after)
+  pub claims_quiet : (there : Setup) (at : ℕ) (old : T) (seat : W) (new : T) (after : W) → IsQuiet means old seat new after
+      → lost_count (packets_of (means.view new after).calls) ≡ lost_count (packets_of (means.view old seat).calls)
+      → KeepsClaims there at (means.view old seat) → KeepsClaims there at (means.view new after)
   claims_quiet there at old seat new after quiet same claims =
       let kept = most_quiet there (producer_of there at) old seat new after quiet
       (record { unclaimed = claims.unclaimed; unstamped = claims.unstamped; own_asks = claims.own_asks; own_chunks = claims.own_chunks }) in
@@ -162,44 +161,43 @@ module _ {T W S : Type 0} (setup : T → Setup) (sits : T → W → Type 0) (pla
         vain = λ some chunk inside. subst (λ (asks : List Ask). HasAsked asks chunk) (sym quiet.asked) (claims.vain (subst (λ (n : ℕ). 0 < n) same some) chunk inside);
       }
 
-module _ {H T W S : Type 0} (setup : T → Setup) (sits : T → W → Type 0) (place : W → ℕ) (view : T → W → WriterView)
-    (serves : T → S → Type 0) (service_view : T → S → ServiceView) (told : T → Option World) (needs : H → T → Type 0) (helps : H → T → ℕ → Bool → H → T → Type 0) where
+module _ {H T W S : Type 0} (means : Meaning T W S) (needs : H → T → Type 0) (helps : H → T → ℕ → Bool → H → T → Type 0) where
   works_keep : (there : Setup) (producer : ℕ) (route : Route) {policy : WriterPolicy} {asks : H → T → Bool → H → T → Type 0} {helper left : H} {old new : T} {seat after : W} {stopped : Bool}
       → range_of there producer ≡ range_in route.arbiter
-      → Works policy (IsSilent setup sits place view serves service_view told) (IsQuiet setup sits place view serves service_view told) (GetsChunk setup sits place view serves service_view told route)
-      (IsOutNow setup sits place view serves service_view told route) (λ asked table answer behind freed. asks asked table answer behind freed × LeavesWriters setup sits view table freed)
+      → Works policy (IsSilent means) (IsQuiet means) (GetsChunk means route)
+      (IsOutNow means route) (λ asked table answer behind freed. asks asked table answer behind freed × LeavesWriters means table freed)
       helper old seat stopped left new after
-      → KeepsMost there producer (view old seat) → KeepsOn policy there producer stopped (view old seat) (view new after)
+      → KeepsMost there producer (means.view old seat) → KeepsOn policy there producer stopped (means.view old seat) (means.view new after)
   works_keep there producer route range (Done helper old seat new after last) kept = record {
-    kept = most_quiet setup sits place view serves service_view told there producer old seat new after last kept;
+    kept = most_quiet means there producer old seat new after last kept;
     grown = λ chunk has. subst (λ (asks : List Ask). HasAsked asks chunk) (sym last.asked) has;
     all = λ drops stops. absurd (true≢false (sym stops));
   }
   works_keep there producer route {policy} range (Silent helper old seat next moved stopped left new after silent more) kept =
-      keeps_then policy there producer stopped (view old seat) (view next moved) (view new after)
+      keeps_then policy there producer stopped (means.view old seat) (means.view next moved) (means.view new after)
       (λ chunk has. subst (λ (asks : List Ask). HasAsked asks chunk) (sym silent.quiet.asked) has)
-      (works_keep there producer route range more (most_quiet setup sits place view serves service_view told there producer old seat next moved silent.quiet kept))
+      (works_keep there producer route range more (most_quiet means there producer old seat next moved silent.quiet kept))
   works_keep there producer route {policy} range (Gets helper old seat next moved stopped left new after gets more) kept =
-      let found = most_gets there (setup old) producer gets.chunk route (view old seat) (view next moved) range gets.claims kept in
-      keeps_then policy there producer stopped (view old seat) (view next moved) (view new after) found.1 (works_keep there producer route range more found.0)
+      let found = most_gets there (means.setup old) producer gets.chunk route (means.view old seat) (means.view next moved) range gets.claims kept in
+      keeps_then policy there producer stopped (means.view old seat) (means.view next moved) (means.view new after) found.1 (works_keep there producer route range more found.0)
   works_keep there producer route {policy} range (Helped helper old seat asking asker helped freed stopped left new after stalls out helps_ more) kept =
-      let found = most_out setup sits place view serves service_view told there producer route old seat asking asker range out kept in
+      let found = most_out means there producer route old seat asking asker range out kept in
       let same = (helps_.1.writers_stay asker out.step.seat_stays).1 in
-      keeps_then policy there producer stopped (view old seat) (view freed asker) (view new after)
+      keeps_then policy there producer stopped (means.view old seat) (means.view freed asker) (means.view new after)
       (λ chunk has. subst (λ (v : WriterView). HasAsked v.asked chunk) (sym same) (found.1 chunk has))
       (works_keep there producer route range more (subst (λ (v : WriterView). KeepsMost there producer v) (sym same) found.0))
   works_keep there producer route {policy} range (Refused helper old seat asking asker left kept_table new after stalls out helps_ last) kept =
-      let found = most_out setup sits place view serves service_view told there producer route old seat asking asker range out kept in
+      let found = most_out means there producer route old seat asking asker range out kept in
       let same = (helps_.1.writers_stay asker out.step.seat_stays).1 in
       record {
-        kept = most_quiet setup sits place view serves service_view told there producer kept_table asker new after last (subst (λ (v : WriterView). KeepsMost there producer v) (sym same) found.0);
+        kept = most_quiet means there producer kept_table asker new after last (subst (λ (v : WriterView). KeepsMost there producer v) (sym same) found.0);
         grown = λ chunk has. subst (λ (asks : List Ask). HasAsked asks chunk) (sym last.asked)
             (subst (λ (v : WriterView). HasAsked v.asked chunk) (sym same) (found.1 chunk has));
         all = λ drops. absurd (let wrong : Drops ≡ Stalls = sym drops ∙ stalls in cc);
       }
   works_keep there producer route range (Lost helper old seat mid between new after drops out last) kept =
-      let found = most_out setup sits place view serves service_view told there producer route old seat mid between range out kept in record {
-        kept = most_quiet setup sits place view serves service_view told there producer mid between new after last found.0;
+      let found = most_out means there producer route old seat mid between range out kept in record {
+        kept = most_quiet means there producer mid between new after last found.0;
         grown = λ chunk has. subst (λ (asks : List Ask). HasAsked asks chunk) (sym last.asked) (found.1 chunk has);
         all = λ is stops chunk inside. subst (λ (asks : List Ask). HasAsked asks chunk) (sym last.asked) (found.2 chunk inside);
       }
@@ -207,9 +205,9 @@ module _ {H T W S : Type 0} (setup : T → Setup) (sits : T → W → Type 0) (p
   -- the writer keeps what it has of its claims, if the call loses a packet only where it stops
   pub claims_kept : (there : Setup) (at : ℕ) (route : Route) (helper : H) (old : T) (seat : W) (steps : ℕ) (stopped : Bool) (noted : List Call) (stalled : Bool) (left : H) (new : T) (after : W) (later : ℕ)
       → range_of there (producer_of there at) ≡ range_in route.arbiter
-      → IsAsked setup sits place view serves service_view told needs helps route helper old seat steps stopped noted stalled left new after later
-      → (lost_count (packets_of (view new after).calls) ≡ lost_count (packets_of (view old seat).calls)) ⊎ ((route.spec.policy ≡ Drops) × (stopped ≡ true))
-      → KeepsClaims there at (view old seat) → KeepsClaims there at (view new after)
+      → IsAsked means needs helps route helper old seat steps stopped noted stalled left new after later
+      → (lost_count (packets_of (means.view new after).calls) ≡ lost_count (packets_of (means.view old seat).calls)) ⊎ ((route.spec.policy ≡ Drops) × (stopped ≡ true))
+      → KeepsClaims there at (means.view old seat) → KeepsClaims there at (means.view new after)
   claims_kept there at route helper old seat steps stopped noted stalled left new after later range asked lost claims =
       let on = works_keep there (producer_of there at) route range asked.works
       (record { unclaimed = claims.unclaimed; unstamped = claims.unstamped; own_asks = claims.own_asks; own_chunks = claims.own_chunks }) in

@@ -1,11 +1,13 @@
 -- Chunks that a writer began, as its quiet steps leave them, and the statuses of chunks in a world.
-use Rattle.std.proofs.Common.{◌≡◌, ◌∙◌, ℕ, zero, suc, List, [], ◌∷◌, length, set, get_or, Bool, true, false, Option, Some, refl, sym, ap}
+use Rattle.std.proofs.Common.{◌≡◌, ◌∙◌, ℕ, zero, suc, ◌+◌, ◌++◌, List, [], ◌∷◌, length, set, get_or, Bool, true, false, Option, Some, refl, sym, ap}
 use mathlib.Core.Option.{some}
 use Rattle.std.proofs.lemmas.Bool.{true≢false}
 use Rattle.trace_model.specs.Pages.{Page}
-use Rattle.chunk_plain.specs.Views.{At, Begun, Held, Completed, Head, Content, WriterView}
-use Rattle.chunk_plain.specs.World.{World, Status, Unclaimed, Writing, Ready}
+use Rattle.chunk_plain.specs.Views.{At, Begun, Held, Completed, Draft, Content, WriterView}
 use Rattle.chunk_plain.specs.Steps.{moved, noted}
+use Rattle.chunk_plain.specs.World.{World, Status, Unclaimed, Writing, Ready}
+use Rattle.chunk_plain.specs.Owned.{held_count}
+use Rattle.chunk_plain.specs.Words.{chunk_of}
 use Rattle.trace_writer.specs.Site.{Site}
 use Rattle.trace_writer.specs.Filled.{ShowsPages}
 use Rattle.trace_writer.specs.OwnSteps.{KeepsChunks, NoneHeld, FreesNone}
@@ -43,10 +45,6 @@ keeps_long (Held chunk head ∷ old) (Completed other content ∷ new) keeps = a
 keeps_long (Completed chunk content ∷ old) (Held other next ∷ new) keeps = absurd keeps
 keeps_long (Completed chunk content ∷ old) (Completed other later ∷ new) keeps = ap suc (keeps_long old new keeps.1)
 
-chunk_of : Begun → ℕ
-chunk_of (Held chunk head) = chunk
-chunk_of (Completed chunk content) = chunk
-
 is_held : Begun → Bool
 is_held (Held chunk head) = true
 is_held (Completed chunk content) = false
@@ -55,18 +53,18 @@ is_held (Completed chunk content) = false
 first_is : (x y : Begun) (begun : List Begun) → At (x ∷ begun) 0 y → x ≡ y
 first_is x y begun at = let same : some x ≡ some y = at in cc
 
--- the header of a held chunk is stored anew
-pub keeps_restamped : (begun : List Begun) (chunk id : ℕ) (head next : Head) → At begun id (Held chunk head) → KeepsChunks begun (set begun id (Held chunk next))
-unfolding chunk_of is_held
-keeps_restamped [] chunk id head next held = tt
-keeps_restamped (Held other h ∷ begun) chunk zero head next held = (sym (ap chunk_of (first_is (Held other h) (Held chunk head) begun held)), keeps_same begun)
-keeps_restamped (Held other h ∷ begun) chunk (suc id) head next held = (refl, keeps_restamped begun chunk id head next held)
-keeps_restamped (Completed other c ∷ begun) chunk zero head next held = absurd (true≢false (sym (ap is_held (first_is (Completed other c) (Held chunk head) begun held))))
-keeps_restamped (Completed other c ∷ begun) chunk (suc id) head next held = (refl, keeps_restamped begun chunk id head next held)
+-- another thing stands in a held chunk
+pub keeps_redrafted : (begun : List Begun) (chunk id : ℕ) (head next : Draft) → At begun id (Held chunk head) → KeepsChunks begun (set begun id (Held chunk next))
+unfolding is_held
+keeps_redrafted [] chunk id head next held = tt
+keeps_redrafted (Held other h ∷ begun) chunk zero head next held = (sym (ap chunk_of (first_is (Held other h) (Held chunk head) begun held)), keeps_same begun)
+keeps_redrafted (Held other h ∷ begun) chunk (suc id) head next held = (refl, keeps_redrafted begun chunk id head next held)
+keeps_redrafted (Completed other c ∷ begun) chunk zero head next held = absurd (true≢false (sym (ap is_held (first_is (Completed other c) (Held chunk head) begun held))))
+keeps_redrafted (Completed other c ∷ begun) chunk (suc id) head next held = (refl, keeps_redrafted begun chunk id head next held)
 
 -- or the chunk is completed
-pub keeps_set : (begun : List Begun) (chunk id : ℕ) (head : Head) (content : Content) → At begun id (Held chunk head) → KeepsChunks begun (set begun id (Completed chunk content))
-unfolding chunk_of is_held
+pub keeps_set : (begun : List Begun) (chunk id : ℕ) (head : Draft) (content : Content) → At begun id (Held chunk head) → KeepsChunks begun (set begun id (Completed chunk content))
+unfolding is_held
 keeps_set [] chunk id head content held = tt
 keeps_set (Held other h ∷ begun) chunk zero head content held = (sym (ap chunk_of (first_is (Held other h) (Held chunk head) begun held)), keeps_same begun)
 keeps_set (Held other h ∷ begun) chunk (suc id) head content held = (refl, keeps_set begun chunk id head content held)
@@ -79,6 +77,17 @@ shown_none_held site id [] pages shown = tt
 shown_none_held site id (Held chunk head ∷ begun) pages shown = absurd shown
 shown_none_held site id (Completed chunk content ∷ begun) [] shown = absurd shown
 shown_none_held site id (Completed chunk content ∷ begun) (page ∷ pages) shown = shown_none_held site (suc id) begun pages shown.1
+
+-- how many are held
+pub none_counted : (begun : List Begun) → NoneHeld begun → held_count begun ≡ 0
+none_counted [] none = refl
+none_counted (Held chunk draft ∷ begun) none = absurd none
+none_counted (Completed chunk content ∷ begun) none = none_counted begun none
+
+pub one_held : (begun : List Begun) (chunk : ℕ) (draft : Draft) → held_count (begun ++ Held chunk draft ∷ []) ≡ held_count begun + 1
+one_held [] chunk draft = refl
+one_held (Held c d ∷ begun) chunk draft = ap (λ (n : ℕ). n + 1) (one_held begun chunk draft)
+one_held (Completed c content ∷ begun) chunk draft = one_held begun chunk draft
 
 -- Worlds
 
@@ -104,7 +113,7 @@ is_unclaimed : Status → Bool
 is_unclaimed Unclaimed = true
 is_unclaimed other = false
 
-pub writing_used : (place id : ℕ) (head : Head) → Writing place id head ≡ Unclaimed → ⊥
+pub writing_used : (place id : ℕ) (head : Draft) → Writing place id head ≡ Unclaimed → ⊥
 unfolding is_unclaimed
 writing_used place id head e = true≢false (sym (ap is_unclaimed e))
 

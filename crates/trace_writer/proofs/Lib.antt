@@ -25,7 +25,8 @@ pub mod Measuring
 pub mod OneProducer
 pub mod Payloads
 pub mod Possible
-pub mod Putting
+pub mod Publishing
+mod Putting
 pub mod QuietRows
 pub mod QuietSteps
 pub mod Rounds

@@ -9,13 +9,13 @@ use Rattle.trace_model.specs.Packets.{Packet, with_more}
 use Rattle.commit_body.specs.Patches.{holes_outside}
 use Rattle.commit_body.specs.Pending.{Pending}
 use Rattle.chunk_plain.specs.Setup.{spot}
-use Rattle.chunk_plain.specs.Views.{Begun, Held, WriterView}
+use Rattle.chunk_plain.specs.Views.{Begun, Held, Draft, WriterView}
 use Rattle.trace_model.proofs.EncodingLemmas.{length-repeat}
 use Rattle.cut_steps.specs.Writing.{with_open, IsWriting}
 use Rattle.cut_steps.proofs.Places.{with_bytes_right}
 use Rattle.cut_steps.proofs.WritingSteps.{writing_more, with_more-both, with_more-none}
 use Rattle.trace_writer.specs.declared.fragment.OpenFragment.{OpenFragment}
-use Rattle.trace_writer.specs.Headers.{held_head}
+use Rattle.trace_writer.specs.Drafted.{IsDrafted}
 use Rattle.trace_writer.specs.Site.{Site}
 use Rattle.trace_writer.specs.Filled.{frames, IsWritten, HasByte}
 use Rattle.trace_writer.specs.Fragment.{IsPutInto}
@@ -51,13 +51,15 @@ written_more payload start at count done now bytes w =
     }
 
 -- the view still shows the chunk that is held
-pub held_same : (begun completed : List Begun) (chunk other count many : ℕ) (continues goes : Bool) → other ≡ chunk → many ≡ count → goes ≡ continues
-    → begun ≡ completed ++ Held chunk (held_head count continues) ∷ [] → begun ≡ completed ++ Held other (held_head many goes) ∷ []
-held_same begun completed chunk other count many continues goes chunk_is count_is continues_is is =
-    is
-    ∙ ap (λ (n : ℕ). completed ++ Held n (held_head count continues) ∷ []) (sym chunk_is)
-    ∙ ap (λ (n : ℕ). completed ++ Held other (held_head n continues) ∷ []) (sym count_is)
-    ∙ ap (λ (b : Bool). completed ++ Held other (held_head many b) ∷ []) (sym continues_is)
+pub held_same : (begun completed : List Begun) (chunk other : ℕ) (draft : Draft) → other ≡ chunk
+    → begun ≡ completed ++ Held chunk draft ∷ [] → begun ≡ completed ++ Held other draft ∷ []
+held_same begun completed chunk other draft chunk_is is = is ∙ ap (λ (n : ℕ). completed ++ Held n draft ∷ []) (sym chunk_is)
+
+-- and what was published of it
+pub drafted_same : (draft : Draft) (count many : ℕ) (continues goes : Bool) (done : List (List ℕ)) → many ≡ count → goes ≡ continues
+    → IsDrafted draft count continues done → IsDrafted draft many goes done
+drafted_same draft count many continues goes done count_is continues_is is =
+    subst (λ (n : ℕ). IsDrafted draft n goes done) (sym count_is) (subst (λ (b : Bool). IsDrafted draft count b done) (sym continues_is) is)
 
 pub inside_more : (site : Site) (packet : Packet) (older : List Packet) (view : WriterView) (pending : Pending) (fragment next : OpenFragment) (bytes : List ℕ)
     → IsPutInto fragment next fragment.at bytes → next.at ≡ fragment.at + length bytes
@@ -67,8 +69,9 @@ inside_more site packet older view pending fragment next bytes put at_is i = rec
   done = i.done;
   now = i.now ++ bytes;
   completed = i.completed;
-  begun = held_same view.begun i.completed fragment.held.chunk next.held.chunk fragment.count next.count fragment.continues next.continues
-      put.same.chunk put.same.count put.same.continues i.begun;
+  draft = i.draft;
+  begun = held_same view.begun i.completed fragment.held.chunk next.held.chunk i.draft put.same.chunk i.begun;
+  drafted = drafted_same i.draft fragment.count next.count fragment.continues next.continues i.done put.same.count put.same.continues i.drafted;
   shown = i.shown;
   id = put.same.id ∙ i.id;
   sized = ap (λ (n : ℕ). (spot site.setup n).payload_size) put.same.chunk ∙ i.sized;

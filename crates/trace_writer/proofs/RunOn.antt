@@ -14,10 +14,12 @@ use Rattle.commit_body.specs.Patches.{hole_chunks, with_lasts}
 use Rattle.commit_body.specs.Pending.{Pending}
 use Rattle.chunk_plain.specs.declared.setup.ChunkRange.{ChunkRange}
 use Rattle.chunk_plain.specs.declared.tokens.Held.{Held as HeldToken}
+use Rattle.chunk_plain.specs.declared.tokens.TheConstants.{MAX_HELD}
+use Rattle.chunk_plain.specs.Owned.{held_count}
 use Rattle.chunk_plain.specs.Setup.{Setup, spot}
-use Rattle.chunk_plain.specs.Views.{Begun, Held, Completed, Head, Content, WriterView}
-use Rattle.chunk_plain.specs.Steps.{no_head, restamps, completes}
-use Rattle.chunk_plain.specs.Words.{IsHolding, MayFollow, head_at}
+use Rattle.chunk_plain.specs.Views.{Begun, Held, Completed, Head, Draft, fresh, Content, WriterView}
+use Rattle.chunk_plain.specs.Drafts.{MayFollow, head_at}
+use Rattle.chunk_plain.specs.Steps.{redrafts, completes}
 use Rattle.claim_arbiter.specs.Claiming.{AsksInVain}
 use Rattle.cut_steps.specs.RawChains.{current_piece, offset_behind}
 use Rattle.cut_steps.specs.Writing.{IsWriting, with_open}
@@ -28,24 +30,33 @@ use Rattle.trace_writer.specs.declared.fragment.OpenFragment.{OpenFragment}
 use Rattle.trace_writer.specs.declared.route.Route.{Route}
 use Rattle.trace_writer.specs.Headers.{completed_chunk, flags_value, held_head}
 use Rattle.trace_writer.specs.Site.{Site, IsRoute, site_of}
-use Rattle.trace_writer.specs.Filled.{ShowsPages}
+use Rattle.trace_writer.specs.Filled.{frames, ShowsPages}
+use Rattle.trace_writer.specs.Drafted.{IsDrafted, IsFit, CountsNext}
 use Rattle.trace_writer.specs.States.{InFragment}
 use Rattle.trace_writer.specs.OwnSteps.{NoneHeld}
 use Rattle.trace_writer.specs.Claims.{Wins}
 use Rattle.trace_writer.specs.Flows.{RunsOn, StopsHere, StopsAs}
-use Rattle.trace_writer.proofs.KeptChunks.{shown_none_held}
+use Rattle.trace_writer.proofs.KeptChunks.{shown_none_held, none_counted, one_held}
 use Rattle.trace_writer.proofs.Holes.{outside_most, among_reverse, lasts_reverse}
-use Rattle.trace_writer.proofs.Payloads.{written_moved, written_offset, written_ended, written_first, run_page, full_run}
-use Rattle.trace_writer.proofs.Seats.{shows_long, content_is, shows_one, completed_here, restamped_here, holds_here, head_here}
+use Rattle.trace_writer.proofs.Payloads.{laid_behind, written_moved, written_offset, written_ended, written_first, run_page, full_run}
+use Rattle.trace_writer.proofs.Seats.{shows_long, content_is, shows_one, completed_here, redrafted_here, draft_here}
+use Rattle.trace_writer.proofs.Publishing.{fits, fits_new, heads_new}
 
 -- Ids
 
 pub next_id : (site : Site) (packet : Packet) (older : List Packet) (view : WriterView) (pending : Pending) (fragment : OpenFragment)
     → InFragment site packet older view pending fragment [] → fragment.held.id + 1 ≡ length view.begun
 next_id site packet older view pending fragment w =
-    let entry : Begun = Held fragment.held.chunk (held_head fragment.count fragment.continues) in
+    let entry : Begun = Held fragment.held.chunk w.draft in
     let many : length view.begun ≡ length w.completed + 1 = ap length w.begun ∙ length-append w.completed (entry ∷ []) in
     omega (arith, many, shows_long site 0 w.completed w.pages w.shown, w.id)
+
+-- it holds one chunk, so it may begin another
+pub few_inside : (site : Site) (packet : Packet) (older : List Packet) (view : WriterView) (pending : Pending) (fragment : OpenFragment)
+    → InFragment site packet older view pending fragment [] → held_count view.begun < MAX_HELD
+few_inside site packet older view pending fragment w =
+    let one = one_held w.completed fragment.held.chunk w.draft in let none = none_counted w.completed (shown_none_held site 0 w.completed w.pages w.shown) in
+    subst (λ (begun : List Begun). held_count begun < MAX_HELD) (sym w.begun) (omega (arith, one, none))
 
 -- The view while the packet runs on
 
@@ -57,41 +68,43 @@ run_content site before payload id count continues =
 
 abbrev pub run_completion : ℕ → ℕ → Pending → WriterView → List ℕ → ℕ → ℕ → ℕ → Bool → WriterView
 run_completion place buffer before view payload chunk id count continues =
-    completes (restamps view chunk id (record { count = count; flags = flags_value continues true (is_among id (hole_chunks before.holes)) })) chunk id
+    completes view chunk id
     (completed_chunk place id count (flags_value continues true (is_among id (hole_chunks before.holes))) payload (with_lasts (hole_chunks before.holes) before.unsent) buffer)
 
 -- the chunk as it ends is that of the fragment
 pub record Ends (fragment : OpenFragment) (ended : HeldChunk) : Type 0 where
   pub chunk : ended.held.chunk ≡ fragment.held.chunk
   pub id : ended.held.id ≡ fragment.held.id
+  pub sealed : ended.sealed ≡ fragment.start
   pub count : ended.count ≡ fragment.count
   pub continues : ended.continues ≡ fragment.continues
   pub payload : ended.held.body.payload.items ≡ with_bytes fragment.held.body.payload.items fragment.start (redundant (fragment.at - fragment.start - 4))
 
 pub ends_as : (fragment : OpenFragment) (ended : HeldChunk) → ended.held ≡ record fragment.held { body = record fragment.held.body { payload = ended.held.body.payload } }
     → ended.held.body.payload.items ≡ with_bytes fragment.held.body.payload.items fragment.start (redundant (fragment.at - fragment.start - 4))
-    → ended.count ≡ fragment.count → ended.continues ≡ fragment.continues → Ends fragment ended
-ends_as fragment ended held bytes count continues = record {
+    → ended.sealed ≡ fragment.start → ended.count ≡ fragment.count → ended.continues ≡ fragment.continues → Ends fragment ended
+ends_as fragment ended held bytes sealed count continues = record {
   chunk = ap (λ (h : HeldToken). h.chunk) held;
   id = ap (λ (h : HeldToken). h.id) held;
+  sealed = sealed;
   count = count;
   continues = continues;
   payload = bytes;
 }
 
 -- a further chunk is begun behind the held one
-pub claimed_behind : (route : Route) (chunk : ℕ) (old new : WriterView) (completed : List Begun) (entry : Begun) → Wins route chunk old new
-    → old.begun ≡ completed ++ entry ∷ [] → new.begun ≡ completed ++ entry ∷ Held chunk no_head ∷ []
+pub claimed_behind : (route : Route) (chunk : ℕ) (old new : WriterView) (completed : List Begun) (entry : Begun) (wins : Wins route chunk old new)
+    → old.begun ≡ completed ++ entry ∷ [] → new.begun ≡ completed ++ entry ∷ Held chunk (fresh wins.words) ∷ []
 claimed_behind route chunk old new completed entry wins begun =
     wins.begun
-    ∙ ap (λ (xs : List Begun). xs ++ Held chunk no_head ∷ []) begun
-    ∙ append_assoc completed (entry ∷ []) (Held chunk no_head ∷ [])
+    ∙ ap (λ (xs : List Begun). xs ++ Held chunk (fresh wins.words) ∷ []) begun
+    ∙ append_assoc completed (entry ∷ []) (Held chunk (fresh wins.words) ∷ [])
 
 -- the fragment's chunk is held in this view too, before these
 pub record IsHeldStill (site : Site) (packet : Packet) (older : List Packet) (old : WriterView) (pending : Pending) (fragment : OpenFragment) (one : WriterView) : Type 0 where
   pub inside : InFragment site packet older old pending fragment []
   pub later : List Begun
-  pub begun : one.begun ≡ inside.completed ++ Held fragment.held.chunk (held_head fragment.count fragment.continues) ∷ later
+  pub begun : one.begun ≡ inside.completed ++ Held fragment.held.chunk inside.draft ∷ later
 
 pub held_first : (site : Site) (packet : Packet) (older : List Packet) (old : WriterView) (pending : Pending) (fragment : OpenFragment)
     → InFragment site packet older old pending fragment [] → IsHeldStill site packet older old pending fragment old
@@ -101,41 +114,45 @@ pub held_behind : (route : Route) (chunk : ℕ) (site : Site) (packet : Packet) 
     → Wins route chunk old one → InFragment site packet older old pending fragment [] → IsHeldStill site packet older old pending fragment one
 held_behind route chunk site packet older old one pending fragment wins w = record {
   inside = w;
-  later = Held chunk no_head ∷ [];
-  begun = claimed_behind route chunk old one w.completed (Held fragment.held.chunk (held_head fragment.count fragment.continues)) wins w.begun;
+  later = Held chunk (fresh wins.words) ∷ [];
+  begun = claimed_behind route chunk old one w.completed (Held fragment.held.chunk w.draft) wins w.begun;
 }
 
-pub ended_holds : (site : Site) (packet : Packet) (older : List Packet) (old one : WriterView) (pending : Pending) (fragment : OpenFragment) (ended : HeldChunk)
-    → IsHeldStill site packet older old pending fragment one → Ends fragment ended → IsHolding one ended.held.chunk ended.held.id
-ended_holds site packet older old one pending fragment ended h e =
+-- what its completion asks
+pub ended_fits : (site : Site) (packet : Packet) (older : List Packet) (old one : WriterView) (pending : Pending) (fragment : OpenFragment) (ended : HeldChunk)
+    → IsHeldStill site packet older old pending fragment one → Ends fragment ended → vec_len ended.held.body.payload ≡ vec_len fragment.held.body.payload
+    → IsFit site.setup one ended (ended.count - 1) (vec_len ended.held.body.payload)
+ended_fits site packet older old one pending fragment ended h e len =
     let w : InFragment site packet older old pending fragment [] = h.inside in
-    subst (λ (c : ℕ). IsHolding one c ended.held.id) (sym e.chunk)
-    (holds_here one w.completed h.later fragment.held.chunk ended.held.id (held_head fragment.count fragment.continues) h.begun
-    (e.id ∙ w.id ∙ sym (shows_long site 0 w.completed w.pages w.shown)))
+    let items : List ℕ = fragment.held.body.payload.items in
+    let rest : List ℕ = redundant (length w.now) ++ (w.now ++ w.written.rest) in
+    let payload : ended.held.body.payload.items ≡ frames w.done ++ rest =
+    e.payload ∙ written_ended items fragment.start fragment.at fragment.count w.done w.now w.written ∙ laid_behind w.done w.now w.written.rest in
+    let long : length ended.held.body.payload.items ≡ vec_len ended.held.body.payload = sym ended.held.body.payload.ok.0 in
+    fits site.setup one ended w.draft fragment.continues w.completed h.later (ended.count - 1) fragment.count (vec_len ended.held.body.payload) w.done w.done rest rest
+    (h.begun ∙ ap (λ (c : ℕ). w.completed ++ Held c w.draft ∷ h.later) (sym e.chunk))
+    (e.id ∙ w.id ∙ sym (shows_long site 0 w.completed w.pages w.shown))
+    (len ∙ w.whole ∙ sym w.sized ∙ ap (λ (c : ℕ). (spot site.setup c).payload_size) (sym e.chunk))
+    payload (omega (arith, e.count, w.written.count_is)) (omega (arith, long, ap length payload, length-append (frames w.done) rest))
+    payload (e.sealed ∙ w.written.start_is) w.drafted
 
 pub ended_head : (site : Site) (packet : Packet) (older : List Packet) (old one : WriterView) (pending : Pending) (fragment : OpenFragment) (ended : HeldChunk)
     → IsHeldStill site packet older old pending fragment one → Ends fragment ended → head_at one ended.held.id ≡ held_head ended.count ended.continues
 ended_head site packet older old one pending fragment ended h e =
     let w : InFragment site packet older old pending fragment [] = h.inside in
-    head_here one w.completed h.later fragment.held.chunk ended.held.id (held_head fragment.count fragment.continues) h.begun
-    (e.id ∙ w.id ∙ sym (shows_long site 0 w.completed w.pages w.shown))
+    ap (λ (d : Draft). d.head) (draft_here one w.completed h.later fragment.held.chunk ended.held.id w.draft h.begun
+    (e.id ∙ w.id ∙ sym (shows_long site 0 w.completed w.pages w.shown)))
+    ∙ w.drafted.head
     ∙ ap (λ (n : ℕ). held_head n fragment.continues) (sym e.count)
     ∙ ap (λ (c : Bool). held_head ended.count c) (sym e.continues)
 
-pub ended_size : (site : Site) (packet : Packet) (older : List Packet) (old one : WriterView) (pending : Pending) (fragment : OpenFragment) (ended : HeldChunk)
-    → IsHeldStill site packet older old pending fragment one → Ends fragment ended → vec_len ended.held.body.payload ≡ vec_len fragment.held.body.payload
-    → vec_len ended.held.body.payload ≡ (spot site.setup ended.held.chunk).payload_size
-ended_size site packet older old one pending fragment ended h e len =
-    len ∙ h.inside.whole ∙ sym h.inside.sized ∙ ap (λ (c : ℕ). (spot site.setup c).payload_size) (sym e.chunk)
-
 -- the held chunk is completed
 pub completed_before : (place : ℕ) (site : Site) (one two : WriterView) (before : Pending) (fragment : OpenFragment) (ended : HeldChunk)
-    (completed later : List Begun) → Ends fragment ended → place ≡ site.place
+    (completed later : List Begun) (draft : Draft) → Ends fragment ended → place ≡ site.place
     → two ≡ run_completion place site.buffer before one ended.held.body.payload.items ended.held.chunk ended.held.id ended.count ended.continues
-    → one.begun ≡ completed ++ Held fragment.held.chunk (held_head fragment.count fragment.continues) ∷ later → fragment.held.id ≡ length completed
+    → one.begun ≡ completed ++ Held fragment.held.chunk draft ∷ later → fragment.held.id ≡ length completed
     → two.begun ≡ completed ++ Completed fragment.held.chunk (run_content site before ended.held.body.payload.items fragment.held.id fragment.count fragment.continues) ∷ later
-completed_before place site one two before fragment ended completed later e place_is view begun id =
-    let head : Head = held_head fragment.count fragment.continues in
+completed_before place site one two before fragment ended completed later draft e place_is view begun id =
     let payload : List ℕ = ended.held.body.payload.items in
     let buffer : ℕ = site.buffer in
     let content : Content = run_content site before payload fragment.held.id fragment.count fragment.continues in
@@ -146,13 +163,15 @@ completed_before place site one two before fragment ended completed later e plac
     ∙ ap (λ (i : ℕ). run_completion site.place buffer before one payload fragment.held.chunk i ended.count ended.continues) e.id
     ∙ ap (λ (n : ℕ). run_completion site.place buffer before one payload fragment.held.chunk fragment.held.id n ended.continues) e.count
     ∙ ap (λ (c : Bool). run_completion site.place buffer before one payload fragment.held.chunk fragment.held.id fragment.count c) e.continues in
-    completed_here one two completed later fragment.held.chunk fragment.held.id head _ content begun id is
+    completed_here one two completed later fragment.held.chunk fragment.held.id draft content begun id is
 
 -- The held chunk is completed, and this chunk is begun behind it.
 pub record BeginsNext (site : Site) (before : Pending) (fragment : OpenFragment) (payload : List ℕ) (chunk : ℕ) (old two : WriterView) : Type 0 where
-  pub begun : (completed : List Begun) → old.begun ≡ completed ++ Held fragment.held.chunk (held_head fragment.count fragment.continues) ∷ []
+  -- what stands in it
+  pub words : List ℕ
+  pub begun : (completed : List Begun) (draft : Draft) → old.begun ≡ completed ++ Held fragment.held.chunk draft ∷ []
       → fragment.held.id ≡ length completed
-      → two.begun ≡ (completed ++ Completed fragment.held.chunk (run_content site before payload fragment.held.id fragment.count fragment.continues) ∷ []) ++ Held chunk no_head ∷ []
+      → two.begun ≡ (completed ++ Completed fragment.held.chunk (run_content site before payload fragment.held.id fragment.count fragment.continues) ∷ []) ++ Held chunk (fresh words) ∷ []
   pub calls : two.calls ≡ old.calls
   pub sized : (spot site.setup chunk).payload_size ≡ site.size
 
@@ -172,13 +191,13 @@ pub next_first : (setup : Setup) (place now_place chunk : ℕ) (route : Route) (
     → BeginsNext (site_of setup place route) before fragment ended.held.body.payload.items chunk old two
 next_first setup place now_place chunk route old one two before fragment ended r wins e place_is view =
     let site : Site = site_of setup place route in
-    let head : Head = held_head fragment.count fragment.continues in
     let content : Content = run_content site before ended.held.body.payload.items fragment.held.id fragment.count fragment.continues in
     record {
-      begun = λ completed begun id.
-          completed_before now_place site one two before fragment ended completed (Held chunk no_head ∷ []) e place_is view
-          (claimed_behind route chunk old one completed (Held fragment.held.chunk head) wins begun) id
-          ∙ sym (append_assoc completed (Completed fragment.held.chunk content ∷ []) (Held chunk no_head ∷ []));
+      words = wins.words;
+      begun = λ completed draft begun id.
+          completed_before now_place site one two before fragment ended completed (Held chunk (fresh wins.words) ∷ []) draft e place_is view
+          (claimed_behind route chunk old one completed (Held fragment.held.chunk draft) wins begun) id
+          ∙ sym (append_assoc completed (Completed fragment.held.chunk content ∷ []) (Held chunk (fresh wins.words) ∷ []));
       calls = ap (λ (v : WriterView). v.calls) view ∙ wins.calls;
       sized = claimed_size setup place chunk route old one r wins;
     }
@@ -190,9 +209,10 @@ pub next_last : (setup : Setup) (place chunk : ℕ) (route : Route) (old one two
     → BeginsNext (site_of setup place route) before fragment ended.held.body.payload.items chunk old two
 next_last setup place chunk route old one two before fragment ended r wins e view =
     let site : Site = site_of setup place route in record {
-      begun = λ completed begun id.
+      words = wins.words;
+      begun = λ completed draft begun id.
           wins.begun
-          ∙ ap (λ (xs : List Begun). xs ++ Held chunk no_head ∷ []) (completed_before place site old one before fragment ended completed [] e refl view begun id);
+          ∙ ap (λ (xs : List Begun). xs ++ Held chunk (fresh wins.words) ∷ []) (completed_before place site old one before fragment ended completed [] draft e refl view begun id);
       calls = wins.calls ∙ ap (λ (v : WriterView). v.calls) view;
       sized = claimed_size setup place chunk route one two r wins;
     }
@@ -202,27 +222,12 @@ next_last setup place chunk route old one two before fragment ended r wins e vie
 -- the chunk that is begun, behind the completed ones
 pub record Starts (site : Site) (fragment : OpenFragment) (token : HeldToken) (started : HeldChunk) : Type 0 where
   pub held : started.held ≡ token
+  pub sealed : started.sealed ≡ 0
   pub at : started.at ≡ 0
   pub count : started.count ≡ 0
   pub continues : started.continues ≡ true
   pub id : token.id ≡ fragment.held.id + 1
   pub whole : vec_len token.body.payload ≡ (spot site.setup token.chunk).payload_size
-
-pub started_holds : (site : Site) (two : WriterView) (fragment : OpenFragment) (token : HeldToken) (started : HeldChunk) (completed : List Begun) (entry : Begun)
-    → Starts site fragment token started → fragment.held.id ≡ length completed
-    → two.begun ≡ (completed ++ entry ∷ []) ++ Held token.chunk no_head ∷ [] → IsHolding two started.held.chunk started.held.id
-started_holds site two fragment token started completed entry s id begun =
-    let last : token.id ≡ length (completed ++ entry ∷ []) = s.id ∙ ap (λ (n : ℕ). n + 1) id ∙ sym (length-append completed (entry ∷ [])) in
-    subst (λ (t : HeldToken). IsHolding two t.chunk t.id) (sym s.held) (holds_here two (completed ++ entry ∷ []) [] token.chunk token.id no_head begun last)
-
-pub started_follows : (site : Site) (two : WriterView) (fragment : OpenFragment) (token : HeldToken) (started : HeldChunk) (completed : List Begun) (entry : Begun) (next : Head)
-    → Starts site fragment token started → fragment.held.id ≡ length completed
-    → two.begun ≡ (completed ++ entry ∷ []) ++ Held token.chunk no_head ∷ [] → MayFollow (head_at two started.held.id) next
-started_follows site two fragment token started completed entry next s id begun =
-    let last : token.id ≡ length (completed ++ entry ∷ []) = s.id ∙ ap (λ (n : ℕ). n + 1) id ∙ sym (length-append completed (entry ∷ [])) in
-    let head : head_at two started.held.id ≡ no_head =
-    ap (λ (t : HeldToken). head_at two t.id) s.held ∙ head_here two (completed ++ entry ∷ []) [] token.chunk token.id no_head begun last in
-    subst (λ (h : Head). MayFollow h next) (sym head) (record { count_grows = omega arith; front_stays = λ some. absurd (some refl) })
 
 -- The packet in the next chunk
 
@@ -232,9 +237,11 @@ pub record GoesOnIn (site : Site) (old new : WriterView) (before after : Pending
   pub none_left : after ≡ record before { unsent = [] }
   pub payload : List ℕ
   pub payload_is : payload ≡ with_bytes fragment.held.body.payload.items fragment.start (redundant (fragment.at - fragment.start - 4))
-  pub begun : (completed : List Begun) → old.begun ≡ completed ++ Held fragment.held.chunk (held_head fragment.count fragment.continues) ∷ [] → fragment.held.id ≡ length completed
+  pub draft : Draft
+  pub begun : (completed : List Begun) (last : Draft) → old.begun ≡ completed ++ Held fragment.held.chunk last ∷ [] → fragment.held.id ≡ length completed
       → new.begun ≡ (completed ++ Completed fragment.held.chunk (run_content site before payload fragment.held.id fragment.count fragment.continues) ∷ [])
-      ++ Held next.held.chunk (held_head next.count next.continues) ∷ []
+      ++ Held next.held.chunk draft ∷ []
+  pub drafted : IsDrafted draft next.count next.continues []
   pub id : next.held.id ≡ fragment.held.id + 1
   pub start : next.start ≡ 0
   pub at : next.at ≡ 4
@@ -295,7 +302,9 @@ in_next site packet older old new before after fragment next coming w least left
       done = [];
       now = [];
       completed = w.completed ++ Completed fragment.held.chunk content ∷ [];
-      begun = e.begun w.completed w.begun (w.id ∙ sym (shows_long site 0 w.completed w.pages w.shown));
+      draft = e.draft;
+      begun = e.begun w.completed w.draft w.begun (w.id ∙ sym (shows_long site 0 w.completed w.pages w.shown));
+      drafted = e.drafted;
       shown = page_shown site packet older old before fragment e.payload w e.payload_is;
       id = e.id ∙ ap (λ (n : ℕ). n + 1) w.id ∙ sym (length-append w.pages (page ∷ []));
       sized = e.sized;
@@ -348,48 +357,67 @@ pub record StartsIn (started : HeldChunk) (next : OpenFragment) : Type 0 where
   pub continues : next.continues ≡ started.continues
 
 -- the started chunk is held behind those that are completed, and has no fragment yet
-pub run_holds : (site : Site) (packet : Packet) (older : List Packet) (old two : WriterView) (before : Pending) (fragment : OpenFragment)
-    (payload : List ℕ) (started : HeldChunk) (token : HeldToken) → InFragment site packet older old before fragment []
-    → BeginsNext site before fragment payload token.chunk old two → Starts site fragment token started → IsHolding two started.held.chunk started.held.id
-run_holds site packet older old two before fragment payload started token w next s =
+pub run_begun : (site : Site) (packet : Packet) (older : List Packet) (old two : WriterView) (before : Pending) (fragment : OpenFragment)
+    (payload : List ℕ) (started : HeldChunk) (token : HeldToken) (w : InFragment site packet older old before fragment [])
+    (begins : BeginsNext site before fragment payload token.chunk old two) → Starts site fragment token started
+    → (two.begun ≡ (w.completed ++ Completed fragment.held.chunk (run_content site before payload fragment.held.id fragment.count fragment.continues) ∷ [])
+    ++ Held started.held.chunk (fresh begins.words) ∷ [])
+    × (started.held.id ≡ length (w.completed ++ Completed fragment.held.chunk (run_content site before payload fragment.held.id fragment.count fragment.continues) ∷ []))
+run_begun site packet older old two before fragment payload started token w begins s =
     let id : fragment.held.id ≡ length w.completed = w.id ∙ sym (shows_long site 0 w.completed w.pages w.shown) in
-    started_holds site two fragment token started w.completed
-    (Completed fragment.held.chunk (run_content site before payload fragment.held.id fragment.count fragment.continues)) s id (next.begun w.completed w.begun id)
+    let entry : Begun = Completed fragment.held.chunk (run_content site before payload fragment.held.id fragment.count fragment.continues) in (
+      begins.begun w.completed w.draft w.begun id ∙ ap (λ (t : HeldToken). (w.completed ++ entry ∷ []) ++ Held t.chunk (fresh begins.words) ∷ []) (sym s.held),
+      ap (λ (t : HeldToken). t.id) s.held ∙ s.id ∙ ap (λ (n : ℕ). n + 1) id ∙ sym (length-append w.completed (entry ∷ [])),
+    )
+
+pub run_fits : (site : Site) (packet : Packet) (older : List Packet) (old two : WriterView) (before : Pending) (fragment : OpenFragment)
+    (payload : List ℕ) (started : HeldChunk) (token : HeldToken) → InFragment site packet older old before fragment []
+    → BeginsNext site before fragment payload token.chunk old two → Starts site fragment token started → IsFit site.setup two started started.count started.at
+run_fits site packet older old two before fragment payload started token w begins s =
+    let entry : Begun = Completed fragment.held.chunk (run_content site before payload fragment.held.id fragment.count fragment.continues) in
+    let there = run_begun site packet older old two before fragment payload started token w begins s in
+    fits_new site.setup two started begins.words (w.completed ++ entry ∷ []) [] there.0 there.1
+    (ap (λ (t : HeldToken). vec_len t.body.payload) s.held ∙ s.whole ∙ ap (λ (t : HeldToken). (spot site.setup t.chunk).payload_size) (sym s.held)) s.sealed s.at s.count
 
 pub run_follows : (site : Site) (packet : Packet) (older : List Packet) (old two : WriterView) (before : Pending) (fragment : OpenFragment)
     (payload : List ℕ) (started : HeldChunk) (token : HeldToken) (head : Head) → InFragment site packet older old before fragment []
     → BeginsNext site before fragment payload token.chunk old two → Starts site fragment token started → MayFollow (head_at two started.held.id) head
-run_follows site packet older old two before fragment payload started token head w next s =
-    let id : fragment.held.id ≡ length w.completed = w.id ∙ sym (shows_long site 0 w.completed w.pages w.shown) in
-    started_follows site two fragment token started w.completed
-    (Completed fragment.held.chunk (run_content site before payload fragment.held.id fragment.count fragment.continues)) head s id (next.begun w.completed w.begun id)
+run_follows site packet older old two before fragment payload started token head w begins s =
+    let entry : Begun = Completed fragment.held.chunk (run_content site before payload fragment.held.id fragment.count fragment.continues) in
+    let there = run_begun site packet older old two before fragment payload started token w begins s in
+    heads_new two started.held.chunk started.held.id begins.words (w.completed ++ entry ∷ []) [] head there.0 there.1
 
 pub goes_on_in : (site : Site) (old two new : WriterView) (before after : Pending) (fragment : OpenFragment)
     (ended started : HeldChunk) (token : HeldToken) (next : OpenFragment)
     → BeginsNext site before fragment ended.held.body.payload.items token.chunk old two → Ends fragment ended
     → after ≡ record before { unsent = [] }
     → Starts site fragment token started → StartsIn started next
-    → new ≡ restamps two started.held.chunk started.held.id (held_head (started.count + 1) started.continues)
+    → CountsNext started two new
     → GoesOnIn site old new before after fragment next
-goes_on_in site old two new before after fragment ended started token next begins e after_is s n view =
+goes_on_in site old two new before after fragment ended started token next begins e after_is s n counts =
     let payload : List ℕ = ended.held.body.payload.items in
-    let head : Head = held_head (started.count + 1) started.continues in
     let held : next.held ≡ token = n.held ∙ s.held in
     let chunk_is : next.held.chunk ≡ token.chunk = ap (λ (t : HeldToken). t.chunk) held in
-    let stamped : new ≡ restamps two token.chunk token.id head = view ∙ ap (λ (t : HeldToken). restamps two t.chunk t.id head) s.held in
+    let drafted : new ≡ redrafts two token.chunk token.id counts.draft = counts.view ∙ ap (λ (t : HeldToken). redrafts two t.chunk t.id counts.draft) s.held in
     record {
-      calls = ap (λ (v : WriterView). v.calls) view ∙ begins.calls;
+      calls = ap (λ (v : WriterView). v.calls) counts.view ∙ begins.calls;
       none_left = after_is;
       payload = payload;
       payload_is = e.payload;
-      begun = λ completed begun id.
+      draft = counts.draft;
+      begun = λ completed last begun id.
           let content : Content = run_content site before payload fragment.held.id fragment.count fragment.continues in
           let entry : Begun = Completed fragment.held.chunk content in
-          let last : token.id ≡ length (completed ++ entry ∷ []) = s.id ∙ ap (λ (m : ℕ). m + 1) id ∙ sym (length-append completed (entry ∷ [])) in
-          restamped_here two new (completed ++ entry ∷ []) [] token.chunk token.id no_head head (begins.begun completed begun id) last stamped
-          ∙ ap (λ (c : ℕ). (completed ++ entry ∷ []) ++ Held c head ∷ []) (sym chunk_is)
-          ∙ ap (λ (m : ℕ). (completed ++ entry ∷ []) ++ Held next.held.chunk (held_head m started.continues) ∷ []) (sym n.count)
-          ∙ ap (λ (c : Bool). (completed ++ entry ∷ []) ++ Held next.held.chunk (held_head next.count c) ∷ []) (sym n.continues);
+          let last_id : token.id ≡ length (completed ++ entry ∷ []) = s.id ∙ ap (λ (m : ℕ). m + 1) id ∙ sym (length-append completed (entry ∷ [])) in
+          redrafted_here two new (completed ++ entry ∷ []) [] token.chunk token.id (fresh begins.words) counts.draft (begins.begun completed last begun id) last_id drafted
+          ∙ ap (λ (c : ℕ). (completed ++ entry ∷ []) ++ Held c counts.draft ∷ []) (sym chunk_is);
+      drafted = record {
+        head = counts.head
+            ∙ ap (λ (m : ℕ). held_head m started.continues) (sym n.count)
+            ∙ ap (λ (c : Bool). held_head next.count c) (sym n.continues);
+        bytes = λ j below. absurd (omega (arith, below));
+        sealed = let most = counts.sealed in omega (arith, most, s.at);
+      };
       id = ap (λ (t : HeldToken). t.id) held ∙ s.id;
       start = n.start ∙ s.at;
       at = n.at ∙ ap (λ (m : ℕ). m + 4) s.at;
@@ -409,7 +437,9 @@ inside_seen site packet older view other pending fragment coming same w = record
   done = w.done;
   now = w.now;
   completed = w.completed;
+  draft = w.draft;
   begun = same ∙ w.begun;
+  drafted = w.drafted;
   shown = w.shown;
   id = w.id;
   sized = w.sized;

@@ -1,11 +1,10 @@
 -- The view of a writer whose chunk is held: its begun chunks as it is completed, and the pages that they show.
 use Rattle.std.proofs.Common.{◌≡◌, ◌∙◌, ℕ, suc, ◌+◌, Bool, List, [], ◌∷◌, ◌++◌, length, set, get_or, refl, sym, ap, subst, arith}
-use Rattle.std.proofs.lemmas.List.{set-set}
 use Rattle.std.proofs.Math.Seq.{get_or-append_seam, set-append_seam}
 use Rattle.trace_model.specs.Pages.{Page, laid, flags_of, image_of}
-use Rattle.chunk_plain.specs.Views.{At, Begun, Held, Completed, Head, Content, WriterView}
-use Rattle.chunk_plain.specs.Steps.{no_head, restamps, completes}
-use Rattle.chunk_plain.specs.Words.{head_in, head_at, IsHolding, MayFollow}
+use Rattle.chunk_plain.specs.Views.{At, Begun, Held, Completed, Head, Draft, no_draft, Content, WriterView}
+use Rattle.chunk_plain.specs.Drafts.{draft_in, draft_at, IsHolding, MayFollow}
+use Rattle.chunk_plain.specs.Steps.{redrafts, completes}
 use Rattle.trace_writer.specs.Headers.{completed_chunk, held_head}
 use Rattle.trace_writer.specs.Site.{Site}
 use Rattle.trace_writer.specs.Filled.{ShowsPages}
@@ -16,37 +15,36 @@ at_seam (x ∷ xs) y ys = at_seam xs y ys
 
 -- A chunk that the writer holds
 
-pub head_here : (view : WriterView) (completed later : List Begun) (chunk id : ℕ) (head : Head) → view.begun ≡ completed ++ Held chunk head ∷ later
-    → id ≡ length completed → head_at view id ≡ head
-head_here view completed later chunk id head begun id_is =
-    ap (λ (xs : List Begun). head_in (get_or xs id (Held 0 no_head))) begun
-    ∙ ap (λ (i : ℕ). head_in (get_or (completed ++ Held chunk head ∷ later) i (Held 0 no_head))) id_is
-    ∙ ap head_in (get_or-append_seam completed (Held chunk head) later (Held 0 no_head))
+pub draft_here : (view : WriterView) (completed later : List Begun) (chunk id : ℕ) (draft : Draft) → view.begun ≡ completed ++ Held chunk draft ∷ later
+    → id ≡ length completed → draft_at view id ≡ draft
+draft_here view completed later chunk id draft begun id_is =
+    ap (λ (xs : List Begun). draft_in (get_or xs id (Held 0 no_draft))) begun
+    ∙ ap (λ (i : ℕ). draft_in (get_or (completed ++ Held chunk draft ∷ later) i (Held 0 no_draft))) id_is
+    ∙ ap draft_in (get_or-append_seam completed (Held chunk draft) later (Held 0 no_draft))
 
-pub holds_here : (view : WriterView) (completed later : List Begun) (chunk id : ℕ) (head : Head) → view.begun ≡ completed ++ Held chunk head ∷ later
+pub holds_here : (view : WriterView) (completed later : List Begun) (chunk id : ℕ) (draft : Draft) → view.begun ≡ completed ++ Held chunk draft ∷ later
     → id ≡ length completed → IsHolding view chunk id
-holds_here view completed later chunk id head begun id_is =
-    subst (λ (h : Head). At view.begun id (Held chunk h)) (sym (head_here view completed later chunk id head begun id_is))
-    (subst (λ (xs : List Begun). At xs id (Held chunk head)) (sym begun)
-    (subst (λ (i : ℕ). At (completed ++ Held chunk head ∷ later) i (Held chunk head)) (sym id_is) (at_seam completed (Held chunk head) later)))
+holds_here view completed later chunk id draft begun id_is =
+    subst (λ (d : Draft). At view.begun id (Held chunk d)) (sym (draft_here view completed later chunk id draft begun id_is))
+    (subst (λ (xs : List Begun). At xs id (Held chunk draft)) (sym begun)
+    (subst (λ (i : ℕ). At (completed ++ Held chunk draft ∷ later) i (Held chunk draft)) (sym id_is) (at_seam completed (Held chunk draft) later)))
 
-pub restamped_here : (view new : WriterView) (completed later : List Begun) (chunk id : ℕ) (head next : Head) → view.begun ≡ completed ++ Held chunk head ∷ later
-    → id ≡ length completed → new ≡ restamps view chunk id next → new.begun ≡ completed ++ Held chunk next ∷ later
-restamped_here view new completed later chunk id head next begun id_is is =
+pub redrafted_here : (view new : WriterView) (completed later : List Begun) (chunk id : ℕ) (draft next : Draft) → view.begun ≡ completed ++ Held chunk draft ∷ later
+    → id ≡ length completed → new ≡ redrafts view chunk id next → new.begun ≡ completed ++ Held chunk next ∷ later
+redrafted_here view new completed later chunk id draft next begun id_is is =
     ap (λ (v : WriterView). v.begun) is
     ∙ ap (λ (xs : List Begun). set xs id (Held chunk next)) begun
-    ∙ ap (λ (i : ℕ). set (completed ++ Held chunk head ∷ later) i (Held chunk next)) id_is
-    ∙ set-append_seam completed (Held chunk head) later (Held chunk next)
+    ∙ ap (λ (i : ℕ). set (completed ++ Held chunk draft ∷ later) i (Held chunk next)) id_is
+    ∙ set-append_seam completed (Held chunk draft) later (Held chunk next)
 
-pub completed_here : (view new : WriterView) (completed later : List Begun) (chunk id : ℕ) (head next : Head) (content : Content)
-    → view.begun ≡ completed ++ Held chunk head ∷ later → id ≡ length completed → new ≡ completes (restamps view chunk id next) chunk id content
+pub completed_here : (view new : WriterView) (completed later : List Begun) (chunk id : ℕ) (draft : Draft) (content : Content)
+    → view.begun ≡ completed ++ Held chunk draft ∷ later → id ≡ length completed → new ≡ completes view chunk id content
     → new.begun ≡ completed ++ Completed chunk content ∷ later
-completed_here view new completed later chunk id head next content begun id_is is =
+completed_here view new completed later chunk id draft content begun id_is is =
     ap (λ (v : WriterView). v.begun) is
-    ∙ set-set view.begun id (Held chunk next) (Completed chunk content)
     ∙ ap (λ (xs : List Begun). set xs id (Completed chunk content)) begun
-    ∙ ap (λ (i : ℕ). set (completed ++ Held chunk head ∷ later) i (Completed chunk content)) id_is
-    ∙ set-append_seam completed (Held chunk head) later (Completed chunk content)
+    ∙ ap (λ (i : ℕ). set (completed ++ Held chunk draft ∷ later) i (Completed chunk content)) id_is
+    ∙ set-append_seam completed (Held chunk draft) later (Completed chunk content)
 
 -- one fragment more may be counted in the header
 pub follows_held : (head : Head) (count : ℕ) (continues : Bool) → head ≡ held_head count continues → MayFollow head (held_head (count + 1) continues)

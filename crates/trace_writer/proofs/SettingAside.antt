@@ -21,7 +21,7 @@ use Rattle.trace_writer.specs.States.{InFragment}
 use Rattle.trace_writer.specs.Flows.{RunsOn, StopsHere, SetsAside, CannotSetAside}
 use Rattle.trace_writer.proofs.Holes.{outside_here}
 use Rattle.trace_writer.proofs.Payloads.{written_moved, written_offset}
-use Rattle.trace_writer.proofs.Putting.{written_more, held_same, ids_behind, ids_next}
+use Rattle.trace_writer.proofs.Putting.{written_more, held_same, drafted_same, ids_behind, ids_next}
 
 pub only_one : (n at : ℕ) → IsTrue (is_among n (at ∷ [])) → n ≡ at
 only_one n at among = either (at == n) refl among
@@ -56,8 +56,9 @@ inside_nested site packet older view before after fragment next coming only put 
       done = i.done;
       now = i.now ++ open_length;
       completed = i.completed;
-      begun = held_same view.begun i.completed fragment.held.chunk next.held.chunk fragment.count next.count fragment.continues next.continues
-          put.same.chunk put.same.count put.same.continues i.begun;
+      draft = i.draft;
+      begun = held_same view.begun i.completed fragment.held.chunk next.held.chunk i.draft put.same.chunk i.begun;
+      drafted = drafted_same i.draft fragment.count next.count fragment.continues next.continues i.done put.same.count put.same.continues i.drafted;
       shown = i.shown;
       id = put.same.id ∙ i.id;
       sized = ap (λ (n : ℕ). (spot site.setup n).payload_size) put.same.chunk ∙ i.sized;

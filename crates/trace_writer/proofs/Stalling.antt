@@ -14,8 +14,8 @@ use Rattle.trace_model.specs.Cut.{left_behind, length_places}
 use Rattle.commit_body.specs.Patches.{hole_chunks}
 use Rattle.commit_body.specs.Pending.{Pending}
 use Rattle.chunk_plain.specs.Setup.{Setup}
-use Rattle.chunk_plain.specs.Views.{Begun, Held, Completed, Head, Content, WriterView}
-use Rattle.chunk_plain.specs.Steps.{restamps, completes}
+use Rattle.chunk_plain.specs.Views.{Begun, Held, Completed, Content, WriterView, Draft}
+use Rattle.chunk_plain.specs.Steps.{redrafts, completes}
 use Rattle.cut_steps.specs.RawChains.{current_piece}
 use Rattle.cut_steps.specs.GoesOn.{GoesOn}
 use Rattle.cut_steps.specs.Writing.{IsWriting, with_open}
@@ -42,7 +42,7 @@ pub record EndsStuck (site : Site) (old new : WriterView) (before : Pending) (fr
   pub payload : List ℕ
   pub payload_is : payload ≡ with_bytes fragment.held.body.payload.items fragment.start (redundant (fragment.at - fragment.start - 4))
   pub calls : new.calls ≡ old.calls
-  pub begun : (completed : List Begun) → old.begun ≡ completed ++ Held fragment.held.chunk (held_head fragment.count fragment.continues) ∷ [] → fragment.held.id ≡ length completed
+  pub begun : (completed : List Begun) (draft : Draft) → old.begun ≡ completed ++ Held fragment.held.chunk draft ∷ [] → fragment.held.id ≡ length completed
       → new.begun ≡ completed ++ Completed fragment.held.chunk (run_content site before payload fragment.held.id fragment.count fragment.continues) ∷ []
 
 -- the pages are a cut of the packet with all that its writer was asked to write
@@ -58,7 +58,7 @@ stuck_with site packet later older old new before fragment coming w left writing
       stalls = e.stalls;
       pages = w.pages ++ page ∷ [];
       shown = subst (λ (begun : List Begun). ShowsPages site 0 begun (w.pages ++ page ∷ []))
-          (sym (e.begun w.completed w.begun (w.id ∙ sym (shows_long site 0 w.completed w.pages w.shown))))
+          (sym (e.begun w.completed w.draft w.begun (w.id ∙ sym (shows_long site 0 w.completed w.pages w.shown))))
           (page_shown site packet older old before fragment e.payload w e.payload_is);
       cut = raw_cut_is_cut site.size (later ∷ older) (w.pages ++ page ∷ [])
           (writing_stalled_cut site.size packet later older w.pages page w.done w.now before.unsent (reverse before.holes) coming refl refl
@@ -117,10 +117,9 @@ stops_stuck site old new before after fragment filled e =
         (λ m among. only_one m n among ∙ ap (λ (levels : List (List ℕ)). length (flat open_length levels)) same)) e
 
 -- as many chunks are begun once one of them is completed
-pub begun_many : (old new : WriterView) (chunk id : ℕ) (head : Head) (content : Content) → new ≡ completes (restamps old chunk id head) chunk id content
-    → length new.begun ≡ length old.begun
-begun_many old new chunk id head content is =
-    ap (λ (v : WriterView). length v.begun) is ∙ length-set (set old.begun id (Held chunk head)) id (Completed chunk content) ∙ length-set old.begun id (Held chunk head)
+pub begun_many : (old new : WriterView) (chunk id : ℕ) (content : Content) → new ≡ completes old chunk id content → length new.begun ≡ length old.begun
+begun_many old new chunk id content is =
+    ap (λ (v : WriterView). length v.begun) is ∙ length-set old.begun id (Completed chunk content)
 
 pub ends_stuck : (setup : Setup) (place : ℕ) (route : Route) (old one new : WriterView) (before : Pending) (fragment : OpenFragment) (ended : HeldChunk)
     → route.spec.policy ≡ Stalls → Ends fragment ended
@@ -131,5 +130,5 @@ ends_stuck setup place route old one new before fragment ended stalls e view beg
   payload = ended.held.body.payload.items;
   payload_is = e.payload;
   calls = calls_is ∙ ap (λ (v : WriterView). v.calls) view;
-  begun = λ completed begun id. begun_is ∙ completed_before place (site_of setup place route) old one before fragment ended completed [] e refl view begun id;
+  begun = λ completed draft begun id. begun_is ∙ completed_before place (site_of setup place route) old one before fragment ended completed [] draft e refl view begun id;
 }

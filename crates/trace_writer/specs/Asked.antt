@@ -3,8 +3,9 @@ use Rattle.std.specs.Prelude.{◌≡◌, ℕ, ◌+◌, ◌-◌, ◌*◌, ◌≤�
 use Rattle.trace_base.specs.declared.policy.WriterPolicy.{WriterPolicy}
 use Rattle.trace_base.specs.declared.policy.WriterPolicy.TheVariants.{Drops, Stalls}
 use Rattle.trace_model.specs.Calls.{Call, Begun, GivenUp}
-use Rattle.chunk_plain.specs.Setup.{Setup}
 use Rattle.chunk_plain.specs.Views.{WriterView, ServiceView}
+use Rattle.chunk_plain.specs.Meaning.{Meaning}
+use Rattle.chunk_plain.specs.Setup.{Setup}
 use Rattle.chunk_plain.specs.World.{World}
 use Rattle.trace_writer.specs.declared.fault.Begun.{Begun as BegunPacket}
 use Rattle.trace_writer.specs.declared.fault.Begun.TheVariants.{Kept, Dropping}
@@ -34,20 +35,19 @@ stops_with (Err fault) = true
 -- A call of a writer that isn't stalled: what it did, whether it stopped since no chunk was to be had, which calls it noted behind
 -- its claims, whether its writer is stalled now, and its steps. A writer that drops makes one round of claims for each chunk that it
 -- begins, and one for the chunk that isn't there.
-pub record IsAsked {H T W S : Type 0} (setup : T → Setup) (sits : T → W → Type 0) (place : W → ℕ) (view : T → W → WriterView)
-    (serves : T → S → Type 0) (service_view : T → S → ServiceView) (told : T → Option World) (needs : H → T → Type 0) (helps : H → T → ℕ → Bool → H → T → Type 0)
+pub record IsAsked {H T W S : Type 0} (means : Meaning T W S) (needs : H → T → Type 0) (helps : H → T → ℕ → Bool → H → T → Type 0)
     (route : Route) (helper : H) (old : T) (seat : W) (steps : ℕ) (stopped : Bool) (noted : List Call) (stalled : Bool) (left : H) (new : T) (after : W) (later : ℕ) : Type 0 where
-  pub others : LeavesOthers setup sits place view old seat new after
-  pub works : Works route.spec.policy (IsSilent setup sits place view serves service_view told) (IsQuiet setup sits place view serves service_view told)
-      (GetsChunk setup sits place view serves service_view told route) (IsOutNow setup sits place view serves service_view told route)
-      (λ asked table answer behind freed. helps asked table route.spec.producer answer behind freed × LeavesWriters setup sits view table freed)
+  pub others : LeavesOthers means old seat new after
+  pub works : Works route.spec.policy (IsSilent means) (IsQuiet means)
+      (GetsChunk means route) (IsOutNow means route)
+      (λ asked table answer behind freed. helps asked table route.spec.producer answer behind freed × LeavesWriters means table freed)
       helper old seat stopped left new after
   pub needed : needs left new
-  pub counts : later + (length (view old seat).asked + length (view old seat).begun) ≡ steps + (length (view new after).asked + length (view new after).begun)
-  pub notes : (view new after).calls ≡ (view old seat).calls ++ noted
+  pub counts : later + (length (means.view old seat).asked + length (means.view old seat).begun) ≡ steps + (length (means.view new after).asked + length (means.view new after).begun)
+  pub notes : (means.view new after).calls ≡ (means.view old seat).calls ++ noted
   pub stalls : stalled ≡ refuses route.spec.policy stopped
   pub few_steps : route.spec.policy ≡ Drops → later ≤ steps
-      + (length (view new after).begun - length (view old seat).begun) * (route.arbiter.chunks + 1) + (if stopped then route.arbiter.chunks else 0)
+      + (length (means.view new after).begun - length (means.view old seat).begun) * (route.arbiter.chunks + 1) + (if stopped then route.arbiter.chunks else 0)
 
 -- The call was refused for this fault, and changed nothing.
 pub record LeavesAll {A C T H : Type 0} (fault : CallFault) (answer : Result A CallFault) (old new : C) (table left : T) (helper behind : H) (steps later : ℕ) : Type 0 where

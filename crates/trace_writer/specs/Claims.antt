@@ -2,15 +2,15 @@
 use Rattle.std.specs.Prelude.{◌≡◌, ℕ, ◌+◌, ◌<◌, ◌≤◌, ◌⊎◌, ⊤, None, List, [], ◌∷◌, ◌++◌, length, filter}
 use Rattle.trace_model.specs.Packets.{Packet, is_lost, packets_of}
 use Rattle.chunk_plain.specs.Setup.{Setup, producer_of, IsChunkOf}
-use Rattle.chunk_plain.specs.Views.{Ask, Begun, Held, Completed, WriterView}
-use Rattle.chunk_plain.specs.Steps.{no_head}
+use Rattle.chunk_plain.specs.Views.{Ask, Begun, Held, Completed, WriterView, fresh}
 use Rattle.trace_writer.specs.declared.route.Route.{Route}
 
 -- a chunk of the producer is begun
 pub record Wins (route : Route) (chunk : ℕ) (old new : WriterView) : Type 0 where
   pub least : route.arbiter.first ≤ chunk
   pub below : chunk < route.arbiter.first + route.arbiter.chunks
-  pub begun : new.begun ≡ old.begun ++ Held chunk no_head ∷ []
+  pub words : List ℕ
+  pub begun : new.begun ≡ old.begun ++ Held chunk (fresh words) ∷ []
   pub calls : new.calls ≡ old.calls
 
 -- none was

@@ -2,24 +2,25 @@
 use Rattle.std.specs.Prelude.{◌≡◌, ◌≢◌, ℕ, Bool, true, false, length, Option, ◌+◌}
 use Rattle.trace_base.specs.declared.policy.WriterPolicy.{WriterPolicy}
 use Rattle.trace_base.specs.declared.policy.WriterPolicy.TheVariants.{Drops, Stalls}
-use Rattle.chunk_plain.specs.Setup.{Setup}
 use Rattle.chunk_plain.specs.Views.{WriterView, ServiceView}
+use Rattle.chunk_plain.specs.Meaning.{Meaning}
+use Rattle.chunk_plain.specs.Setup.{Setup}
 use Rattle.chunk_plain.specs.World.{World}
 use Rattle.trace_writer.specs.declared.route.Route.{Route}
 use Rattle.trace_writer.specs.OwnSteps.{IsSilent, GetsChunk, IsOutNow}
 
 -- a help leaves the view of each writer's seat
-pub record LeavesWriters {T W : Type 0} (setup : T → Setup) (sits : T → W → Type 0) (view : T → W → WriterView) (old new : T) : Type 0 where
-  pub setup_stays : setup new ≡ setup old
-  pub writers_stay : (seat : W) → sits old seat → sits new seat × (view new seat ≡ view old seat)
+pub record LeavesWriters {T W S : Type 0} (means : Meaning T W S) (old new : T) : Type 0 where
+  pub setup_stays : means.setup new ≡ means.setup old
+  pub writers_stay : (seat : W) → means.sits old seat → means.sits new seat × (means.view new seat ≡ means.view old seat)
 
 -- and a writer's call, with all helps that it asks for, those of the other writers' seats
-pub record LeavesOthers {T W : Type 0} (setup : T → Setup) (sits : T → W → Type 0) (place : W → ℕ) (view : T → W → WriterView)
+pub record LeavesOthers {T W S : Type 0} (means : Meaning T W S)
     (old : T) (seat : W) (new : T) (after : W) : Type 0 where
-  pub setup_stays : setup new ≡ setup old
-  pub seat_stays : sits new after
-  pub place_stays : place after ≡ place seat
-  pub writers_stay : (other : W) → sits old other → place other ≢ place seat → sits new other × (view new other ≡ view old other)
+  pub setup_stays : means.setup new ≡ means.setup old
+  pub seat_stays : means.sits new after
+  pub place_stays : means.place after ≡ means.place seat
+  pub writers_stay : (other : W) → means.sits old other → means.place other ≢ means.place seat → means.sits new other × (means.view new other ≡ means.view old other)
 
 -- What a writer does for a call, with the helps that it asks for: silent steps, and for each further chunk the claims by which it
 -- gets one; only its last steps note calls. A writer that stalls asks for a help where it is out of chunks, and claims again
@@ -48,16 +49,15 @@ pub data Works {H T W : Type 0} (policy : WriterPolicy) (silent last gets out : 
 
 -- What a writer does to its table, its seat and its helper before it notes its call, whether it stops since no chunk is to be had,
 -- and its steps: each claim is one, and each begin of a chunk.
-pub record IsWork {H T W S : Type 0} (setup : T → Setup) (sits : T → W → Type 0) (place : W → ℕ) (view : T → W → WriterView)
-    (serves : T → S → Type 0) (service_view : T → S → ServiceView) (told : T → Option World) (needs : H → T → Type 0) (helps : H → T → ℕ → Bool → H → T → Type 0)
+pub record IsWork {H T W S : Type 0} (means : Meaning T W S) (needs : H → T → Type 0) (helps : H → T → ℕ → Bool → H → T → Type 0)
     (route : Route) (helper : H) (old : T) (seat : W) (steps : ℕ) (stopped : Bool) (left : H) (new : T) (after : W) (later : ℕ) : Type 0 where
-  pub others : LeavesOthers setup sits place view old seat new after
-  pub works : Works route.spec.policy (IsSilent setup sits place view serves service_view told) (IsSilent setup sits place view serves service_view told)
-      (GetsChunk setup sits place view serves service_view told route) (IsOutNow setup sits place view serves service_view told route)
-      (λ asked table answer behind freed. helps asked table route.spec.producer answer behind freed × LeavesWriters setup sits view table freed)
+  pub others : LeavesOthers means old seat new after
+  pub works : Works route.spec.policy (IsSilent means) (IsSilent means)
+      (GetsChunk means route) (IsOutNow means route)
+      (λ asked table answer behind freed. helps asked table route.spec.producer answer behind freed × LeavesWriters means table freed)
       helper old seat stopped left new after
   pub needed : needs left new
-  pub counts : later + (length (view old seat).asked + length (view old seat).begun) ≡ steps + (length (view new after).asked + length (view new after).begun)
+  pub counts : later + (length (means.view old seat).asked + length (means.view old seat).begun) ≡ steps + (length (means.view new after).asked + length (means.view new after).begun)
 
 -- whether a call that finds no chunk ends with a help that freed none: a writer that drops asks for no help
 abbrev pub refuses : WriterPolicy → Bool → Bool

@@ -2,6 +2,7 @@ pub mod Agreement
 pub mod Asked
 pub mod Claims
 pub mod Core
+pub mod Drafted
 pub mod Empty
 pub mod Filled
 pub mod Flows

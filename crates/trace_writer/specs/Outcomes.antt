@@ -9,8 +9,9 @@ use Rattle.trace_model.specs.Cut.{IsCut, last_runs_on, newest_goes_on}
 use Rattle.trace_model.specs.Packets.{packets_of}
 use Rattle.commit_body.specs.Patches.{hole_chunks, with_lasts}
 use Rattle.commit_body.specs.Pending.{Pending}
-use Rattle.chunk_plain.specs.Views.{Begun as BegunChunk, Held, Completed, WriterView}
+use Rattle.chunk_plain.specs.Views.{WriterView}
 use Rattle.chunk_plain.specs.Steps.{notes_call}
+use Rattle.chunk_plain.specs.Histories.{completed_images, completed_patches}
 use Rattle.trace_writer.specs.declared.flow.Flow.{Flow}
 use Rattle.trace_writer.specs.declared.flow.Flow.TheVariants as flow
 use Rattle.trace_writer.specs.declared.fragment.OpenFragment.{OpenFragment}
@@ -30,17 +31,6 @@ GoesBehind old new before after call (flow.Going fragment) = (new ≡ record old
 GoesBehind old new before after call (flow.Stopped next_id) = StopsBehind old.route.spec.policy old new before after call next_id
 
 -- The images of a writer
-
--- what it completed
-abbrev pub completed_images : List BegunChunk → List Image
-completed_images [] = []
-completed_images (Held chunk head ∷ begun) = completed_images begun
-completed_images (Completed chunk content ∷ begun) = content.image ∷ completed_images begun
-
-abbrev pub completed_patches : List BegunChunk → List (List Patch)
-completed_patches [] = []
-completed_patches (Held chunk head ∷ begun) = completed_patches begun
-completed_patches (Completed chunk content ∷ begun) = content.patches ∷ completed_patches begun
 
 -- the held chunk so far, with the size of its last fragment put in
 abbrev pub held_image : ℕ → ℕ → ℕ → Bool → List ℕ → Image

@@ -2,7 +2,7 @@
 use Rattle.std.specs.Prelude.{◌≡◌, ℕ, ◌+◌, ⊤, Bool, true, false, List, [], ◌∷◌, ◌++◌, length, Option, Some}
 use Rattle.chunk_plain.specs.Setup.{Setup}
 use Rattle.chunk_plain.specs.Views.{Begun, Held, Completed, WriterView, ServiceView}
-use Rattle.chunk_plain.specs.Words.{IsWriterStep}
+use Rattle.chunk_plain.specs.Meaning.{Meaning, IsWriterStep}
 use Rattle.chunk_plain.specs.World.{World, Unclaimed, status}
 use Rattle.claim_arbiter.specs.Claiming.{ClaimsInTurn, AllClaimed, NoneFree, lost_asks}
 use Rattle.trace_writer.specs.declared.route.Route.{Route}
@@ -29,51 +29,46 @@ FreesNone told old new = (world : World) → told old ≡ Some world
     → (next : World) × (told new ≡ Some next) × ((chunk : ℕ) → status next chunk ≡ Unclaimed → status world chunk ≡ Unclaimed)
 
 -- steps by which a writer asks for no chunk
-pub record IsQuiet {T W S : Type 0} (setup : T → Setup) (sits : T → W → Type 0) (place : W → ℕ) (view : T → W → WriterView)
-    (serves : T → S → Type 0) (service_view : T → S → ServiceView) (told : T → Option World) (old : T) (seat : W) (new : T) (after : W) : Type 0 where
-  pub step : IsWriterStep setup sits place view serves service_view old seat new after
-  pub asked : (view new after).asked ≡ (view old seat).asked
-  pub claimed : (view new after).claimed ≡ (view old seat).claimed
-  pub stamped : (view new after).stamped ≡ (view old seat).stamped
-  pub chunks : KeepsChunks (view old seat).begun (view new after).begun
-  pub frees_none : FreesNone told old new
+pub record IsQuiet {T W S : Type 0} (means : Meaning T W S) (old : T) (seat : W) (new : T) (after : W) : Type 0 where
+  pub step : IsWriterStep means old seat new after
+  pub asked : (means.view new after).asked ≡ (means.view old seat).asked
+  pub claimed : (means.view new after).claimed ≡ (means.view old seat).claimed
+  pub stamped : (means.view new after).stamped ≡ (means.view old seat).stamped
+  pub chunks : KeepsChunks (means.view old seat).begun (means.view new after).begun
+  pub frees_none : FreesNone means.told old new
 
 -- and notes no call
-pub record IsSilent {T W S : Type 0} (setup : T → Setup) (sits : T → W → Type 0) (place : W → ℕ) (view : T → W → WriterView)
-    (serves : T → S → Type 0) (service_view : T → S → ServiceView) (told : T → Option World) (old : T) (seat : W) (new : T) (after : W) : Type 0 where
-  pub quiet : IsQuiet setup sits place view serves service_view told old seat new after
-  pub calls : (view new after).calls ≡ (view old seat).calls
+pub record IsSilent {T W S : Type 0} (means : Meaning T W S) (old : T) (seat : W) (new : T) (after : W) : Type 0 where
+  pub quiet : IsQuiet means old seat new after
+  pub calls : (means.view new after).calls ≡ (means.view old seat).calls
 
 -- The writer gets a chunk: it asks for those of its producer in rising order until a claim wins, and begins that one.
-pub record GetsChunk {T W S : Type 0} (setup : T → Setup) (sits : T → W → Type 0) (place : W → ℕ) (view : T → W → WriterView)
-    (serves : T → S → Type 0) (service_view : T → S → ServiceView) (told : T → Option World) (route : Route) (old : T) (seat : W) (new : T) (after : W) : Type 0 where
-  pub step : IsWriterStep setup sits place view serves service_view old seat new after
+pub record GetsChunk {T W S : Type 0} (means : Meaning T W S) (route : Route) (old : T) (seat : W) (new : T) (after : W) : Type 0 where
+  pub step : IsWriterStep means old seat new after
   pub chunk : ℕ
-  pub claims : ClaimsInTurn (setup old) route.arbiter.first route.arbiter.chunks chunk (view old seat) (view new after)
-  pub frees_none : FreesNone told old new
+  pub claims : ClaimsInTurn (means.setup old) route.arbiter.first route.arbiter.chunks chunk (means.view old seat) (means.view new after)
+  pub frees_none : FreesNone means.told old new
 
 -- The writer is out of chunks, and has just found it so: it asked for each chunk of its producer, once each and each in vain,
 -- it holds none, and on a table that tells its world none of them is free.
-pub record IsOutNow {T W S : Type 0} (setup : T → Setup) (sits : T → W → Type 0) (place : W → ℕ) (view : T → W → WriterView)
-    (serves : T → S → Type 0) (service_view : T → S → ServiceView) (told : T → Option World) (route : Route) (old : T) (seat : W) (now : T) (asker : W) : Type 0 where
-  pub step : IsWriterStep setup sits place view serves service_view old seat now asker
+pub record IsOutNow {T W S : Type 0} (means : Meaning T W S) (route : Route) (old : T) (seat : W) (now : T) (asker : W) : Type 0 where
+  pub step : IsWriterStep means old seat now asker
   -- the page words that its claims found
   pub words : List ℕ
   pub count_is : length words ≡ route.arbiter.chunks
-  pub all_claimed : AllClaimed (setup old) route.arbiter.first words
-  pub asked : (view now asker).asked ≡ (view old seat).asked ++ lost_asks (length (view old seat).calls) route.arbiter.first words
-  pub claimed : (view now asker).claimed ≡ (view old seat).claimed
-  pub stamped : (view now asker).stamped ≡ (view old seat).stamped
-  pub chunks : KeepsChunks (view old seat).begun (view now asker).begun
-  pub none_held : NoneHeld (view now asker).begun
-  pub none_free : (world : World) → told old ≡ Some world
-      → (next : World) × (told now ≡ Some next) × NoneFree next route.arbiter.first (route.arbiter.first + route.arbiter.chunks)
+  pub all_claimed : AllClaimed (means.setup old) route.arbiter.first words
+  pub asked : (means.view now asker).asked ≡ (means.view old seat).asked ++ lost_asks (length (means.view old seat).calls) route.arbiter.first words
+  pub claimed : (means.view now asker).claimed ≡ (means.view old seat).claimed
+  pub stamped : (means.view now asker).stamped ≡ (means.view old seat).stamped
+  pub chunks : KeepsChunks (means.view old seat).begun (means.view now asker).begun
+  pub none_held : NoneHeld (means.view now asker).begun
+  pub none_free : (world : World) → means.told old ≡ Some world
+      → (next : World) × (means.told now ≡ Some next) × NoneFree next route.arbiter.first (route.arbiter.first + route.arbiter.chunks)
 
 -- One round of claims: the writer gets a chunk, or is out of chunks (true).
-abbrev pub MakesRound : {T W S : Type 0} (setup : T → Setup) (sits : T → W → Type 0) (place : W → ℕ) (view : T → W → WriterView)
-    (serves : T → S → Type 0) (service_view : T → S → ServiceView) (told : T → Option World) → Route → Bool → T → W → T → W → Type 0
-MakesRound {T} {W} setup sits place view serves service_view told route false old seat new after =
-    (mid : T) × (between : W) × GetsChunk setup sits place view serves service_view told route old seat mid between
-    × IsSilent setup sits place view serves service_view told mid between new after
-MakesRound setup sits place view serves service_view told route true old seat new after =
-    IsOutNow setup sits place view serves service_view told route old seat new after
+abbrev pub MakesRound : {T W S : Type 0} (means : Meaning T W S) → Route → Bool → T → W → T → W → Type 0
+MakesRound {T} {W} means route false old seat new after =
+    (mid : T) × (between : W) × GetsChunk means route old seat mid between
+    × IsSilent means mid between new after
+MakesRound means route true old seat new after =
+    IsOutNow means route old seat new after

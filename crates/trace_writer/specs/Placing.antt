@@ -6,8 +6,8 @@ use Rattle.trace_model.specs.Calls as call
 use Rattle.trace_model.specs.Packets.{Packet, Account}
 use Rattle.commit_body.specs.Pending.{Pending}
 use Rattle.chunk_plain.specs.Views.{WriterView}
-use Rattle.chunk_plain.specs.Steps.{restamps}
-use Rattle.chunk_plain.specs.Words.{IsHolding, MayFollow, head_at}
+use Rattle.chunk_plain.specs.Drafts.{IsHolding, MayFollow, head_at}
+use Rattle.chunk_plain.specs.Steps.{redrafts}
 use Rattle.trace_writer.specs.declared.begin.Place.{Place}
 use Rattle.trace_writer.specs.declared.begin.Place.TheVariants.{Behind, Nowhere}
 use Rattle.trace_writer.specs.declared.chunk.HeldChunk.{HeldChunk}
@@ -21,6 +21,7 @@ use Rattle.trace_writer.specs.Asked.{begun_as, stops_with}
 use Rattle.trace_writer.specs.Empty.{is_stalled}
 use Rattle.trace_writer.specs.Helping.{refuses}
 use Rattle.trace_writer.specs.Headers.{held_head}
+use Rattle.trace_writer.specs.Drafted.{IsFit, CountsNext}
 use Rattle.trace_writer.specs.Site.{Site}
 use Rattle.trace_writer.specs.Ids.{last_id, least_filled}
 use Rattle.trace_writer.specs.States.{InFragment, IsIdle, has_room}
@@ -44,14 +45,14 @@ pub record IsStarted (chunk : HeldChunk) (fragment : OpenFragment) : Type 0 wher
 
 -- A packet can begin in the chunk, behind what it holds, and has ids for all its bytes.
 pub record IsRoomy (site : Site) (account : Account) (view : WriterView) (pending : Pending) (chunk : HeldChunk) : Type 0 where
-  pub holds : IsHolding view chunk.held.chunk chunk.held.id
+  pub fit : IsFit site.setup view chunk chunk.count chunk.at
   pub follows : MayFollow (head_at view chunk.held.id) (held_head (chunk.count + 1) chunk.continues)
   pub room : chunk.at + 12 ≤ vec_len chunk.held.body.payload
   pub few : chunk.count < MAX_FRAGMENTS
   pub ids : MAX_PACKET_LEN + least_filled ≤ (last_id - chunk.held.id) * least_filled
   pub apart : chunk.continues ≡ true → 0 < chunk.at
-  pub begins : (packet : Packet) (new : WriterView) (fragment : OpenFragment) → IsBare account packet → IsStarted chunk fragment
-      → new.begun ≡ (restamps view chunk.held.chunk chunk.held.id (held_head (chunk.count + 1) chunk.continues)).begun
+  pub begins : (packet : Packet) (counted new : WriterView) (fragment : OpenFragment) → IsBare account packet → IsStarted chunk fragment
+      → CountsNext chunk view counted → new.begun ≡ counted.begun
       → InFragment site packet account.packets new pending fragment []
 
 -- a packet can begin without a further chunk, or the writer begins none

@@ -8,15 +8,15 @@ use Rattle.trace_model.specs.Cut.{CutsInto, last_runs_on, newest_goes_on, is_fre
 use Rattle.commit_body.specs.Patches.{holes_outside}
 use Rattle.commit_body.specs.Pending.{Pending}
 use Rattle.chunk_plain.specs.Setup.{spot}
-use Rattle.chunk_plain.specs.Views.{Begun, Held, WriterView}
+use Rattle.chunk_plain.specs.Views.{Draft, Begun, Held, WriterView}
 use Rattle.cut_steps.specs.RawChains.{raw_chains, page_with, offset_behind}
 use Rattle.cut_steps.specs.Writing.{IsWriting}
 use Rattle.cut_steps.specs.Between.{IsBetween}
 use Rattle.trace_writer.specs.declared.chunk.HeldChunk.{HeldChunk}
 use Rattle.trace_writer.specs.declared.fragment.OpenFragment.{OpenFragment}
-use Rattle.trace_writer.specs.Headers.{held_head}
 use Rattle.trace_writer.specs.Site.{Site}
-use Rattle.trace_writer.specs.Filled.{IsFilled, IsWritten, ShowsPages}
+use Rattle.trace_writer.specs.Filled.{frames, IsFilled, IsWritten, ShowsPages}
+use Rattle.trace_writer.specs.Drafted.{IsDrafted}
 
 -- The packet is written into the fragment, behind these; further lengths may come at the places in `coming`.
 pub record InFragment (site : Site) (packet : Packet) (older : List Packet) (view : WriterView) (pending : Pending) (fragment : OpenFragment) (coming : List ℕ) : Type 0 where
@@ -24,7 +24,9 @@ pub record InFragment (site : Site) (packet : Packet) (older : List Packet) (vie
   pub done : List (List ℕ)
   pub now : List ℕ
   pub completed : List Begun
-  pub begun : view.begun ≡ completed ++ Held fragment.held.chunk (held_head fragment.count fragment.continues) ∷ []
+  pub draft : Draft
+  pub begun : view.begun ≡ completed ++ Held fragment.held.chunk draft ∷ []
+  pub drafted : IsDrafted draft fragment.count fragment.continues done
   pub shown : ShowsPages site 0 completed pages
   pub id : fragment.held.id ≡ length pages
   pub sized : (spot site.setup fragment.held.chunk).payload_size ≡ site.size
@@ -54,7 +56,14 @@ pub record IsBehind (site : Site) (account : Account) (view : WriterView) (pendi
   pub first : List ℕ
   pub others : List (List ℕ)
   pub completed : List Begun
-  pub begun : view.begun ≡ completed ++ Held chunk.held.chunk (held_head chunk.count chunk.continues) ∷ []
+  pub draft : Draft
+  pub begun : view.begun ≡ completed ++ Held chunk.held.chunk draft ∷ []
+  -- all its fragments but the last one were published
+  pub before : List (List ℕ)
+  pub last : List ℕ
+  pub parts : first ∷ others ≡ before ++ last ∷ []
+  pub sealed : chunk.sealed ≡ length (frames before)
+  pub drafted : IsDrafted draft chunk.count chunk.continues before
   pub shown : ShowsPages site 0 completed pages
   pub id : chunk.held.id ≡ length pages
   pub sized : (spot site.setup chunk.held.chunk).payload_size ≡ site.size

@@ -47,17 +47,17 @@ fn new_place<W: Words, L: Ledger, H: HelperOn<W>>(
     next_id: u32,
     steps: &mut Steps<L>,
 ) -> Place
-    requires seat { W.sits table.old seat.old }
+    requires seat { W.means.sits table.old seat.old }
     requires needs { H.needs help.old table.old }
-    requires route { IsRoute (W.setup table.old) (W.place seat.old) route.now }
-    requires next { next_id ≡ length (W.view table.old seat.old).begun }
+    requires route { IsRoute (W.means.setup table.old) (W.means.place seat.old) route.now }
+    requires next { next_id ≡ length (W.means.view table.old seat.old).begun }
     requires ids { next_id + 4096 ≤ 4294967295 }
-    requires none_held { NoneHeld (W.view table.old seat.old).begun }
-    ensures calls { (W.view table.new seat.new).calls ≡ (W.view table.old seat.old).calls }
+    requires none_held { NoneHeld (W.means.view table.old seat.old).begun }
+    ensures calls { (W.means.view table.new seat.new).calls ≡ (W.means.view table.old seat.old).calls }
     ensures place { (account : Account) (pending : Pending)
-        → IsIdle (site_of (W.setup table.old) (W.place seat.old) route.now) account (W.view table.old seat.old) pending
-        → IsPlace (site_of (W.setup table.old) (W.place seat.old) route.now) account (W.view table.new seat.new) pending result }
-    ensures work { IsWork W.setup W.sits W.place W.view W.serves W.service_view W.told H.needs H.helps
+        → IsIdle (site_of (W.means.setup table.old) (W.means.place seat.old) route.now) account (W.means.view table.old seat.old) pending
+        → IsPlace (site_of (W.means.setup table.old) (W.means.place seat.old) route.now) account (W.means.view table.new seat.new) pending result }
+    ensures work { IsWork W.means H.needs H.helps
         route.now help.old table.old seat.old steps.old (not (is_behind result)) help.new table.new seat.new steps.new }
     ensures few_steps { route.now.spec.policy ≡ Drops → steps.new ≤ steps.old + route.now.arbiter.chunks + 1 }
 {
@@ -77,17 +77,17 @@ fn place_behind<W: Words, L: Ledger, H: HelperOn<W>>(
     chunk: HeldChunk,
     steps: &mut Steps<L>,
 ) -> Place
-    requires seat { W.sits table.old seat.old }
+    requires seat { W.means.sits table.old seat.old }
     requires needs { H.needs help.old table.old }
-    requires route { IsRoute (W.setup table.old) (W.place seat.old) route.now }
-    requires behind { (account : Account) × IsBehind (site_of (W.setup table.old) (W.place seat.old) route.now) account (W.view table.old seat.old) pending.old chunk }
+    requires route { IsRoute (W.means.setup table.old) (W.means.place seat.old) route.now }
+    requires behind { (account : Account) × IsBehind (site_of (W.means.setup table.old) (W.means.place seat.old) route.now) account (W.means.view table.old seat.old) pending.old chunk }
     requires ids { chunk.held.id + 4097 ≤ 4294967295 }
-    ensures calls { (W.view table.new seat.new).calls ≡ (W.view table.old seat.old).calls }
+    ensures calls { (W.means.view table.new seat.new).calls ≡ (W.means.view table.old seat.old).calls }
     ensures place { (account : Account)
-        → IsBehind (site_of (W.setup table.old) (W.place seat.old) route.now) account (W.view table.old seat.old) pending.old chunk
-        → IsPlace (site_of (W.setup table.old) (W.place seat.old) route.now) account (W.view table.new seat.new) pending.new result }
-    ensures asked { has_room (vec_len chunk.held.body.payload) chunk ≡ true → (W.view table.new seat.new).asked ≡ (W.view table.old seat.old).asked }
-    ensures work { IsWork W.setup W.sits W.place W.view W.serves W.service_view W.told H.needs H.helps
+        → IsBehind (site_of (W.means.setup table.old) (W.means.place seat.old) route.now) account (W.means.view table.old seat.old) pending.old chunk
+        → IsPlace (site_of (W.means.setup table.old) (W.means.place seat.old) route.now) account (W.means.view table.new seat.new) pending.new result }
+    ensures asked { has_room (vec_len chunk.held.body.payload) chunk ≡ true → (W.means.view table.new seat.new).asked ≡ (W.means.view table.old seat.old).asked }
+    ensures work { IsWork W.means H.needs H.helps
         route.now help.old table.old seat.old steps.old (not (is_behind result)) help.new table.new seat.new steps.new }
     ensures few_steps { route.now.spec.policy ≡ Drops → steps.new ≤ steps.old + route.now.arbiter.chunks + 1 }
 {
@@ -101,15 +101,15 @@ fn place_behind<W: Words, L: Ledger, H: HelperOn<W>>(
 
 /// Begins a packet in a chunk that has room for it.
 fn begin_kept<W: Words>(writer: &mut Writer, table: &mut W, seat: &mut W::Writer, chunk: HeldChunk)
-    requires seat { W.sits table.old seat.old }
-    requires roomy { IsRoomy (site_of (W.setup table.old) (W.place seat.old) writer.old.route) (account_of (W.view table.old seat.old).calls) (W.view table.old seat.old) writer.old.pending chunk }
+    requires seat { W.means.sits table.old seat.old }
+    requires roomy { IsRoomy (site_of (W.means.setup table.old) (W.means.place seat.old) writer.old.route) (account_of (W.means.view table.old seat.old).calls) (W.means.view table.old seat.old) writer.old.pending chunk }
     requires empty { is_empty writer.old.state ≡ true }
-    requires agrees { AgreesBetween (W.setup table.old) (W.place seat.old) (W.view table.old seat.old) writer.old }
-    ensures agrees { Agrees (W.setup table.old) (W.place seat.old) (W.view table.new seat.new) writer.new }
+    requires agrees { AgreesBetween (W.means.setup table.old) (W.means.place seat.old) (W.means.view table.old seat.old) writer.old }
+    ensures agrees { Agrees (W.means.setup table.old) (W.means.place seat.old) (W.means.view table.new seat.new) writer.new }
     ensures route { writer.new.route ≡ writer.old.route }
-    ensures calls { (W.view table.new seat.new).calls ≡ (W.view table.old seat.old).calls ++ call.Begun true ∷ [] }
+    ensures calls { (W.means.view table.new seat.new).calls ≡ (W.means.view table.old seat.old).calls ++ call.Begun true ∷ [] }
     ensures going { is_stalled_state writer.new.state ≡ false }
-    ensures quiet { IsQuiet W.setup W.sits W.place W.view W.serves W.service_view W.told table.old seat.old table.new seat.new }
+    ensures quiet { IsQuiet W.means table.old seat.old table.new seat.new }
 {
     writer.begun = writer.begun.saturating_add(1);
     writer.packet = Some(OpenPacket::new());
@@ -123,16 +123,16 @@ fn begin_kept<W: Words>(writer: &mut Writer, table: &mut W, seat: &mut W::Writer
 
 /// Begins a packet that is dropped as a whole.
 fn begin_dropped<W: Words>(writer: &mut Writer, table: &mut W, seat: &mut W::Writer, next_id: u32)
-    requires seat { W.sits table.old seat.old }
-    requires next { next_id ≡ length (W.view table.old seat.old).begun }
-    requires idle { IsIdle (site_of (W.setup table.old) (W.place seat.old) writer.old.route) (account_of (W.view table.old seat.old).calls) (W.view table.old seat.old) writer.old.pending }
+    requires seat { W.means.sits table.old seat.old }
+    requires next { next_id ≡ length (W.means.view table.old seat.old).begun }
+    requires idle { IsIdle (site_of (W.means.setup table.old) (W.means.place seat.old) writer.old.route) (account_of (W.means.view table.old seat.old).calls) (W.means.view table.old seat.old) writer.old.pending }
     requires empty { is_empty writer.old.state ≡ true }
-    requires agrees { AgreesBetween (W.setup table.old) (W.place seat.old) (W.view table.old seat.old) writer.old }
-    ensures agrees { Agrees (W.setup table.old) (W.place seat.old) (W.view table.new seat.new) writer.new }
+    requires agrees { AgreesBetween (W.means.setup table.old) (W.means.place seat.old) (W.means.view table.old seat.old) writer.old }
+    ensures agrees { Agrees (W.means.setup table.old) (W.means.place seat.old) (W.means.view table.new seat.new) writer.new }
     ensures route { writer.new.route ≡ writer.old.route }
-    ensures calls { (W.view table.new seat.new).calls ≡ (W.view table.old seat.old).calls ++ call.Begun false ∷ [] }
+    ensures calls { (W.means.view table.new seat.new).calls ≡ (W.means.view table.old seat.old).calls ++ call.Begun false ∷ [] }
     ensures going { is_stalled_state writer.new.state ≡ false }
-    ensures quiet { IsQuiet W.setup W.sits W.place W.view W.serves W.service_view W.told table.old seat.old table.new seat.new }
+    ensures quiet { IsQuiet W.means table.old seat.old table.new seat.new }
 {
     writer.begun = writer.begun.saturating_add(1);
     writer.packet = Some(OpenPacket::new());
@@ -148,14 +148,14 @@ fn begin_at<W: Words>(
     seat: &mut W::Writer,
     place: Place,
 ) -> Result<Begun, CallFault>
-    requires seat { W.sits table.old seat.old }
-    requires place { IsPlace (site_of (W.setup table.old) (W.place seat.old) writer.old.route) (account_of (W.view table.old seat.old).calls) (W.view table.old seat.old) writer.old.pending place }
+    requires seat { W.means.sits table.old seat.old }
+    requires place { IsPlace (site_of (W.means.setup table.old) (W.means.place seat.old) writer.old.route) (account_of (W.means.view table.old seat.old).calls) (W.means.view table.old seat.old) writer.old.pending place }
     requires empty { is_empty writer.old.state ≡ true }
-    requires agrees { AgreesBetween (W.setup table.old) (W.place seat.old) (W.view table.old seat.old) writer.old }
-    ensures agrees { Agrees (W.setup table.old) (W.place seat.old) (W.view table.new seat.new) writer.new }
+    requires agrees { AgreesBetween (W.means.setup table.old) (W.means.place seat.old) (W.means.view table.old seat.old) writer.old }
+    ensures agrees { Agrees (W.means.setup table.old) (W.means.place seat.old) (W.means.view table.new seat.new) writer.new }
     ensures route { writer.new.route ≡ writer.old.route }
-    ensures begins { BeginsAt writer.old.route.spec.policy place result (W.view table.old seat.old).calls (W.view table.new seat.new).calls writer.new.state }
-    ensures quiet { IsQuiet W.setup W.sits W.place W.view W.serves W.service_view W.told table.old seat.old table.new seat.new }
+    ensures begins { BeginsAt writer.old.route.spec.policy place result (W.means.view table.old seat.old).calls (W.means.view table.new seat.new).calls writer.new.state }
+    ensures quiet { IsQuiet W.means table.old seat.old table.new seat.new }
 {
     match place {
         Place::Behind(chunk) => {
@@ -183,22 +183,22 @@ pub(crate) fn begin<W: Words, L: Ledger, H: HelperOn<W>>(
     help: &mut H,
     steps: &mut Steps<L>,
 ) -> Result<Begun, CallFault>
-    requires seat { W.sits table.old seat.old }
+    requires seat { W.means.sits table.old seat.old }
     requires needs { H.needs help.old table.old }
-    requires agrees { Agrees (W.setup table.old) (W.place seat.old) (W.view table.old seat.old) writer.old }
+    requires agrees { Agrees (W.means.setup table.old) (W.means.place seat.old) (W.means.view table.old seat.old) writer.old }
     requires none_begun { is_begun writer.old.packet ≡ false }
-    requires ids { length (W.view table.old seat.old).begun + 4096 ≤ 4294967295 }
-    ensures agrees { Agrees (W.setup table.old) (W.place seat.old) (W.view table.new seat.new) writer.new }
+    requires ids { length (W.means.view table.old seat.old).begun + 4096 ≤ 4294967295 }
+    ensures agrees { Agrees (W.means.setup table.old) (W.means.place seat.old) (W.means.view table.new seat.new) writer.new }
     ensures route { writer.new.route ≡ writer.old.route }
     ensures stays { is_stalled_state writer.old.state ≡ true
         → (result ≡ Err call_fault.Stalled) × (writer.new ≡ writer.old) × (table.new ≡ table.old) × (seat.new ≡ seat.old) × (help.new ≡ help.old) × (steps.new ≡ steps.old) }
     ensures answers { is_stalled_state writer.old.state ≡ false
         → MatchResult result (λ _. is_stalled_state writer.new.state ≡ false) (λ fault. (fault ≡ call_fault.Stalled) × (is_stalled_state writer.new.state ≡ true)) }
     ensures done { is_stalled_state writer.old.state ≡ false
-        → IsAsked W.setup W.sits W.place W.view W.serves W.service_view W.told H.needs H.helps
+        → IsAsked W.means H.needs H.helps
         writer.old.route help.old table.old seat.old steps.old (stops_with result) (begun_as (stops_with result) writer.old.route.spec.policy)
         (is_stalled_state writer.new.state) help.new table.new seat.new steps.new }
-    ensures asked { BeginsHere writer.old.state → (W.view table.new seat.new).asked ≡ (W.view table.old seat.old).asked }
+    ensures asked { BeginsHere writer.old.state → (W.means.view table.new seat.new).asked ≡ (W.means.view table.old seat.old).asked }
     ensures few_steps { writer.old.route.spec.policy ≡ Drops → steps.new ≤ steps.old + writer.old.route.arbiter.chunks + 1 }
 {
     if is_stalled(&writer.state) {

@@ -4,8 +4,8 @@ ghost use Rattle.trace_base.specs.declared.limits.TheConstants.{MAX_FRAGMENTS};
 ghost use Rattle.trace_model.specs.Sequences.{is_among};
 ghost use Rattle.commit_body.specs.Patches.{hole_chunks, with_lasts};
 ghost use Rattle.chunk_plain.specs.Setup.{spot};
-ghost use Rattle.chunk_plain.specs.Steps.{restamps, completes};
-ghost use Rattle.chunk_plain.specs.Words.{IsHolding, MayFollow, head_at};
+ghost use Rattle.chunk_plain.specs.Drafts.{IsHolding, MayFollow, head_at};
+ghost use Rattle.chunk_plain.specs.Steps.{redrafts, completes};
 ghost use Rattle.trace_writer.specs.Headers.{flags_value, held_head, completed_chunk};
 ghost use Rattle.trace_writer.specs.OwnSteps.{IsQuiet};
 
@@ -40,13 +40,23 @@ pub(crate) fn flags_of(continues: bool, runs_on: bool, awaits: bool) -> u8
     flag_where(continues, CONTINUES) + flag_where(runs_on, RUNS_ON) + flag_where(awaits, AWAITS)
 }
 
-/// A chunk that its writer holds, whose payload is filled up to a place by so many fragments.
+/// Whether patches for the chunk are to come once the packet has run on.
+fn is_awaiting(runs_on: bool, pending: &PatchList, chunk_id: u32) -> bool
+    ensures { result ≡ (runs_on && is_among chunk_id (hole_chunks pending.now.holes)) }
+{
+    runs_on && pending.is_open_in(chunk_id)
+}
+
+/// A chunk that its writer holds, whose payload is filled up to `at` by so many fragments. What is
+/// below `sealed` was published: all but the last of them.
 #[derive(Debug)]
 pub(crate) struct HeldChunk {
     pub held: Held,
+    pub sealed: u32,
     pub at: u32,
     pub count: u16,
     pub continues: bool,
+    ghost order: { sealed ≤ at },
     ghost within: { at ≤ vec_len held.body.payload },
     ghost small: { vec_len held.body.payload ≤ 65536 },
     ghost few: { count ≤ 1023 },
@@ -55,18 +65,22 @@ pub(crate) struct HeldChunk {
 }
 
 impl HeldChunk {
+    ghost use Rattle.trace_writer.specs.Drafted.{IsFit, CountsNext};
+
     /// A chunk that was just begun.
     pub fn new(held: Held, continues: bool) -> HeldChunk
         requires small { vec_len held.body.payload ≤ 65536 }
         requires empty { held.body.patches.value.items ≡ [] }
         requires id_fits { held.id < 4294967295 }
         ensures held { result.held ≡ held }
+        ensures sealed { result.sealed ≡ 0 }
         ensures at { result.at ≡ 0 }
         ensures count { result.count ≡ 0 }
         ensures continues { result.continues ≡ continues }
     {
         HeldChunk {
             held,
+            sealed: 0,
             at: 0,
             count: 0,
             continues,
@@ -81,11 +95,12 @@ impl HeldChunk {
         left >= ROOM_TO_BEGIN as usize && self.count < MAX_FRAGMENTS
     }
 
-    /// Starts a fragment: the header counts it, and four bytes are set aside for its size.
+    /// Starts a fragment: the ones before are published, the header counts it, and four bytes are set
+    /// aside for its size.
     pub fn start_fragment<W: Words>(self, table: &mut W, seat: &mut W::Writer) -> OpenFragment
-        requires seat { W.sits table.old seat.old }
-        requires held { IsHolding (W.view table.old seat.old) self.held.chunk self.held.id }
-        requires head { MayFollow (head_at (W.view table.old seat.old) self.held.id) (held_head (self.count + 1) self.continues) }
+        requires seat { W.means.sits table.old seat.old }
+        requires fit { IsFit (W.means.setup table.old) (W.means.view table.old seat.old) self self.count self.at }
+        requires head { MayFollow (head_at (W.means.view table.old seat.old) self.held.id) (held_head (self.count + 1) self.continues) }
         requires room { self.at + 4 ≤ vec_len self.held.body.payload }
         requires few { self.count < MAX_FRAGMENTS }
         ensures held { result.held ≡ self.held }
@@ -93,15 +108,17 @@ impl HeldChunk {
         ensures at { result.at ≡ self.at + 4 }
         ensures count { result.count ≡ self.count + 1 }
         ensures continues { result.continues ≡ self.continues }
-        ensures view { W.view table.new seat.new ≡ restamps (W.view table.old seat.old) self.held.chunk self.held.id (held_head (self.count + 1) self.continues) }
-        ensures quiet { IsQuiet W.setup W.sits W.place W.view W.serves W.service_view W.told table.old seat.old table.new seat.new }
+        ensures view { CountsNext self (W.means.view table.old seat.old) (W.means.view table.new seat.new) }
+        ensures quiet { IsQuiet W.means table.old seat.old table.new seat.new }
     {
         let HeldChunk {
             mut held,
+            sealed,
             at,
             count,
             continues,
         } = self;
+        table.publish(seat, &mut held, sealed, at);
         table.set_header(
             seat,
             &mut held,
@@ -117,7 +134,7 @@ impl HeldChunk {
         }
     }
 
-    /// Completes the chunk, with the patches that are to be sent.
+    /// Completes the chunk, all of which is published first, with the patches that are to be sent.
     pub fn complete<W: Words>(
         self,
         table: &mut W,
@@ -126,25 +143,27 @@ impl HeldChunk {
         buffer: u8,
         runs_on: bool,
     )
-        requires seat { W.sits table.old seat.old }
-        requires held { IsHolding (W.view table.old seat.old) self.held.chunk self.held.id }
-        requires head { head_at (W.view table.old seat.old) self.held.id ≡ held_head self.count self.continues }
-        requires size { vec_len self.held.body.payload ≡ (spot (W.setup table.old) self.held.chunk).payload_size }
+        requires seat { W.means.sits table.old seat.old }
+        requires fit { IsFit (W.means.setup table.old) (W.means.view table.old seat.old) self (self.count - 1) (vec_len self.held.body.payload) }
+        requires head { head_at (W.means.view table.old seat.old) self.held.id ≡ held_head self.count self.continues }
         ensures pending { pending.new ≡ record pending.old { unsent = [] } }
-        ensures view { W.view table.new seat.new ≡ completes (restamps (W.view table.old seat.old) self.held.chunk self.held.id (record { count = self.count; flags = flags_value self.continues runs_on (runs_on && is_among self.held.id (hole_chunks pending.old.holes)) })) self.held.chunk self.held.id
-            (completed_chunk (W.place seat.old) self.held.id self.count (flags_value self.continues runs_on (runs_on && is_among self.held.id (hole_chunks pending.old.holes))) self.held.body.payload.items (with_lasts (hole_chunks pending.old.holes) pending.old.unsent) buffer) }
-        ensures quiet { IsQuiet W.setup W.sits W.place W.view W.serves W.service_view W.told table.old seat.old table.new seat.new }
+        ensures view { W.means.view table.new seat.new ≡ completes (W.means.view table.old seat.old) self.held.chunk self.held.id
+            (completed_chunk (W.means.place seat.old) self.held.id self.count (flags_value self.continues runs_on (runs_on && is_among self.held.id (hole_chunks pending.old.holes))) self.held.body.payload.items (with_lasts (hole_chunks pending.old.holes) pending.old.unsent) buffer) }
+        ensures quiet { IsQuiet W.means table.old seat.old table.new seat.new }
     {
         let HeldChunk {
             mut held,
+            sealed,
             at: _,
             count,
             continues,
         } = self;
-        let awaits = runs_on && pending.is_open_in(held.id);
+        let size = held.body.payload.len() as u32;
+        table.publish(seat, &mut held, sealed, size);
+        let flags = flags_of(continues, runs_on, is_awaiting(runs_on, pending, held.id));
         pending.drain_into(&mut held.body);
         held.body.target = buffer;
-        table.set_header(seat, &mut held, count, flags_of(continues, runs_on, awaits));
+        table.set_header(seat, &mut held, count, flags);
         table.complete(seat, held);
     }
 
@@ -152,6 +171,7 @@ impl HeldChunk {
     pub fn drop_chunk(self) {
         let HeldChunk {
             held,
+            sealed: _,
             at: _,
             count: _,
             continues: _,

@@ -1,7 +1,8 @@
 //! How a writer gets its next chunk.
 ghost use Rattle.std.specs.Prelude.{◌≡◌, ◌+◌, ◌^◌, ◌-◌, ◌<◌, ◌≤◌, length, not, is_some, IfSome, IfNone};
 ghost use Rattle.trace_base.specs.declared.policy.WriterPolicy.TheVariants.{Drops, Stalls};
-ghost use Rattle.chunk_plain.specs.Words.{IsHolding, IsBegun};
+ghost use Rattle.chunk_plain.specs.Drafts.{IsHolding};
+ghost use Rattle.chunk_plain.specs.Words.{IsBegun};
 ghost use Rattle.trace_writer.specs.Claims.{Wins, FindsNone};
 ghost use Rattle.trace_writer.specs.Helping.{IsWork};
 ghost use Rattle.trace_writer.specs.OwnSteps.{NoneHeld};
@@ -25,17 +26,17 @@ pub(crate) fn claim_asking<W: Words, L: Ledger, H: HelperOn<W>>(
     next_id: u32,
     steps: &mut Steps<L>,
 ) -> Option<Held>
-    requires seat { W.sits table.old seat.old }
+    requires seat { W.means.sits table.old seat.old }
     requires needs { H.needs help.old table.old }
-    requires route { IsRoute (W.setup table.old) (W.place seat.old) route.now }
+    requires route { IsRoute (W.means.setup table.old) (W.means.place seat.old) route.now }
     requires stalls { route.now.spec.policy ≡ Stalls }
-    requires id { next_id ≡ length (W.view table.old seat.old).begun }
+    requires id { next_id ≡ length (W.means.view table.old seat.old).begun }
     requires id_fits { next_id < 2 ^ 32 - 1 }
-    requires none_held { NoneHeld (W.view table.old seat.old).begun }
-    ensures won { IfSome result (λ held. Wins route.now held.chunk (W.view table.old seat.old) (W.view table.new seat.new)) }
-    ensures begun { IfSome result (λ held. IsBegun (W.setup table.old) held.chunk next_id held) }
-    ensures none { IfNone result (FindsNone (W.view table.old seat.old) (W.view table.new seat.new)) }
-    ensures work { IsWork W.setup W.sits W.place W.view W.serves W.service_view W.told H.needs H.helps
+    requires none_held { NoneHeld (W.means.view table.old seat.old).begun }
+    ensures won { IfSome result (λ held. Wins route.now held.chunk (W.means.view table.old seat.old) (W.means.view table.new seat.new)) }
+    ensures begun { IfSome result (λ held. IsBegun (W.means.setup table.old) held.chunk next_id held) }
+    ensures none { IfNone result (FindsNone (W.means.view table.old seat.old) (W.means.view table.new seat.new)) }
+    ensures work { IsWork W.means H.needs H.helps
         route.now help.old table.old seat.old steps.old (not (is_some result)) help.new table.new seat.new steps.new }
 {
     'claims: loop {
@@ -57,16 +58,16 @@ pub(crate) fn claim_next<W: Words, L: Ledger, H: HelperOn<W>>(
     next_id: u32,
     steps: &mut Steps<L>,
 ) -> Option<Held>
-    requires seat { W.sits table.old seat.old }
+    requires seat { W.means.sits table.old seat.old }
     requires needs { H.needs help.old table.old }
-    requires route { IsRoute (W.setup table.old) (W.place seat.old) route.now }
-    requires id { next_id ≡ length (W.view table.old seat.old).begun }
+    requires route { IsRoute (W.means.setup table.old) (W.means.place seat.old) route.now }
+    requires id { next_id ≡ length (W.means.view table.old seat.old).begun }
     requires id_fits { next_id < 2 ^ 32 - 1 }
-    requires none_held { NoneHeld (W.view table.old seat.old).begun }
-    ensures won { IfSome result (λ held. Wins route.now held.chunk (W.view table.old seat.old) (W.view table.new seat.new)) }
-    ensures begun { IfSome result (λ held. IsBegun (W.setup table.old) held.chunk next_id held) }
-    ensures none { IfNone result (FindsNone (W.view table.old seat.old) (W.view table.new seat.new)) }
-    ensures work { IsWork W.setup W.sits W.place W.view W.serves W.service_view W.told H.needs H.helps
+    requires none_held { NoneHeld (W.means.view table.old seat.old).begun }
+    ensures won { IfSome result (λ held. Wins route.now held.chunk (W.means.view table.old seat.old) (W.means.view table.new seat.new)) }
+    ensures begun { IfSome result (λ held. IsBegun (W.means.setup table.old) held.chunk next_id held) }
+    ensures none { IfNone result (FindsNone (W.means.view table.old seat.old) (W.means.view table.new seat.new)) }
+    ensures work { IsWork W.means H.needs H.helps
         route.now help.old table.old seat.old steps.old (not (is_some result)) help.new table.new seat.new steps.new }
     ensures few_steps { route.now.spec.policy ≡ Drops → steps.new ≤ steps.old + route.now.arbiter.chunks + 1 }
 {

@@ -37,24 +37,24 @@ pub(crate) fn write_field<W: Words, L: Ledger, H: HelperOn<W>>(
     call: WriterCall<'_>,
     steps: &mut Steps<L>,
 ) -> Result<(), CallFault>
-    requires seat { W.sits table.old seat.old }
+    requires seat { W.means.sits table.old seat.old }
     requires needs { H.needs help.old table.old }
-    requires agrees { Agrees (W.setup table.old) (W.place seat.old) (W.view table.old seat.old) writer.old }
+    requires agrees { Agrees (W.means.setup table.old) (W.means.place seat.old) (W.means.view table.old seat.old) writer.old }
     requires begun { is_begun writer.old.packet ≡ true }
     requires fits { len_of writer.old.packet + (length head.now + times * length text.now) ≤ MAX_PACKET_LEN }
     requires call { (account : Account) → noted account (call_of call) ≡ on_newest (with_more (head.now ++ repeat times text.now)) account }
-    ensures agrees { Agrees (W.setup table.old) (W.place seat.old) (W.view table.new seat.new) writer.new }
+    ensures agrees { Agrees (W.means.setup table.old) (W.means.place seat.old) (W.means.view table.new seat.new) writer.new }
     ensures route { writer.new.route ≡ writer.old.route }
     ensures stays { is_stalled_state writer.old.state ≡ true
         → (result ≡ Err call_fault.Stalled) × (writer.new ≡ writer.old) × (table.new ≡ table.old) × (seat.new ≡ seat.old) × (help.new ≡ help.old) × (steps.new ≡ steps.old) }
     ensures answers { is_stalled_state writer.old.state ≡ false
         → MatchResult result (λ _. is_stalled_state writer.new.state ≡ false) (λ fault. (fault ≡ call_fault.Stalled) × (is_stalled_state writer.new.state ≡ true)) }
     ensures done { is_stalled_state writer.old.state ≡ false → (stopped : Bool)
-        × IsAsked W.setup W.sits W.place W.view W.serves W.service_view W.told H.needs H.helps
+        × IsAsked W.means H.needs H.helps
         writer.old.route help.old table.old seat.old steps.old stopped (written_as stopped writer.old.route.spec.policy (call_of call.entry))
         (is_stalled_state writer.new.state) help.new table.new seat.new steps.new
-        × (stopped ≡ true → newest_is_lost (packets_of (W.view table.old seat.old).calls) ≡ false) }
-    ensures asked { NeedsNoChunk writer.old.state (length head.now + times * length text.now) → (W.view table.new seat.new).asked ≡ (W.view table.old seat.old).asked }
+        × (stopped ≡ true → newest_is_lost (packets_of (W.means.view table.old seat.old).calls) ≡ false) }
+    ensures asked { NeedsNoChunk writer.old.state (length head.now + times * length text.now) → (W.means.view table.new seat.new).asked ≡ (W.means.view table.old seat.old).asked }
 {
     if put_field_here(writer, head, text, times) {
         table.note_call(seat, call);
@@ -75,24 +75,24 @@ fn write_field_on<W: Words, L: Ledger, H: HelperOn<W>>(
     call: WriterCall<'_>,
     steps: &mut Steps<L>,
 ) -> Result<(), CallFault>
-    requires seat { W.sits table.old seat.old }
+    requires seat { W.means.sits table.old seat.old }
     requires needs { H.needs help.old table.old }
-    requires agrees { Agrees (W.setup table.old) (W.place seat.old) (W.view table.old seat.old) writer.old }
+    requires agrees { Agrees (W.means.setup table.old) (W.means.place seat.old) (W.means.view table.old seat.old) writer.old }
     requires begun { is_begun writer.old.packet ≡ true }
     requires fits { len_of writer.old.packet + (length head.now + times * length text.now) ≤ MAX_PACKET_LEN }
     requires call { (account : Account) → noted account (call_of call) ≡ on_newest (with_more (head.now ++ repeat times text.now)) account }
-    ensures agrees { Agrees (W.setup table.old) (W.place seat.old) (W.view table.new seat.new) writer.new }
+    ensures agrees { Agrees (W.means.setup table.old) (W.means.place seat.old) (W.means.view table.new seat.new) writer.new }
     ensures route { writer.new.route ≡ writer.old.route }
     ensures stays { is_stalled_state writer.old.state ≡ true
         → (result ≡ Err call_fault.Stalled) × (writer.new ≡ writer.old) × (table.new ≡ table.old) × (seat.new ≡ seat.old) × (help.new ≡ help.old) × (steps.new ≡ steps.old) }
     ensures answers { is_stalled_state writer.old.state ≡ false
         → MatchResult result (λ _. is_stalled_state writer.new.state ≡ false) (λ fault. (fault ≡ call_fault.Stalled) × (is_stalled_state writer.new.state ≡ true)) }
     ensures done { is_stalled_state writer.old.state ≡ false → (stopped : Bool)
-        × IsAsked W.setup W.sits W.place W.view W.serves W.service_view W.told H.needs H.helps
+        × IsAsked W.means H.needs H.helps
         writer.old.route help.old table.old seat.old steps.old stopped (written_as stopped writer.old.route.spec.policy (call_of call.entry))
         (is_stalled_state writer.new.state) help.new table.new seat.new steps.new
-        × (stopped ≡ true → newest_is_lost (packets_of (W.view table.old seat.old).calls) ≡ false) }
-    ensures asked { is_empty writer.old.state ≡ true → (W.view table.new seat.new).asked ≡ (W.view table.old seat.old).asked }
+        × (stopped ≡ true → newest_is_lost (packets_of (W.means.view table.old seat.old).calls) ≡ false) }
+    ensures asked { is_empty writer.old.state ≡ true → (W.means.view table.new seat.new).asked ≡ (W.means.view table.old seat.old).asked }
 {
     if is_stalled(&writer.state) {
         return Err(CallFault::Stalled);
@@ -131,25 +131,25 @@ pub(crate) fn write_nested<W: Words, L: Ledger, H: HelperOn<W>>(
     tag: &[u8],
     steps: &mut Steps<L>,
 ) -> Result<(), CallFault>
-    requires seat { W.sits table.old seat.old }
+    requires seat { W.means.sits table.old seat.old }
     requires needs { H.needs help.old table.old }
-    requires agrees { Agrees (W.setup table.old) (W.place seat.old) (W.view table.old seat.old) writer.old }
+    requires agrees { Agrees (W.means.setup table.old) (W.means.place seat.old) (W.means.view table.old seat.old) writer.old }
     requires begun { is_begun writer.old.packet ≡ true }
     requires tag { tag.now ≡ nested_tag field }
     requires fits { len_of writer.old.packet + (length tag.now + 4) ≤ MAX_PACKET_LEN }
     requires depth { depth_of writer.old.packet < MAX_OPEN_HOLES }
-    ensures agrees { Agrees (W.setup table.old) (W.place seat.old) (W.view table.new seat.new) writer.new }
+    ensures agrees { Agrees (W.means.setup table.old) (W.means.place seat.old) (W.means.view table.new seat.new) writer.new }
     ensures route { writer.new.route ≡ writer.old.route }
     ensures stays { is_stalled_state writer.old.state ≡ true
         → (result ≡ Err call_fault.Stalled) × (writer.new ≡ writer.old) × (table.new ≡ table.old) × (seat.new ≡ seat.old) × (help.new ≡ help.old) × (steps.new ≡ steps.old) }
     ensures answers { is_stalled_state writer.old.state ≡ false
         → MatchResult result (λ _. is_stalled_state writer.new.state ≡ false) (λ fault. (fault ≡ call_fault.Stalled) × (is_stalled_state writer.new.state ≡ true)) }
     ensures done { is_stalled_state writer.old.state ≡ false → (stopped : Bool)
-        × IsAsked W.setup W.sits W.place W.view W.serves W.service_view W.told H.needs H.helps
+        × IsAsked W.means H.needs H.helps
         writer.old.route help.old table.old seat.old steps.old stopped (written_as stopped writer.old.route.spec.policy (call.Nested field))
         (is_stalled_state writer.new.state) help.new table.new seat.new steps.new
-        × (stopped ≡ true → newest_is_lost (packets_of (W.view table.old seat.old).calls) ≡ false) }
-    ensures asked { NeedsNoChunk writer.old.state (length tag.now + 4) → (W.view table.new seat.new).asked ≡ (W.view table.old seat.old).asked }
+        × (stopped ≡ true → newest_is_lost (packets_of (W.means.view table.old seat.old).calls) ≡ false) }
+    ensures asked { NeedsNoChunk writer.old.state (length tag.now + 4) → (W.means.view table.new seat.new).asked ≡ (W.means.view table.old seat.old).asked }
 {
     if put_nested_here(writer, tag) {
         table.note_call(seat, WriterCall::Nested { field });
@@ -168,25 +168,25 @@ fn write_nested_on<W: Words, L: Ledger, H: HelperOn<W>>(
     tag: &[u8],
     steps: &mut Steps<L>,
 ) -> Result<(), CallFault>
-    requires seat { W.sits table.old seat.old }
+    requires seat { W.means.sits table.old seat.old }
     requires needs { H.needs help.old table.old }
-    requires agrees { Agrees (W.setup table.old) (W.place seat.old) (W.view table.old seat.old) writer.old }
+    requires agrees { Agrees (W.means.setup table.old) (W.means.place seat.old) (W.means.view table.old seat.old) writer.old }
     requires begun { is_begun writer.old.packet ≡ true }
     requires tag { tag.now ≡ nested_tag field }
     requires fits { len_of writer.old.packet + (length tag.now + 4) ≤ MAX_PACKET_LEN }
     requires depth { depth_of writer.old.packet < MAX_OPEN_HOLES }
-    ensures agrees { Agrees (W.setup table.old) (W.place seat.old) (W.view table.new seat.new) writer.new }
+    ensures agrees { Agrees (W.means.setup table.old) (W.means.place seat.old) (W.means.view table.new seat.new) writer.new }
     ensures route { writer.new.route ≡ writer.old.route }
     ensures stays { is_stalled_state writer.old.state ≡ true
         → (result ≡ Err call_fault.Stalled) × (writer.new ≡ writer.old) × (table.new ≡ table.old) × (seat.new ≡ seat.old) × (help.new ≡ help.old) × (steps.new ≡ steps.old) }
     ensures answers { is_stalled_state writer.old.state ≡ false
         → MatchResult result (λ _. is_stalled_state writer.new.state ≡ false) (λ fault. (fault ≡ call_fault.Stalled) × (is_stalled_state writer.new.state ≡ true)) }
     ensures done { is_stalled_state writer.old.state ≡ false → (stopped : Bool)
-        × IsAsked W.setup W.sits W.place W.view W.serves W.service_view W.told H.needs H.helps
+        × IsAsked W.means H.needs H.helps
         writer.old.route help.old table.old seat.old steps.old stopped (written_as stopped writer.old.route.spec.policy (call.Nested field))
         (is_stalled_state writer.new.state) help.new table.new seat.new steps.new
-        × (stopped ≡ true → newest_is_lost (packets_of (W.view table.old seat.old).calls) ≡ false) }
-    ensures asked { is_empty writer.old.state ≡ true → (W.view table.new seat.new).asked ≡ (W.view table.old seat.old).asked }
+        × (stopped ≡ true → newest_is_lost (packets_of (W.means.view table.old seat.old).calls) ≡ false) }
+    ensures asked { is_empty writer.old.state ≡ true → (W.means.view table.new seat.new).asked ≡ (W.means.view table.old seat.old).asked }
 {
     if is_stalled(&writer.state) {
         return Err(CallFault::Stalled);
@@ -222,11 +222,11 @@ fn go_on<W: Words>(
     flow: Flow,
     call: WriterCall<'_>,
 ) -> Result<(), CallFault>
-    requires seat { W.sits table.old seat.old }
+    requires seat { W.means.sits table.old seat.old }
     requires empty { is_empty writer.old.state ≡ true }
     ensures answers { MatchResult result (λ _. is_stalled_state writer.new.state ≡ false) (λ fault. (fault ≡ call_fault.Stalled) × (is_stalled_state writer.new.state ≡ true)) }
-    ensures goes { GoesBehind writer.old writer.new (W.view table.old seat.old) (W.view table.new seat.new) (call_of call.entry) flow }
-    ensures quiet { IsQuiet W.setup W.sits W.place W.view W.serves W.service_view W.told table.old seat.old table.new seat.new }
+    ensures goes { GoesBehind writer.old writer.new (W.means.view table.old seat.old) (W.means.view table.new seat.new) (call_of call.entry) flow }
+    ensures quiet { IsQuiet W.means table.old seat.old table.new seat.new }
 {
     table.note_call(seat, call);
     match flow {
@@ -251,17 +251,17 @@ fn go_on<W: Words>(
 /// Ends the innermost nested message, and puts its length in or keeps it as a patch. Where the writer
 /// waits for ever nothing changes.
 pub(crate) fn end_message<W: Words>(writer: &mut Writer, table: &mut W, seat: &mut W::Writer)
-    requires seat { W.sits table.old seat.old }
-    requires agrees { Agrees (W.setup table.old) (W.place seat.old) (W.view table.old seat.old) writer.old }
+    requires seat { W.means.sits table.old seat.old }
+    requires agrees { Agrees (W.means.setup table.old) (W.means.place seat.old) (W.means.view table.old seat.old) writer.old }
     requires begun { is_begun writer.old.packet ≡ true }
     requires depth { 0 < depth_of writer.old.packet }
-    ensures agrees { Agrees (W.setup table.old) (W.place seat.old) (W.view table.new seat.new) writer.new }
+    ensures agrees { Agrees (W.means.setup table.old) (W.means.place seat.old) (W.means.view table.new seat.new) writer.new }
     ensures route { writer.new.route ≡ writer.old.route }
     ensures stalled { is_stalled_state writer.old.state ≡ true → (writer.new ≡ writer.old) × (table.new ≡ table.old) × (seat.new ≡ seat.old) }
     ensures goes { is_stalled_state writer.new.state ≡ is_stalled_state writer.old.state }
-    ensures notes { is_stalled_state writer.old.state ≡ false → (W.view table.new seat.new).calls ≡ (W.view table.old seat.old).calls ++ call.Ended ∷ [] }
-    ensures others { record (W.view table.new seat.new) { calls = (W.view table.old seat.old).calls } ≡ W.view table.old seat.old }
-    ensures quiet { IsQuiet W.setup W.sits W.place W.view W.serves W.service_view W.told table.old seat.old table.new seat.new }
+    ensures notes { is_stalled_state writer.old.state ≡ false → (W.means.view table.new seat.new).calls ≡ (W.means.view table.old seat.old).calls ++ call.Ended ∷ [] }
+    ensures others { record (W.means.view table.new seat.new) { calls = (W.means.view table.old seat.old).calls } ≡ W.means.view table.old seat.old }
+    ensures quiet { IsQuiet W.means table.old seat.old table.new seat.new }
 {
     if is_stalled(&writer.state) {
         return;

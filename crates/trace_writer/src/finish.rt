@@ -10,19 +10,19 @@ use chunk_plain::{Words, WriterCall};
 
 /// Ends a packet whose messages have all ended. Where the writer waits for ever nothing changes.
 pub(crate) fn finish<W: Words>(writer: &mut Writer, table: &mut W, seat: &mut W::Writer)
-    requires seat { W.sits table.old seat.old }
-    requires agrees { Agrees (W.setup table.old) (W.place seat.old) (W.view table.old seat.old) writer.old }
+    requires seat { W.means.sits table.old seat.old }
+    requires agrees { Agrees (W.means.setup table.old) (W.means.place seat.old) (W.means.view table.old seat.old) writer.old }
     requires begun { is_begun writer.old.packet ≡ true }
     requires depth { depth_of writer.old.packet ≡ 0 }
-    ensures agrees { Agrees (W.setup table.old) (W.place seat.old) (W.view table.new seat.new) writer.new }
+    ensures agrees { Agrees (W.means.setup table.old) (W.means.place seat.old) (W.means.view table.new seat.new) writer.new }
     ensures route { writer.new.route ≡ writer.old.route }
     ensures stalled { is_stalled_state writer.old.state ≡ true → (writer.new ≡ writer.old) × (table.new ≡ table.old) × (seat.new ≡ seat.old) }
     ensures goes { is_stalled_state writer.new.state ≡ is_stalled_state writer.old.state }
     ensures ended { is_stalled_state writer.old.state ≡ false → is_begun writer.new.packet ≡ false }
     ensures held { is_stalled_state writer.old.state ≡ false → is_empty writer.new.state ≡ writer.new.follows_loss }
-    ensures notes { is_stalled_state writer.old.state ≡ false → (W.view table.new seat.new).calls ≡ (W.view table.old seat.old).calls ++ call.Finished ∷ [] }
-    ensures others { record (W.view table.new seat.new) { calls = (W.view table.old seat.old).calls } ≡ W.view table.old seat.old }
-    ensures quiet { IsQuiet W.setup W.sits W.place W.view W.serves W.service_view W.told table.old seat.old table.new seat.new }
+    ensures notes { is_stalled_state writer.old.state ≡ false → (W.means.view table.new seat.new).calls ≡ (W.means.view table.old seat.old).calls ++ call.Finished ∷ [] }
+    ensures others { record (W.means.view table.new seat.new) { calls = (W.means.view table.old seat.old).calls } ≡ W.means.view table.old seat.old }
+    ensures quiet { IsQuiet W.means table.old seat.old table.new seat.new }
 {
     if is_stalled(&writer.state) {
         return;
@@ -46,17 +46,17 @@ pub(crate) fn finish<W: Words>(writer: &mut Writer, table: &mut W, seat: &mut W:
 
 /// Completes the held chunk, where there is one. Where the writer waits for ever nothing changes.
 pub(crate) fn flush<W: Words>(writer: &mut Writer, table: &mut W, seat: &mut W::Writer)
-    requires seat { W.sits table.old seat.old }
-    requires agrees { Agrees (W.setup table.old) (W.place seat.old) (W.view table.old seat.old) writer.old }
+    requires seat { W.means.sits table.old seat.old }
+    requires agrees { Agrees (W.means.setup table.old) (W.means.place seat.old) (W.means.view table.old seat.old) writer.old }
     requires none_begun { is_begun writer.old.packet ≡ false }
-    ensures agrees { Agrees (W.setup table.old) (W.place seat.old) (W.view table.new seat.new) writer.new }
+    ensures agrees { Agrees (W.means.setup table.old) (W.means.place seat.old) (W.means.view table.new seat.new) writer.new }
     ensures route { writer.new.route ≡ writer.old.route }
     ensures stalled { is_stalled_state writer.old.state ≡ true → (writer.new ≡ writer.old) × (table.new ≡ table.old) × (seat.new ≡ seat.old) }
     ensures goes { is_stalled_state writer.new.state ≡ is_stalled_state writer.old.state }
     ensures none_begun { is_begun writer.new.packet ≡ false }
     ensures none_held { is_empty writer.new.state ≡ true }
-    ensures notes { is_stalled_state writer.old.state ≡ false → (W.view table.new seat.new).calls ≡ (W.view table.old seat.old).calls ++ call.Flushed ∷ [] }
-    ensures quiet { IsQuiet W.setup W.sits W.place W.view W.serves W.service_view W.told table.old seat.old table.new seat.new }
+    ensures notes { is_stalled_state writer.old.state ≡ false → (W.means.view table.new seat.new).calls ≡ (W.means.view table.old seat.old).calls ++ call.Flushed ∷ [] }
+    ensures quiet { IsQuiet W.means table.old seat.old table.new seat.new }
 {
     if is_stalled(&writer.state) {
         return;

@@ -132,6 +132,7 @@ impl OpenFragment {
         ensures held { result.held ≡ record self.held { body = record self.held.body { payload = result.held.body.payload } } }
         ensures bytes { result.held.body.payload.items ≡ with_bytes self.held.body.payload.items self.start (redundant (self.at - self.start - 4)) }
         ensures len { vec_len result.held.body.payload ≡ vec_len self.held.body.payload }
+        ensures sealed { result.sealed ≡ self.start }
         ensures at { result.at ≡ self.at }
         ensures count { result.count ≡ self.count }
         ensures continues { result.continues ≡ self.continues }
@@ -145,6 +146,7 @@ impl OpenFragment {
         ensures held { result.held ≡ record self.held { body = record self.held.body { payload = result.held.body.payload } } }
         ensures bytes { result.held.body.payload.items ≡ with_bytes self.held.body.payload.items self.start drop_mark }
         ensures len { vec_len result.held.body.payload ≡ vec_len self.held.body.payload }
+        ensures sealed { result.sealed ≡ self.start }
         ensures at { result.at ≡ self.at }
         ensures count { result.count ≡ self.count }
         ensures continues { result.continues ≡ self.continues }
@@ -156,6 +158,7 @@ impl OpenFragment {
         ensures held { result.held ≡ record self.held { body = record self.held.body { payload = result.held.body.payload } } }
         ensures bytes { result.held.body.payload.items ≡ with_bytes self.held.body.payload.items self.start size }
         ensures len { vec_len result.held.body.payload ≡ vec_len self.held.body.payload }
+        ensures sealed { result.sealed ≡ self.start }
         ensures at { result.at ≡ self.at }
         ensures count { result.count ≡ self.count }
         ensures continues { result.continues ≡ self.continues }
@@ -170,6 +173,7 @@ impl OpenFragment {
         set_four_at(&mut held.body.payload, start, size);
         HeldChunk {
             held,
+            sealed: start,
             at,
             count,
             continues,

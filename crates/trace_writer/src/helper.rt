@@ -1,7 +1,7 @@
 //! Whom a writer that stalls asks where no chunk is free.
 ghost use Rattle.std.specs.Prelude.{◌≡◌, ℕ, ◌<◌, Bool, true, false};
 ghost use Rattle.chunk_plain.specs.Setup.{HasProducer};
-ghost use Rattle.chunk_plain.specs.Words.{IsWriterStep};
+ghost use Rattle.chunk_plain.specs.Meaning.{IsWriterStep};
 ghost use Rattle.trace_writer.specs.Helping.{LeavesWriters};
 
 use chunk_plain::Words;
@@ -20,14 +20,14 @@ pub trait HelperOn<W: Words> {
     /// Frees chunks of a producer; true says that it is worth while to claim again.
     fn help(&mut self, table: &mut W, producer: u16) -> bool
         requires needs { needs self.old table.old }
-        requires producer { HasProducer (W.setup table.old) producer }
+        requires producer { HasProducer (W.means.setup table.old) producer }
         ensures helps { helps self.old table.old producer result self.new table.new }
         ensures needs { needs self.new table.new }
         ensures turns { result ≡ true → turns self.new < turns self.old }
-        ensures leaves { LeavesWriters W.setup W.sits W.view table.old table.new };
+        ensures leaves { LeavesWriters W.means table.old table.new };
 
     // a writer's steps leave what it needs
-    ghost needs_stay: { (helper : Self) (old new : W) (seat after : W.Writer) → IsWriterStep W.setup W.sits W.place W.view W.serves W.service_view old seat new after → needs helper old → needs helper new };
+    ghost needs_stay: { (helper : Self) (old new : W) (seat after : W.Writer) → IsWriterStep W.means old seat new after → needs helper old → needs helper new };
 }
 
 /// Never frees a chunk. A writer that drops asks nobody.

@@ -37,14 +37,14 @@ pub(crate) fn run_on<W: Words, L: Ledger, H: HelperOn<W>>(
     fragment: OpenFragment,
     steps: &mut Steps<L>,
 ) -> Flow
-    requires seat { W.sits table.old seat.old }
+    requires seat { W.means.sits table.old seat.old }
     requires needs { H.needs help.old table.old }
-    requires route { IsRoute (W.setup table.old) (W.place seat.old) route.now }
-    requires inside { IsInPacket (site_of (W.setup table.old) (W.place seat.old) route.now) (W.view table.old seat.old) pending.old fragment }
+    requires route { IsRoute (W.means.setup table.old) (W.means.place seat.old) route.now }
+    requires inside { IsInPacket (site_of (W.means.setup table.old) (W.means.place seat.old) route.now) (W.means.view table.old seat.old) pending.old fragment }
     requires filled { vec_len fragment.held.body.payload < fragment.at + 4 }
     requires ids { HasIds fragment 1 }
-    ensures flow { Continues (W.setup table.old) (W.place seat.old) route.now (W.view table.old seat.old) (W.view table.new seat.new) pending.old pending.new fragment result }
-    ensures work { IsWork W.setup W.sits W.place W.view W.serves W.service_view W.told H.needs H.helps
+    ensures flow { Continues (W.means.setup table.old) (W.means.place seat.old) route.now (W.means.view table.old seat.old) (W.means.view table.new seat.new) pending.old pending.new fragment result }
+    ensures work { IsWork W.means H.needs H.helps
         route.now help.old table.old seat.old steps.old (is_stopped result) help.new table.new seat.new steps.new }
 {
     match route.spec.policy {
@@ -62,16 +62,16 @@ fn run_on_or_drop<W: Words, L: Ledger>(
     fragment: OpenFragment,
     steps: &mut Steps<L>,
 ) -> Flow
-    requires seat { W.sits table.old seat.old }
+    requires seat { W.means.sits table.old seat.old }
     requires drops { route.now.spec.policy ≡ Drops }
-    requires route { IsRoute (W.setup table.old) (W.place seat.old) route.now }
-    requires inside { IsInPacket (site_of (W.setup table.old) (W.place seat.old) route.now) (W.view table.old seat.old) pending.old fragment }
+    requires route { IsRoute (W.means.setup table.old) (W.means.place seat.old) route.now }
+    requires inside { IsInPacket (site_of (W.means.setup table.old) (W.means.place seat.old) route.now) (W.means.view table.old seat.old) pending.old fragment }
     requires filled { vec_len fragment.held.body.payload < fragment.at + 4 }
     requires ids { HasIds fragment 1 }
-    ensures flow { Continues (W.setup table.old) (W.place seat.old) route.now (W.view table.old seat.old) (W.view table.new seat.new) pending.old pending.new fragment result }
-    ensures round { MakesRound W.setup W.sits W.place W.view W.serves W.service_view W.told route.now (is_stopped result) table.old seat.old table.new seat.new }
-    ensures counts { steps.new + (length (W.view table.old seat.old).asked + length (W.view table.old seat.old).begun)
-        ≡ steps.old + (length (W.view table.new seat.new).asked + length (W.view table.new seat.new).begun) }
+    ensures flow { Continues (W.means.setup table.old) (W.means.place seat.old) route.now (W.means.view table.old seat.old) (W.means.view table.new seat.new) pending.old pending.new fragment result }
+    ensures round { MakesRound W.means route.now (is_stopped result) table.old seat.old table.new seat.new }
+    ensures counts { steps.new + (length (W.means.view table.old seat.old).asked + length (W.means.view table.old seat.old).begun)
+        ≡ steps.old + (length (W.means.view table.new seat.new).asked + length (W.means.view table.new seat.new).begun) }
 {
     let next_id = fragment.held.id + 1;
     let Some(next) = claim_over(&route.arbiter, table, seat, next_id, steps) else {
@@ -94,15 +94,15 @@ fn run_on_or_stall<W: Words, L: Ledger, H: HelperOn<W>>(
     fragment: OpenFragment,
     steps: &mut Steps<L>,
 ) -> Flow
-    requires seat { W.sits table.old seat.old }
+    requires seat { W.means.sits table.old seat.old }
     requires needs { H.needs help.old table.old }
     requires stalls { route.now.spec.policy ≡ Stalls }
-    requires route { IsRoute (W.setup table.old) (W.place seat.old) route.now }
-    requires inside { IsInPacket (site_of (W.setup table.old) (W.place seat.old) route.now) (W.view table.old seat.old) pending.old fragment }
+    requires route { IsRoute (W.means.setup table.old) (W.means.place seat.old) route.now }
+    requires inside { IsInPacket (site_of (W.means.setup table.old) (W.means.place seat.old) route.now) (W.means.view table.old seat.old) pending.old fragment }
     requires filled { vec_len fragment.held.body.payload < fragment.at + 4 }
     requires ids { HasIds fragment 1 }
-    ensures flow { Continues (W.setup table.old) (W.place seat.old) route.now (W.view table.old seat.old) (W.view table.new seat.new) pending.old pending.new fragment result }
-    ensures work { IsWork W.setup W.sits W.place W.view W.serves W.service_view W.told H.needs H.helps
+    ensures flow { Continues (W.means.setup table.old) (W.means.place seat.old) route.now (W.means.view table.old seat.old) (W.means.view table.new seat.new) pending.old pending.new fragment result }
+    ensures work { IsWork W.means H.needs H.helps
         route.now help.old table.old seat.old steps.old (is_stopped result) help.new table.new seat.new steps.new }
 {
     let next_id = fragment.held.id + 1;
@@ -122,13 +122,13 @@ fn give_up<W: Words>(
     pending: &mut PatchList,
     fragment: OpenFragment,
 )
-    requires seat { W.sits table.old seat.old }
+    requires seat { W.means.sits table.old seat.old }
     requires drops { route.now.spec.policy ≡ Drops }
-    requires route { IsRoute (W.setup table.old) (W.place seat.old) route.now }
+    requires route { IsRoute (W.means.setup table.old) (W.means.place seat.old) route.now }
     requires filled { vec_len fragment.held.body.payload < fragment.at + 4 }
-    requires inside { IsInPacket (site_of (W.setup table.old) (W.place seat.old) route.now) (W.view table.old seat.old) pending.old fragment }
-    ensures stops { StopsHere (site_of (W.setup table.old) (W.place seat.old) route.now) (W.view table.old seat.old) (W.view table.new seat.new) pending.old pending.new fragment }
-    ensures quiet { IsQuiet W.setup W.sits W.place W.view W.serves W.service_view W.told table.old seat.old table.new seat.new }
+    requires inside { IsInPacket (site_of (W.means.setup table.old) (W.means.place seat.old) route.now) (W.means.view table.old seat.old) pending.old fragment }
+    ensures stops { StopsHere (site_of (W.means.setup table.old) (W.means.place seat.old) route.now) (W.means.view table.old seat.old) (W.means.view table.new seat.new) pending.old pending.new fragment }
+    ensures quiet { IsQuiet W.means table.old seat.old table.new seat.new }
 {
     let mut fragment = fragment;
     'holes: while pending.open_count() > 0 {
@@ -150,13 +150,13 @@ pub(crate) fn put_piece<W: Words, L: Ledger, H: HelperOn<W>>(
     piece: &[u8],
     steps: &mut Steps<L>,
 ) -> Flow
-    requires seat { W.sits table.old seat.old }
+    requires seat { W.means.sits table.old seat.old }
     requires needs { H.needs help.old table.old }
-    requires route { IsRoute (W.setup table.old) (W.place seat.old) route.now }
-    requires inside { IsInPacket (site_of (W.setup table.old) (W.place seat.old) route.now) (W.view table.old seat.old) pending.old fragment }
+    requires route { IsRoute (W.means.setup table.old) (W.means.place seat.old) route.now }
+    requires inside { IsInPacket (site_of (W.means.setup table.old) (W.means.place seat.old) route.now) (W.means.view table.old seat.old) pending.old fragment }
     requires ids { HasIds fragment (length piece.now) }
-    ensures flow { Flows (W.setup table.old) (W.place seat.old) route.now (W.view table.old seat.old) (W.view table.new seat.new) pending.old pending.new fragment piece.now result }
-    ensures work { IsWork W.setup W.sits W.place W.view W.serves W.service_view W.told H.needs H.helps
+    ensures flow { Flows (W.means.setup table.old) (W.means.place seat.old) route.now (W.means.view table.old seat.old) (W.means.view table.new seat.new) pending.old pending.new fragment piece.now result }
+    ensures work { IsWork W.means H.needs H.helps
         route.now help.old table.old seat.old steps.old (is_stopped result) help.new table.new seat.new steps.new }
 {
     let mut fragment = fragment;
@@ -186,13 +186,13 @@ pub(crate) fn put_times<W: Words, L: Ledger, H: HelperOn<W>>(
     times: u32,
     steps: &mut Steps<L>,
 ) -> Flow
-    requires seat { W.sits table.old seat.old }
+    requires seat { W.means.sits table.old seat.old }
     requires needs { H.needs help.old table.old }
-    requires route { IsRoute (W.setup table.old) (W.place seat.old) route.now }
-    requires inside { IsInPacket (site_of (W.setup table.old) (W.place seat.old) route.now) (W.view table.old seat.old) pending.old fragment }
+    requires route { IsRoute (W.means.setup table.old) (W.means.place seat.old) route.now }
+    requires inside { IsInPacket (site_of (W.means.setup table.old) (W.means.place seat.old) route.now) (W.means.view table.old seat.old) pending.old fragment }
     requires ids { HasIds fragment (times * length piece.now) }
-    ensures flow { Flows (W.setup table.old) (W.place seat.old) route.now (W.view table.old seat.old) (W.view table.new seat.new) pending.old pending.new fragment (repeat times piece.now) result }
-    ensures work { IsWork W.setup W.sits W.place W.view W.serves W.service_view W.told H.needs H.helps
+    ensures flow { Flows (W.means.setup table.old) (W.means.place seat.old) route.now (W.means.view table.old seat.old) (W.means.view table.new seat.new) pending.old pending.new fragment (repeat times piece.now) result }
+    ensures work { IsWork W.means H.needs H.helps
         route.now help.old table.old seat.old steps.old (is_stopped result) help.new table.new seat.new steps.new }
 {
     let mut fragment = fragment;
@@ -215,14 +215,14 @@ pub(crate) fn put_length<W: Words, L: Ledger, H: HelperOn<W>>(
     fragment: OpenFragment,
     steps: &mut Steps<L>,
 ) -> Flow
-    requires seat { W.sits table.old seat.old }
+    requires seat { W.means.sits table.old seat.old }
     requires needs { H.needs help.old table.old }
-    requires route { IsRoute (W.setup table.old) (W.place seat.old) route.now }
-    requires inside { IsInPacket (site_of (W.setup table.old) (W.place seat.old) route.now) (W.view table.old seat.old) pending.old fragment }
+    requires route { IsRoute (W.means.setup table.old) (W.means.place seat.old) route.now }
+    requires inside { IsInPacket (site_of (W.means.setup table.old) (W.means.place seat.old) route.now) (W.means.view table.old seat.old) pending.old fragment }
     requires ids { HasIds fragment 4 }
     requires few { length pending.old.holes < MAX_OPEN_HOLES }
-    ensures flow { SetsLength (W.setup table.old) (W.place seat.old) route.now (W.view table.old seat.old) (W.view table.new seat.new) pending.old pending.new fragment result }
-    ensures work { IsWork W.setup W.sits W.place W.view W.serves W.service_view W.told H.needs H.helps
+    ensures flow { SetsLength (W.means.setup table.old) (W.means.place seat.old) route.now (W.means.view table.old seat.old) (W.means.view table.new seat.new) pending.old pending.new fragment result }
+    ensures work { IsWork W.means H.needs H.helps
         route.now help.old table.old seat.old steps.old (is_stopped result) help.new table.new seat.new steps.new }
 {
     let mut fragment = fragment;
@@ -252,13 +252,13 @@ pub(crate) fn put_field<W: Words, L: Ledger, H: HelperOn<W>>(
     times: u32,
     steps: &mut Steps<L>,
 ) -> Flow
-    requires seat { W.sits table.old seat.old }
+    requires seat { W.means.sits table.old seat.old }
     requires needs { H.needs help.old table.old }
-    requires route { IsRoute (W.setup table.old) (W.place seat.old) route.now }
-    requires inside { IsInPacket (site_of (W.setup table.old) (W.place seat.old) route.now) (W.view table.old seat.old) pending.old fragment }
+    requires route { IsRoute (W.means.setup table.old) (W.means.place seat.old) route.now }
+    requires inside { IsInPacket (site_of (W.means.setup table.old) (W.means.place seat.old) route.now) (W.means.view table.old seat.old) pending.old fragment }
     requires ids { HasIds fragment (length head.now + times * length text.now) }
-    ensures flow { Writes (W.setup table.old) (W.place seat.old) route.now (W.view table.old seat.old) (W.view table.new seat.new) pending.old pending.new fragment (length head.now + times * length text.now) (with_more (head.now ++ repeat times text.now)) result }
-    ensures work { IsWork W.setup W.sits W.place W.view W.serves W.service_view W.told H.needs H.helps
+    ensures flow { Writes (W.means.setup table.old) (W.means.place seat.old) route.now (W.means.view table.old seat.old) (W.means.view table.new seat.new) pending.old pending.new fragment (length head.now + times * length text.now) (with_more (head.now ++ repeat times text.now)) result }
+    ensures work { IsWork W.means H.needs H.helps
         route.now help.old table.old seat.old steps.old (is_stopped result) help.new table.new seat.new steps.new }
 {
     match put_piece(route, table, seat, help, pending, fragment, head, steps) {
@@ -278,14 +278,14 @@ pub(crate) fn put_nested<W: Words, L: Ledger, H: HelperOn<W>>(
     tag: &[u8],
     steps: &mut Steps<L>,
 ) -> Flow
-    requires seat { W.sits table.old seat.old }
+    requires seat { W.means.sits table.old seat.old }
     requires needs { H.needs help.old table.old }
-    requires route { IsRoute (W.setup table.old) (W.place seat.old) route.now }
-    requires inside { IsInPacket (site_of (W.setup table.old) (W.place seat.old) route.now) (W.view table.old seat.old) pending.old fragment }
+    requires route { IsRoute (W.means.setup table.old) (W.means.place seat.old) route.now }
+    requires inside { IsInPacket (site_of (W.means.setup table.old) (W.means.place seat.old) route.now) (W.means.view table.old seat.old) pending.old fragment }
     requires ids { HasIds fragment (length tag.now + 4) }
     requires few { length pending.old.holes < MAX_OPEN_HOLES }
-    ensures flow { Writes (W.setup table.old) (W.place seat.old) route.now (W.view table.old seat.old) (W.view table.new seat.new) pending.old pending.new fragment (length tag.now + 4) (λ (packet : Packet). with_open (with_more tag.now packet)) result }
-    ensures work { IsWork W.setup W.sits W.place W.view W.serves W.service_view W.told H.needs H.helps
+    ensures flow { Writes (W.means.setup table.old) (W.means.place seat.old) route.now (W.means.view table.old seat.old) (W.means.view table.new seat.new) pending.old pending.new fragment (length tag.now + 4) (λ (packet : Packet). with_open (with_more tag.now packet)) result }
+    ensures work { IsWork W.means H.needs H.helps
         route.now help.old table.old seat.old steps.old (is_stopped result) help.new table.new seat.new steps.new }
 {
     match put_piece(route, table, seat, help, pending, fragment, tag, steps) {

@@ -8,13 +8,13 @@ ghost use Rattle.trace_model.specs.Encoding.{number_field, bytes_head, nested_ta
 ghost use Rattle.trace_model.specs.Packets.{begun_count, dropped_at_begin};
 ghost use Rattle.chunk_plain.specs.Setup.{Setup, spot, range_of, producer_of, HasProducer, IsChunkOf};
 ghost use Rattle.chunk_plain.specs.Views.{WriterView, newcomer};
-ghost use Rattle.chunk_plain.specs.Words.{IsWriterStep};
+ghost use Rattle.chunk_plain.specs.Meaning.{IsWriterStep};
 ghost use Rattle.claim_arbiter.specs.Claiming.{range_in};
 ghost use Rattle.trace_writer.specs.Agreement.{is_begun, len_of, depth_of, counted};
 ghost use Rattle.trace_writer.specs.Asked.{IsAsked, LeavesAll, begun_as, written_as, stops_with};
 ghost use Rattle.trace_writer.specs.declared.fault.CallFault.TheVariants as call_fault;
 ghost use Rattle.trace_writer.specs.Helping.{LeavesOthers};
-ghost use Rattle.trace_writer.specs.Outcomes.{completed_images};
+ghost use Rattle.chunk_plain.specs.Histories.{completed_images};
 ghost use Rattle.trace_writer.specs.OwnSteps.{IsQuiet};
 ghost use Rattle.trace_writer.specs.Refusals.{field_refusal, nested_refusal};
 ghost use Rattle.trace_writer.specs.Core.{CoreAgrees, in_packet, open_depth, field_fault, nested_fault, bytes_size, holds_chunk, is_stalled, route_of, refusal_of, begins_here, FitsHere};
@@ -81,28 +81,28 @@ impl<S> WriterCore<S> {
         help: &mut H,
         steps: &mut Steps<L>,
     ) -> Result<Begun, CallFault>
-        requires seat { W.sits table.old self.old.seat }
+        requires seat { W.means.sits table.old self.old.seat }
         requires needs { H.needs help.old table.old }
-        requires agrees { CoreAgrees (W.setup table.old) (W.place self.old.seat) (W.view table.old self.old.seat) self.old }
-        requires none_begun { in_packet (W.view table.old self.old.seat) ≡ false }
-        requires ids { length (W.view table.old self.old.seat).begun + 4096 ≤ 4294967295 }
-        ensures agrees { CoreAgrees (W.setup table.old) (W.place self.old.seat) (W.view table.new self.new.seat) self.new }
+        requires agrees { CoreAgrees (W.means.setup table.old) (W.means.place self.old.seat) (W.means.view table.old self.old.seat) self.old }
+        requires none_begun { in_packet (W.means.view table.old self.old.seat) ≡ false }
+        requires ids { length (W.means.view table.old self.old.seat).begun + 4096 ≤ 4294967295 }
+        ensures agrees { CoreAgrees (W.means.setup table.old) (W.means.place self.old.seat) (W.means.view table.new self.new.seat) self.new }
         ensures needs { H.needs help.new table.new }
-        ensures others { LeavesOthers W.setup W.sits W.place W.view table.old self.old.seat table.new self.new.seat }
+        ensures others { LeavesOthers W.means table.old self.old.seat table.new self.new.seat }
         ensures refused { (fault : CallFault) → refusal_of self.old None ≡ Some fault
             → LeavesAll fault result self.old self.new table.old table.new help.old help.new steps.old steps.new }
         ensures answers { refusal_of self.old None ≡ None
             → MatchResult result (λ _. is_stalled self.new ≡ false) (λ fault. (fault ≡ call_fault.Stalled) × (is_stalled self.new ≡ true)) }
         ensures done { refusal_of self.old None ≡ None →
-            IsAsked W.setup W.sits W.place W.view W.serves W.service_view W.told H.needs H.helps
+            IsAsked W.means H.needs H.helps
             (route_of self.old) help.old table.old self.old.seat steps.old (stops_with result) (begun_as (stops_with result) (route_of self.old).spec.policy)
             (is_stalled self.new) help.new table.new self.new.seat steps.new }
-        ensures asked { begins_here self.old → (W.view table.new self.new.seat).asked ≡ (W.view table.old self.old.seat).asked }
-        ensures in_packet { IfOk result (λ _. in_packet (W.view table.new self.new.seat) ≡ true) }
-        ensures depth { IfOk result (λ _. open_depth (W.view table.new self.new.seat) ≡ 0) }
+        ensures asked { begins_here self.old → (W.means.view table.new self.new.seat).asked ≡ (W.means.view table.old self.old.seat).asked }
+        ensures in_packet { IfOk result (λ _. in_packet (W.means.view table.new self.new.seat) ≡ true) }
+        ensures depth { IfOk result (λ _. open_depth (W.means.view table.new self.new.seat) ≡ 0) }
         ensures route { route_of self.new ≡ route_of self.old }
         ensures alone { (route_of self.old).spec.policy ≡ Drops → (help.new ≡ help.old)
-            × IsWriterStep W.setup W.sits W.place W.view W.serves W.service_view table.old self.old.seat table.new self.new.seat }
+            × IsWriterStep W.means table.old self.old.seat table.new self.new.seat }
         ensures few_steps { (route_of self.old).spec.policy ≡ Drops → steps.new ≤ steps.old + (route_of self.old).arbiter.chunks + 1 }
     {
         begin(&mut self.writer, table, &mut self.seat, help, steps)
@@ -117,29 +117,29 @@ impl<S> WriterCore<S> {
         value: u64,
         steps: &mut Steps<L>,
     ) -> Result<(), CallFault>
-        requires seat { W.sits table.old self.old.seat }
+        requires seat { W.means.sits table.old self.old.seat }
         requires needs { H.needs help.old table.old }
-        requires agrees { CoreAgrees (W.setup table.old) (W.place self.old.seat) (W.view table.old self.old.seat) self.old }
-        requires begun { in_packet (W.view table.old self.old.seat) ≡ true }
+        requires agrees { CoreAgrees (W.means.setup table.old) (W.means.place self.old.seat) (W.means.view table.old self.old.seat) self.old }
+        requires begun { in_packet (W.means.view table.old self.old.seat) ≡ true }
         requires least { 1 ≤ field }
         requires most { field ≤ MAX_FIELD }
-        ensures agrees { CoreAgrees (W.setup table.old) (W.place self.old.seat) (W.view table.new self.new.seat) self.new }
+        ensures agrees { CoreAgrees (W.means.setup table.old) (W.means.place self.old.seat) (W.means.view table.new self.new.seat) self.new }
         ensures needs { H.needs help.new table.new }
-        ensures others { LeavesOthers W.setup W.sits W.place W.view table.old self.old.seat table.new self.new.seat }
-        ensures refused { (fault : CallFault) → refusal_of self.old (field_fault (W.view table.old self.old.seat) field (length (number_field field value))) ≡ Some fault
+        ensures others { LeavesOthers W.means table.old self.old.seat table.new self.new.seat }
+        ensures refused { (fault : CallFault) → refusal_of self.old (field_fault (W.means.view table.old self.old.seat) field (length (number_field field value))) ≡ Some fault
             → LeavesAll fault result self.old self.new table.old table.new help.old help.new steps.old steps.new }
-        ensures answers { refusal_of self.old (field_fault (W.view table.old self.old.seat) field (length (number_field field value))) ≡ None
+        ensures answers { refusal_of self.old (field_fault (W.means.view table.old self.old.seat) field (length (number_field field value))) ≡ None
             → MatchResult result (λ _. is_stalled self.new ≡ false) (λ fault. (fault ≡ call_fault.Stalled) × (is_stalled self.new ≡ true)) }
-        ensures done { refusal_of self.old (field_fault (W.view table.old self.old.seat) field (length (number_field field value))) ≡ None → (stopped : Bool) ×
-            IsAsked W.setup W.sits W.place W.view W.serves W.service_view W.told H.needs H.helps
+        ensures done { refusal_of self.old (field_fault (W.means.view table.old self.old.seat) field (length (number_field field value))) ≡ None → (stopped : Bool) ×
+            IsAsked W.means H.needs H.helps
             (route_of self.old) help.old table.old self.old.seat steps.old stopped (written_as stopped (route_of self.old).spec.policy (call.Number field value))
             (is_stalled self.new) help.new table.new self.new.seat steps.new }
-        ensures asked { FitsHere self.old (length (number_field field value)) → (W.view table.new self.new.seat).asked ≡ (W.view table.old self.old.seat).asked }
-        ensures in_packet { in_packet (W.view table.new self.new.seat) ≡ true }
-        ensures depth { open_depth (W.view table.new self.new.seat) ≡ open_depth (W.view table.old self.old.seat) }
+        ensures asked { FitsHere self.old (length (number_field field value)) → (W.means.view table.new self.new.seat).asked ≡ (W.means.view table.old self.old.seat).asked }
+        ensures in_packet { in_packet (W.means.view table.new self.new.seat) ≡ true }
+        ensures depth { open_depth (W.means.view table.new self.new.seat) ≡ open_depth (W.means.view table.old self.old.seat) }
         ensures route { route_of self.new ≡ route_of self.old }
         ensures alone { (route_of self.old).spec.policy ≡ Drops → (help.new ≡ help.old)
-            × IsWriterStep W.setup W.sits W.place W.view W.serves W.service_view table.old self.old.seat table.new self.new.seat }
+            × IsWriterStep W.means table.old self.old.seat table.new self.new.seat }
     {
         let head = head_number(field, value);
         check_field(&self.writer.packet, field, head.as_slice().len() as u64)?;
@@ -166,30 +166,30 @@ impl<S> WriterCore<S> {
         times: u32,
         steps: &mut Steps<L>,
     ) -> Result<(), CallFault>
-        requires seat { W.sits table.old self.old.seat }
+        requires seat { W.means.sits table.old self.old.seat }
         requires needs { H.needs help.old table.old }
-        requires agrees { CoreAgrees (W.setup table.old) (W.place self.old.seat) (W.view table.old self.old.seat) self.old }
-        requires begun { in_packet (W.view table.old self.old.seat) ≡ true }
+        requires agrees { CoreAgrees (W.means.setup table.old) (W.means.place self.old.seat) (W.means.view table.old self.old.seat) self.old }
+        requires begun { in_packet (W.means.view table.old self.old.seat) ≡ true }
         requires least { 1 ≤ field }
         requires most { field ≤ MAX_FIELD }
         requires text { length value.now ≤ MAX_INPUT }
-        ensures agrees { CoreAgrees (W.setup table.old) (W.place self.old.seat) (W.view table.new self.new.seat) self.new }
+        ensures agrees { CoreAgrees (W.means.setup table.old) (W.means.place self.old.seat) (W.means.view table.new self.new.seat) self.new }
         ensures needs { H.needs help.new table.new }
-        ensures others { LeavesOthers W.setup W.sits W.place W.view table.old self.old.seat table.new self.new.seat }
-        ensures refused { (fault : CallFault) → refusal_of self.old (field_fault (W.view table.old self.old.seat) field (bytes_size field times value.now)) ≡ Some fault
+        ensures others { LeavesOthers W.means table.old self.old.seat table.new self.new.seat }
+        ensures refused { (fault : CallFault) → refusal_of self.old (field_fault (W.means.view table.old self.old.seat) field (bytes_size field times value.now)) ≡ Some fault
             → LeavesAll fault result self.old self.new table.old table.new help.old help.new steps.old steps.new }
-        ensures answers { refusal_of self.old (field_fault (W.view table.old self.old.seat) field (bytes_size field times value.now)) ≡ None
+        ensures answers { refusal_of self.old (field_fault (W.means.view table.old self.old.seat) field (bytes_size field times value.now)) ≡ None
             → MatchResult result (λ _. is_stalled self.new ≡ false) (λ fault. (fault ≡ call_fault.Stalled) × (is_stalled self.new ≡ true)) }
-        ensures done { refusal_of self.old (field_fault (W.view table.old self.old.seat) field (bytes_size field times value.now)) ≡ None → (stopped : Bool) ×
-            IsAsked W.setup W.sits W.place W.view W.serves W.service_view W.told H.needs H.helps
+        ensures done { refusal_of self.old (field_fault (W.means.view table.old self.old.seat) field (bytes_size field times value.now)) ≡ None → (stopped : Bool) ×
+            IsAsked W.means H.needs H.helps
             (route_of self.old) help.old table.old self.old.seat steps.old stopped (written_as stopped (route_of self.old).spec.policy (call.Bytes field value.now times))
             (is_stalled self.new) help.new table.new self.new.seat steps.new }
-        ensures asked { FitsHere self.old (bytes_size field times value.now) → (W.view table.new self.new.seat).asked ≡ (W.view table.old self.old.seat).asked }
-        ensures in_packet { in_packet (W.view table.new self.new.seat) ≡ true }
-        ensures depth { open_depth (W.view table.new self.new.seat) ≡ open_depth (W.view table.old self.old.seat) }
+        ensures asked { FitsHere self.old (bytes_size field times value.now) → (W.means.view table.new self.new.seat).asked ≡ (W.means.view table.old self.old.seat).asked }
+        ensures in_packet { in_packet (W.means.view table.new self.new.seat) ≡ true }
+        ensures depth { open_depth (W.means.view table.new self.new.seat) ≡ open_depth (W.means.view table.old self.old.seat) }
         ensures route { route_of self.new ≡ route_of self.old }
         ensures alone { (route_of self.old).spec.policy ≡ Drops → (help.new ≡ help.old)
-            × IsWriterStep W.setup W.sits W.place W.view W.serves W.service_view table.old self.old.seat table.new self.new.seat }
+            × IsWriterStep W.means table.old self.old.seat table.new self.new.seat }
     {
         let len = u64::from(times) * value.len() as u64;
         // A longer one is refused, whatever stands before it.
@@ -224,28 +224,28 @@ impl<S> WriterCore<S> {
         field: u32,
         steps: &mut Steps<L>,
     ) -> Result<(), CallFault>
-        requires seat { W.sits table.old self.old.seat }
+        requires seat { W.means.sits table.old self.old.seat }
         requires needs { H.needs help.old table.old }
-        requires agrees { CoreAgrees (W.setup table.old) (W.place self.old.seat) (W.view table.old self.old.seat) self.old }
-        requires begun { in_packet (W.view table.old self.old.seat) ≡ true }
+        requires agrees { CoreAgrees (W.means.setup table.old) (W.means.place self.old.seat) (W.means.view table.old self.old.seat) self.old }
+        requires begun { in_packet (W.means.view table.old self.old.seat) ≡ true }
         requires least { 1 ≤ field }
         requires most { field ≤ MAX_FIELD }
-        ensures agrees { CoreAgrees (W.setup table.old) (W.place self.old.seat) (W.view table.new self.new.seat) self.new }
+        ensures agrees { CoreAgrees (W.means.setup table.old) (W.means.place self.old.seat) (W.means.view table.new self.new.seat) self.new }
         ensures needs { H.needs help.new table.new }
-        ensures others { LeavesOthers W.setup W.sits W.place W.view table.old self.old.seat table.new self.new.seat }
-        ensures refused { (fault : CallFault) → refusal_of self.old (nested_fault (W.view table.old self.old.seat) field) ≡ Some fault
+        ensures others { LeavesOthers W.means table.old self.old.seat table.new self.new.seat }
+        ensures refused { (fault : CallFault) → refusal_of self.old (nested_fault (W.means.view table.old self.old.seat) field) ≡ Some fault
             → LeavesAll fault result self.old self.new table.old table.new help.old help.new steps.old steps.new }
-        ensures answers { refusal_of self.old (nested_fault (W.view table.old self.old.seat) field) ≡ None
+        ensures answers { refusal_of self.old (nested_fault (W.means.view table.old self.old.seat) field) ≡ None
             → MatchResult result (λ _. is_stalled self.new ≡ false) (λ fault. (fault ≡ call_fault.Stalled) × (is_stalled self.new ≡ true)) }
-        ensures done { refusal_of self.old (nested_fault (W.view table.old self.old.seat) field) ≡ None → (stopped : Bool) ×
-            IsAsked W.setup W.sits W.place W.view W.serves W.service_view W.told H.needs H.helps
+        ensures done { refusal_of self.old (nested_fault (W.means.view table.old self.old.seat) field) ≡ None → (stopped : Bool) ×
+            IsAsked W.means H.needs H.helps
             (route_of self.old) help.old table.old self.old.seat steps.old stopped (written_as stopped (route_of self.old).spec.policy (call.Nested field))
             (is_stalled self.new) help.new table.new self.new.seat steps.new }
-        ensures asked { FitsHere self.old (length (nested_tag field) + 4) → (W.view table.new self.new.seat).asked ≡ (W.view table.old self.old.seat).asked }
-        ensures in_packet { in_packet (W.view table.new self.new.seat) ≡ true }
+        ensures asked { FitsHere self.old (length (nested_tag field) + 4) → (W.means.view table.new self.new.seat).asked ≡ (W.means.view table.old self.old.seat).asked }
+        ensures in_packet { in_packet (W.means.view table.new self.new.seat) ≡ true }
         ensures route { route_of self.new ≡ route_of self.old }
         ensures alone { (route_of self.old).spec.policy ≡ Drops → (help.new ≡ help.old)
-            × IsWriterStep W.setup W.sits W.place W.view W.serves W.service_view table.old self.old.seat table.new self.new.seat }
+            × IsWriterStep W.means table.old self.old.seat table.new self.new.seat }
     {
         let head = head_nested(field);
         let tag = head.as_slice();
@@ -263,53 +263,53 @@ impl<S> WriterCore<S> {
 
     /// Ends the innermost nested message. Where the writer stalls nothing changes.
     pub fn end_nested<W: Words<Writer = S>>(&mut self, table: &mut W)
-        requires seat { W.sits table.old self.old.seat }
-        requires agrees { CoreAgrees (W.setup table.old) (W.place self.old.seat) (W.view table.old self.old.seat) self.old }
-        requires depth { 0 < open_depth (W.view table.old self.old.seat) }
-        ensures agrees { CoreAgrees (W.setup table.old) (W.place self.old.seat) (W.view table.new self.new.seat) self.new }
+        requires seat { W.means.sits table.old self.old.seat }
+        requires agrees { CoreAgrees (W.means.setup table.old) (W.means.place self.old.seat) (W.means.view table.old self.old.seat) self.old }
+        requires depth { 0 < open_depth (W.means.view table.old self.old.seat) }
+        ensures agrees { CoreAgrees (W.means.setup table.old) (W.means.place self.old.seat) (W.means.view table.new self.new.seat) self.new }
         ensures stalled { is_stalled self.old ≡ true → (self.new ≡ self.old) × (table.new ≡ table.old) }
         ensures goes { is_stalled self.new ≡ is_stalled self.old }
-        ensures notes { is_stalled self.old ≡ false → (W.view table.new self.new.seat).calls ≡ (W.view table.old self.old.seat).calls ++ call.Ended ∷ [] }
-        ensures others { record (W.view table.new self.new.seat) { calls = (W.view table.old self.old.seat).calls } ≡ (W.view table.old self.old.seat) }
-        ensures in_packet { in_packet (W.view table.new self.new.seat) ≡ true }
-        ensures depth_falls { is_stalled self.old ≡ false → open_depth (W.view table.new self.new.seat) + 1 ≡ open_depth (W.view table.old self.old.seat) }
+        ensures notes { is_stalled self.old ≡ false → (W.means.view table.new self.new.seat).calls ≡ (W.means.view table.old self.old.seat).calls ++ call.Ended ∷ [] }
+        ensures others { record (W.means.view table.new self.new.seat) { calls = (W.means.view table.old self.old.seat).calls } ≡ (W.means.view table.old self.old.seat) }
+        ensures in_packet { in_packet (W.means.view table.new self.new.seat) ≡ true }
+        ensures depth_falls { is_stalled self.old ≡ false → open_depth (W.means.view table.new self.new.seat) + 1 ≡ open_depth (W.means.view table.old self.old.seat) }
         ensures route { route_of self.new ≡ route_of self.old }
-        ensures quiet { IsQuiet W.setup W.sits W.place W.view W.serves W.service_view W.told table.old self.old.seat table.new self.new.seat }
+        ensures quiet { IsQuiet W.means table.old self.old.seat table.new self.new.seat }
     {
         end_message(&mut self.writer, table, &mut self.seat);
     }
 
     /// Ends the packet. Where the writer stalls nothing changes.
     pub fn finish<W: Words<Writer = S>>(&mut self, table: &mut W)
-        requires seat { W.sits table.old self.old.seat }
-        requires agrees { CoreAgrees (W.setup table.old) (W.place self.old.seat) (W.view table.old self.old.seat) self.old }
-        requires begun { in_packet (W.view table.old self.old.seat) ≡ true }
-        requires depth { open_depth (W.view table.old self.old.seat) ≡ 0 }
-        ensures agrees { CoreAgrees (W.setup table.old) (W.place self.old.seat) (W.view table.new self.new.seat) self.new }
+        requires seat { W.means.sits table.old self.old.seat }
+        requires agrees { CoreAgrees (W.means.setup table.old) (W.means.place self.old.seat) (W.means.view table.old self.old.seat) self.old }
+        requires begun { in_packet (W.means.view table.old self.old.seat) ≡ true }
+        requires depth { open_depth (W.means.view table.old self.old.seat) ≡ 0 }
+        ensures agrees { CoreAgrees (W.means.setup table.old) (W.means.place self.old.seat) (W.means.view table.new self.new.seat) self.new }
         ensures stalled { is_stalled self.old ≡ true → (self.new ≡ self.old) × (table.new ≡ table.old) }
         ensures goes { is_stalled self.new ≡ is_stalled self.old }
-        ensures notes { is_stalled self.old ≡ false → (W.view table.new self.new.seat).calls ≡ (W.view table.old self.old.seat).calls ++ call.Finished ∷ [] }
-        ensures others { record (W.view table.new self.new.seat) { calls = (W.view table.old self.old.seat).calls } ≡ (W.view table.old self.old.seat) }
-        ensures in_packet { is_stalled self.old ≡ false → in_packet (W.view table.new self.new.seat) ≡ false }
+        ensures notes { is_stalled self.old ≡ false → (W.means.view table.new self.new.seat).calls ≡ (W.means.view table.old self.old.seat).calls ++ call.Finished ∷ [] }
+        ensures others { record (W.means.view table.new self.new.seat) { calls = (W.means.view table.old self.old.seat).calls } ≡ (W.means.view table.old self.old.seat) }
+        ensures in_packet { is_stalled self.old ≡ false → in_packet (W.means.view table.new self.new.seat) ≡ false }
         ensures route { route_of self.new ≡ route_of self.old }
-        ensures quiet { IsQuiet W.setup W.sits W.place W.view W.serves W.service_view W.told table.old self.old.seat table.new self.new.seat }
+        ensures quiet { IsQuiet W.means table.old self.old.seat table.new self.new.seat }
     {
         finish(&mut self.writer, table, &mut self.seat);
     }
 
     /// Completes the held chunk, where there is one. Where the writer stalls nothing changes.
     pub fn flush<W: Words<Writer = S>>(&mut self, table: &mut W)
-        requires seat { W.sits table.old self.old.seat }
-        requires agrees { CoreAgrees (W.setup table.old) (W.place self.old.seat) (W.view table.old self.old.seat) self.old }
-        requires none_begun { in_packet (W.view table.old self.old.seat) ≡ false }
-        ensures agrees { CoreAgrees (W.setup table.old) (W.place self.old.seat) (W.view table.new self.new.seat) self.new }
+        requires seat { W.means.sits table.old self.old.seat }
+        requires agrees { CoreAgrees (W.means.setup table.old) (W.means.place self.old.seat) (W.means.view table.old self.old.seat) self.old }
+        requires none_begun { in_packet (W.means.view table.old self.old.seat) ≡ false }
+        ensures agrees { CoreAgrees (W.means.setup table.old) (W.means.place self.old.seat) (W.means.view table.new self.new.seat) self.new }
         ensures none_held { holds_chunk self.new ≡ false }
         ensures stalled { is_stalled self.old ≡ true → (self.new ≡ self.old) × (table.new ≡ table.old) }
         ensures goes { is_stalled self.new ≡ is_stalled self.old }
-        ensures notes { is_stalled self.old ≡ false → (W.view table.new self.new.seat).calls ≡ (W.view table.old self.old.seat).calls ++ call.Flushed ∷ [] }
-        ensures in_packet { in_packet (W.view table.new self.new.seat) ≡ false }
+        ensures notes { is_stalled self.old ≡ false → (W.means.view table.new self.new.seat).calls ≡ (W.means.view table.old self.old.seat).calls ++ call.Flushed ∷ [] }
+        ensures in_packet { in_packet (W.means.view table.new self.new.seat) ≡ false }
         ensures route { route_of self.new ≡ route_of self.old }
-        ensures quiet { IsQuiet W.setup W.sits W.place W.view W.serves W.service_view W.told table.old self.old.seat table.new self.new.seat }
+        ensures quiet { IsQuiet W.means table.old self.old.seat table.new self.new.seat }
     {
         flush(&mut self.writer, table, &mut self.seat);
     }

@@ -1,10 +1,11 @@
 -- A collector's steps.
-use Rattle.std.proofs.Common.{◌≡◌, ◌∙◌, ℕ, ◌+◌, ◌<◌, ◌≤◌, List, [], ◌∷◌, ◌++◌, length, set, get_or, refl, sym, ap, subst, arith}
+use Rattle.std.proofs.Common.{◌≡◌, ◌∙◌, ℕ, Bool, Option, if◌then◌else◌, ◌+◌, ◌<◌, ◌≤◌, List, [], ◌∷◌, ◌++◌, length, set, get_or, refl, sym, ap, subst, arith}
+use Rattle.std.proofs.lemmas.Bool.{eq-eqb}
 use Rattle.chunk_plain.specs.declared.setup.ChunkRange.{ChunkRange}
 use Rattle.chunk_plain.specs.Setup.{Setup}
-use Rattle.chunk_plain.specs.Views.{Content, WriterView, ServiceView, Taken, none_taken}
-use Rattle.chunk_plain.specs.Steps.{looks_at, takes_in, learns, lets_go}
-use Rattle.chunk_plain.specs.Words.{IsServiceStep}
+use Rattle.chunk_plain.specs.Views.{Content, Found, ServiceView, Taken, none_taken}
+use Rattle.chunk_plain.specs.Steps.{without, looks_at, takes_in, learns, lets_go}
+use Rattle.chunk_plain.specs.Meaning.{Meaning}
 use Rattle.writer_speed.specs.Collecting.{IsCollecting}
 
 -- The first writer's row
@@ -17,48 +18,39 @@ first_more : (rows : List Taken) (content : Content) → 0 < length rows
 first_more [] content some = absurd (omega (arith, some))
 first_more (row ∷ rows) content some = (omega arith, refl)
 
-module _ {T S : Type 0} (setup : T → Setup) (serves : T → S → Type 0) (service_view : T → S → ServiceView) where
+-- the chunk that was taken is let go
+none_left : (reading : List ℕ) (chunk freed : ℕ) → reading ≡ [] → freed ≡ chunk → without freed (reading ++ chunk ∷ []) ≡ []
+none_left reading chunk freed none same =
+    ap (λ (xs : List ℕ). without freed (xs ++ chunk ∷ [])) none ∙ ap (λ (b : Bool). if b then [] else chunk ∷ []) (eq-eqb chunk freed (sym same))
+
+module _ {T W S : Type 0} (means : Meaning T W S) where
   -- nothing is taken
-  pub collects_still : (old : T) (before : S) (new : T) (after : S) (range : ChunkRange) (taken : ℕ) → IsCollecting setup serves service_view old before range taken
-      → serves new after → setup new ≡ setup old → (service_view new after).taken ≡ (service_view old before).taken
-      → IsCollecting setup serves service_view new after range taken
-  collects_still old before new after range taken was seat_is same rows = record {
+  pub collects_still : (old : T) (before : S) (new : T) (after : S) (range : ChunkRange) (taken : ℕ) → IsCollecting means old before range taken
+      → means.serves new after → means.setup new ≡ means.setup old → (means.service_view new after).taken ≡ (means.service_view old before).taken
+      → (means.service_view new after).reading ≡ (means.service_view old before).reading → IsCollecting means new after range taken
+  collects_still old before new after range taken was seat_is same rows reading = record {
     seat_is = seat_is;
     writers = subst (λ (s : Setup). 1 ≤ length s.writers) (sym same) was.writers;
     chunks = subst (λ (s : Setup). range.first + range.count ≤ length s.spots) (sym same) was.chunks;
     listed = subst (λ (l : List Taken). 0 < length l) (sym rows) was.listed;
+    none_out = reading ∙ was.none_out;
     count = was.count ∙ ap (λ (l : List Taken). (get_or l 0 none_taken).count) (sym rows);
   }
 
   -- a chunk is taken, and let go
-  pub collects_one : (old : T) (before : S) (new : T) (after : S) (range : ChunkRange) (taken : ℕ) → IsCollecting setup serves service_view old before range taken
-      → serves new after → setup new ≡ setup old → (mid : ServiceView) (chunk word header freed : ℕ) (content : Content)
-      → mid ≡ learns (takes_in (looks_at (service_view old before) chunk word header) 0 chunk) 0 content → service_view new after ≡ lets_go mid freed
-      → IsCollecting setup serves service_view new after range (taken + 1)
-  collects_one old before new after range taken was seat_is same mid chunk word header freed content took freed_is =
+  pub collects_one : (old : T) (before : S) (new : T) (after : S) (range : ChunkRange) (taken : ℕ) → IsCollecting means old before range taken
+      → means.serves new after → means.setup new ≡ means.setup old → (mid : ServiceView) (chunk word header freed : ℕ) (found : Option Found) (content : Content)
+      → mid ≡ learns (takes_in (looks_at (means.service_view old before) chunk word header found) 0 chunk) 0 content → freed ≡ chunk
+      → means.service_view new after ≡ lets_go mid freed → IsCollecting means new after range (taken + 1)
+  collects_one old before new after range taken was seat_is same mid chunk word header freed found content took freed_same freed_is =
       let rows = ap (λ (s : ServiceView). s.taken) freed_is ∙ ap (λ (s : ServiceView). s.taken) took in
-      let more = first_more (service_view old before).taken content was.listed in
+      let more = first_more (means.service_view old before).taken content was.listed in
       record {
         seat_is = seat_is;
         writers = subst (λ (s : Setup). 1 ≤ length s.writers) (sym same) was.writers;
         chunks = subst (λ (s : Setup). range.first + range.count ≤ length s.spots) (sym same) was.chunks;
         listed = subst (λ (l : List Taken). 0 < length l) (sym rows) more.0;
+        none_out = ap (λ (s : ServiceView). s.reading) freed_is ∙ ap (λ (s : ServiceView). without freed s.reading) took
+            ∙ none_left (means.service_view old before).reading chunk freed was.none_out freed_same;
         count = ap (λ (n : ℕ). n + 1) was.count ∙ sym more.1 ∙ ap (λ (l : List Taken). (get_or l 0 none_taken).count) (sym rows);
       }
-
--- Steps of the service's seat in a row
-
-module _ {T W S : Type 0} (setup : T → Setup) (sits : T → W → Type 0) (view : T → W → WriterView) (serves : T → S → Type 0) where
-  pub rests : (table : T) (seat : S) → serves table seat → IsServiceStep setup sits view serves table table seat
-  rests table seat serves_ = record { setup_stays = refl; seat_stays = serves_; writers_stay = λ other there. (there, refl) }
-
-  pub services_follow : (old mid : T) (between : S) (new : T) (after : S) → IsServiceStep setup sits view serves old mid between
-      → IsServiceStep setup sits view serves mid new after → IsServiceStep setup sits view serves old new after
-  services_follow old mid between new after one two = record {
-    setup_stays = two.setup_stays ∙ one.setup_stays;
-    seat_stays = two.seat_stays;
-    writers_stay = λ other there.
-        let first = one.writers_stay other there in
-        let second = two.writers_stay other first.0 in
-        (second.0, second.1 ∙ first.1);
-  }

@@ -1,6 +1,6 @@
 //! The collector of one writer's chunks. It counts what it took, and the next chunk has that id.
 ghost use Rattle.std.specs.Prelude.{◌+◌, ◌<◌, length};
-ghost use Rattle.chunk_plain.specs.Words.{IsServiceStep};
+ghost use Rattle.chunk_plain.specs.Meaning.{IsServiceStep};
 ghost use Rattle.writer_speed.specs.Collecting.{IsCollecting};
 
 use chunk_plain::{ChunkRange, Words};
@@ -13,10 +13,10 @@ fn try_one<W: Words>(
     chunk: u32,
     taken: u32,
 ) -> u32
-    requires collects { IsCollecting W.setup W.serves W.service_view table.old seat.old range taken }
+    requires collects { IsCollecting W.means table.old seat.old range taken }
     requires chunk { chunk < range.first + range.count }
-    ensures collects { IsCollecting W.setup W.serves W.service_view table.new seat.new range result }
-    ensures step { IsServiceStep W.setup W.sits W.view W.serves table.old table.new seat.new }
+    ensures collects { IsCollecting W.means table.new seat.new range result }
+    ensures step { IsServiceStep W.means table.old seat.old table.new seat.new }
 {
     let Some(more) = taken.checked_add(1) else {
         return taken;
@@ -32,9 +32,9 @@ fn try_one<W: Words>(
 
 /// Tries each chunk once, in rising order.
 fn try_each<W: Words>(table: &mut W, seat: &mut W::Service, range: ChunkRange, taken: u32) -> u32
-    requires collects { IsCollecting W.setup W.serves W.service_view table.old seat.old range taken }
-    ensures collects { IsCollecting W.setup W.serves W.service_view table.new seat.new range result }
-    ensures step { IsServiceStep W.setup W.sits W.view W.serves table.old table.new seat.new }
+    requires collects { IsCollecting W.means table.old seat.old range taken }
+    ensures collects { IsCollecting W.means table.new seat.new range result }
+    ensures step { IsServiceStep W.means table.old seat.old table.new seat.new }
 {
     let mut next = taken;
     for chunk in range.first..range.first + range.count {
@@ -52,9 +52,9 @@ pub fn collect<W: Words>(
     taken: u32,
     completed: u32,
 ) -> u32
-    requires collects { IsCollecting W.setup W.serves W.service_view table.old seat.old range taken }
-    ensures collects { IsCollecting W.setup W.serves W.service_view table.new seat.new range result }
-    ensures step { IsServiceStep W.setup W.sits W.view W.serves table.old table.new seat.new }
+    requires collects { IsCollecting W.means table.old seat.old range taken }
+    ensures collects { IsCollecting W.means table.new seat.new range result }
+    ensures step { IsServiceStep W.means table.old seat.old table.new seat.new }
 {
     let mut next = taken;
     for _ in 0..range.count {

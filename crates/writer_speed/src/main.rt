@@ -44,13 +44,13 @@ fn write_round<W: Words, L: Ledger>(
     taken: u32,
     steps: &mut Steps<L>,
 ) -> u32
-    requires ready { IsReady W.setup W.sits W.place W.view table.old writer.old }
-    requires outside { in_packet (W.view table.old writer.old.seat) ≡ false }
-    requires ids { length (W.view table.old writer.old.seat).begun + 4096 ≤ 4294967295 }
-    requires collects { IsCollecting W.setup W.serves W.service_view table.old service.old range taken }
-    ensures ready { IsReady W.setup W.sits W.place W.view table.new writer.new }
-    ensures outside { in_packet (W.view table.new writer.new.seat) ≡ false }
-    ensures collects { IsCollecting W.setup W.serves W.service_view table.new service.new range result }
+    requires ready { IsReady W.means table.old writer.old }
+    requires outside { in_packet (W.means.view table.old writer.old.seat) ≡ false }
+    requires ids { length (W.means.view table.old writer.old.seat).begun + 4096 ≤ 4294967295 }
+    requires collects { IsCollecting W.means table.old service.old range taken }
+    ensures ready { IsReady W.means table.new writer.new }
+    ensures outside { in_packet (W.means.view table.new writer.new.seat) ≡ false }
+    ensures collects { IsCollecting W.means table.new service.new range result }
 {
     write_packet(writer, table, steps);
     let completed = writer.completed();
@@ -68,11 +68,11 @@ fn write_all<W: Words, L: Ledger>(
     packets: u32,
     steps: &mut Steps<L>,
 )
-    requires ready { IsReady W.setup W.sits W.place W.view table.old writer.old }
-    requires outside { in_packet (W.view table.old writer.old.seat) ≡ false }
-    requires collects { IsCollecting W.setup W.serves W.service_view table.old service.old range 0 }
-    ensures ready { IsReady W.setup W.sits W.place W.view table.new writer.new }
-    ensures outside { in_packet (W.view table.new writer.new.seat) ≡ false }
+    requires ready { IsReady W.means table.old writer.old }
+    requires outside { in_packet (W.means.view table.old writer.old.seat) ≡ false }
+    requires collects { IsCollecting W.means table.old service.old range 0 }
+    ensures ready { IsReady W.means table.new writer.new }
+    ensures outside { in_packet (W.means.view table.new writer.new.seat) ≡ false }
 {
     let mut taken = 0;
     for _ in 0..packets {
@@ -85,8 +85,8 @@ fn write_all<W: Words, L: Ledger>(
 
 /// Completes the writer's last chunk, and lets the writer go.
 fn close<W: Words>(mut writer: WriterCore<W::Writer>, table: &mut W) -> (Tally, W::Writer)
-    requires ready { IsReady W.setup W.sits W.place W.view table.old writer }
-    requires outside { in_packet (W.view table.old writer.seat) ≡ false }
+    requires ready { IsReady W.means table.old writer }
+    requires outside { in_packet (W.means.view table.old writer.seat) ≡ false }
 {
     writer.flush(table);
     let tally = Tally {

@@ -17,12 +17,12 @@ fn write_number<W: Words, L: Ledger>(
     value: u64,
     steps: &mut Steps<L>,
 )
-    requires ready { IsReady W.setup W.sits W.place W.view table.old writer.old }
-    requires inside { in_packet (W.view table.old writer.old.seat) ≡ true }
+    requires ready { IsReady W.means table.old writer.old }
+    requires inside { in_packet (W.means.view table.old writer.old.seat) ≡ true }
     requires least { 1 ≤ field }
     requires most { field ≤ MAX_FIELD }
-    ensures goes { GoesOn W.setup W.sits W.place W.view W.serves W.service_view table.old writer.old table.new writer.new }
-    ensures inside { in_packet (W.view table.new writer.new.seat) ≡ true }
+    ensures goes { GoesOn W.means table.old writer.old table.new writer.new }
+    ensures inside { in_packet (W.means.view table.new writer.new.seat) ≡ true }
 {
     let _ = writer.varint(table, &mut NoHelp, field, value, steps);
 }
@@ -34,13 +34,13 @@ fn write_text<W: Words, L: Ledger>(
     text: &[u8],
     steps: &mut Steps<L>,
 )
-    requires ready { IsReady W.setup W.sits W.place W.view table.old writer.old }
-    requires inside { in_packet (W.view table.old writer.old.seat) ≡ true }
+    requires ready { IsReady W.means table.old writer.old }
+    requires inside { in_packet (W.means.view table.old writer.old.seat) ≡ true }
     requires least { 1 ≤ field }
     requires most { field ≤ MAX_FIELD }
     requires text { length text.now ≤ MAX_INPUT }
-    ensures goes { GoesOn W.setup W.sits W.place W.view W.serves W.service_view table.old writer.old table.new writer.new }
-    ensures inside { in_packet (W.view table.new writer.new.seat) ≡ true }
+    ensures goes { GoesOn W.means table.old writer.old table.new writer.new }
+    ensures inside { in_packet (W.means.view table.new writer.new.seat) ≡ true }
 {
     let _ = writer.bytes(table, &mut NoHelp, field, text, 1, steps);
 }
@@ -51,22 +51,22 @@ fn begin_message<W: Words, L: Ledger>(
     field: u32,
     steps: &mut Steps<L>,
 )
-    requires ready { IsReady W.setup W.sits W.place W.view table.old writer.old }
-    requires inside { in_packet (W.view table.old writer.old.seat) ≡ true }
+    requires ready { IsReady W.means table.old writer.old }
+    requires inside { in_packet (W.means.view table.old writer.old.seat) ≡ true }
     requires least { 1 ≤ field }
     requires most { field ≤ MAX_FIELD }
-    ensures goes { GoesOn W.setup W.sits W.place W.view W.serves W.service_view table.old writer.old table.new writer.new }
-    ensures inside { in_packet (W.view table.new writer.new.seat) ≡ true }
+    ensures goes { GoesOn W.means table.old writer.old table.new writer.new }
+    ensures inside { in_packet (W.means.view table.new writer.new.seat) ≡ true }
 {
     let _ = writer.begin_nested(table, &mut NoHelp, field, steps);
 }
 
 /// Ends the packet with each message that is open in it.
 fn end_packet<W: Words>(writer: &mut WriterCore<W::Writer>, table: &mut W)
-    requires ready { IsReady W.setup W.sits W.place W.view table.old writer.old }
-    requires inside { in_packet (W.view table.old writer.old.seat) ≡ true }
-    ensures goes { GoesOn W.setup W.sits W.place W.view W.serves W.service_view table.old writer.old table.new writer.new }
-    ensures outside { in_packet (W.view table.new writer.new.seat) ≡ false }
+    requires ready { IsReady W.means table.old writer.old }
+    requires inside { in_packet (W.means.view table.old writer.old.seat) ≡ true }
+    ensures goes { GoesOn W.means table.old writer.old table.new writer.new }
+    ensures outside { in_packet (W.means.view table.new writer.new.seat) ≡ false }
 {
     drops_never_stall();
     'messages: while writer.depth() != 0 {
@@ -80,11 +80,11 @@ fn begin_packet<W: Words, L: Ledger>(
     table: &mut W,
     steps: &mut Steps<L>,
 )
-    requires ready { IsReady W.setup W.sits W.place W.view table.old writer.old }
-    requires outside { in_packet (W.view table.old writer.old.seat) ≡ false }
-    requires ids { length (W.view table.old writer.old.seat).begun + 4096 ≤ 4294967295 }
-    ensures goes { GoesOn W.setup W.sits W.place W.view W.serves W.service_view table.old writer.old table.new writer.new }
-    ensures inside { in_packet (W.view table.new writer.new.seat) ≡ true }
+    requires ready { IsReady W.means table.old writer.old }
+    requires outside { in_packet (W.means.view table.old writer.old.seat) ≡ false }
+    requires ids { length (W.means.view table.old writer.old.seat).begun + 4096 ≤ 4294967295 }
+    ensures goes { GoesOn W.means table.old writer.old table.new writer.new }
+    ensures inside { in_packet (W.means.view table.new writer.new.seat) ≡ true }
 {
     drops_never_stall();
     // It begins each packet, since it drops those for which no chunk is free.
@@ -99,11 +99,11 @@ pub fn write_packet<W: Words, L: Ledger>(
     table: &mut W,
     steps: &mut Steps<L>,
 )
-    requires ready { IsReady W.setup W.sits W.place W.view table.old writer.old }
-    requires outside { in_packet (W.view table.old writer.old.seat) ≡ false }
-    requires ids { length (W.view table.old writer.old.seat).begun + 4096 ≤ 4294967295 }
-    ensures goes { GoesOn W.setup W.sits W.place W.view W.serves W.service_view table.old writer.old table.new writer.new }
-    ensures outside { in_packet (W.view table.new writer.new.seat) ≡ false }
+    requires ready { IsReady W.means table.old writer.old }
+    requires outside { in_packet (W.means.view table.old writer.old.seat) ≡ false }
+    requires ids { length (W.means.view table.old writer.old.seat).begun + 4096 ≤ 4294967295 }
+    ensures goes { GoesOn W.means table.old writer.old table.new writer.new }
+    ensures outside { in_packet (W.means.view table.new writer.new.seat) ≡ false }
 {
     begin_packet(writer, table, steps);
     write_number(writer, table, 8, 1_234_567_890, steps);

@@ -116,14 +116,14 @@ fn make_call<W: Words, L: Ledger, H: HelperOn<W>>(
     call: Call,
     steps: &mut Steps<L>,
 ) -> Result<(), CallFault>
-    requires seat { W.sits table.old writer.old.seat }
+    requires seat { W.means.sits table.old writer.old.seat }
     requires needs { H.needs help.old table.old }
-    requires producer { HasProducer (W.setup table.old) 1 }
-    requires agrees { CoreAgrees (W.setup table.old) (W.place writer.old.seat) (W.view table.old writer.old.seat) writer.old }
-    ensures seat { W.sits table.new writer.new.seat }
+    requires producer { HasProducer (W.means.setup table.old) 1 }
+    requires agrees { CoreAgrees (W.means.setup table.old) (W.means.place writer.old.seat) (W.means.view table.old writer.old.seat) writer.old }
+    ensures seat { W.means.sits table.new writer.new.seat }
     ensures needs { H.needs help.new table.new }
-    ensures producer { HasProducer (W.setup table.new) 1 }
-    ensures agrees { CoreAgrees (W.setup table.new) (W.place writer.new.seat) (W.view table.new writer.new.seat) writer.new }
+    ensures producer { HasProducer (W.means.setup table.new) 1 }
+    ensures agrees { CoreAgrees (W.means.setup table.new) (W.means.place writer.new.seat) (W.means.view table.new writer.new.seat) writer.new }
 {
     let Call {
         kind,
@@ -157,14 +157,14 @@ pub(crate) fn make_calls<W: Words, L: Ledger, H: HelperOn<W>>(
     calls: &[Call],
     steps: &mut Steps<L>,
 ) -> Option<usize>
-    requires seat { W.sits table.old writer.old.seat }
+    requires seat { W.means.sits table.old writer.old.seat }
     requires needs { H.needs help.old table.old }
-    requires producer { HasProducer (W.setup table.old) 1 }
-    requires agrees { CoreAgrees (W.setup table.old) (W.place writer.old.seat) (W.view table.old writer.old.seat) writer.old }
-    ensures seat { W.sits table.new writer.new.seat }
+    requires producer { HasProducer (W.means.setup table.old) 1 }
+    requires agrees { CoreAgrees (W.means.setup table.old) (W.means.place writer.old.seat) (W.means.view table.old writer.old.seat) writer.old }
+    ensures seat { W.means.sits table.new writer.new.seat }
     ensures needs { H.needs help.new table.new }
-    ensures producer { HasProducer (W.setup table.new) 1 }
-    ensures agrees { CoreAgrees (W.setup table.new) (W.place writer.new.seat) (W.view table.new writer.new.seat) writer.new }
+    ensures producer { HasProducer (W.means.setup table.new) 1 }
+    ensures agrees { CoreAgrees (W.means.setup table.new) (W.means.place writer.new.seat) (W.means.view table.new writer.new.seat) writer.new }
 {
     let mut wrong = None;
     for (i, call) in calls.iter().enumerate() {

@@ -1,5 +1,5 @@
 //! A helper that takes the complete chunks of one writer and lets them go, as a service does.
-ghost use Rattle.std.specs.Prelude.{◌≡◌, ◌+◌, ◌-◌, ◌<◌, ◌≤◌, length};
+ghost use Rattle.std.specs.Prelude.{◌≡◌, ◌+◌, ◌-◌, ◌<◌, ◌≤◌, [], length};
 ghost use Rattle.std.proofs.Common.{ap, sym, subst, ◌∙◌};
 ghost use Rattle.chunk_plain.specs.Setup.{Setup};
 ghost use Rattle.chunk_plain.specs.Views.{ServiceView, taken_of};
@@ -55,7 +55,7 @@ impl Collector {
         ensures needs { ⟦<Collector as HelperOn<PlainTable>>⟧.needs self.new table.new }
         ensures range { self.new.range ≡ self.old.range }
         ensures grows { self.old.taken ≤ self.new.taken }
-        ensures leaves { LeavesWriters ⟦<PlainTable as Words>⟧.setup ⟦<PlainTable as Words>⟧.sits ⟦<PlainTable as Words>⟧.view table.old table.new }
+        ensures leaves { LeavesWriters ⟦<PlainTable as Words>⟧.means table.old table.new }
     {
         let Some(more) = self.taken.checked_add(1) else {
             return;
@@ -72,20 +72,24 @@ impl Collector {
 impl HelperOn<PlainTable> for Collector {
     ghost turns = { λ collector. 4294967296 - collector.taken };
 
-    // the chunks are there, and it counted what was taken of the first writer
-    ghost needs = { λ collector table. (collector.range.first + collector.range.count ≤ length (⟦<PlainTable as Words>⟧.setup table).spots)
-        × (1 ≤ length (⟦<PlainTable as Words>⟧.setup table).writers)
-        × (0 < length (⟦<PlainTable as Words>⟧.service_view table collector.service).taken)
-        × (collector.taken ≡ (taken_of (⟦<PlainTable as Words>⟧.service_view table collector.service) 0).count) };
+    // the chunks are there, it counted what was taken of the first writer, and it reads none of it
+    ghost needs = { λ collector table. (⟦<PlainTable as Words>⟧.means.serves table collector.service)
+        × (collector.range.first + collector.range.count ≤ length (⟦<PlainTable as Words>⟧.means.setup table).spots)
+        × (1 ≤ length (⟦<PlainTable as Words>⟧.means.setup table).writers)
+        × (0 < length (⟦<PlainTable as Words>⟧.means.service_view table collector.service).taken)
+        × ((⟦<PlainTable as Words>⟧.means.service_view table collector.service).reading ≡ [])
+        × (collector.taken ≡ (taken_of (⟦<PlainTable as Words>⟧.means.service_view table collector.service) 0).count) };
 
     ghost helps = { λ helper table producer answer after left. Unit {0} };
 
     ghost needs_stay = { λ helper old new seat after step needs.
-        let same = (step.service_stays helper.service tt).1 in (
-          subst (λ (s : Setup). helper.range.first + helper.range.count ≤ length s.spots) (sym step.setup_stays) needs.0,
-          subst (λ (s : Setup). 1 ≤ length s.writers) (sym step.setup_stays) needs.1,
-          subst (λ (v : ServiceView). 0 < length v.taken) (sym same) needs.2,
-          needs.3 ∙ ap (λ (v : ServiceView). (taken_of v 0).count) (sym same),
+        let stays = step.service_stays helper.service needs.0 in (
+          stays.0,
+          subst (λ (s : Setup). helper.range.first + helper.range.count ≤ length s.spots) (sym step.setup_stays) needs.1,
+          subst (λ (s : Setup). 1 ≤ length s.writers) (sym step.setup_stays) needs.2,
+          subst (λ (v : ServiceView). 0 < length v.taken) (sym stays.1) needs.3,
+          ap (λ (v : ServiceView). v.reading) stays.1 ∙ needs.4,
+          needs.5 ∙ ap (λ (v : ServiceView). (taken_of v 0).count) (sym stays.1),
         ) };
 
     fn help(&mut self, table: &mut PlainTable, _producer: u16) -> bool {

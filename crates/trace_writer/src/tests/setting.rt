@@ -64,9 +64,9 @@ fn set_up(
     chunks: u8,
     policy: WriterPolicy,
 ) -> Result<(PlainTable, WriterCore<PlainWriter>, Collector), Fail>
-    ensures seat { IfOk result (λ made. ⟦<PlainTable as Words>⟧.sits made.0 made.1.seat) }
-    ensures producer { IfOk result (λ made. HasProducer (⟦<PlainTable as Words>⟧.setup made.0) 1) }
-    ensures agrees { IfOk result (λ made. CoreAgrees (⟦<PlainTable as Words>⟧.setup made.0) (⟦<PlainTable as Words>⟧.place made.1.seat) (⟦<PlainTable as Words>⟧.view made.0 made.1.seat) made.1) }
+    ensures seat { IfOk result (λ made. ⟦<PlainTable as Words>⟧.means.sits made.0 made.1.seat) }
+    ensures producer { IfOk result (λ made. HasProducer (⟦<PlainTable as Words>⟧.means.setup made.0) 1) }
+    ensures agrees { IfOk result (λ made. CoreAgrees (⟦<PlainTable as Words>⟧.means.setup made.0) (⟦<PlainTable as Words>⟧.means.place made.1.seat) (⟦<PlainTable as Words>⟧.means.view made.0 made.1.seat) made.1) }
     ensures needs { IfOk result (λ made. ⟦<Collector as HelperOn<PlainTable>>⟧.needs made.2 made.0) }
 {
     let geometry = Geometry::new(4096, chunks)?;
@@ -98,10 +98,10 @@ fn play<R: Abort, L: Ledger, H: HelperOn<PlainTable>>(
     scripts: [&[Call]; 3],
     steps: &mut Steps<L>,
 ) -> Left
-    requires seat { ⟦<PlainTable as Words>⟧.sits table.old writer.seat }
+    requires seat { ⟦<PlainTable as Words>⟧.means.sits table.old writer.seat }
     requires needs { H.needs help.old table.old }
-    requires producer { HasProducer (⟦<PlainTable as Words>⟧.setup table.old) 1 }
-    requires agrees { CoreAgrees (⟦<PlainTable as Words>⟧.setup table.old) (⟦<PlainTable as Words>⟧.place writer.seat) (⟦<PlainTable as Words>⟧.view table.old writer.seat) writer }
+    requires producer { HasProducer (⟦<PlainTable as Words>⟧.means.setup table.old) 1 }
+    requires agrees { CoreAgrees (⟦<PlainTable as Words>⟧.means.setup table.old) (⟦<PlainTable as Words>⟧.means.place writer.seat) (⟦<PlainTable as Words>⟧.means.view table.old writer.seat) writer }
 {
     let [one, two, three] = scripts;
     let mut wrong = make_calls(&mut writer, table, help, one, steps);

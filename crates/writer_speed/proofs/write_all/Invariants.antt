@@ -6,7 +6,7 @@ use Rattle.writer_speed.proofs.write_all.Given as goal
 
 abbrev pub invariant-loop : goal.invariant-loop
 invariant-loop g l = record {
-  ready : IsReady g.W.Words.setup g.W.Words.sits g.W.Words.place g.W.Words.view l.table l.writer;
-  outside : in_packet (g.W.Words.view l.table l.writer.seat) ≡ false;
-  collects : IsCollecting g.W.Words.setup g.W.Words.serves g.W.Words.service_view l.table l.service l.range l.taken;
+  ready : IsReady g.W.Words.means l.table l.writer;
+  outside : in_packet (g.W.Words.means.view l.table l.writer.seat) ≡ false;
+  collects : IsCollecting g.W.Words.means l.table l.service l.range l.taken;
 }

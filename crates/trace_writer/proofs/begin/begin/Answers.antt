@@ -9,20 +9,20 @@ use Rattle.trace_writer.proofs.begin.begin.Goals as goal
 
 pub place_behind-place-requires-clause-ids : goal.place_behind-place-requires-clause-ids
 place_behind-place-requires-clause-ids g c =
-    let behind = behind_of (g.W.Words.setup c.args.table.now) (g.W.Words.place c.args.seat.now) (g.W.Words.view c.args.table.now c.args.seat.now) c.args.writer.now c.in-Between.chunk
+    let behind = behind_of (g.W.Words.means.setup c.args.table.now) (g.W.Words.means.place c.args.seat.now) (g.W.Words.means.view c.args.table.now c.args.seat.now) c.args.writer.now c.in-Between.chunk
     (sym c.take_state.ensures.taken ∙ c.in-Between.is) c.requires.agrees in
-    let id = behind_id _ _ (g.W.Words.view c.args.table.now c.args.seat.now) _ c.in-Between.chunk behind in
+    let id = behind_id _ _ (g.W.Words.means.view c.args.table.now c.args.seat.now) _ c.in-Between.chunk behind in
     omega (arith, id, c.requires.ids)
 
 pub new_place-place-requires-clause-none_held : goal.new_place-place-requires-clause-none_held
 new_place-place-requires-clause-none_held g c =
-    let idle = idle_of (g.W.Words.setup c.args.table.now) (g.W.Words.place c.args.seat.now) (g.W.Words.view c.args.table.now c.args.seat.now) c.args.writer.now c.in-Idle.next_id
+    let idle = idle_of (g.W.Words.means.setup c.args.table.now) (g.W.Words.means.place c.args.seat.now) (g.W.Words.means.view c.args.table.now c.args.seat.now) c.args.writer.now c.in-Idle.next_id
     (sym c.take_state.ensures.taken ∙ c.in-Idle.is) c.requires.agrees in
-    shown_none_held (site_of (g.W.Words.setup c.args.table.now) (g.W.Words.place c.args.seat.now) c.args.writer.now.route) 0 (g.W.Words.view c.args.table.now c.args.seat.now).begun idle.pages idle.shown
+    shown_none_held (site_of (g.W.Words.means.setup c.args.table.now) (g.W.Words.means.place c.args.seat.now) c.args.writer.now.route) 0 (g.W.Words.means.view c.args.table.now c.args.seat.now).begun idle.pages idle.shown
 
 pub begin_at-requires-clause-place : goal.begin_at-requires-clause-place
 begin_at-requires-clause-place g c =
-    let found : HasFound g.W.Words.setup g.W.Words.sits g.W.Words.place g.W.Words.view g.W.Words.serves g.W.Words.service_view g.W.Words.told g.H.HelperOn.needs g.H.HelperOn.helps
+    let found : HasFound g.W.Words.means g.H.HelperOn.needs g.H.HelperOn.helps
     c.args.writer.now c.args.help.now c.args.table.now c.args.seat.now c.args.steps.now
     c.match-take_state.writer c.match-take_state.help c.match-take_state.table c.match-take_state.seat c.match-take_state.steps c.match-take_state.place =
     elim c.match-take_state.branch [
@@ -37,7 +37,7 @@ begin_at-requires-clause-place g c =
 
 pub returns : goal.returns
 returns g c =
-    let found : HasFound g.W.Words.setup g.W.Words.sits g.W.Words.place g.W.Words.view g.W.Words.serves g.W.Words.service_view g.W.Words.told g.H.HelperOn.needs g.H.HelperOn.helps
+    let found : HasFound g.W.Words.means g.H.HelperOn.needs g.H.HelperOn.helps
     c.args.writer.now c.args.help.now c.args.table.now c.args.seat.now c.args.steps.now
     c.match-take_state.writer c.match-take_state.help c.match-take_state.table c.match-take_state.seat c.match-take_state.steps c.match-take_state.place =
     elim c.match-take_state.branch [
@@ -58,7 +58,7 @@ returns g c =
       asked = λ here. c.begin_at.ensures.quiet.asked ∙ elim c.match-take_state.branch [
         | in-Idle w ↦ absurd (subst BeginsHere (sym c.take_state.ensures.taken ∙ w.in-Idle.is) here)
         | in-Between w ↦
-            ap (λ table. (g.W.Words.view table c.match-take_state.seat).asked) w.table-is ∙ ap (λ seat. (g.W.Words.view w.place_behind-place.new.table seat).asked) w.seat-is
+            ap (λ table. (g.W.Words.means.view table c.match-take_state.seat).asked) w.table-is ∙ ap (λ seat. (g.W.Words.means.view w.place_behind-place.new.table seat).asked) w.seat-is
             ∙ w.place_behind-place.ensures.asked (subst BeginsHere (sym c.take_state.ensures.taken ∙ w.in-Between.is) here)
       ];
       few_steps = search rules;

@@ -10,9 +10,9 @@ use Rattle.trace_writer.proofs.begin.begin_at.Goals as goal
 
 pub returns-in-Stalls-clause-agrees : goal.returns-in-Stalls-clause-agrees
 returns-in-Stalls-clause-agrees g c =
-    let setup = g.W.Words.setup c.args.table.now in
-    let place = g.W.Words.place c.args.seat.now in
-    let view = g.W.Words.view c.args.table.now c.args.seat.now in
+    let setup = g.W.Words.means.setup c.args.table.now in
+    let place = g.W.Words.means.place c.args.seat.now in
+    let view = g.W.Words.means.view c.args.table.now c.args.seat.now in
     let writer = c.args.writer.now in
     let nowhere = subst (λ (p : Place). IsPlace (site_of setup place writer.route) (account_of view.calls) view writer.pending p) c.in-Nowhere.is c.requires.place in
     stall_nowhere setup place view writer _ c.in-Nowhere.next_id (ap (λ (state : State). record writer { state = state }) c.put_state.ensures)
@@ -20,5 +20,5 @@ returns-in-Stalls-clause-agrees g c =
 
 pub returns-in-Stalls-clause-quiet : goal.returns-in-Stalls-clause-quiet
 returns-in-Stalls-clause-quiet g c =
-    quiet_none g.W.Words.setup g.W.Words.sits g.W.Words.place g.W.Words.view g.W.Words.serves g.W.Words.service_view g.W.Words.told
+    quiet_none g.W.Words.means
     c.args.table.now c.args.seat.now c.requires.seat

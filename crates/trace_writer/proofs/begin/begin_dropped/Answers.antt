@@ -7,15 +7,15 @@ use Rattle.trace_writer.proofs.begin.begin_dropped.Goals as goal
 
 pub returns-clause-agrees : goal.returns-clause-agrees
 returns-clause-agrees g c =
-    let setup = g.W.Words.setup c.args.table.now in
-    let place = g.W.Words.place c.args.seat.now in
-    let view = g.W.Words.view c.args.table.now c.args.seat.now in
+    let setup = g.W.Words.means.setup c.args.table.now in
+    let place = g.W.Words.means.place c.args.seat.now in
+    let view = g.W.Words.means.view c.args.table.now c.args.seat.now in
     let writer = c.args.writer.now in
     let open_one = c.new.result in
     let next_id = c.args.next_id in
     let begun = c.saturating_add-writer.result in
     let dropped = c.saturating_add-writer-2.result in
-    begin_nowhere setup place view (g.W.Words.view c.note_call.new.self c.note_call.new.seat) writer _ next_id open_one
+    begin_nowhere setup place view (g.W.Words.means.view c.note_call.new.self c.note_call.new.seat) writer _ next_id open_one
     c.new.ensures.len c.new.ensures.starts c.note_call.ensures.view
     (ap (λ (state : State). record writer { state = state; packet = Some open_one; begun = begun; dropped = dropped }) c.put_state.ensures
     ∙ ap (λ (n : ℕ). record writer { state = Dropping next_id; packet = Some open_one; begun = n; dropped = dropped }) c.saturating_add-writer.ensures
@@ -24,5 +24,5 @@ returns-clause-agrees g c =
 
 pub returns-clause-quiet : goal.returns-clause-quiet
 returns-clause-quiet g c =
-    quiet_noted g.W.Words.setup g.W.Words.sits g.W.Words.place g.W.Words.view g.W.Words.serves g.W.Words.service_view g.W.Words.told
+    quiet_noted g.W.Words.means
     c.args.table.now c.args.seat.now c.note_call.new.self c.note_call.new.seat _ _ c.note_call.ensures.step c.note_call.ensures.view c.note_call.ensures.told

@@ -1,6 +1,4 @@
 use Rattle.std.proofs.Common.{◌∙◌, ap, Some, ℕ, true}
-use Rattle.trace_model.specs.Calls as call
-use Rattle.chunk_plain.specs.Steps.{notes_call}
 use Rattle.trace_writer.specs.declared.state.State.{State}
 use Rattle.trace_writer.specs.declared.state.State.TheVariants.{Writing}
 use Rattle.trace_writer.specs.Placing.{IsStarted}
@@ -12,9 +10,9 @@ use Rattle.trace_writer.proofs.begin.begin_kept.Goals as goal
 
 pub returns-clause-agrees : goal.returns-clause-agrees
 returns-clause-agrees g c =
-    let setup = g.W.Words.setup c.args.table.now in
-    let place = g.W.Words.place c.args.seat.now in
-    let view = g.W.Words.view c.args.table.now c.args.seat.now in
+    let setup = g.W.Words.means.setup c.args.table.now in
+    let place = g.W.Words.means.place c.args.seat.now in
+    let view = g.W.Words.means.view c.args.table.now c.args.seat.now in
     let writer = c.args.writer.now in
     let chunk = c.args.chunk in
     let first = c.start_fragment-fragment.result in
@@ -25,17 +23,17 @@ returns-clause-agrees g c =
           w.put.ensures.count w.put.ensures.bytes w.put.ensures.at w.fragment-is
       | else-writer w ↦ fronted_not first c.if-writer.fragment writer.follows_loss w.if-writer.false w.fragment-is
     ] in
-    begin_behind setup place view (g.W.Words.view c.note_call.new.self c.note_call.new.seat) writer _ chunk first c.if-writer.fragment c.new.result
+    begin_behind setup place view (g.W.Words.means.view c.start_fragment-fragment.new.table c.start_fragment-fragment.new.seat) (g.W.Words.means.view c.note_call.new.self c.note_call.new.seat) writer _ chunk first c.if-writer.fragment c.new.result
     c.new.ensures.len c.new.ensures.starts started fronted
-    (c.note_call.ensures.view ∙ ap (λ v. notes_call v (call.Begun true)) s.view)
+    s.view c.note_call.ensures.view
     (ap (λ (state : State). record writer { state = state; packet = Some c.new.result; begun = c.saturating_add-writer.result }) c.put_state.ensures
     ∙ ap (λ (n : ℕ). record writer { state = Writing c.if-writer.fragment; packet = Some c.new.result; begun = n }) c.saturating_add-writer.ensures)
     c.requires.roomy c.requires.agrees
 
 pub returns-clause-quiet : goal.returns-clause-quiet
 returns-clause-quiet g c =
-    quiet_both g.W.Words.setup g.W.Words.sits g.W.Words.place g.W.Words.view g.W.Words.serves g.W.Words.service_view g.W.Words.told
+    quiet_both g.W.Words.means
     c.args.table.now c.args.seat.now c.start_fragment-fragment.new.table c.start_fragment-fragment.new.seat c.note_call.new.self c.note_call.new.seat
     c.start_fragment-fragment.ensures.quiet
-    (quiet_noted g.W.Words.setup g.W.Words.sits g.W.Words.place g.W.Words.view g.W.Words.serves g.W.Words.service_view g.W.Words.told
+    (quiet_noted g.W.Words.means
     c.start_fragment-fragment.new.table c.start_fragment-fragment.new.seat c.note_call.new.self c.note_call.new.seat _ _ c.note_call.ensures.step c.note_call.ensures.view c.note_call.ensures.told)

@@ -5,15 +5,15 @@ use Rattle.trace_writer.proofs.begin.new_place.Goals as goal
 
 pub returns-in-Some-clause-place : goal.returns-in-Some-clause-place
 returns-in-Some-clause-place g c = λ account pending idle.
-    new_roomy (g.W.Words.setup c.args.table.now) (g.W.Words.place c.args.seat.now) c.args.route.now account (g.W.Words.view c.args.table.now c.args.seat.now)
-    (g.W.Words.view c.claim_next.new.table c.claim_next.new.seat) pending c.in-Some.held c.new.result c.args.next_id
-    c.requires.route c.new.ensures.held c.new.ensures.at c.new.ensures.count c.new.ensures.continues c.requires.next c.requires.ids
+    new_roomy (g.W.Words.means.setup c.args.table.now) (g.W.Words.means.place c.args.seat.now) c.args.route.now account (g.W.Words.means.view c.args.table.now c.args.seat.now)
+    (g.W.Words.means.view c.claim_next.new.table c.claim_next.new.seat) pending c.in-Some.held c.new.result c.args.next_id
+    c.requires.route c.new.ensures.held c.new.ensures.sealed c.new.ensures.at c.new.ensures.count c.new.ensures.continues c.requires.next c.requires.ids
     c.in-Some.ensures.won c.in-Some.ensures.begun idle
 
 pub returns-in-None-clause-place : goal.returns-in-None-clause-place
 returns-in-None-clause-place g c = λ account pending idle.
     let none = c.in-None.ensures.none in (
       c.requires.next ∙ sym (ap length none.begun),
-      none_idle (site_of (g.W.Words.setup c.args.table.now) (g.W.Words.place c.args.seat.now) c.args.route.now) account
-          (g.W.Words.view c.args.table.now c.args.seat.now) (g.W.Words.view c.claim_next.new.table c.claim_next.new.seat) pending none.begun idle,
+      none_idle (site_of (g.W.Words.means.setup c.args.table.now) (g.W.Words.means.place c.args.seat.now) c.args.route.now) account
+          (g.W.Words.means.view c.args.table.now c.args.seat.now) (g.W.Words.means.view c.claim_next.new.table c.claim_next.new.seat) pending none.begun idle,
     )

@@ -1,64 +1,64 @@
 use Rattle.std.proofs.Common.{◌∙◌, sym, ap}
 use Rattle.chunk_plain.specs.Views.{WriterView}
 use Rattle.trace_writer.specs.Site.{site_of}
-use Rattle.trace_writer.proofs.Ending.{behind_holds, behind_head}
+use Rattle.trace_writer.proofs.Ending.{behind_fits, behind_head}
 use Rattle.trace_writer.proofs.Idling.{begun_one_more}
 use Rattle.trace_writer.proofs.KeptChunks.{shown_none_held}
 use Rattle.trace_writer.proofs.Starting.{behind_roomy, behind_idle, room_of, idle_there, place_here}
 use Rattle.trace_writer.proofs.Working.{work_none, work_before}
 use Rattle.trace_writer.proofs.begin.place_behind.Goals as goal
 
-pub complete-requires-clause-held : goal.complete-requires-clause-held
-complete-requires-clause-held g c = behind_holds _ _ (g.W.Words.view c.args.table.now c.args.seat.now) _ c.args.chunk c.requires.behind.1
+pub complete-requires-clause-fit : goal.complete-requires-clause-fit
+complete-requires-clause-fit g c = behind_fits _ _ (g.W.Words.means.view c.args.table.now c.args.seat.now) _ c.args.chunk c.requires.behind.1
 
 pub complete-requires-clause-head : goal.complete-requires-clause-head
-complete-requires-clause-head g c = behind_head _ _ (g.W.Words.view c.args.table.now c.args.seat.now) _ c.args.chunk c.requires.behind.1
+complete-requires-clause-head g c = behind_head _ _ (g.W.Words.means.view c.args.table.now c.args.seat.now) _ c.args.chunk c.requires.behind.1
 
 pub new_place-requires-clause-next : goal.new_place-requires-clause-next
 new_place-requires-clause-next g c =
-    sym (begun_one_more (site_of (g.W.Words.setup c.args.table.now) (g.W.Words.place c.args.seat.now) c.args.route.now) c.requires.behind.0 (g.W.Words.view c.args.table.now c.args.seat.now)
-    (g.W.Words.view c.complete.new.table c.complete.new.seat) c.args.pending.now c.args.chunk _ _ c.complete.ensures.view c.requires.behind.1)
+    sym (begun_one_more (site_of (g.W.Words.means.setup c.args.table.now) (g.W.Words.means.place c.args.seat.now) c.args.route.now) c.requires.behind.0 (g.W.Words.means.view c.args.table.now c.args.seat.now)
+    (g.W.Words.means.view c.complete.new.table c.complete.new.seat) c.args.pending.now c.args.chunk _ c.complete.ensures.view c.requires.behind.1)
 
 pub returns-then-has_room-clause-place : goal.returns-then-has_room-clause-place
 returns-then-has_room-clause-place g c = λ account behind.
-    let site = site_of (g.W.Words.setup c.args.table.now) (g.W.Words.place c.args.seat.now) c.args.route.now in
-    behind_roomy site account (g.W.Words.view c.args.table.now c.args.seat.now) c.args.pending.now c.args.chunk c.requires.ids
+    let site = site_of (g.W.Words.means.setup c.args.table.now) (g.W.Words.means.place c.args.seat.now) c.args.route.now in
+    behind_roomy site account (g.W.Words.means.view c.args.table.now c.args.seat.now) c.args.pending.now c.args.chunk c.requires.ids
     (room_of site c.args.chunk c.has_room.result behind.whole c.has_room.ensures ∙ c.if-has_room.true) behind
 
 pub returns-clause-place : goal.returns-clause-place
 returns-clause-place g c = λ account behind.
-    let site = site_of (g.W.Words.setup c.args.table.now) (g.W.Words.place c.args.seat.now) c.args.route.now in
-    let old = g.W.Words.view c.args.table.now c.args.seat.now in
-    let mid = g.W.Words.view c.complete.new.table c.complete.new.seat in
-    let new = g.W.Words.view c.new_place.new.table c.new_place.new.seat in
-    let setup = g.W.Words.setup c.args.table.now in
-    let place = g.W.Words.place c.args.seat.now in
+    let site = site_of (g.W.Words.means.setup c.args.table.now) (g.W.Words.means.place c.args.seat.now) c.args.route.now in
+    let old = g.W.Words.means.view c.args.table.now c.args.seat.now in
+    let mid = g.W.Words.means.view c.complete.new.table c.complete.new.seat in
+    let new = g.W.Words.means.view c.new_place.new.table c.new_place.new.seat in
+    let setup = g.W.Words.means.setup c.args.table.now in
+    let place = g.W.Words.means.place c.args.seat.now in
     let step = c.complete.ensures.quiet.step in
-    let idle = behind_idle site account old mid c.args.pending.now c.complete.new.pending c.args.chunk _ c.args.chunk.few c.complete.ensures.pending c.complete.ensures.view
+    let idle = behind_idle site account old mid c.args.pending.now c.complete.new.pending c.args.chunk c.args.chunk.few c.complete.ensures.pending c.complete.ensures.view
     (room_of site c.args.chunk c.has_room.result behind.whole c.has_room.ensures ∙ c.if-has_room.false) behind in
-    place_here setup (g.W.Words.setup c.complete.new.table) place (g.W.Words.place c.complete.new.seat) c.args.route.now account new c.complete.new.pending c.new_place.result
+    place_here setup (g.W.Words.means.setup c.complete.new.table) place (g.W.Words.means.place c.complete.new.seat) c.args.route.now account new c.complete.new.pending c.new_place.result
     step.setup_stays step.place_stays
     (c.new_place.ensures.place account c.complete.new.pending
-    (idle_there setup (g.W.Words.setup c.complete.new.table) place (g.W.Words.place c.complete.new.seat) c.args.route.now account mid c.complete.new.pending
+    (idle_there setup (g.W.Words.means.setup c.complete.new.table) place (g.W.Words.means.place c.complete.new.seat) c.args.route.now account mid c.complete.new.pending
     step.setup_stays step.place_stays idle))
 
 pub new_place-requires-clause-none_held : goal.new_place-requires-clause-none_held
 new_place-requires-clause-none_held g c =
-    let site = site_of (g.W.Words.setup c.args.table.now) (g.W.Words.place c.args.seat.now) c.args.route.now in
+    let site = site_of (g.W.Words.means.setup c.args.table.now) (g.W.Words.means.place c.args.seat.now) c.args.route.now in
     let account = c.requires.behind.0 in let behind = c.requires.behind.1 in
-    let mid = g.W.Words.view c.complete.new.table c.complete.new.seat in
-    let idle = behind_idle site account (g.W.Words.view c.args.table.now c.args.seat.now) mid c.args.pending.now c.complete.new.pending c.args.chunk _ c.args.chunk.few c.complete.ensures.pending c.complete.ensures.view
+    let mid = g.W.Words.means.view c.complete.new.table c.complete.new.seat in
+    let idle = behind_idle site account (g.W.Words.means.view c.args.table.now c.args.seat.now) mid c.args.pending.now c.complete.new.pending c.args.chunk c.args.chunk.few c.complete.ensures.pending c.complete.ensures.view
     (room_of site c.args.chunk c.has_room.result behind.whole c.has_room.ensures ∙ c.if-has_room.false) behind in
     shown_none_held site 0 mid.begun idle.pages idle.shown
 
 pub returns-then-has_room-clause-work : goal.returns-then-has_room-clause-work
 returns-then-has_room-clause-work g c =
-    work_none g.W.Words.setup g.W.Words.sits g.W.Words.place g.W.Words.view g.W.Words.serves g.W.Words.service_view g.W.Words.told g.H.HelperOn.needs g.H.HelperOn.helps
+    work_none g.W.Words.means g.H.HelperOn.needs g.H.HelperOn.helps
     c.args.route.now c.args.help.now c.args.table.now c.args.seat.now c.args.steps.now c.requires.seat c.requires.needs
 
 pub returns-clause-work : goal.returns-clause-work
 returns-clause-work g c =
-    work_before g.W.Words.setup g.W.Words.sits g.W.Words.place g.W.Words.view g.W.Words.serves g.W.Words.service_view g.W.Words.told g.H.HelperOn.needs g.H.HelperOn.helps
+    work_before g.W.Words.means g.H.HelperOn.needs g.H.HelperOn.helps
     c.args.route.now c.args.help.now c.args.table.now c.args.seat.now c.args.steps.now c.complete.new.table c.complete.new.seat _ c.new_place.new.help c.new_place.new.table c.new_place.new.seat
     c.new_place.new.steps
     (record { quiet = c.complete.ensures.quiet; calls = ap (λ (v : WriterView). v.calls) c.complete.ensures.view }) c.new_place.ensures.work

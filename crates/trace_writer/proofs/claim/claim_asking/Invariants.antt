@@ -5,8 +5,8 @@ use Rattle.trace_writer.proofs.claim.claim_asking.Given as goal
 
 abbrev pub invariant-claims : goal.invariant-claims
 invariant-claims g l = record {
-  none : FindsNone (g.W.Words.view l.initial.table l.initial.seat) (g.W.Words.view l.table l.seat);
-  work : IsWork g.W.Words.setup g.W.Words.sits g.W.Words.place g.W.Words.view g.W.Words.serves g.W.Words.service_view g.W.Words.told g.H.HelperOn.needs g.H.HelperOn.helps
+  none : FindsNone (g.W.Words.means.view l.initial.table l.initial.seat) (g.W.Words.means.view l.table l.seat);
+  work : IsWork g.W.Words.means g.H.HelperOn.needs g.H.HelperOn.helps
       l.route l.initial.help l.initial.table l.initial.seat l.initial.steps false l.help l.table l.seat l.steps;
 }
 

@@ -13,7 +13,7 @@ use Rattle.trace_writer.proofs.field.end_message.Goals.{in-Writing, in-Dropping}
 
 pub end_nested-length-requires-clause-within : goal.end_nested-length-requires-clause-within
 end_nested-length-requires-clause-within g c =
-    start_within (account_of (g.W.Words.view c.args.table.now c.args.seat.now).calls).packets c.args.writer.now.packet c.in-Some.packet c.in-Some.is c.requires.agrees.packet
+    start_within (account_of (g.W.Words.means.view c.args.table.now c.args.seat.now).calls).packets c.args.writer.now.packet c.in-Some.packet c.in-Some.is c.requires.agrees.packet
 
 pub close_hole-requires-clause-fits : goal.close_hole-requires-clause-fits
 close_hole-requires-clause-fits g c =
@@ -26,15 +26,15 @@ close_hole-requires-clause-fits g c =
 
 pub close_hole-requires-clause-here : goal.close_hole-requires-clause-here
 close_hole-requires-clause-here g c = λ hole outer holes held.
-    let view = g.W.Words.view c.args.table.now c.args.seat.now in
-    let w = writing_agrees (g.W.Words.setup c.args.table.now) (g.W.Words.place c.args.seat.now) view c.args.writer.now c.in-Writing.fragment c.requires.agrees c.in-Writing.is in
-    hole_within (site_of (g.W.Words.setup c.args.table.now) (g.W.Words.place c.args.seat.now) c.args.writer.now.route) w.packet w.older view c.args.writer.now.pending
+    let view = g.W.Words.means.view c.args.table.now c.args.seat.now in
+    let w = writing_agrees (g.W.Words.means.setup c.args.table.now) (g.W.Words.means.place c.args.seat.now) view c.args.writer.now c.in-Writing.fragment c.requires.agrees c.in-Writing.is in
+    hole_within (site_of (g.W.Words.means.setup c.args.table.now) (g.W.Words.means.place c.args.seat.now) c.args.writer.now.route) w.packet w.older view c.args.writer.now.pending
     c.in-Writing.fragment hole outer holes held w.inside
 
 pub returns-clause-agrees : goal.returns-clause-agrees
 returns-clause-agrees g c =
-    let setup = g.W.Words.setup c.args.table.now in let place = g.W.Words.place c.args.seat.now in
-    let view = g.W.Words.view c.args.table.now c.args.seat.now in let new = g.W.Words.view c.note_call.new.self c.note_call.new.seat in
+    let setup = g.W.Words.means.setup c.args.table.now in let place = g.W.Words.means.place c.args.seat.now in
+    let view = g.W.Words.means.view c.args.table.now c.args.seat.now in let new = g.W.Words.means.view c.note_call.new.self c.note_call.new.seat in
     let pops : Pops c.in-Some.packet c.end_nested-length.new.self c.end_nested-length.result = record {
       some = subst (λ (o : Option OpenPacket). 0 < depth_of o) c.in-Some.is c.requires.depth;
       len = c.end_nested-length.ensures.len;
@@ -55,10 +55,10 @@ returns-clause-agrees g c =
 
 pub returns-then-is_stalled-clause-quiet : goal.returns-then-is_stalled-clause-quiet
 returns-then-is_stalled-clause-quiet g c =
-    quiet_none g.W.Words.setup g.W.Words.sits g.W.Words.place g.W.Words.view g.W.Words.serves g.W.Words.service_view g.W.Words.told
+    quiet_none g.W.Words.means
     c.args.table.now c.args.seat.now c.requires.seat
 
 pub returns-clause-quiet : goal.returns-clause-quiet
 returns-clause-quiet g c =
-    quiet_noted g.W.Words.setup g.W.Words.sits g.W.Words.place g.W.Words.view g.W.Words.serves g.W.Words.service_view g.W.Words.told
+    quiet_noted g.W.Words.means
     c.args.table.now c.args.seat.now c.note_call.new.self c.note_call.new.seat _ _ c.note_call.ensures.step c.note_call.ensures.view c.note_call.ensures.told

@@ -1,12 +1,12 @@
 use Rattle.std.proofs.Common.{◌∙◌, ℕ, ◌+◌, ◌*◌, ◌≤◌, ◌++◌, length, refl, sym, ap, subst, false, [], ◌∷◌}
 use Rattle.std.specs.List.{repeat}
+use Rattle.chunk_plain.specs.Views.{WriterView}
 use Rattle.chunk_plain.specs.Words.{call_of}
 use Rattle.trace_writer.specs.Agreement.{len_of}
 use Rattle.trace_writer.proofs.Calling.{field_long}
 use Rattle.std.proofs.lemmas.Bool.{true≢false}
 use Rattle.trace_writer.specs.declared.state.Writer.{Writer}
 use Rattle.trace_writer.specs.Empty.{is_empty, is_stalled}
-use Rattle.chunk_plain.specs.Views.{WriterView}
 use Rattle.trace_writer.proofs.QuietSteps.{quiet_noted}
 use Rattle.trace_writer.proofs.Stopping.{refuses_none}
 use Rattle.trace_writer.proofs.Working.{asked_alone}
@@ -16,8 +16,8 @@ use Rattle.trace_writer.proofs.field.write_field.Goals as goal
 pub returns-then-put_field_here-clause-agrees : goal.returns-then-put_field_here-clause-agrees
 returns-then-put_field_here-clause-agrees g c =
     let bytes = c.args.head.now ++ repeat c.args.times c.args.text.now in
-    agrees_put (g.W.Words.setup c.args.table.now) (g.W.Words.place c.args.seat.now) (g.W.Words.view c.args.table.now c.args.seat.now)
-    (g.W.Words.view c.note_call.new.self c.note_call.new.seat) c.args.writer.now c.put_field_here.new.writer bytes (call_of c.args.call) c.requires.agrees
+    agrees_put (g.W.Words.means.setup c.args.table.now) (g.W.Words.means.place c.args.seat.now) (g.W.Words.means.view c.args.table.now c.args.seat.now)
+    (g.W.Words.means.view c.note_call.new.self c.note_call.new.seat) c.args.writer.now c.put_field_here.new.writer bytes (call_of c.args.call) c.requires.agrees
     (c.if-put_field_here.ensures.puts refl)
     (subst (λ (n : ℕ). len_of c.args.writer.now.packet + n ≤ 1048576) (sym (field_long c.args.head.now c.args.text.now c.args.times)) c.requires.fits)
     c.requires.call c.note_call.ensures.view
@@ -32,10 +32,10 @@ pub returns-then-put_field_here-clause-done : goal.returns-then-put_field_here-c
 returns-then-put_field_here-clause-done g c = λ goes.
     let route = c.args.writer.now.route in (
       false,
-      asked_alone g.W.Words.setup g.W.Words.sits g.W.Words.place g.W.Words.view g.W.Words.serves g.W.Words.service_view g.W.Words.told g.H.HelperOn.needs g.H.HelperOn.helps
+      asked_alone g.W.Words.means g.H.HelperOn.needs g.H.HelperOn.helps
           route c.args.help.now c.args.table.now c.args.seat.now c.args.steps.now ((call_of c.args.call) ∷ []) (is_stalled c.put_field_here.new.writer.state)
           c.note_call.new.self c.note_call.new.seat c.requires.seat g.met.H.HelperOn.needs_stay c.requires.needs
-          (quiet_noted g.W.Words.setup g.W.Words.sits g.W.Words.place g.W.Words.view g.W.Words.serves g.W.Words.service_view g.W.Words.told
+          (quiet_noted g.W.Words.means
           c.args.table.now c.args.seat.now c.note_call.new.self c.note_call.new.seat _ _ c.note_call.ensures.step c.note_call.ensures.view c.note_call.ensures.told)
           (ap (λ (v : WriterView). v.calls) c.note_call.ensures.view)
           (ap (λ (writer : Writer). is_stalled writer.state) (c.if-put_field_here.ensures.puts refl).new_is ∙ sym (refuses_none route.spec.policy)),

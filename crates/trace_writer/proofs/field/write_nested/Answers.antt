@@ -12,15 +12,15 @@ use Rattle.trace_writer.proofs.field.write_nested.Goals as goal
 
 pub put_nested_here-requires-clause-few : goal.put_nested_here-requires-clause-few
 put_nested_here-requires-clause-few g c = λ fragment was.
-    few_holes (g.W.Words.setup c.args.table.now) (g.W.Words.place c.args.seat.now) (g.W.Words.view c.args.table.now c.args.seat.now)
+    few_holes (g.W.Words.means.setup c.args.table.now) (g.W.Words.means.place c.args.seat.now) (g.W.Words.means.view c.args.table.now c.args.seat.now)
     c.args.writer.now c.args.writer.now.packet fragment refl c.requires.agrees was c.requires.begun c.requires.depth
 
 pub returns-then-put_nested_here-clause-agrees : goal.returns-then-put_nested_here-clause-agrees
 returns-then-put_nested_here-clause-agrees g c =
-    let setup = g.W.Words.setup c.args.table.now in let place = g.W.Words.place c.args.seat.now in
-    let view = g.W.Words.view c.args.table.now c.args.seat.now in
+    let setup = g.W.Words.means.setup c.args.table.now in let place = g.W.Words.means.place c.args.seat.now in
+    let view = g.W.Words.means.view c.args.table.now c.args.seat.now in
     let puts = c.if-put_nested_here.ensures.puts refl in
-    agrees_opened setup place view (g.W.Words.view c.note_call.new.self c.note_call.new.seat) c.args.writer.now c.put_nested_here.new.writer
+    agrees_opened setup place view (g.W.Words.means.view c.note_call.new.self c.note_call.new.seat) c.args.writer.now c.put_nested_here.new.writer
     c.args.field c.args.tag.now c.requires.agrees puts c.requires.fits
     (few_holes setup place view c.args.writer.now c.args.writer.now.packet puts.fragment refl c.requires.agrees puts.was c.requires.begun c.requires.depth)
     c.requires.tag c.note_call.ensures.view
@@ -35,10 +35,10 @@ pub returns-then-put_nested_here-clause-done : goal.returns-then-put_nested_here
 returns-then-put_nested_here-clause-done g c = λ goes.
     let route = c.args.writer.now.route in (
       false,
-      asked_alone g.W.Words.setup g.W.Words.sits g.W.Words.place g.W.Words.view g.W.Words.serves g.W.Words.service_view g.W.Words.told g.H.HelperOn.needs g.H.HelperOn.helps
+      asked_alone g.W.Words.means g.H.HelperOn.needs g.H.HelperOn.helps
           route c.args.help.now c.args.table.now c.args.seat.now c.args.steps.now ((call.Nested c.args.field) ∷ []) (is_stalled c.put_nested_here.new.writer.state)
           c.note_call.new.self c.note_call.new.seat c.requires.seat g.met.H.HelperOn.needs_stay c.requires.needs
-          (quiet_noted g.W.Words.setup g.W.Words.sits g.W.Words.place g.W.Words.view g.W.Words.serves g.W.Words.service_view g.W.Words.told
+          (quiet_noted g.W.Words.means
           c.args.table.now c.args.seat.now c.note_call.new.self c.note_call.new.seat _ _ c.note_call.ensures.step c.note_call.ensures.view c.note_call.ensures.told)
           (ap (λ (v : WriterView). v.calls) c.note_call.ensures.view)
           (ap (λ (writer : Writer). is_stalled writer.state) (c.if-put_nested_here.ensures.puts refl).new_is ∙ sym (refuses_none route.spec.policy)),

@@ -23,15 +23,15 @@ noted_tag field tag is account = ap (λ (t : List ℕ). on_newest (λ (packet : 
 
 pub put_nested-flow-requires-clause-few : goal.put_nested-flow-requires-clause-few
 put_nested-flow-requires-clause-few g c =
-    let many = as_many_holes (g.W.Words.setup c.args.table.now) (g.W.Words.place c.args.seat.now) (g.W.Words.view c.args.table.now c.args.seat.now)
+    let many = as_many_holes (g.W.Words.means.setup c.args.table.now) (g.W.Words.means.place c.args.seat.now) (g.W.Words.means.view c.args.table.now c.args.seat.now)
     c.args.writer.now c.in-Writing.fragment c.in-Some.packet c.requires.agrees (sym c.in-Writing.ensures.taken) c.in-Some.is in
     subst (λ (n : ℕ). n < 16) (sym many) (subst (λ (o : Option OpenPacket). depth_of o < 16) c.in-Some.is c.requires.depth)
 
 pub returns-in-Writing-clause-agrees : goal.returns-in-Writing-clause-agrees
 returns-in-Writing-clause-agrees g c =
     let tag = c.args.tag.now in
-    agrees_behind (g.W.Words.setup c.args.table.now) (g.W.Words.place c.args.seat.now) (g.W.Words.view c.args.table.now c.args.seat.now)
-    (g.W.Words.view c.put_nested-flow.new.table c.put_nested-flow.new.seat) (g.W.Words.view c.go_on.new.table c.go_on.new.seat)
+    agrees_behind (g.W.Words.means.setup c.args.table.now) (g.W.Words.means.place c.args.seat.now) (g.W.Words.means.view c.args.table.now c.args.seat.now)
+    (g.W.Words.means.view c.put_nested-flow.new.table c.put_nested-flow.new.seat) (g.W.Words.means.view c.go_on.new.table c.go_on.new.seat)
     c.args.writer.now c.go_on.new.writer c.take_state.new.state c.put_nested-flow.new.pending c.in-Writing.fragment c.in-Some.packet c.add_nested.new.self
     (length tag + 4) (λ (packet : Packet). with_open (with_more tag packet)) (call.Nested c.args.field) c.put_nested-flow.result c.requires.agrees
     (sym c.in-Writing.ensures.taken) c.in-Some.is (grows_nested tag)
@@ -43,27 +43,27 @@ returns-in-Writing-clause-done g c = λ goes.
     let route = c.args.writer.now.route in
     let tag = c.args.tag.now in
     let stopped = is_stopped c.put_nested-flow.result in
-    let noted = notes_behind (g.W.Words.setup c.args.table.now) (g.W.Words.place c.args.seat.now) (g.W.Words.view c.args.table.now c.args.seat.now)
-    (g.W.Words.view c.put_nested-flow.new.table c.put_nested-flow.new.seat) (g.W.Words.view c.go_on.new.table c.go_on.new.seat)
+    let noted = notes_behind (g.W.Words.means.setup c.args.table.now) (g.W.Words.means.place c.args.seat.now) (g.W.Words.means.view c.args.table.now c.args.seat.now)
+    (g.W.Words.means.view c.put_nested-flow.new.table c.put_nested-flow.new.seat) (g.W.Words.means.view c.go_on.new.table c.go_on.new.seat)
     c.args.writer.now
     (record c.args.writer.now { state = c.take_state.new.state; packet = Some c.add_nested.new.self; pending = c.put_nested-flow.new.pending })
     c.go_on.new.writer c.put_nested-flow.new.pending c.in-Writing.fragment (length tag + 4)
     (λ (packet : Packet). with_open (with_more tag packet)) (call.Nested c.args.field) c.put_nested-flow.result refl c.put_nested-flow.ensures.flow c.go_on.ensures.goes in (
       stopped,
-      asked_of g.W.Words.setup g.W.Words.sits g.W.Words.place g.W.Words.view g.W.Words.serves g.W.Words.service_view g.W.Words.told g.H.HelperOn.needs g.H.HelperOn.helps
+      asked_of g.W.Words.means g.H.HelperOn.needs g.H.HelperOn.helps
           route c.args.help.now c.args.table.now c.args.seat.now c.args.steps.now stopped (written_as stopped route.spec.policy (call.Nested c.args.field)) (is_stalled c.go_on.new.writer.state)
           c.put_nested-flow.new.help c.put_nested-flow.new.table c.put_nested-flow.new.seat c.put_nested-flow.new.steps c.go_on.new.table c.go_on.new.seat g.met.H.HelperOn.needs_stay
           c.put_nested-flow.ensures.work c.go_on.ensures.quiet
           noted.0 noted.1,
-      λ stops. writing_not_lost (g.W.Words.setup c.args.table.now) (g.W.Words.place c.args.seat.now) (g.W.Words.view c.args.table.now c.args.seat.now) c.args.writer.now c.in-Writing.fragment
+      λ stops. writing_not_lost (g.W.Words.means.setup c.args.table.now) (g.W.Words.means.place c.args.seat.now) (g.W.Words.means.view c.args.table.now c.args.seat.now) c.args.writer.now c.in-Writing.fragment
           c.requires.agrees (sym c.in-Writing.ensures.taken),
     )
 
 pub returns-in-Dropping-clause-agrees : goal.returns-in-Dropping-clause-agrees
 returns-in-Dropping-clause-agrees g c =
     let tag = c.args.tag.now in
-    agrees_dropping (g.W.Words.setup c.args.table.now) (g.W.Words.place c.args.seat.now) (g.W.Words.view c.args.table.now c.args.seat.now)
-    (g.W.Words.view c.note_call.new.self c.note_call.new.seat) c.args.writer.now c.put_state.new.state c.in-Dropping.next_id c.in-Some.packet c.add_nested.new.self
+    agrees_dropping (g.W.Words.means.setup c.args.table.now) (g.W.Words.means.place c.args.seat.now) (g.W.Words.means.view c.args.table.now c.args.seat.now)
+    (g.W.Words.means.view c.note_call.new.self c.note_call.new.seat) c.args.writer.now c.put_state.new.state c.in-Dropping.next_id c.in-Some.packet c.add_nested.new.self
     (length tag + 4) (λ (packet : Packet). with_open (with_more tag packet)) (call.Nested c.args.field) c.requires.agrees (sym c.in-Dropping.ensures.taken)
     c.put_state.ensures c.in-Some.is (grows_nested tag)
     (λ (packet : Packet) some m. measured_nested c.in-Some.packet c.add_nested.new.self packet tag (length tag) refl c.add_nested.ensures.len c.add_nested.ensures.starts some m)
@@ -73,10 +73,10 @@ pub returns-in-Dropping-clause-done : goal.returns-in-Dropping-clause-done
 returns-in-Dropping-clause-done g c = λ goes.
     let route = c.args.writer.now.route in (
       false,
-      asked_alone g.W.Words.setup g.W.Words.sits g.W.Words.place g.W.Words.view g.W.Words.serves g.W.Words.service_view g.W.Words.told g.H.HelperOn.needs g.H.HelperOn.helps
+      asked_alone g.W.Words.means g.H.HelperOn.needs g.H.HelperOn.helps
           route c.args.help.now c.args.table.now c.args.seat.now c.args.steps.now ((call.Nested c.args.field) ∷ []) (is_stalled c.put_state.new.state)
           c.note_call.new.self c.note_call.new.seat c.requires.seat g.met.H.HelperOn.needs_stay c.requires.needs
-          (quiet_noted g.W.Words.setup g.W.Words.sits g.W.Words.place g.W.Words.view g.W.Words.serves g.W.Words.service_view g.W.Words.told
+          (quiet_noted g.W.Words.means
           c.args.table.now c.args.seat.now c.note_call.new.self c.note_call.new.seat _ _ c.note_call.ensures.step c.note_call.ensures.view c.note_call.ensures.told)
           (ap (λ (v : WriterView). v.calls) c.note_call.ensures.view)
           (ap is_stalled c.put_state.ensures ∙ sym (refuses_none route.spec.policy)),

@@ -12,8 +12,8 @@ use Rattle.trace_writer.proofs.finish.finish.Goals as goal
 pub returns-clause-agrees : goal.returns-clause-agrees
 returns-clause-agrees g c = elim c.match-take_state.branch [
   | in-Writing w ↦
-      finish_writing (g.W.Words.setup c.args.table.now) (g.W.Words.place c.args.seat.now) (g.W.Words.view c.args.table.now c.args.seat.now)
-      (g.W.Words.view c.note_call.new.self c.note_call.new.seat) c.args.writer.now _ w.in-Writing.fragment w.end.result
+      finish_writing (g.W.Words.means.setup c.args.table.now) (g.W.Words.means.place c.args.seat.now) (g.W.Words.means.view c.args.table.now c.args.seat.now)
+      (g.W.Words.means.view c.note_call.new.self c.note_call.new.seat) c.args.writer.now _ w.in-Writing.fragment w.end.result
       w.in-Writing.fragment.within w.in-Writing.fragment.few
       (sym c.take_state.ensures.taken ∙ w.in-Writing.is) c.requires.begun c.requires.depth c.note_call.ensures.view
       (record {
@@ -21,6 +21,7 @@ returns-clause-agrees g c = elim c.match-take_state.branch [
         id = ap (λ (held : Held). held.id) w.end.ensures.held;
         bytes = w.end.ensures.bytes;
         len = w.end.ensures.len;
+        sealed = w.end.ensures.sealed;
         at = w.end.ensures.at;
         count = w.end.ensures.count;
         continues = w.end.ensures.continues;
@@ -29,8 +30,8 @@ returns-clause-agrees g c = elim c.match-take_state.branch [
       ∙ ap (λ (state : State). record c.args.writer.now { state = state; packet = None; follows_loss = false }) w.put_state.ensures)
       c.requires.agrees
   | in-Dropping w ↦
-      finish_lost (g.W.Words.setup c.args.table.now) (g.W.Words.place c.args.seat.now) (g.W.Words.view c.args.table.now c.args.seat.now)
-      (g.W.Words.view c.note_call.new.self c.note_call.new.seat) c.args.writer.now _ w.in-Dropping.next_id
+      finish_lost (g.W.Words.means.setup c.args.table.now) (g.W.Words.means.place c.args.seat.now) (g.W.Words.means.view c.args.table.now c.args.seat.now)
+      (g.W.Words.means.view c.note_call.new.self c.note_call.new.seat) c.args.writer.now _ w.in-Dropping.next_id
       (sym c.take_state.ensures.taken ∙ w.in-Dropping.is) c.note_call.ensures.view
       (ap (λ (writer : Writer). record writer { packet = None }) w.writer-is
       ∙ ap (λ (state : State). record c.args.writer.now { state = state; packet = None; follows_loss = true }) w.put_state-in-Dropping.ensures)
@@ -39,10 +40,10 @@ returns-clause-agrees g c = elim c.match-take_state.branch [
 
 pub returns-then-is_stalled-clause-quiet : goal.returns-then-is_stalled-clause-quiet
 returns-then-is_stalled-clause-quiet g c =
-    quiet_none g.W.Words.setup g.W.Words.sits g.W.Words.place g.W.Words.view g.W.Words.serves g.W.Words.service_view g.W.Words.told
+    quiet_none g.W.Words.means
     c.args.table.now c.args.seat.now c.requires.seat
 
 pub returns-clause-quiet : goal.returns-clause-quiet
 returns-clause-quiet g c =
-    quiet_noted g.W.Words.setup g.W.Words.sits g.W.Words.place g.W.Words.view g.W.Words.serves g.W.Words.service_view g.W.Words.told
+    quiet_noted g.W.Words.means
     c.args.table.now c.args.seat.now c.note_call.new.self c.note_call.new.seat _ _ c.note_call.ensures.step c.note_call.ensures.view c.note_call.ensures.told

@@ -1,7 +1,7 @@
 use Rattle.std.proofs.Common.{ap, arith}
 use Rattle.commit_body.specs.Patches.{holes_outside}
 use Rattle.trace_writer.specs.Site.{site_of}
-use Rattle.trace_writer.proofs.GivenUp.{closes_none, closes_further, closes_within, ends_given_up, loses_rest, dropped_holds, dropped_head, dropped_size}
+use Rattle.trace_writer.proofs.GivenUp.{closes_none, closes_further, closes_within, ends_given_up, loses_rest, dropped_fits, dropped_head}
 use Rattle.trace_writer.proofs.stream.give_up.Goals as goal
 
 pub holes-init : goal.holes-init
@@ -23,26 +23,21 @@ pub holes-preserved : goal.holes-preserved
 holes-preserved g c =
     closes_further _ _ c.args.pending.now c.holes.pending c.close_hole.new.pending c.args.fragment c.holes.fragment c.close_hole.new.self c.close_hole.ensures c.holes.invariant
 
-pub complete-requires-clause-held : goal.complete-requires-clause-held
-complete-requires-clause-held g c =
+pub complete-requires-clause-fit : goal.complete-requires-clause-fit
+complete-requires-clause-fit g c =
     let i = c.requires.inside in let e = c.end_dropped.ensures in
-    dropped_holds _ i.packet i.older _ c.args.pending.now c.holes.pending c.args.fragment c.holes.fragment c.end_dropped.result i.inside c.holes.invariant e.held
+    dropped_fits _ i.packet i.older _ c.args.pending.now c.holes.pending c.args.fragment c.holes.fragment c.end_dropped.result i.inside c.holes.invariant e.held e.bytes e.len e.sealed e.count
 
 pub complete-requires-clause-head : goal.complete-requires-clause-head
 complete-requires-clause-head g c =
     let i = c.requires.inside in let e = c.end_dropped.ensures in
     dropped_head _ i.packet i.older _ c.args.pending.now c.holes.pending c.args.fragment c.holes.fragment c.end_dropped.result i.inside c.holes.invariant e.held e.count e.continues
 
-pub complete-requires-clause-size : goal.complete-requires-clause-size
-complete-requires-clause-size g c =
-    let i = c.requires.inside in let e = c.end_dropped.ensures in
-    dropped_size _ i.packet i.older _ c.args.pending.now c.holes.pending c.args.fragment c.holes.fragment c.end_dropped.result i.inside c.holes.invariant e.held e.len
-
 pub returns-clause-stops : goal.returns-clause-stops
 returns-clause-stops g c =
     let e = c.end_dropped.ensures in
-    let site = site_of (g.W.Words.setup c.args.table.now) (g.W.Words.place c.args.seat.now) c.args.route.now in
-    let old = g.W.Words.view c.args.table.now c.args.seat.now in let new = g.W.Words.view c.complete.new.table c.complete.new.seat in
+    let site = site_of (g.W.Words.means.setup c.args.table.now) (g.W.Words.means.place c.args.seat.now) c.args.route.now in
+    let old = g.W.Words.means.view c.args.table.now c.args.seat.now in let new = g.W.Words.means.view c.complete.new.table c.complete.new.seat in
     loses_rest site old new c.args.pending.now c.complete.new.pending c.args.fragment c.requires.drops c.requires.filled
     (ends_given_up site old new c.args.pending.now c.holes.pending c.complete.new.pending c.args.fragment c.holes.fragment c.end_dropped.result
     c.holes.invariant (omega arith) e.held e.bytes e.count e.continues c.complete.ensures.pending c.complete.ensures.view)

@@ -5,7 +5,7 @@ use Rattle.trace_writer.proofs.stream.give_up.Given as goal
 
 abbrev pub invariant-holes : goal.invariant-holes
 invariant-holes g l =
-    ClosesIn (site_of (g.W.Words.setup l.table) (g.W.Words.place l.seat) l.route) (g.W.Words.view l.table l.seat)
+    ClosesIn (site_of (g.W.Words.means.setup l.table) (g.W.Words.means.place l.seat) l.route) (g.W.Words.means.view l.table l.seat)
     l.initial.pending l.pending l.initial.fragment l.fragment
 
 abbrev pub decreases-holes : goal.decreases-holes

@@ -12,19 +12,19 @@ use Rattle.trace_writer.proofs.stream.put_length.Goals as goal
 pub returns-then-put_hole-clause-flow : goal.returns-then-put_hole-clause-flow
 returns-then-put_hole-clause-flow g c =
     let fits = c.if-put_hole.true in
-    sets_here (site_of (g.W.Words.setup c.args.table.now) (g.W.Words.place c.args.seat.now) c.args.route.now) (g.W.Words.view c.args.table.now c.args.seat.now)
+    sets_here (site_of (g.W.Words.means.setup c.args.table.now) (g.W.Words.means.place c.args.seat.now) c.args.route.now) (g.W.Words.means.view c.args.table.now c.args.seat.now)
     c.args.pending.now c.put_hole.new.pending c.args.fragment c.put_hole.new.self
     (c.put_hole.ensures.bytes fits) (c.put_hole.ensures.at fits) (c.put_hole.ensures.added fits) c.requires.few
 
 pub returns-then-put_hole-clause-work : goal.returns-then-put_hole-clause-work
 returns-then-put_hole-clause-work g c =
-    work_none g.W.Words.setup g.W.Words.sits g.W.Words.place g.W.Words.view g.W.Words.serves g.W.Words.service_view g.W.Words.told g.H.HelperOn.needs g.H.HelperOn.helps
+    work_none g.W.Words.means g.H.HelperOn.needs g.H.HelperOn.helps
     c.args.route.now c.args.help.now c.args.table.now c.args.seat.now c.args.steps.now c.requires.seat c.requires.needs
 
 pub returns-in-Going-clause-flow : goal.returns-in-Going-clause-flow
 returns-in-Going-clause-flow g c =
-    let site = site_of (g.W.Words.setup c.args.table.now) (g.W.Words.place c.args.seat.now) c.args.route.now in
-    let old = g.W.Words.view c.args.table.now c.args.seat.now in let new = g.W.Words.view c.run_on.new.table c.run_on.new.seat in
+    let site = site_of (g.W.Words.means.setup c.args.table.now) (g.W.Words.means.place c.args.seat.now) c.args.route.now in
+    let old = g.W.Words.means.view c.args.table.now c.args.seat.now in let new = g.W.Words.means.view c.run_on.new.table c.run_on.new.seat in
     let none = c.if-put_hole.false in let first = c.in-Going.next in
     let runs = subst (λ (f : OpenFragment). RunsOn site old new c.args.pending.now c.run_on.new.pending f first) (c.put_hole.ensures.unchanged none)
     (subst (λ (p : Pending). RunsOn site old new p c.run_on.new.pending c.put_hole.new.self first) (c.put_hole.ensures.none_added none) c.in-Going.ensures.flow) in

@@ -1,46 +1,48 @@
-use Rattle.std.proofs.Common.{◌∙◌, ◌+◌, true, false, length, refl, sym, ap}
+use Rattle.std.proofs.Common.{◌∙◌, ◌+◌, true, false, length, refl, sym, subst, ap}
 use Rattle.chunk_plain.specs.Setup.{Setup, spot}
 use Rattle.chunk_plain.specs.Views.{WriterView}
 use Rattle.trace_writer.specs.Site.{site_of}
+use Rattle.trace_writer.specs.Drafted.{IsFit}
 use Rattle.trace_writer.specs.Headers.{held_head}
-use Rattle.trace_writer.proofs.RunOn.{Starts, next_id, ends_as, held_first, ended_holds, ended_head, next_last, run_holds, run_follows, goes_on_in, runs_on, stopped_holds_none}
+use Rattle.trace_writer.proofs.RunOn.{Starts, next_id, ends_as, held_first, ended_fits, ended_head, next_last, run_fits, run_follows, goes_on_in, runs_on, stopped_holds_none}
 use Rattle.trace_writer.proofs.Stalling.{ends_stuck, stops_stuck, begun_many}
 use Rattle.trace_writer.proofs.Working.{work_before, work_then}
 use Rattle.trace_writer.proofs.stream.run_on_or_stall.Goals as goal
 
-pub complete-requires-clause-held : goal.complete-requires-clause-held
-complete-requires-clause-held g c =
-    let route = c.args.route.now in let setup = g.W.Words.setup c.args.table.now in let place = g.W.Words.place c.args.seat.now in let site = site_of setup place route in
-    let old = g.W.Words.view c.args.table.now c.args.seat.now in
+pub complete-requires-clause-fit : goal.complete-requires-clause-fit
+complete-requires-clause-fit g c =
+    let route = c.args.route.now in let setup = g.W.Words.means.setup c.args.table.now in let place = g.W.Words.means.place c.args.seat.now in let site = site_of setup place route in
+    let old = g.W.Words.means.view c.args.table.now c.args.seat.now in
     let i = c.requires.inside in let e = c.end-chunk.ensures in
-    let ends = ends_as c.args.fragment c.end-chunk.result e.held e.bytes e.count e.continues in
-    ended_holds site i.packet i.older old old c.args.pending.now c.args.fragment c.end-chunk.result
-    (held_first site i.packet i.older old c.args.pending.now c.args.fragment i.inside) ends
+    let ends = ends_as c.args.fragment c.end-chunk.result e.held e.bytes e.sealed e.count e.continues in
+    ended_fits site i.packet i.older old old c.args.pending.now c.args.fragment c.end-chunk.result
+    (held_first site i.packet i.older old c.args.pending.now c.args.fragment i.inside) ends e.len
 
 pub complete-requires-clause-head : goal.complete-requires-clause-head
 complete-requires-clause-head g c =
-    let route = c.args.route.now in let setup = g.W.Words.setup c.args.table.now in let place = g.W.Words.place c.args.seat.now in let site = site_of setup place route in
-    let old = g.W.Words.view c.args.table.now c.args.seat.now in
+    let route = c.args.route.now in let setup = g.W.Words.means.setup c.args.table.now in let place = g.W.Words.means.place c.args.seat.now in let site = site_of setup place route in
+    let old = g.W.Words.means.view c.args.table.now c.args.seat.now in
     let i = c.requires.inside in let e = c.end-chunk.ensures in
-    let ends = ends_as c.args.fragment c.end-chunk.result e.held e.bytes e.count e.continues in
+    let ends = ends_as c.args.fragment c.end-chunk.result e.held e.bytes e.sealed e.count e.continues in
     ended_head site i.packet i.older old old c.args.pending.now c.args.fragment c.end-chunk.result
     (held_first site i.packet i.older old c.args.pending.now c.args.fragment i.inside) ends
 
 pub claim_asking-requires-clause-id : goal.claim_asking-requires-clause-id
 claim_asking-requires-clause-id g c =
     let i = c.requires.inside in
-    next_id _ i.packet i.older _ c.args.pending.now c.args.fragment i.inside ∙ sym (begun_many _ _ _ _ _ _ c.complete.ensures.view)
+    next_id _ i.packet i.older _ c.args.pending.now c.args.fragment i.inside ∙ sym (begun_many _ _ _ _ _ c.complete.ensures.view)
 
-pub start_fragment-requires-clause-held : goal.start_fragment-requires-clause-held
-start_fragment-requires-clause-held g c =
-    let route = c.args.route.now in let setup = g.W.Words.setup c.args.table.now in let place = g.W.Words.place c.args.seat.now in let site = site_of setup place route in
-    let old = g.W.Words.view c.args.table.now c.args.seat.now in let one = g.W.Words.view c.complete.new.table c.complete.new.seat in
+pub start_fragment-requires-clause-fit : goal.start_fragment-requires-clause-fit
+start_fragment-requires-clause-fit g c =
+    let route = c.args.route.now in let setup = g.W.Words.means.setup c.args.table.now in let place = g.W.Words.means.place c.args.seat.now in let site = site_of setup place route in
+    let old = g.W.Words.means.view c.args.table.now c.args.seat.now in let one = g.W.Words.means.view c.complete.new.table c.complete.new.seat in
     let i = c.requires.inside in let e = c.end-chunk.ensures in
-    let ends = ends_as c.args.fragment c.end-chunk.result e.held e.bytes e.count e.continues in
-    let two = g.W.Words.view c.claim_asking.new.table c.claim_asking.new.seat in
+    let ends = ends_as c.args.fragment c.end-chunk.result e.held e.bytes e.sealed e.count e.continues in
+    let two = g.W.Words.means.view c.claim_asking.new.table c.claim_asking.new.seat in
     let n = c.new.ensures in let b = c.in-Some.ensures.begun in
     let starts : Starts site c.args.fragment c.in-Some.next c.new.result = record {
       held = n.held;
+      sealed = n.sealed;
       at = n.at;
       count = n.count;
       continues = n.continues;
@@ -48,18 +50,20 @@ start_fragment-requires-clause-held g c =
       whole = b.whole ∙ ap (λ (s : Setup). (spot s c.in-Some.next.chunk).payload_size) c.complete.ensures.quiet.step.setup_stays;
     } in
     let next = next_last setup place c.in-Some.next.chunk route old one two c.args.pending.now c.args.fragment c.end-chunk.result c.requires.route c.in-Some.ensures.won ends c.complete.ensures.view in
-    run_holds site i.packet i.older old two c.args.pending.now c.args.fragment c.end-chunk.result.held.body.payload.items c.new.result c.in-Some.next i.inside next starts
+    subst (λ (s : Setup). IsFit s two c.new.result c.new.result.count c.new.result.at) (sym (c.in-Some.ensures.work.others.setup_stays ∙ c.complete.ensures.quiet.step.setup_stays))
+    (run_fits site i.packet i.older old two c.args.pending.now c.args.fragment c.end-chunk.result.held.body.payload.items c.new.result c.in-Some.next i.inside next starts)
 
 pub start_fragment-requires-clause-head : goal.start_fragment-requires-clause-head
 start_fragment-requires-clause-head g c =
-    let route = c.args.route.now in let setup = g.W.Words.setup c.args.table.now in let place = g.W.Words.place c.args.seat.now in let site = site_of setup place route in
-    let old = g.W.Words.view c.args.table.now c.args.seat.now in let one = g.W.Words.view c.complete.new.table c.complete.new.seat in
+    let route = c.args.route.now in let setup = g.W.Words.means.setup c.args.table.now in let place = g.W.Words.means.place c.args.seat.now in let site = site_of setup place route in
+    let old = g.W.Words.means.view c.args.table.now c.args.seat.now in let one = g.W.Words.means.view c.complete.new.table c.complete.new.seat in
     let i = c.requires.inside in let e = c.end-chunk.ensures in
-    let ends = ends_as c.args.fragment c.end-chunk.result e.held e.bytes e.count e.continues in
-    let two = g.W.Words.view c.claim_asking.new.table c.claim_asking.new.seat in
+    let ends = ends_as c.args.fragment c.end-chunk.result e.held e.bytes e.sealed e.count e.continues in
+    let two = g.W.Words.means.view c.claim_asking.new.table c.claim_asking.new.seat in
     let n = c.new.ensures in let b = c.in-Some.ensures.begun in
     let starts : Starts site c.args.fragment c.in-Some.next c.new.result = record {
       held = n.held;
+      sealed = n.sealed;
       at = n.at;
       count = n.count;
       continues = n.continues;
@@ -72,14 +76,15 @@ start_fragment-requires-clause-head g c =
 
 pub returns-in-Some-clause-flow : goal.returns-in-Some-clause-flow
 returns-in-Some-clause-flow g c =
-    let route = c.args.route.now in let setup = g.W.Words.setup c.args.table.now in let place = g.W.Words.place c.args.seat.now in let site = site_of setup place route in
-    let old = g.W.Words.view c.args.table.now c.args.seat.now in let one = g.W.Words.view c.complete.new.table c.complete.new.seat in
+    let route = c.args.route.now in let setup = g.W.Words.means.setup c.args.table.now in let place = g.W.Words.means.place c.args.seat.now in let site = site_of setup place route in
+    let old = g.W.Words.means.view c.args.table.now c.args.seat.now in let one = g.W.Words.means.view c.complete.new.table c.complete.new.seat in
     let i = c.requires.inside in let e = c.end-chunk.ensures in
-    let ends = ends_as c.args.fragment c.end-chunk.result e.held e.bytes e.count e.continues in
-    let two = g.W.Words.view c.claim_asking.new.table c.claim_asking.new.seat in
+    let ends = ends_as c.args.fragment c.end-chunk.result e.held e.bytes e.sealed e.count e.continues in
+    let two = g.W.Words.means.view c.claim_asking.new.table c.claim_asking.new.seat in
     let n = c.new.ensures in let b = c.in-Some.ensures.begun in
     let starts : Starts site c.args.fragment c.in-Some.next c.new.result = record {
       held = n.held;
+      sealed = n.sealed;
       at = n.at;
       count = n.count;
       continues = n.continues;
@@ -88,7 +93,7 @@ returns-in-Some-clause-flow g c =
     } in
     let next = next_last setup place c.in-Some.next.chunk route old one two c.args.pending.now c.args.fragment c.end-chunk.result c.requires.route c.in-Some.ensures.won ends c.complete.ensures.view in
     let s = c.start_fragment.ensures in
-    let new = g.W.Words.view c.start_fragment.new.table c.start_fragment.new.seat in
+    let new = g.W.Words.means.view c.start_fragment.new.table c.start_fragment.new.seat in
     runs_on site old new c.args.pending.now c.complete.new.pending c.args.fragment c.start_fragment.result c.requires.route.least c.requires.filled
     (goes_on_in site old two new c.args.pending.now c.complete.new.pending c.args.fragment c.end-chunk.result c.new.result c.in-Some.next c.start_fragment.result
     next ends c.complete.ensures.pending starts
@@ -96,40 +101,40 @@ returns-in-Some-clause-flow g c =
 
 pub returns-in-Some-clause-work : goal.returns-in-Some-clause-work
 returns-in-Some-clause-work g c =
-    work_before g.W.Words.setup g.W.Words.sits g.W.Words.place g.W.Words.view g.W.Words.serves g.W.Words.service_view g.W.Words.told g.H.HelperOn.needs g.H.HelperOn.helps
+    work_before g.W.Words.means g.H.HelperOn.needs g.H.HelperOn.helps
     c.args.route.now c.args.help.now c.args.table.now c.args.seat.now c.args.steps.now c.complete.new.table c.complete.new.seat false c.claim_asking.new.help c.start_fragment.new.table c.start_fragment.new.seat c.claim_asking.new.steps
     (record { quiet = c.complete.ensures.quiet; calls = ap (λ (v : WriterView). v.calls) c.complete.ensures.view })
-    (work_then g.W.Words.setup g.W.Words.sits g.W.Words.place g.W.Words.view g.W.Words.serves g.W.Words.service_view g.W.Words.told g.H.HelperOn.needs g.H.HelperOn.helps
+    (work_then g.W.Words.means g.H.HelperOn.needs g.H.HelperOn.helps
     c.args.route.now c.args.help.now c.complete.new.table c.complete.new.seat c.args.steps.now false c.claim_asking.new.help c.claim_asking.new.table c.claim_asking.new.seat c.claim_asking.new.steps c.start_fragment.new.table c.start_fragment.new.seat
     g.met.H.HelperOn.needs_stay c.in-Some.ensures.work
-    (record { quiet = c.start_fragment.ensures.quiet; calls = ap (λ (v : WriterView). v.calls) c.start_fragment.ensures.view }))
+    (record { quiet = c.start_fragment.ensures.quiet; calls = ap (λ (v : WriterView). v.calls) c.start_fragment.ensures.view.view }))
 
 pub returns-in-None-clause-flow : goal.returns-in-None-clause-flow
 returns-in-None-clause-flow g c =
-    let route = c.args.route.now in let setup = g.W.Words.setup c.args.table.now in let place = g.W.Words.place c.args.seat.now in let site = site_of setup place route in
-    let old = g.W.Words.view c.args.table.now c.args.seat.now in let one = g.W.Words.view c.complete.new.table c.complete.new.seat in
+    let route = c.args.route.now in let setup = g.W.Words.means.setup c.args.table.now in let place = g.W.Words.means.place c.args.seat.now in let site = site_of setup place route in
+    let old = g.W.Words.means.view c.args.table.now c.args.seat.now in let one = g.W.Words.means.view c.complete.new.table c.complete.new.seat in
     let i = c.requires.inside in let e = c.end-chunk.ensures in
-    let ends = ends_as c.args.fragment c.end-chunk.result e.held e.bytes e.count e.continues in
-    let new = g.W.Words.view c.claim_asking.new.table c.claim_asking.new.seat in
+    let ends = ends_as c.args.fragment c.end-chunk.result e.held e.bytes e.sealed e.count e.continues in
+    let new = g.W.Words.means.view c.claim_asking.new.table c.claim_asking.new.seat in
     let none = c.in-None.ensures.none in (
       stops_stuck site old new c.args.pending.now c.complete.new.pending c.args.fragment c.requires.filled
           (ends_stuck setup place route old one new c.args.pending.now c.args.fragment c.end-chunk.result c.requires.stalls ends c.complete.ensures.view none.begun none.calls),
       next_id site i.packet i.older old c.args.pending.now c.args.fragment i.inside
-          ∙ sym (ap length none.begun ∙ begun_many _ _ _ _ _ _ c.complete.ensures.view),
+          ∙ sym (ap length none.begun ∙ begun_many _ _ _ _ _ c.complete.ensures.view),
     )
 
 pub returns-in-None-clause-work : goal.returns-in-None-clause-work
 returns-in-None-clause-work g c =
-    work_before g.W.Words.setup g.W.Words.sits g.W.Words.place g.W.Words.view g.W.Words.serves g.W.Words.service_view g.W.Words.told g.H.HelperOn.needs g.H.HelperOn.helps
+    work_before g.W.Words.means g.H.HelperOn.needs g.H.HelperOn.helps
     c.args.route.now c.args.help.now c.args.table.now c.args.seat.now c.args.steps.now c.complete.new.table c.complete.new.seat true c.claim_asking.new.help c.claim_asking.new.table c.claim_asking.new.seat c.claim_asking.new.steps
     (record { quiet = c.complete.ensures.quiet; calls = ap (λ (v : WriterView). v.calls) c.complete.ensures.view }) c.in-None.ensures.work
 
 pub claim_asking-requires-clause-none_held : goal.claim_asking-requires-clause-none_held
 claim_asking-requires-clause-none_held g c =
-    let route = c.args.route.now in let setup = g.W.Words.setup c.args.table.now in let place = g.W.Words.place c.args.seat.now in let site = site_of setup place route in
-    let old = g.W.Words.view c.args.table.now c.args.seat.now in let one = g.W.Words.view c.complete.new.table c.complete.new.seat in
+    let route = c.args.route.now in let setup = g.W.Words.means.setup c.args.table.now in let place = g.W.Words.means.place c.args.seat.now in let site = site_of setup place route in
+    let old = g.W.Words.means.view c.args.table.now c.args.seat.now in let one = g.W.Words.means.view c.complete.new.table c.complete.new.seat in
     let i = c.requires.inside in let e = c.end-chunk.ensures in
-    let ends = ends_as c.args.fragment c.end-chunk.result e.held e.bytes e.count e.continues in
+    let ends = ends_as c.args.fragment c.end-chunk.result e.held e.bytes e.sealed e.count e.continues in
     stopped_holds_none site i.packet i.older old one c.args.pending.now c.complete.new.pending c.args.fragment i.inside
     (stops_stuck site old one c.args.pending.now c.complete.new.pending c.args.fragment c.requires.filled
     (ends_stuck setup place route old one one c.args.pending.now c.args.fragment c.end-chunk.result c.requires.stalls ends c.complete.ensures.view refl refl))

@@ -1,9 +1,9 @@
-use Rattle.chunk_plain.specs.Words.{IsServiceStep}
+use Rattle.chunk_plain.specs.Meaning.{IsServiceStep}
 use Rattle.writer_speed.specs.Collecting.{IsCollecting}
 use Rattle.writer_speed.proofs.collector.try_each.Given as goal
 
 abbrev pub invariant-loop-chunk : goal.invariant-loop-chunk
 invariant-loop-chunk g l = record {
-  collects : IsCollecting g.W.Words.setup g.W.Words.serves g.W.Words.service_view l.table l.seat l.range l.next;
-  step : IsServiceStep g.W.Words.setup g.W.Words.sits g.W.Words.view g.W.Words.serves l.initial.table l.table l.seat;
+  collects : IsCollecting g.W.Words.means l.table l.seat l.range l.next;
+  step : IsServiceStep g.W.Words.means l.initial.table l.initial.seat l.table l.seat;
 }

@@ -5,9 +5,9 @@ use Rattle.writer_speed.proofs.packet.end_packet.Given as goal
 
 abbrev pub invariant-messages : goal.invariant-messages
 invariant-messages g l = record {
-  goes : GoesOn g.W.Words.setup g.W.Words.sits g.W.Words.place g.W.Words.view g.W.Words.serves g.W.Words.service_view l.initial.table l.initial.writer l.table l.writer;
-  inside : in_packet (g.W.Words.view l.table l.writer.seat) ≡ true;
+  goes : GoesOn g.W.Words.means l.initial.table l.initial.writer l.table l.writer;
+  inside : in_packet (g.W.Words.means.view l.table l.writer.seat) ≡ true;
 }
 
 abbrev pub decreases-messages : goal.decreases-messages
-decreases-messages g l = open_depth (g.W.Words.view l.table l.writer.seat)
+decreases-messages g l = open_depth (g.W.Words.means.view l.table l.writer.seat)

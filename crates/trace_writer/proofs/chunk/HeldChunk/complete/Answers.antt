@@ -1,20 +1,142 @@
-use Rattle.chunk_plain.proofs.Holding.{restamps_holds}
-use Rattle.trace_writer.proofs.QuietSteps.{quiet_restamped, quiet_completed}
+use Rattle.std.proofs.Common.{◌≡◌, ◌∙◌, ◌-◌, ◌≤◌, ◌&&◌, ℕ, map, vec_len, refl, sym, ap, subst, arith}
+use Rattle.trace_model.specs.Sequences.{is_among}
+use Rattle.commit_body.specs.declared.body.CommitBody.{CommitBody}
+use Rattle.commit_body.specs.Patches.{hole_chunks, patch_value}
+use Rattle.trace_writer.specs.Headers.{flags_value}
+use Rattle.chunk_plain.specs.declared.tokens.Held.{Held}
+use Rattle.chunk_plain.specs.Payload.{sealed_to, HasFragments}
+use Rattle.chunk_plain.specs.Setup.{Setup, spot}
+use Rattle.chunk_plain.specs.Views.{Head}
+use Rattle.chunk_plain.specs.Drafts.{published, ends_by, head_at}
+use Rattle.chunk_plain.specs.Steps.{completes}
+use Rattle.chunk_plain.specs.Words.{PublishesBytes}
+use Rattle.chunk_plain.proofs.Holding.{redrafts_holds}
+use Rattle.trace_writer.proofs.Publishing.{keeps_sealed, reads_so, holds_still, completes_all, published_all, content_made, heads_as}
 use Rattle.trace_writer.proofs.QuietRows.{quiet_both}
+use Rattle.trace_writer.proofs.QuietSteps.{quiet_redrafted, quiet_completed}
 use Rattle.trace_writer.proofs.chunk.HeldChunk.complete.Goals as goal
+
+pub publish-requires-clause-held : goal.publish-requires-clause-held
+publish-requires-clause-held g c = c.requires.fit.holds
+
+pub publish-requires-clause-size : goal.publish-requires-clause-size
+publish-requires-clause-size g c = c.requires.fit.size
+
+pub publish-requires-clause-kept : goal.publish-requires-clause-kept
+publish-requires-clause-kept g c =
+    keeps_sealed (g.W.Words.means.setup c.args.table.now) (g.W.Words.means.view c.args.table.now c.args.seat.now) c.args.self (c.args.self.count - 1) (vec_len c.args.self.held.body.payload) c.requires.fit
+
+pub set_header-requires-clause-held : goal.set_header-requires-clause-held
+set_header-requires-clause-held g c =
+    let chunk = c.args.self in
+    let publishes : PublishesBytes chunk.held.chunk chunk.held.id chunk.sealed (vec_len chunk.held.body.payload) chunk.held.body.payload.items
+    (g.W.Words.means.view c.args.table.now c.args.seat.now) (g.W.Words.means.view c.publish.new.self c.publish.new.seat) =
+    subst (λ (n : ℕ). PublishesBytes chunk.held.chunk chunk.held.id chunk.sealed n chunk.held.body.payload.items
+    (g.W.Words.means.view c.args.table.now c.args.seat.now) (g.W.Words.means.view c.publish.new.self c.publish.new.seat)) c.len-size.ensures c.publish.ensures.view in
+    let less = chunk.order in let within = chunk.within in
+    holds_still (g.W.Words.means.setup c.args.table.now) (g.W.Words.means.view c.args.table.now c.args.seat.now) (g.W.Words.means.view c.publish.new.self c.publish.new.seat) chunk (chunk.count - 1) (vec_len chunk.held.body.payload) c.requires.fit
+    (omega (arith, less, within)) (omega arith) publishes c.publish.new.held c.publish.ensures.held
+
+pub set_header-requires-clause-reads : goal.set_header-requires-clause-reads
+set_header-requires-clause-reads g c =
+    let chunk = c.args.self in
+    let publishes : PublishesBytes chunk.held.chunk chunk.held.id chunk.sealed (vec_len chunk.held.body.payload) chunk.held.body.payload.items
+    (g.W.Words.means.view c.args.table.now c.args.seat.now) (g.W.Words.means.view c.publish.new.self c.publish.new.seat) =
+    subst (λ (n : ℕ). PublishesBytes chunk.held.chunk chunk.held.id chunk.sealed n chunk.held.body.payload.items
+    (g.W.Words.means.view c.args.table.now c.args.seat.now) (g.W.Words.means.view c.publish.new.self c.publish.new.seat)) c.len-size.ensures c.publish.ensures.view in
+    let mid = g.W.Words.means.view c.publish.new.self c.publish.new.seat in let less = chunk.order in let within = chunk.within in
+    let reads = reads_so (g.W.Words.means.setup c.args.table.now) (g.W.Words.means.view c.args.table.now c.args.seat.now) mid chunk (chunk.count - 1) (vec_len chunk.held.body.payload) c.requires.fit
+    (omega (arith, less, within)) (omega arith) publishes chunk.count refl in
+    subst (λ (h : Held). HasFragments (published mid h.id) (ends_by mid h.id chunk.count)) (sym c.publish.ensures.held) reads.0
+
+pub set_header-requires-clause-inside : goal.set_header-requires-clause-inside
+set_header-requires-clause-inside g c =
+    let chunk = c.args.self in
+    let publishes : PublishesBytes chunk.held.chunk chunk.held.id chunk.sealed (vec_len chunk.held.body.payload) chunk.held.body.payload.items
+    (g.W.Words.means.view c.args.table.now c.args.seat.now) (g.W.Words.means.view c.publish.new.self c.publish.new.seat) =
+    subst (λ (n : ℕ). PublishesBytes chunk.held.chunk chunk.held.id chunk.sealed n chunk.held.body.payload.items
+    (g.W.Words.means.view c.args.table.now c.args.seat.now) (g.W.Words.means.view c.publish.new.self c.publish.new.seat)) c.len-size.ensures c.publish.ensures.view in
+    let mid = g.W.Words.means.view c.publish.new.self c.publish.new.seat in let less = chunk.order in let within = chunk.within in
+    let fit = c.requires.fit in
+    let reads = (reads_so (g.W.Words.means.setup c.args.table.now) (g.W.Words.means.view c.args.table.now c.args.seat.now) mid chunk (chunk.count - 1) (vec_len chunk.held.body.payload) fit
+    (omega (arith, less, within)) (omega arith) publishes chunk.count refl).1 in
+    let inside = fit.inside in let size = fit.size in
+    subst (λ (s : Setup). sealed_to (ends_by mid c.publish.new.held.id chunk.count) ≤ (spot s c.publish.new.held.chunk).payload_size) (sym c.publish.ensures.step.setup_stays)
+    (subst (λ (h : Held). sealed_to (ends_by mid h.id chunk.count) ≤ (spot (g.W.Words.means.setup c.args.table.now) h.chunk).payload_size) (sym c.publish.ensures.held)
+    (omega (arith, reads, inside, size)))
 
 pub complete-requires-clause-held : goal.complete-requires-clause-held
 complete-requires-clause-held g c =
-    restamps_holds (g.W.Words.view c.args.table.now c.args.seat.now) (g.W.Words.view c.set_header.new.self c.set_header.new.seat) _ c.set_header.new.held _
-    c.set_header.ensures.view c.set_header.ensures.held c.requires.held
+    let chunk = c.args.self in
+    let publishes : PublishesBytes chunk.held.chunk chunk.held.id chunk.sealed (vec_len chunk.held.body.payload) chunk.held.body.payload.items
+    (g.W.Words.means.view c.args.table.now c.args.seat.now) (g.W.Words.means.view c.publish.new.self c.publish.new.seat) =
+    subst (λ (n : ℕ). PublishesBytes chunk.held.chunk chunk.held.id chunk.sealed n chunk.held.body.payload.items
+    (g.W.Words.means.view c.args.table.now c.args.seat.now) (g.W.Words.means.view c.publish.new.self c.publish.new.seat)) c.len-size.ensures c.publish.ensures.view in
+    let less = chunk.order in let within = chunk.within in
+    redrafts_holds (g.W.Words.means.view c.publish.new.self c.publish.new.seat) (g.W.Words.means.view c.set_header.new.self c.set_header.new.seat) _ c.set_header.new.held _
+    c.set_header.ensures.view c.set_header.ensures.held
+    (holds_still (g.W.Words.means.setup c.args.table.now) (g.W.Words.means.view c.args.table.now c.args.seat.now) (g.W.Words.means.view c.publish.new.self c.publish.new.seat) chunk (chunk.count - 1) (vec_len chunk.held.body.payload) c.requires.fit
+    (omega (arith, less, within)) (omega arith) publishes c.publish.new.held c.publish.ensures.held)
+
+pub complete-requires-clause-published : goal.complete-requires-clause-published
+complete-requires-clause-published g c =
+    let chunk = c.args.self in
+    let publishes : PublishesBytes chunk.held.chunk chunk.held.id chunk.sealed (vec_len chunk.held.body.payload) chunk.held.body.payload.items
+    (g.W.Words.means.view c.args.table.now c.args.seat.now) (g.W.Words.means.view c.publish.new.self c.publish.new.seat) =
+    subst (λ (n : ℕ). PublishesBytes chunk.held.chunk chunk.held.id chunk.sealed n chunk.held.body.payload.items
+    (g.W.Words.means.view c.args.table.now c.args.seat.now) (g.W.Words.means.view c.publish.new.self c.publish.new.seat)) c.len-size.ensures c.publish.ensures.view in
+   
+    published_all (g.W.Words.means.setup c.args.table.now) (g.W.Words.means.view c.args.table.now c.args.seat.now) (g.W.Words.means.view c.publish.new.self c.publish.new.seat)
+    (g.W.Words.means.view c.set_header.new.self c.set_header.new.seat) chunk (chunk.count - 1) c.requires.fit publishes _ c.set_header.new.held _ _
+    (ap (λ (h : Held). h.chunk) c.publish.ensures.held) (ap (λ (h : Held). h.id) c.publish.ensures.held)
+    (ap (λ (b : CommitBody). b.payload.items) c.drain_into.ensures.others ∙ ap (λ (h : Held). h.body.payload.items) c.publish.ensures.held)
+    c.set_header.ensures.held c.set_header.ensures.view
+
+pub returns-clause-view : goal.returns-clause-view
+returns-clause-view g c =
+    let chunk = c.args.self in
+    let publishes : PublishesBytes chunk.held.chunk chunk.held.id chunk.sealed (vec_len chunk.held.body.payload) chunk.held.body.payload.items
+    (g.W.Words.means.view c.args.table.now c.args.seat.now) (g.W.Words.means.view c.publish.new.self c.publish.new.seat) =
+    subst (λ (n : ℕ). PublishesBytes chunk.held.chunk chunk.held.id chunk.sealed n chunk.held.body.payload.items
+    (g.W.Words.means.view c.args.table.now c.args.seat.now) (g.W.Words.means.view c.publish.new.self c.publish.new.seat)) c.len-size.ensures c.publish.ensures.view in
+    let less = chunk.order in let within = chunk.within in
+    let view = g.W.Words.means.view c.args.table.now c.args.seat.now in let mid = g.W.Words.means.view c.publish.new.self c.publish.new.seat in
+    let two = g.W.Words.means.view c.set_header.new.self c.set_header.new.seat in
+    let held = ap (λ (h : Held). h.chunk) c.publish.ensures.held in let id = ap (λ (h : Held). h.id) c.publish.ensures.held in
+    let still = holds_still (g.W.Words.means.setup c.args.table.now) view mid chunk (chunk.count - 1) (vec_len chunk.held.body.payload) c.requires.fit
+    (omega (arith, less, within)) (omega arith) publishes c.publish.new.held c.publish.ensures.held in
+    let head : head_at two c.set_header.new.held.id ≡ record { count = chunk.count; flags = c.flags_of-flags.result } =
+    ap (λ (h : Held). head_at two h.id) c.set_header.ensures.held ∙ heads_as mid two c.publish.new.held _ _ still c.set_header.ensures.view in
+    completes_all view mid two (g.W.Words.means.view c.complete.new.self c.complete.new.seat) chunk c.publish.new.held c.set_header.new.held c.publish.ensures.view.words _ _
+    c.publish.ensures.view.view held id c.set_header.ensures.view
+    (ap (λ (h : Held). h.chunk) c.set_header.ensures.held ∙ held) (ap (λ (h : Held). h.id) c.set_header.ensures.held ∙ id) c.complete.ensures.view
+    ∙ ap (completes view chunk.held.chunk chunk.held.id)
+    (content_made (g.W.Words.means.place c.args.seat.now) (g.W.Words.means.place c.set_header.new.seat) chunk.held.id c.set_header.new.held.id _ _ c.set_header.new.held.body chunk.held.body.payload.items _ _
+    (c.set_header.ensures.step.place_stays ∙ c.publish.ensures.step.place_stays) (ap (λ (h : Held). h.id) c.set_header.ensures.held ∙ id)
+    (head ∙ ap (λ (n : ℕ). record { count = chunk.count; flags = n }) (c.flags_of-flags.ensures.value ∙ ap (flags_value chunk.continues c.args.runs_on) (c.is_awaiting.ensures ∙ ap (λ (i : ℕ). c.args.runs_on && is_among i (hole_chunks c.args.pending.now.holes)) id)))
+    (ap (λ (h : Held). h.body.payload.items) c.set_header.ensures.held ∙ ap (λ (b : CommitBody). b.payload.items) c.drain_into.ensures.others ∙ ap (λ (h : Held). h.body.payload.items) c.publish.ensures.held)
+    (ap (λ (h : Held). map patch_value h.body.patches.value.items) c.set_header.ensures.held ∙ c.drain_into.ensures.sent)
+    (ap (λ (h : Held). h.body.target) c.set_header.ensures.held))
 
 pub returns-clause-quiet : goal.returns-clause-quiet
 returns-clause-quiet g c =
-    quiet_both g.W.Words.setup g.W.Words.sits g.W.Words.place g.W.Words.view g.W.Words.serves g.W.Words.service_view g.W.Words.told
-    c.args.table.now c.args.seat.now c.set_header.new.self c.set_header.new.seat c.complete.new.self c.complete.new.seat
-    (quiet_restamped g.W.Words.setup g.W.Words.sits g.W.Words.place g.W.Words.view g.W.Words.serves g.W.Words.service_view g.W.Words.told
-    c.args.table.now c.args.seat.now c.set_header.new.self c.set_header.new.seat _ _ _ _ c.set_header.ensures.step c.set_header.ensures.view c.requires.held c.set_header.ensures.told)
-    (quiet_completed g.W.Words.setup g.W.Words.sits g.W.Words.place g.W.Words.view g.W.Words.serves g.W.Words.service_view g.W.Words.told
+    let chunk = c.args.self in
+    let publishes : PublishesBytes chunk.held.chunk chunk.held.id chunk.sealed (vec_len chunk.held.body.payload) chunk.held.body.payload.items
+    (g.W.Words.means.view c.args.table.now c.args.seat.now) (g.W.Words.means.view c.publish.new.self c.publish.new.seat) =
+    subst (λ (n : ℕ). PublishesBytes chunk.held.chunk chunk.held.id chunk.sealed n chunk.held.body.payload.items
+    (g.W.Words.means.view c.args.table.now c.args.seat.now) (g.W.Words.means.view c.publish.new.self c.publish.new.seat)) c.len-size.ensures c.publish.ensures.view in
+    let less = chunk.order in let within = chunk.within in
+    let still = holds_still (g.W.Words.means.setup c.args.table.now) (g.W.Words.means.view c.args.table.now c.args.seat.now) (g.W.Words.means.view c.publish.new.self c.publish.new.seat) chunk (chunk.count - 1) (vec_len chunk.held.body.payload) c.requires.fit
+    (omega (arith, less, within)) (omega arith) publishes c.publish.new.held c.publish.ensures.held in
+    quiet_both g.W.Words.means
+    c.args.table.now c.args.seat.now c.publish.new.self c.publish.new.seat c.complete.new.self c.complete.new.seat
+    (quiet_redrafted g.W.Words.means
+    c.args.table.now c.args.seat.now c.publish.new.self c.publish.new.seat _ _ _ _ _ c.publish.ensures.step c.publish.ensures.view.view c.requires.fit.holds c.publish.ensures.told)
+    (quiet_both g.W.Words.means
+    c.publish.new.self c.publish.new.seat c.set_header.new.self c.set_header.new.seat c.complete.new.self c.complete.new.seat
+    (quiet_redrafted g.W.Words.means
+    c.publish.new.self c.publish.new.seat c.set_header.new.self c.set_header.new.seat _ _ _ _ _ c.set_header.ensures.step c.set_header.ensures.view still c.set_header.ensures.told)
+    (quiet_completed g.W.Words.means
     c.set_header.new.self c.set_header.new.seat c.complete.new.self c.complete.new.seat _ _ _ _ c.complete.ensures.step c.complete.ensures.view
-    (restamps_holds (g.W.Words.view c.args.table.now c.args.seat.now) (g.W.Words.view c.set_header.new.self c.set_header.new.seat) _ c.set_header.new.held _
-    c.set_header.ensures.view c.set_header.ensures.held c.requires.held) c.complete.ensures.told)
+    (redrafts_holds (g.W.Words.means.view c.publish.new.self c.publish.new.seat) (g.W.Words.means.view c.set_header.new.self c.set_header.new.seat) _ c.set_header.new.held _
+    c.set_header.ensures.view c.set_header.ensures.held still) c.complete.ensures.told))

@@ -6,7 +6,7 @@ use Rattle.trace_writer.proofs.writer.WriterCore.begin.Goals as goal
 
 pub returns-clause-agrees : goal.returns-clause-agrees
 returns-clause-agrees g c =
-    (left_begun g.W.Words.setup g.W.Words.sits g.W.Words.place g.W.Words.view g.W.Words.serves g.W.Words.service_view g.W.Words.told g.H.HelperOn.needs g.H.HelperOn.helps
+    (left_begun g.W.Words.means g.H.HelperOn.needs g.H.HelperOn.helps
     c.args.help.now c.args.table.now c.args.self.now c.args.steps.now (stops_with c.begin.result) c.begin.new.help c.begin.new.table (record { seat = c.begin.new.seat; writer = c.begin.new.writer }) c.begin.new.steps
     c.requires.seat c.requires.needs c.requires.agrees c.requires.none_begun c.begin.ensures.agrees
     (λ stalled. let is = c.begin.ensures.stays stalled in (
@@ -18,7 +18,7 @@ returns-clause-agrees g c =
 
 pub returns-clause-others : goal.returns-clause-others
 returns-clause-others g c =
-    (left_begun g.W.Words.setup g.W.Words.sits g.W.Words.place g.W.Words.view g.W.Words.serves g.W.Words.service_view g.W.Words.told g.H.HelperOn.needs g.H.HelperOn.helps
+    (left_begun g.W.Words.means g.H.HelperOn.needs g.H.HelperOn.helps
     c.args.help.now c.args.table.now c.args.self.now c.args.steps.now (stops_with c.begin.result) c.begin.new.help c.begin.new.table (record { seat = c.begin.new.seat; writer = c.begin.new.writer }) c.begin.new.steps
     c.requires.seat c.requires.needs c.requires.agrees c.requires.none_begun c.begin.ensures.agrees
     (λ stalled. let is = c.begin.ensures.stays stalled in (
@@ -30,7 +30,7 @@ returns-clause-others g c =
 
 pub returns-clause-alone : goal.returns-clause-alone
 returns-clause-alone g c =
-    (left_begun g.W.Words.setup g.W.Words.sits g.W.Words.place g.W.Words.view g.W.Words.serves g.W.Words.service_view g.W.Words.told g.H.HelperOn.needs g.H.HelperOn.helps
+    (left_begun g.W.Words.means g.H.HelperOn.needs g.H.HelperOn.helps
     c.args.help.now c.args.table.now c.args.self.now c.args.steps.now (stops_with c.begin.result) c.begin.new.help c.begin.new.table (record { seat = c.begin.new.seat; writer = c.begin.new.writer }) c.begin.new.steps
     c.requires.seat c.requires.needs c.requires.agrees c.requires.none_begun c.begin.ensures.agrees
     (λ stalled. let is = c.begin.ensures.stays stalled in (
@@ -42,12 +42,12 @@ returns-clause-alone g c =
 
 pub returns-clause-in_packet : goal.returns-clause-in_packet
 returns-clause-in_packet g c =
-    (begun_inside g.W.Words.setup g.W.Words.sits g.W.Words.place g.W.Words.view g.W.Words.serves g.W.Words.service_view g.W.Words.told g.H.HelperOn.needs g.H.HelperOn.helps
+    (begun_inside g.W.Words.means g.H.HelperOn.needs g.H.HelperOn.helps
     c.args.help.now c.args.table.now c.args.self.now c.args.steps.now c.begin.new.help c.begin.new.table (record { seat = c.begin.new.seat; writer = c.begin.new.writer }) c.begin.new.steps c.begin.result
     (λ stalled. (c.begin.ensures.stays stalled).0) c.begin.ensures.answers c.begin.ensures.done).0
 
 pub returns-clause-depth : goal.returns-clause-depth
 returns-clause-depth g c =
-    (begun_inside g.W.Words.setup g.W.Words.sits g.W.Words.place g.W.Words.view g.W.Words.serves g.W.Words.service_view g.W.Words.told g.H.HelperOn.needs g.H.HelperOn.helps
+    (begun_inside g.W.Words.means g.H.HelperOn.needs g.H.HelperOn.helps
     c.args.help.now c.args.table.now c.args.self.now c.args.steps.now c.begin.new.help c.begin.new.table (record { seat = c.begin.new.seat; writer = c.begin.new.writer }) c.begin.new.steps c.begin.result
     (λ stalled. (c.begin.ensures.stays stalled).0) c.begin.ensures.answers c.begin.ensures.done).1

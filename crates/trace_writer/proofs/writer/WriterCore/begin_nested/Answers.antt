@@ -15,10 +15,10 @@ pub returns-in_err-check_nested-clause-refused : goal.returns-in_err-check_neste
 returns-in_err-check_nested-clause-refused g c = λ fault asked.
     let found = c.in_err-check_nested.field-0.0 in
     let result_is : c.from_residual.result ≡ Err found = search rules in
-    let is = nested_fault_is (g.W.Words.setup c.args.table.now) (g.W.Words.place c.args.self.now.seat) (g.W.Words.view c.args.table.now c.args.self.now.seat) c.args.self.now.writer c.args.field c.as_slice-tag.result.now c.requires.agrees.writes c.requires.begun (c.as_slice-tag.ensures ∙ c.head_nested-head.ensures) in
+    let is = nested_fault_is (g.W.Words.means.setup c.args.table.now) (g.W.Words.means.place c.args.self.now.seat) (g.W.Words.means.view c.args.table.now c.args.self.now.seat) c.args.self.now.writer c.args.field c.as_slice-tag.result.now c.requires.agrees.writes c.requires.begun (c.as_slice-tag.ensures ∙ c.head_nested-head.ensures) in
     let refused : nested_refusal (depth_of c.args.self.now.writer.packet) (len_of c.args.self.now.writer.packet) c.args.field (length c.as_slice-tag.result.now) ≡ Some found = c.in_err-check_nested.ensures.refused in
     record {
-      answer_is = result_is ∙ ap Err (refused_so c.args.self.now (nested_fault (g.W.Words.view c.args.table.now c.args.self.now.seat) c.args.field) found fault (sym is ∙ refused) asked);
+      answer_is = result_is ∙ ap Err (refused_so c.args.self.now (nested_fault (g.W.Words.means.view c.args.table.now c.args.self.now.seat) c.args.field) found fault (sym is ∙ refused) asked);
       writer_stays = refl;
       table_stays = refl;
       helper_stays = refl;
@@ -28,22 +28,22 @@ returns-in_err-check_nested-clause-refused g c = λ fault asked.
 pub returns-in_err-check_nested-clause-answers : goal.returns-in_err-check_nested-clause-answers
 returns-in_err-check_nested-clause-answers g c = λ asked.
     let found = c.in_err-check_nested.field-0.0 in
-    let is = nested_fault_is (g.W.Words.setup c.args.table.now) (g.W.Words.place c.args.self.now.seat) (g.W.Words.view c.args.table.now c.args.self.now.seat) c.args.self.now.writer c.args.field c.as_slice-tag.result.now c.requires.agrees.writes c.requires.begun (c.as_slice-tag.ensures ∙ c.head_nested-head.ensures) in
+    let is = nested_fault_is (g.W.Words.means.setup c.args.table.now) (g.W.Words.means.place c.args.self.now.seat) (g.W.Words.means.view c.args.table.now c.args.self.now.seat) c.args.self.now.writer c.args.field c.as_slice-tag.result.now c.requires.agrees.writes c.requires.begun (c.as_slice-tag.ensures ∙ c.head_nested-head.ensures) in
     let refused : nested_refusal (depth_of c.args.self.now.writer.packet) (len_of c.args.self.now.writer.packet) c.args.field (length c.as_slice-tag.result.now) ≡ Some found = c.in_err-check_nested.ensures.refused in
-    absurd (never_none c.args.self.now (nested_fault (g.W.Words.view c.args.table.now c.args.self.now.seat) c.args.field) found (sym is ∙ refused) asked)
+    absurd (never_none c.args.self.now (nested_fault (g.W.Words.means.view c.args.table.now c.args.self.now.seat) c.args.field) found (sym is ∙ refused) asked)
 
 pub returns-in_err-check_nested-clause-done : goal.returns-in_err-check_nested-clause-done
 returns-in_err-check_nested-clause-done g c = λ asked.
     let found = c.in_err-check_nested.field-0.0 in
-    let is = nested_fault_is (g.W.Words.setup c.args.table.now) (g.W.Words.place c.args.self.now.seat) (g.W.Words.view c.args.table.now c.args.self.now.seat) c.args.self.now.writer c.args.field c.as_slice-tag.result.now c.requires.agrees.writes c.requires.begun (c.as_slice-tag.ensures ∙ c.head_nested-head.ensures) in
+    let is = nested_fault_is (g.W.Words.means.setup c.args.table.now) (g.W.Words.means.place c.args.self.now.seat) (g.W.Words.means.view c.args.table.now c.args.self.now.seat) c.args.self.now.writer c.args.field c.as_slice-tag.result.now c.requires.agrees.writes c.requires.begun (c.as_slice-tag.ensures ∙ c.head_nested-head.ensures) in
     let refused : nested_refusal (depth_of c.args.self.now.writer.packet) (len_of c.args.self.now.writer.packet) c.args.field (length c.as_slice-tag.result.now) ≡ Some found = c.in_err-check_nested.ensures.refused in
-    absurd (never_none c.args.self.now (nested_fault (g.W.Words.view c.args.table.now c.args.self.now.seat) c.args.field) found (sym is ∙ refused) asked)
+    absurd (never_none c.args.self.now (nested_fault (g.W.Words.means.view c.args.table.now c.args.self.now.seat) c.args.field) found (sym is ∙ refused) asked)
 
 pub returns-clause-refused : goal.returns-clause-refused
 returns-clause-refused g c = λ fault asked.
-    let is = nested_fault_is (g.W.Words.setup c.args.table.now) (g.W.Words.place c.args.self.now.seat) (g.W.Words.view c.args.table.now c.args.self.now.seat) c.args.self.now.writer c.args.field c.as_slice-tag.result.now c.requires.agrees.writes c.requires.begun (c.as_slice-tag.ensures ∙ c.head_nested-head.ensures) in
+    let is = nested_fault_is (g.W.Words.means.setup c.args.table.now) (g.W.Words.means.place c.args.self.now.seat) (g.W.Words.means.view c.args.table.now c.args.self.now.seat) c.args.self.now.writer c.args.field c.as_slice-tag.result.now c.requires.agrees.writes c.requires.begun (c.as_slice-tag.ensures ∙ c.head_nested-head.ensures) in
     let accepted : nested_refusal (depth_of c.args.self.now.writer.packet) (len_of c.args.self.now.writer.packet) c.args.field (length c.as_slice-tag.result.now) ≡ None = c.in_ok-check_nested.ensures.accepted in
-    let now = refused_stalled c.args.self.now (nested_fault (g.W.Words.view c.args.table.now c.args.self.now.seat) c.args.field) fault (sym is ∙ accepted) asked in
+    let now = refused_stalled c.args.self.now (nested_fault (g.W.Words.means.view c.args.table.now c.args.self.now.seat) c.args.field) fault (sym is ∙ accepted) asked in
     let stays = c.write_nested.ensures.stays now.stalled_is in
     record {
       answer_is = stays.0 ∙ ap Err (sym now.fault_is);
@@ -56,20 +56,20 @@ returns-clause-refused g c = λ fault asked.
 
 pub returns-clause-answers : goal.returns-clause-answers
 returns-clause-answers g c = λ asked.
-    let is = nested_fault_is (g.W.Words.setup c.args.table.now) (g.W.Words.place c.args.self.now.seat) (g.W.Words.view c.args.table.now c.args.self.now.seat) c.args.self.now.writer c.args.field c.as_slice-tag.result.now c.requires.agrees.writes c.requires.begun (c.as_slice-tag.ensures ∙ c.head_nested-head.ensures) in
+    let is = nested_fault_is (g.W.Words.means.setup c.args.table.now) (g.W.Words.means.place c.args.self.now.seat) (g.W.Words.means.view c.args.table.now c.args.self.now.seat) c.args.self.now.writer c.args.field c.as_slice-tag.result.now c.requires.agrees.writes c.requires.begun (c.as_slice-tag.ensures ∙ c.head_nested-head.ensures) in
     let accepted : nested_refusal (depth_of c.args.self.now.writer.packet) (len_of c.args.self.now.writer.packet) c.args.field (length c.as_slice-tag.result.now) ≡ None = c.in_ok-check_nested.ensures.accepted in
-    c.write_nested.ensures.answers (none_stalled c.args.self.now (nested_fault (g.W.Words.view c.args.table.now c.args.self.now.seat) c.args.field) (sym is ∙ accepted) asked)
+    c.write_nested.ensures.answers (none_stalled c.args.self.now (nested_fault (g.W.Words.means.view c.args.table.now c.args.self.now.seat) c.args.field) (sym is ∙ accepted) asked)
 
 pub returns-clause-done : goal.returns-clause-done
 returns-clause-done g c = λ asked.
-    let is = nested_fault_is (g.W.Words.setup c.args.table.now) (g.W.Words.place c.args.self.now.seat) (g.W.Words.view c.args.table.now c.args.self.now.seat) c.args.self.now.writer c.args.field c.as_slice-tag.result.now c.requires.agrees.writes c.requires.begun (c.as_slice-tag.ensures ∙ c.head_nested-head.ensures) in
+    let is = nested_fault_is (g.W.Words.means.setup c.args.table.now) (g.W.Words.means.place c.args.self.now.seat) (g.W.Words.means.view c.args.table.now c.args.self.now.seat) c.args.self.now.writer c.args.field c.as_slice-tag.result.now c.requires.agrees.writes c.requires.begun (c.as_slice-tag.ensures ∙ c.head_nested-head.ensures) in
     let accepted : nested_refusal (depth_of c.args.self.now.writer.packet) (len_of c.args.self.now.writer.packet) c.args.field (length c.as_slice-tag.result.now) ≡ None = c.in_ok-check_nested.ensures.accepted in
-    let d = c.write_nested.ensures.done (none_stalled c.args.self.now (nested_fault (g.W.Words.view c.args.table.now c.args.self.now.seat) c.args.field) (sym is ∙ accepted) asked) in
+    let d = c.write_nested.ensures.done (none_stalled c.args.self.now (nested_fault (g.W.Words.means.view c.args.table.now c.args.self.now.seat) c.args.field) (sym is ∙ accepted) asked) in
     (d.0, d.1)
 
 pub returns-clause-agrees : goal.returns-clause-agrees
 returns-clause-agrees g c =
-    (left_written g.W.Words.setup g.W.Words.sits g.W.Words.place g.W.Words.view g.W.Words.serves g.W.Words.service_view g.W.Words.told g.H.HelperOn.needs g.H.HelperOn.helps
+    (left_written g.W.Words.means g.H.HelperOn.needs g.H.HelperOn.helps
     c.args.help.now c.args.table.now c.args.self.now c.args.steps.now c.write_nested.new.help c.write_nested.new.table (record { seat = c.write_nested.new.seat; writer = c.write_nested.new.writer }) c.write_nested.new.steps (call.Nested c.args.field)
     (with_nested c.args.field) c.requires.seat c.requires.needs c.requires.agrees c.requires.begun (λ account. refl) (nested_keeps c.args.field) c.requires.begun c.write_nested.ensures.agrees
     (λ stalled. let is = c.write_nested.ensures.stays stalled in (
@@ -81,7 +81,7 @@ returns-clause-agrees g c =
 
 pub returns-clause-needs : goal.returns-clause-needs
 returns-clause-needs g c =
-    (left_written g.W.Words.setup g.W.Words.sits g.W.Words.place g.W.Words.view g.W.Words.serves g.W.Words.service_view g.W.Words.told g.H.HelperOn.needs g.H.HelperOn.helps
+    (left_written g.W.Words.means g.H.HelperOn.needs g.H.HelperOn.helps
     c.args.help.now c.args.table.now c.args.self.now c.args.steps.now c.write_nested.new.help c.write_nested.new.table (record { seat = c.write_nested.new.seat; writer = c.write_nested.new.writer }) c.write_nested.new.steps (call.Nested c.args.field)
     (with_nested c.args.field) c.requires.seat c.requires.needs c.requires.agrees c.requires.begun (λ account. refl) (nested_keeps c.args.field) c.requires.begun c.write_nested.ensures.agrees
     (λ stalled. let is = c.write_nested.ensures.stays stalled in (
@@ -93,7 +93,7 @@ returns-clause-needs g c =
 
 pub returns-clause-others : goal.returns-clause-others
 returns-clause-others g c =
-    (left_written g.W.Words.setup g.W.Words.sits g.W.Words.place g.W.Words.view g.W.Words.serves g.W.Words.service_view g.W.Words.told g.H.HelperOn.needs g.H.HelperOn.helps
+    (left_written g.W.Words.means g.H.HelperOn.needs g.H.HelperOn.helps
     c.args.help.now c.args.table.now c.args.self.now c.args.steps.now c.write_nested.new.help c.write_nested.new.table (record { seat = c.write_nested.new.seat; writer = c.write_nested.new.writer }) c.write_nested.new.steps (call.Nested c.args.field)
     (with_nested c.args.field) c.requires.seat c.requires.needs c.requires.agrees c.requires.begun (λ account. refl) (nested_keeps c.args.field) c.requires.begun c.write_nested.ensures.agrees
     (λ stalled. let is = c.write_nested.ensures.stays stalled in (
@@ -105,7 +105,7 @@ returns-clause-others g c =
 
 pub returns-clause-alone : goal.returns-clause-alone
 returns-clause-alone g c =
-    (left_written g.W.Words.setup g.W.Words.sits g.W.Words.place g.W.Words.view g.W.Words.serves g.W.Words.service_view g.W.Words.told g.H.HelperOn.needs g.H.HelperOn.helps
+    (left_written g.W.Words.means g.H.HelperOn.needs g.H.HelperOn.helps
     c.args.help.now c.args.table.now c.args.self.now c.args.steps.now c.write_nested.new.help c.write_nested.new.table (record { seat = c.write_nested.new.seat; writer = c.write_nested.new.writer }) c.write_nested.new.steps (call.Nested c.args.field)
     (with_nested c.args.field) c.requires.seat c.requires.needs c.requires.agrees c.requires.begun (λ account. refl) (nested_keeps c.args.field) c.requires.begun c.write_nested.ensures.agrees
     (λ stalled. let is = c.write_nested.ensures.stays stalled in (
@@ -117,7 +117,7 @@ returns-clause-alone g c =
 
 pub returns-clause-in_packet : goal.returns-clause-in_packet
 returns-clause-in_packet g c =
-    (left_written g.W.Words.setup g.W.Words.sits g.W.Words.place g.W.Words.view g.W.Words.serves g.W.Words.service_view g.W.Words.told g.H.HelperOn.needs g.H.HelperOn.helps
+    (left_written g.W.Words.means g.H.HelperOn.needs g.H.HelperOn.helps
     c.args.help.now c.args.table.now c.args.self.now c.args.steps.now c.write_nested.new.help c.write_nested.new.table (record { seat = c.write_nested.new.seat; writer = c.write_nested.new.writer }) c.write_nested.new.steps (call.Nested c.args.field)
     (with_nested c.args.field) c.requires.seat c.requires.needs c.requires.agrees c.requires.begun (λ account. refl) (nested_keeps c.args.field) c.requires.begun c.write_nested.ensures.agrees
     (λ stalled. let is = c.write_nested.ensures.stays stalled in (

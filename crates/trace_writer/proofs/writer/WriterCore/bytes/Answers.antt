@@ -21,10 +21,10 @@ returns-in_err-check_field-clause-refused g c = λ fault asked.
     let counted : c.min.result ≡ min total MAX_PACKET_LEN = search rules in
     let head : c.as_slice.result.now ≡ bytes_head c.args.field c.min.result = c.as_slice.ensures ∙ c.head_bytes-head.ensures in
     let is = bytes_fault (depth_of c.args.self.now.writer.packet) (len_of c.args.self.now.writer.packet) c.args.field total c.min.result c.as_slice.result.now head counted
-    ∙ field_fault_is (g.W.Words.setup c.args.table.now) (g.W.Words.place c.args.self.now.seat) (g.W.Words.view c.args.table.now c.args.self.now.seat) c.args.self.now.writer c.args.field (length (bytes_head c.args.field total) + total) c.requires.agrees.writes c.requires.begun in
+    ∙ field_fault_is (g.W.Words.means.setup c.args.table.now) (g.W.Words.means.place c.args.self.now.seat) (g.W.Words.means.view c.args.table.now c.args.self.now.seat) c.args.self.now.writer c.args.field (length (bytes_head c.args.field total) + total) c.requires.agrees.writes c.requires.begun in
     let refused : field_refusal (depth_of c.args.self.now.writer.packet) (len_of c.args.self.now.writer.packet) c.args.field (length c.as_slice.result.now + total) ≡ Some found = search rules in
     record {
-      answer_is = result_is ∙ ap Err (refused_so c.args.self.now (field_fault (g.W.Words.view c.args.table.now c.args.self.now.seat) c.args.field (bytes_size c.args.field c.args.times c.args.value.now)) found fault (sym is ∙ refused) asked);
+      answer_is = result_is ∙ ap Err (refused_so c.args.self.now (field_fault (g.W.Words.means.view c.args.table.now c.args.self.now.seat) c.args.field (bytes_size c.args.field c.args.times c.args.value.now)) found fault (sym is ∙ refused) asked);
       writer_stays = refl;
       table_stays = refl;
       helper_stays = refl;
@@ -38,9 +38,9 @@ returns-in_err-check_field-clause-answers g c = λ asked.
     let counted : c.min.result ≡ min total MAX_PACKET_LEN = search rules in
     let head : c.as_slice.result.now ≡ bytes_head c.args.field c.min.result = c.as_slice.ensures ∙ c.head_bytes-head.ensures in
     let is = bytes_fault (depth_of c.args.self.now.writer.packet) (len_of c.args.self.now.writer.packet) c.args.field total c.min.result c.as_slice.result.now head counted
-    ∙ field_fault_is (g.W.Words.setup c.args.table.now) (g.W.Words.place c.args.self.now.seat) (g.W.Words.view c.args.table.now c.args.self.now.seat) c.args.self.now.writer c.args.field (length (bytes_head c.args.field total) + total) c.requires.agrees.writes c.requires.begun in
+    ∙ field_fault_is (g.W.Words.means.setup c.args.table.now) (g.W.Words.means.place c.args.self.now.seat) (g.W.Words.means.view c.args.table.now c.args.self.now.seat) c.args.self.now.writer c.args.field (length (bytes_head c.args.field total) + total) c.requires.agrees.writes c.requires.begun in
     let refused : field_refusal (depth_of c.args.self.now.writer.packet) (len_of c.args.self.now.writer.packet) c.args.field (length c.as_slice.result.now + total) ≡ Some found = search rules in
-    absurd (never_none c.args.self.now (field_fault (g.W.Words.view c.args.table.now c.args.self.now.seat) c.args.field (bytes_size c.args.field c.args.times c.args.value.now)) found (sym is ∙ refused) asked)
+    absurd (never_none c.args.self.now (field_fault (g.W.Words.means.view c.args.table.now c.args.self.now.seat) c.args.field (bytes_size c.args.field c.args.times c.args.value.now)) found (sym is ∙ refused) asked)
 
 pub returns-in_err-check_field-clause-done : goal.returns-in_err-check_field-clause-done
 returns-in_err-check_field-clause-done g c = λ asked.
@@ -49,9 +49,9 @@ returns-in_err-check_field-clause-done g c = λ asked.
     let counted : c.min.result ≡ min total MAX_PACKET_LEN = search rules in
     let head : c.as_slice.result.now ≡ bytes_head c.args.field c.min.result = c.as_slice.ensures ∙ c.head_bytes-head.ensures in
     let is = bytes_fault (depth_of c.args.self.now.writer.packet) (len_of c.args.self.now.writer.packet) c.args.field total c.min.result c.as_slice.result.now head counted
-    ∙ field_fault_is (g.W.Words.setup c.args.table.now) (g.W.Words.place c.args.self.now.seat) (g.W.Words.view c.args.table.now c.args.self.now.seat) c.args.self.now.writer c.args.field (length (bytes_head c.args.field total) + total) c.requires.agrees.writes c.requires.begun in
+    ∙ field_fault_is (g.W.Words.means.setup c.args.table.now) (g.W.Words.means.place c.args.self.now.seat) (g.W.Words.means.view c.args.table.now c.args.self.now.seat) c.args.self.now.writer c.args.field (length (bytes_head c.args.field total) + total) c.requires.agrees.writes c.requires.begun in
     let refused : field_refusal (depth_of c.args.self.now.writer.packet) (len_of c.args.self.now.writer.packet) c.args.field (length c.as_slice.result.now + total) ≡ Some found = search rules in
-    absurd (never_none c.args.self.now (field_fault (g.W.Words.view c.args.table.now c.args.self.now.seat) c.args.field (bytes_size c.args.field c.args.times c.args.value.now)) found (sym is ∙ refused) asked)
+    absurd (never_none c.args.self.now (field_fault (g.W.Words.means.view c.args.table.now c.args.self.now.seat) c.args.field (bytes_size c.args.field c.args.times c.args.value.now)) found (sym is ∙ refused) asked)
 
 pub returns-clause-refused : goal.returns-clause-refused
 returns-clause-refused g c = λ fault asked.
@@ -59,9 +59,9 @@ returns-clause-refused g c = λ fault asked.
     let counted : c.min.result ≡ min total MAX_PACKET_LEN = search rules in
     let head : c.as_slice.result.now ≡ bytes_head c.args.field c.min.result = c.as_slice.ensures ∙ c.head_bytes-head.ensures in
     let is = bytes_fault (depth_of c.args.self.now.writer.packet) (len_of c.args.self.now.writer.packet) c.args.field total c.min.result c.as_slice.result.now head counted
-    ∙ field_fault_is (g.W.Words.setup c.args.table.now) (g.W.Words.place c.args.self.now.seat) (g.W.Words.view c.args.table.now c.args.self.now.seat) c.args.self.now.writer c.args.field (length (bytes_head c.args.field total) + total) c.requires.agrees.writes c.requires.begun in
+    ∙ field_fault_is (g.W.Words.means.setup c.args.table.now) (g.W.Words.means.place c.args.self.now.seat) (g.W.Words.means.view c.args.table.now c.args.self.now.seat) c.args.self.now.writer c.args.field (length (bytes_head c.args.field total) + total) c.requires.agrees.writes c.requires.begun in
     let accepted : field_refusal (depth_of c.args.self.now.writer.packet) (len_of c.args.self.now.writer.packet) c.args.field (length c.as_slice.result.now + total) ≡ None = search rules in
-    let now = refused_stalled c.args.self.now (field_fault (g.W.Words.view c.args.table.now c.args.self.now.seat) c.args.field (bytes_size c.args.field c.args.times c.args.value.now)) fault (sym is ∙ accepted) asked in
+    let now = refused_stalled c.args.self.now (field_fault (g.W.Words.means.view c.args.table.now c.args.self.now.seat) c.args.field (bytes_size c.args.field c.args.times c.args.value.now)) fault (sym is ∙ accepted) asked in
     let stays = c.write_field.ensures.stays now.stalled_is in
     record {
       answer_is = stays.0 ∙ ap Err (sym now.fault_is);
@@ -78,9 +78,9 @@ returns-clause-answers g c = λ asked.
     let counted : c.min.result ≡ min total MAX_PACKET_LEN = search rules in
     let head : c.as_slice.result.now ≡ bytes_head c.args.field c.min.result = c.as_slice.ensures ∙ c.head_bytes-head.ensures in
     let is = bytes_fault (depth_of c.args.self.now.writer.packet) (len_of c.args.self.now.writer.packet) c.args.field total c.min.result c.as_slice.result.now head counted
-    ∙ field_fault_is (g.W.Words.setup c.args.table.now) (g.W.Words.place c.args.self.now.seat) (g.W.Words.view c.args.table.now c.args.self.now.seat) c.args.self.now.writer c.args.field (length (bytes_head c.args.field total) + total) c.requires.agrees.writes c.requires.begun in
+    ∙ field_fault_is (g.W.Words.means.setup c.args.table.now) (g.W.Words.means.place c.args.self.now.seat) (g.W.Words.means.view c.args.table.now c.args.self.now.seat) c.args.self.now.writer c.args.field (length (bytes_head c.args.field total) + total) c.requires.agrees.writes c.requires.begun in
     let accepted : field_refusal (depth_of c.args.self.now.writer.packet) (len_of c.args.self.now.writer.packet) c.args.field (length c.as_slice.result.now + total) ≡ None = search rules in
-    c.write_field.ensures.answers (none_stalled c.args.self.now (field_fault (g.W.Words.view c.args.table.now c.args.self.now.seat) c.args.field (bytes_size c.args.field c.args.times c.args.value.now)) (sym is ∙ accepted) asked)
+    c.write_field.ensures.answers (none_stalled c.args.self.now (field_fault (g.W.Words.means.view c.args.table.now c.args.self.now.seat) c.args.field (bytes_size c.args.field c.args.times c.args.value.now)) (sym is ∙ accepted) asked)
 
 pub returns-clause-done : goal.returns-clause-done
 returns-clause-done g c = λ asked.
@@ -88,14 +88,14 @@ returns-clause-done g c = λ asked.
     let counted : c.min.result ≡ min total MAX_PACKET_LEN = search rules in
     let head : c.as_slice.result.now ≡ bytes_head c.args.field c.min.result = c.as_slice.ensures ∙ c.head_bytes-head.ensures in
     let is = bytes_fault (depth_of c.args.self.now.writer.packet) (len_of c.args.self.now.writer.packet) c.args.field total c.min.result c.as_slice.result.now head counted
-    ∙ field_fault_is (g.W.Words.setup c.args.table.now) (g.W.Words.place c.args.self.now.seat) (g.W.Words.view c.args.table.now c.args.self.now.seat) c.args.self.now.writer c.args.field (length (bytes_head c.args.field total) + total) c.requires.agrees.writes c.requires.begun in
+    ∙ field_fault_is (g.W.Words.means.setup c.args.table.now) (g.W.Words.means.place c.args.self.now.seat) (g.W.Words.means.view c.args.table.now c.args.self.now.seat) c.args.self.now.writer c.args.field (length (bytes_head c.args.field total) + total) c.requires.agrees.writes c.requires.begun in
     let accepted : field_refusal (depth_of c.args.self.now.writer.packet) (len_of c.args.self.now.writer.packet) c.args.field (length c.as_slice.result.now + total) ≡ None = search rules in
-    let d = c.write_field.ensures.done (none_stalled c.args.self.now (field_fault (g.W.Words.view c.args.table.now c.args.self.now.seat) c.args.field (bytes_size c.args.field c.args.times c.args.value.now)) (sym is ∙ accepted) asked) in
+    let d = c.write_field.ensures.done (none_stalled c.args.self.now (field_fault (g.W.Words.means.view c.args.table.now c.args.self.now.seat) c.args.field (bytes_size c.args.field c.args.times c.args.value.now)) (sym is ∙ accepted) asked) in
     (d.0, d.1)
 
 pub returns-clause-agrees : goal.returns-clause-agrees
 returns-clause-agrees g c =
-    (left_written g.W.Words.setup g.W.Words.sits g.W.Words.place g.W.Words.view g.W.Words.serves g.W.Words.service_view g.W.Words.told g.H.HelperOn.needs g.H.HelperOn.helps
+    (left_written g.W.Words.means g.H.HelperOn.needs g.H.HelperOn.helps
     c.args.help.now c.args.table.now c.args.self.now c.args.steps.now c.write_field.new.help c.write_field.new.table (record { seat = c.write_field.new.seat; writer = c.write_field.new.writer }) c.write_field.new.steps (call.Bytes c.args.field c.args.value.now c.args.times)
     (with_more (bytes_field c.args.field c.args.value.now c.args.times)) c.requires.seat c.requires.needs c.requires.agrees c.requires.begun (λ account. refl) (more_fate (bytes_field c.args.field c.args.value.now c.args.times)) c.requires.begun c.write_field.ensures.agrees
     (λ stalled. let is = c.write_field.ensures.stays stalled in (
@@ -107,7 +107,7 @@ returns-clause-agrees g c =
 
 pub returns-clause-needs : goal.returns-clause-needs
 returns-clause-needs g c =
-    (left_written g.W.Words.setup g.W.Words.sits g.W.Words.place g.W.Words.view g.W.Words.serves g.W.Words.service_view g.W.Words.told g.H.HelperOn.needs g.H.HelperOn.helps
+    (left_written g.W.Words.means g.H.HelperOn.needs g.H.HelperOn.helps
     c.args.help.now c.args.table.now c.args.self.now c.args.steps.now c.write_field.new.help c.write_field.new.table (record { seat = c.write_field.new.seat; writer = c.write_field.new.writer }) c.write_field.new.steps (call.Bytes c.args.field c.args.value.now c.args.times)
     (with_more (bytes_field c.args.field c.args.value.now c.args.times)) c.requires.seat c.requires.needs c.requires.agrees c.requires.begun (λ account. refl) (more_fate (bytes_field c.args.field c.args.value.now c.args.times)) c.requires.begun c.write_field.ensures.agrees
     (λ stalled. let is = c.write_field.ensures.stays stalled in (
@@ -119,7 +119,7 @@ returns-clause-needs g c =
 
 pub returns-clause-others : goal.returns-clause-others
 returns-clause-others g c =
-    (left_written g.W.Words.setup g.W.Words.sits g.W.Words.place g.W.Words.view g.W.Words.serves g.W.Words.service_view g.W.Words.told g.H.HelperOn.needs g.H.HelperOn.helps
+    (left_written g.W.Words.means g.H.HelperOn.needs g.H.HelperOn.helps
     c.args.help.now c.args.table.now c.args.self.now c.args.steps.now c.write_field.new.help c.write_field.new.table (record { seat = c.write_field.new.seat; writer = c.write_field.new.writer }) c.write_field.new.steps (call.Bytes c.args.field c.args.value.now c.args.times)
     (with_more (bytes_field c.args.field c.args.value.now c.args.times)) c.requires.seat c.requires.needs c.requires.agrees c.requires.begun (λ account. refl) (more_fate (bytes_field c.args.field c.args.value.now c.args.times)) c.requires.begun c.write_field.ensures.agrees
     (λ stalled. let is = c.write_field.ensures.stays stalled in (
@@ -131,7 +131,7 @@ returns-clause-others g c =
 
 pub returns-clause-alone : goal.returns-clause-alone
 returns-clause-alone g c =
-    (left_written g.W.Words.setup g.W.Words.sits g.W.Words.place g.W.Words.view g.W.Words.serves g.W.Words.service_view g.W.Words.told g.H.HelperOn.needs g.H.HelperOn.helps
+    (left_written g.W.Words.means g.H.HelperOn.needs g.H.HelperOn.helps
     c.args.help.now c.args.table.now c.args.self.now c.args.steps.now c.write_field.new.help c.write_field.new.table (record { seat = c.write_field.new.seat; writer = c.write_field.new.writer }) c.write_field.new.steps (call.Bytes c.args.field c.args.value.now c.args.times)
     (with_more (bytes_field c.args.field c.args.value.now c.args.times)) c.requires.seat c.requires.needs c.requires.agrees c.requires.begun (λ account. refl) (more_fate (bytes_field c.args.field c.args.value.now c.args.times)) c.requires.begun c.write_field.ensures.agrees
     (λ stalled. let is = c.write_field.ensures.stays stalled in (
@@ -143,7 +143,7 @@ returns-clause-alone g c =
 
 pub returns-clause-in_packet : goal.returns-clause-in_packet
 returns-clause-in_packet g c =
-    (left_written g.W.Words.setup g.W.Words.sits g.W.Words.place g.W.Words.view g.W.Words.serves g.W.Words.service_view g.W.Words.told g.H.HelperOn.needs g.H.HelperOn.helps
+    (left_written g.W.Words.means g.H.HelperOn.needs g.H.HelperOn.helps
     c.args.help.now c.args.table.now c.args.self.now c.args.steps.now c.write_field.new.help c.write_field.new.table (record { seat = c.write_field.new.seat; writer = c.write_field.new.writer }) c.write_field.new.steps (call.Bytes c.args.field c.args.value.now c.args.times)
     (with_more (bytes_field c.args.field c.args.value.now c.args.times)) c.requires.seat c.requires.needs c.requires.agrees c.requires.begun (λ account. refl) (more_fate (bytes_field c.args.field c.args.value.now c.args.times)) c.requires.begun c.write_field.ensures.agrees
     (λ stalled. let is = c.write_field.ensures.stays stalled in (
@@ -155,7 +155,7 @@ returns-clause-in_packet g c =
 
 pub returns-clause-depth : goal.returns-clause-depth
 returns-clause-depth g c =
-    deep_written g.W.Words.setup g.W.Words.sits g.W.Words.place g.W.Words.view g.W.Words.serves g.W.Words.service_view g.W.Words.told g.H.HelperOn.needs g.H.HelperOn.helps
+    deep_written g.W.Words.means g.H.HelperOn.needs g.H.HelperOn.helps
     c.args.help.now c.args.table.now c.args.self.now c.args.steps.now c.write_field.new.help c.write_field.new.table (record { seat = c.write_field.new.seat; writer = c.write_field.new.writer }) c.write_field.new.steps (call.Bytes c.args.field c.args.value.now c.args.times)
     (with_more (bytes_field c.args.field c.args.value.now c.args.times)) (λ account. refl) (more_keeps (bytes_field c.args.field c.args.value.now c.args.times))
     (λ stalled. let is = c.write_field.ensures.stays stalled in (

@@ -10,26 +10,26 @@ use Rattle.trace_writer.proofs.writer.WriterCore.end_nested.Goals as goal
 
 pub returns-clause-in_packet : goal.returns-clause-in_packet
 returns-clause-in_packet g c =
-    let old = g.W.Words.view c.args.table.now c.args.self.now.seat in let new = g.W.Words.view c.end_message.new.table c.end_message.new.seat in
+    let old = g.W.Words.means.view c.args.table.now c.args.self.now.seat in let new = g.W.Words.means.view c.end_message.new.table c.end_message.new.seat in
     either_way (is_stalled c.args.self.now.writer.state)
     (λ goes. (ended_in old new (c.end_message.ensures.notes goes) c.requires.depth).0)
     (λ stalled. let stays = c.end_message.ensures.stalled stalled in
     ap (λ (view : WriterView). in_packet view)
-    (ap (λ table. g.W.Words.view table c.end_message.new.seat) stays.1 ∙ ap (λ seat. g.W.Words.view c.args.table.now seat) stays.2)
+    (ap (λ table. g.W.Words.means.view table c.end_message.new.seat) stays.1 ∙ ap (λ seat. g.W.Words.means.view c.args.table.now seat) stays.2)
     ∙ deep_writing old c.requires.depth)
 
 pub returns-clause-depth_falls : goal.returns-clause-depth_falls
 returns-clause-depth_falls g c = λ goes.
-    (ended_in (g.W.Words.view c.args.table.now c.args.self.now.seat) (g.W.Words.view c.end_message.new.table c.end_message.new.seat) (c.end_message.ensures.notes goes) c.requires.depth).1
+    (ended_in (g.W.Words.means.view c.args.table.now c.args.self.now.seat) (g.W.Words.means.view c.end_message.new.table c.end_message.new.seat) (c.end_message.ensures.notes goes) c.requires.depth).1
 
 pub returns-clause-agrees : goal.returns-clause-agrees
 returns-clause-agrees g c =
     let core = c.args.self.now in let after : WriterCore _ = (record { seat = c.end_message.new.seat; writer = c.end_message.new.writer }) in
     either_way (is_stalled core.writer.state)
-    (λ goes. core_ended g.W.Words.setup g.W.Words.sits g.W.Words.place g.W.Words.view g.W.Words.serves g.W.Words.service_view g.W.Words.told
+    (λ goes. core_ended g.W.Words.means
     c.args.table.now core c.end_message.new.table after c.requires.agrees c.requires.depth c.end_message.ensures.quiet c.end_message.ensures.agrees (c.end_message.ensures.notes goes))
     (λ stalled. let is = c.end_message.ensures.stalled stalled in
-    core_still g.W.Words.setup g.W.Words.sits g.W.Words.place g.W.Words.view g.W.Words.serves g.W.Words.service_view g.W.Words.told
+    core_still g.W.Words.means
     c.args.table.now core c.end_message.new.table after c.requires.agrees
     (ap (λ writer. let one : WriterCore _ = record { seat = c.end_message.new.seat; writer = writer } in one) is.0
     ∙ ap (λ seat. let one : WriterCore _ = record { seat = seat; writer = core.writer } in one) is.2) is.1)

@@ -9,11 +9,11 @@ pub returns-clause-agrees : goal.returns-clause-agrees
 returns-clause-agrees g c =
     let core = c.args.self.now in let after : WriterCore _ = (record { seat = c.finish.new.seat; writer = c.finish.new.writer }) in
     either_way (is_stalled core.writer.state)
-    (λ goes. core_finished g.W.Words.setup g.W.Words.sits g.W.Words.place g.W.Words.view g.W.Words.serves g.W.Words.service_view g.W.Words.told
+    (λ goes. core_finished g.W.Words.means
     c.args.table.now core c.finish.new.table after c.requires.agrees c.requires.begun c.requires.depth goes c.finish.ensures.quiet c.finish.ensures.agrees (c.finish.ensures.notes goes)
     (c.finish.ensures.held goes))
     (λ stalled. let is = c.finish.ensures.stalled stalled in
-    core_still g.W.Words.setup g.W.Words.sits g.W.Words.place g.W.Words.view g.W.Words.serves g.W.Words.service_view g.W.Words.told
+    core_still g.W.Words.means
     c.args.table.now core c.finish.new.table after c.requires.agrees
     (ap (λ writer. let one : WriterCore _ = record { seat = c.finish.new.seat; writer = writer } in one) is.0
     ∙ ap (λ seat. let one : WriterCore _ = record { seat = seat; writer = core.writer } in one) is.2) is.1)

@@ -9,11 +9,11 @@ pub returns-clause-agrees : goal.returns-clause-agrees
 returns-clause-agrees g c =
     let core = c.args.self.now in let after : WriterCore _ = (record { seat = c.flush.new.seat; writer = c.flush.new.writer }) in
     either_way (is_stalled core.writer.state)
-    (λ goes. core_flushed g.W.Words.setup g.W.Words.sits g.W.Words.place g.W.Words.view g.W.Words.serves g.W.Words.service_view g.W.Words.told
+    (λ goes. core_flushed g.W.Words.means
     c.args.table.now core c.flush.new.table after c.requires.agrees c.requires.none_begun c.flush.ensures.quiet c.flush.ensures.agrees (c.flush.ensures.notes goes)
     c.flush.ensures.none_held)
     (λ stalled. let is = c.flush.ensures.stalled stalled in
-    core_still g.W.Words.setup g.W.Words.sits g.W.Words.place g.W.Words.view g.W.Words.serves g.W.Words.service_view g.W.Words.told
+    core_still g.W.Words.means
     c.args.table.now core c.flush.new.table after c.requires.agrees
     (ap (λ writer. let one : WriterCore _ = record { seat = c.flush.new.seat; writer = writer } in one) is.0
     ∙ ap (λ seat. let one : WriterCore _ = record { seat = seat; writer = core.writer } in one) is.2) is.1)

@@ -16,11 +16,11 @@ pub returns-in_err-check_field-clause-refused : goal.returns-in_err-check_field-
 returns-in_err-check_field-clause-refused g c = λ fault asked.
     let found = c.in_err-check_field.field-0.0 in
     let result_is : c.from_residual.result ≡ Err found = search rules in
-    let is = field_fault_is (g.W.Words.setup c.args.table.now) (g.W.Words.place c.args.self.now.seat) (g.W.Words.view c.args.table.now c.args.self.now.seat) c.args.self.now.writer c.args.field (length c.as_slice.result.now) c.requires.agrees.writes c.requires.begun
-    ∙ ap (λ (bytes : List ℕ). field_fault (g.W.Words.view c.args.table.now c.args.self.now.seat) c.args.field (length bytes)) (c.as_slice.ensures ∙ c.head_number-head.ensures) in
+    let is = field_fault_is (g.W.Words.means.setup c.args.table.now) (g.W.Words.means.place c.args.self.now.seat) (g.W.Words.means.view c.args.table.now c.args.self.now.seat) c.args.self.now.writer c.args.field (length c.as_slice.result.now) c.requires.agrees.writes c.requires.begun
+    ∙ ap (λ (bytes : List ℕ). field_fault (g.W.Words.means.view c.args.table.now c.args.self.now.seat) c.args.field (length bytes)) (c.as_slice.ensures ∙ c.head_number-head.ensures) in
     let refused : field_refusal (depth_of c.args.self.now.writer.packet) (len_of c.args.self.now.writer.packet) c.args.field (length c.as_slice.result.now) ≡ Some found = c.in_err-check_field.ensures.refused in
     record {
-      answer_is = result_is ∙ ap Err (refused_so c.args.self.now (field_fault (g.W.Words.view c.args.table.now c.args.self.now.seat) c.args.field (length (number_field c.args.field c.args.value))) found fault (sym is ∙ refused) asked);
+      answer_is = result_is ∙ ap Err (refused_so c.args.self.now (field_fault (g.W.Words.means.view c.args.table.now c.args.self.now.seat) c.args.field (length (number_field c.args.field c.args.value))) found fault (sym is ∙ refused) asked);
       writer_stays = refl;
       table_stays = refl;
       helper_stays = refl;
@@ -30,25 +30,25 @@ returns-in_err-check_field-clause-refused g c = λ fault asked.
 pub returns-in_err-check_field-clause-answers : goal.returns-in_err-check_field-clause-answers
 returns-in_err-check_field-clause-answers g c = λ asked.
     let found = c.in_err-check_field.field-0.0 in
-    let is = field_fault_is (g.W.Words.setup c.args.table.now) (g.W.Words.place c.args.self.now.seat) (g.W.Words.view c.args.table.now c.args.self.now.seat) c.args.self.now.writer c.args.field (length c.as_slice.result.now) c.requires.agrees.writes c.requires.begun
-    ∙ ap (λ (bytes : List ℕ). field_fault (g.W.Words.view c.args.table.now c.args.self.now.seat) c.args.field (length bytes)) (c.as_slice.ensures ∙ c.head_number-head.ensures) in
+    let is = field_fault_is (g.W.Words.means.setup c.args.table.now) (g.W.Words.means.place c.args.self.now.seat) (g.W.Words.means.view c.args.table.now c.args.self.now.seat) c.args.self.now.writer c.args.field (length c.as_slice.result.now) c.requires.agrees.writes c.requires.begun
+    ∙ ap (λ (bytes : List ℕ). field_fault (g.W.Words.means.view c.args.table.now c.args.self.now.seat) c.args.field (length bytes)) (c.as_slice.ensures ∙ c.head_number-head.ensures) in
     let refused : field_refusal (depth_of c.args.self.now.writer.packet) (len_of c.args.self.now.writer.packet) c.args.field (length c.as_slice.result.now) ≡ Some found = c.in_err-check_field.ensures.refused in
-    absurd (never_none c.args.self.now (field_fault (g.W.Words.view c.args.table.now c.args.self.now.seat) c.args.field (length (number_field c.args.field c.args.value))) found (sym is ∙ refused) asked)
+    absurd (never_none c.args.self.now (field_fault (g.W.Words.means.view c.args.table.now c.args.self.now.seat) c.args.field (length (number_field c.args.field c.args.value))) found (sym is ∙ refused) asked)
 
 pub returns-in_err-check_field-clause-done : goal.returns-in_err-check_field-clause-done
 returns-in_err-check_field-clause-done g c = λ asked.
     let found = c.in_err-check_field.field-0.0 in
-    let is = field_fault_is (g.W.Words.setup c.args.table.now) (g.W.Words.place c.args.self.now.seat) (g.W.Words.view c.args.table.now c.args.self.now.seat) c.args.self.now.writer c.args.field (length c.as_slice.result.now) c.requires.agrees.writes c.requires.begun
-    ∙ ap (λ (bytes : List ℕ). field_fault (g.W.Words.view c.args.table.now c.args.self.now.seat) c.args.field (length bytes)) (c.as_slice.ensures ∙ c.head_number-head.ensures) in
+    let is = field_fault_is (g.W.Words.means.setup c.args.table.now) (g.W.Words.means.place c.args.self.now.seat) (g.W.Words.means.view c.args.table.now c.args.self.now.seat) c.args.self.now.writer c.args.field (length c.as_slice.result.now) c.requires.agrees.writes c.requires.begun
+    ∙ ap (λ (bytes : List ℕ). field_fault (g.W.Words.means.view c.args.table.now c.args.self.now.seat) c.args.field (length bytes)) (c.as_slice.ensures ∙ c.head_number-head.ensures) in
     let refused : field_refusal (depth_of c.args.self.now.writer.packet) (len_of c.args.self.now.writer.packet) c.args.field (length c.as_slice.result.now) ≡ Some found = c.in_err-check_field.ensures.refused in
-    absurd (never_none c.args.self.now (field_fault (g.W.Words.view c.args.table.now c.args.self.now.seat) c.args.field (length (number_field c.args.field c.args.value))) found (sym is ∙ refused) asked)
+    absurd (never_none c.args.self.now (field_fault (g.W.Words.means.view c.args.table.now c.args.self.now.seat) c.args.field (length (number_field c.args.field c.args.value))) found (sym is ∙ refused) asked)
 
 pub returns-clause-refused : goal.returns-clause-refused
 returns-clause-refused g c = λ fault asked.
-    let is = field_fault_is (g.W.Words.setup c.args.table.now) (g.W.Words.place c.args.self.now.seat) (g.W.Words.view c.args.table.now c.args.self.now.seat) c.args.self.now.writer c.args.field (length c.as_slice.result.now) c.requires.agrees.writes c.requires.begun
-    ∙ ap (λ (bytes : List ℕ). field_fault (g.W.Words.view c.args.table.now c.args.self.now.seat) c.args.field (length bytes)) (c.as_slice.ensures ∙ c.head_number-head.ensures) in
+    let is = field_fault_is (g.W.Words.means.setup c.args.table.now) (g.W.Words.means.place c.args.self.now.seat) (g.W.Words.means.view c.args.table.now c.args.self.now.seat) c.args.self.now.writer c.args.field (length c.as_slice.result.now) c.requires.agrees.writes c.requires.begun
+    ∙ ap (λ (bytes : List ℕ). field_fault (g.W.Words.means.view c.args.table.now c.args.self.now.seat) c.args.field (length bytes)) (c.as_slice.ensures ∙ c.head_number-head.ensures) in
     let accepted : field_refusal (depth_of c.args.self.now.writer.packet) (len_of c.args.self.now.writer.packet) c.args.field (length c.as_slice.result.now) ≡ None = c.in_ok-check_field.ensures.accepted in
-    let now = refused_stalled c.args.self.now (field_fault (g.W.Words.view c.args.table.now c.args.self.now.seat) c.args.field (length (number_field c.args.field c.args.value))) fault (sym is ∙ accepted) asked in
+    let now = refused_stalled c.args.self.now (field_fault (g.W.Words.means.view c.args.table.now c.args.self.now.seat) c.args.field (length (number_field c.args.field c.args.value))) fault (sym is ∙ accepted) asked in
     let stays = c.write_field.ensures.stays now.stalled_is in
     record {
       answer_is = stays.0 ∙ ap Err (sym now.fault_is);
@@ -61,22 +61,22 @@ returns-clause-refused g c = λ fault asked.
 
 pub returns-clause-answers : goal.returns-clause-answers
 returns-clause-answers g c = λ asked.
-    let is = field_fault_is (g.W.Words.setup c.args.table.now) (g.W.Words.place c.args.self.now.seat) (g.W.Words.view c.args.table.now c.args.self.now.seat) c.args.self.now.writer c.args.field (length c.as_slice.result.now) c.requires.agrees.writes c.requires.begun
-    ∙ ap (λ (bytes : List ℕ). field_fault (g.W.Words.view c.args.table.now c.args.self.now.seat) c.args.field (length bytes)) (c.as_slice.ensures ∙ c.head_number-head.ensures) in
+    let is = field_fault_is (g.W.Words.means.setup c.args.table.now) (g.W.Words.means.place c.args.self.now.seat) (g.W.Words.means.view c.args.table.now c.args.self.now.seat) c.args.self.now.writer c.args.field (length c.as_slice.result.now) c.requires.agrees.writes c.requires.begun
+    ∙ ap (λ (bytes : List ℕ). field_fault (g.W.Words.means.view c.args.table.now c.args.self.now.seat) c.args.field (length bytes)) (c.as_slice.ensures ∙ c.head_number-head.ensures) in
     let accepted : field_refusal (depth_of c.args.self.now.writer.packet) (len_of c.args.self.now.writer.packet) c.args.field (length c.as_slice.result.now) ≡ None = c.in_ok-check_field.ensures.accepted in
-    c.write_field.ensures.answers (none_stalled c.args.self.now (field_fault (g.W.Words.view c.args.table.now c.args.self.now.seat) c.args.field (length (number_field c.args.field c.args.value))) (sym is ∙ accepted) asked)
+    c.write_field.ensures.answers (none_stalled c.args.self.now (field_fault (g.W.Words.means.view c.args.table.now c.args.self.now.seat) c.args.field (length (number_field c.args.field c.args.value))) (sym is ∙ accepted) asked)
 
 pub returns-clause-done : goal.returns-clause-done
 returns-clause-done g c = λ asked.
-    let is = field_fault_is (g.W.Words.setup c.args.table.now) (g.W.Words.place c.args.self.now.seat) (g.W.Words.view c.args.table.now c.args.self.now.seat) c.args.self.now.writer c.args.field (length c.as_slice.result.now) c.requires.agrees.writes c.requires.begun
-    ∙ ap (λ (bytes : List ℕ). field_fault (g.W.Words.view c.args.table.now c.args.self.now.seat) c.args.field (length bytes)) (c.as_slice.ensures ∙ c.head_number-head.ensures) in
+    let is = field_fault_is (g.W.Words.means.setup c.args.table.now) (g.W.Words.means.place c.args.self.now.seat) (g.W.Words.means.view c.args.table.now c.args.self.now.seat) c.args.self.now.writer c.args.field (length c.as_slice.result.now) c.requires.agrees.writes c.requires.begun
+    ∙ ap (λ (bytes : List ℕ). field_fault (g.W.Words.means.view c.args.table.now c.args.self.now.seat) c.args.field (length bytes)) (c.as_slice.ensures ∙ c.head_number-head.ensures) in
     let accepted : field_refusal (depth_of c.args.self.now.writer.packet) (len_of c.args.self.now.writer.packet) c.args.field (length c.as_slice.result.now) ≡ None = c.in_ok-check_field.ensures.accepted in
-    let d = c.write_field.ensures.done (none_stalled c.args.self.now (field_fault (g.W.Words.view c.args.table.now c.args.self.now.seat) c.args.field (length (number_field c.args.field c.args.value))) (sym is ∙ accepted) asked) in
+    let d = c.write_field.ensures.done (none_stalled c.args.self.now (field_fault (g.W.Words.means.view c.args.table.now c.args.self.now.seat) c.args.field (length (number_field c.args.field c.args.value))) (sym is ∙ accepted) asked) in
     (d.0, d.1)
 
 pub returns-clause-agrees : goal.returns-clause-agrees
 returns-clause-agrees g c =
-    (left_written g.W.Words.setup g.W.Words.sits g.W.Words.place g.W.Words.view g.W.Words.serves g.W.Words.service_view g.W.Words.told g.H.HelperOn.needs g.H.HelperOn.helps
+    (left_written g.W.Words.means g.H.HelperOn.needs g.H.HelperOn.helps
     c.args.help.now c.args.table.now c.args.self.now c.args.steps.now c.write_field.new.help c.write_field.new.table (record { seat = c.write_field.new.seat; writer = c.write_field.new.writer }) c.write_field.new.steps (call.Number c.args.field c.args.value)
     (with_more (number_field c.args.field c.args.value)) c.requires.seat c.requires.needs c.requires.agrees c.requires.begun (λ account. refl) (more_fate (number_field c.args.field c.args.value)) c.requires.begun c.write_field.ensures.agrees
     (λ stalled. let is = c.write_field.ensures.stays stalled in (
@@ -88,7 +88,7 @@ returns-clause-agrees g c =
 
 pub returns-clause-needs : goal.returns-clause-needs
 returns-clause-needs g c =
-    (left_written g.W.Words.setup g.W.Words.sits g.W.Words.place g.W.Words.view g.W.Words.serves g.W.Words.service_view g.W.Words.told g.H.HelperOn.needs g.H.HelperOn.helps
+    (left_written g.W.Words.means g.H.HelperOn.needs g.H.HelperOn.helps
     c.args.help.now c.args.table.now c.args.self.now c.args.steps.now c.write_field.new.help c.write_field.new.table (record { seat = c.write_field.new.seat; writer = c.write_field.new.writer }) c.write_field.new.steps (call.Number c.args.field c.args.value)
     (with_more (number_field c.args.field c.args.value)) c.requires.seat c.requires.needs c.requires.agrees c.requires.begun (λ account. refl) (more_fate (number_field c.args.field c.args.value)) c.requires.begun c.write_field.ensures.agrees
     (λ stalled. let is = c.write_field.ensures.stays stalled in (
@@ -100,7 +100,7 @@ returns-clause-needs g c =
 
 pub returns-clause-others : goal.returns-clause-others
 returns-clause-others g c =
-    (left_written g.W.Words.setup g.W.Words.sits g.W.Words.place g.W.Words.view g.W.Words.serves g.W.Words.service_view g.W.Words.told g.H.HelperOn.needs g.H.HelperOn.helps
+    (left_written g.W.Words.means g.H.HelperOn.needs g.H.HelperOn.helps
     c.args.help.now c.args.table.now c.args.self.now c.args.steps.now c.write_field.new.help c.write_field.new.table (record { seat = c.write_field.new.seat; writer = c.write_field.new.writer }) c.write_field.new.steps (call.Number c.args.field c.args.value)
     (with_more (number_field c.args.field c.args.value)) c.requires.seat c.requires.needs c.requires.agrees c.requires.begun (λ account. refl) (more_fate (number_field c.args.field c.args.value)) c.requires.begun c.write_field.ensures.agrees
     (λ stalled. let is = c.write_field.ensures.stays stalled in (
@@ -112,7 +112,7 @@ returns-clause-others g c =
 
 pub returns-clause-alone : goal.returns-clause-alone
 returns-clause-alone g c =
-    (left_written g.W.Words.setup g.W.Words.sits g.W.Words.place g.W.Words.view g.W.Words.serves g.W.Words.service_view g.W.Words.told g.H.HelperOn.needs g.H.HelperOn.helps
+    (left_written g.W.Words.means g.H.HelperOn.needs g.H.HelperOn.helps
     c.args.help.now c.args.table.now c.args.self.now c.args.steps.now c.write_field.new.help c.write_field.new.table (record { seat = c.write_field.new.seat; writer = c.write_field.new.writer }) c.write_field.new.steps (call.Number c.args.field c.args.value)
     (with_more (number_field c.args.field c.args.value)) c.requires.seat c.requires.needs c.requires.agrees c.requires.begun (λ account. refl) (more_fate (number_field c.args.field c.args.value)) c.requires.begun c.write_field.ensures.agrees
     (λ stalled. let is = c.write_field.ensures.stays stalled in (
@@ -124,7 +124,7 @@ returns-clause-alone g c =
 
 pub returns-clause-in_packet : goal.returns-clause-in_packet
 returns-clause-in_packet g c =
-    (left_written g.W.Words.setup g.W.Words.sits g.W.Words.place g.W.Words.view g.W.Words.serves g.W.Words.service_view g.W.Words.told g.H.HelperOn.needs g.H.HelperOn.helps
+    (left_written g.W.Words.means g.H.HelperOn.needs g.H.HelperOn.helps
     c.args.help.now c.args.table.now c.args.self.now c.args.steps.now c.write_field.new.help c.write_field.new.table (record { seat = c.write_field.new.seat; writer = c.write_field.new.writer }) c.write_field.new.steps (call.Number c.args.field c.args.value)
     (with_more (number_field c.args.field c.args.value)) c.requires.seat c.requires.needs c.requires.agrees c.requires.begun (λ account. refl) (more_fate (number_field c.args.field c.args.value)) c.requires.begun c.write_field.ensures.agrees
     (λ stalled. let is = c.write_field.ensures.stays stalled in (
@@ -136,7 +136,7 @@ returns-clause-in_packet g c =
 
 pub returns-clause-depth : goal.returns-clause-depth
 returns-clause-depth g c =
-    deep_written g.W.Words.setup g.W.Words.sits g.W.Words.place g.W.Words.view g.W.Words.serves g.W.Words.service_view g.W.Words.told g.H.HelperOn.needs g.H.HelperOn.helps
+    deep_written g.W.Words.means g.H.HelperOn.needs g.H.HelperOn.helps
     c.args.help.now c.args.table.now c.args.self.now c.args.steps.now c.write_field.new.help c.write_field.new.table (record { seat = c.write_field.new.seat; writer = c.write_field.new.writer }) c.write_field.new.steps (call.Number c.args.field c.args.value)
     (with_more (number_field c.args.field c.args.value)) (λ account. refl) (more_keeps (number_field c.args.field c.args.value))
     (λ stalled. let is = c.write_field.ensures.stays stalled in (

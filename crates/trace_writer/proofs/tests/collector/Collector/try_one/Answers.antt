@@ -7,4 +7,4 @@ pub release-requires-clause-reading : goal.release-requires-clause-reading
 release-requires-clause-reading c =
     let taken = c.in-Ok.ensures.taken in
     takes_reads c.args.table.now.seat.me.0.service c.take.new.self.seat.me.0.service c.args.chunk c.in-Ok.token.chunk
-    taken.word (packed c.in-Ok.token.header) 0 (taken_content 0 c.in-Ok.token) taken.view taken.chunk_is
+    taken.word (packed c.in-Ok.token.header) 0 _ (taken_content 0 c.in-Ok.token) taken.view taken.chunk_is

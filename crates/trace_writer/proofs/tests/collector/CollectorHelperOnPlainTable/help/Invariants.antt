@@ -1,7 +1,5 @@
-use Rattle.std.proofs.Common.{◌≡◌, ◌≤◌, ◌<◌, ◌+◌, length}
-use Rattle.chunk_plain.specs.World.{writer}
-use Rattle.chunk_plain.specs.declared.plain.PlainTable.{PlainTable}
-use Rattle.chunk_plain.specs.declared.plain_seats.PlainWriter.{PlainWriter}
+use Rattle.std.proofs.Common.{◌≡◌, ◌≤◌, ◌+◌}
+use Rattle.chunk_plain.specs.contracts.plain_words.PlainTableWords.TheImpl.{ghosts as plain}
 use Rattle.trace_writer.specs.Helping.{LeavesWriters}
 use Rattle.trace_writer.specs.contracts.tests.collector.CollectorHelperOnPlainTable.TheImpl.{ghosts}
 use Rattle.trace_writer.proofs.tests.collector.CollectorHelperOnPlainTable.help.Given as goal
@@ -12,6 +10,5 @@ invariant-loop-chunk l = record {
   range : l.self.range ≡ l.initial.self.range;
   end : l.chunk-end ≡ l.self.range.first + l.self.range.count;
   grows : l.before ≤ l.self.taken;
-  leaves : LeavesWriters (λ (table : PlainTable). table.layout) (λ table (seat : PlainWriter). seat.place < length table.layout.writers)
-      (λ table seat. writer table.seat.me.0 seat.place) l.initial.table l.table;
+  leaves : LeavesWriters plain.means l.initial.table l.table;
 }
