@@ -108,7 +108,3 @@ handed_on (told first loans) (untold loans') new bytes waits rest handed done =
     let all : untold loans' ≡ told (first ++ bytes) loans = handed.all in absurd cc
 handed_on (untold loans) (told second loans') new bytes waits rest handed done =
     let all : told (second ++ waits) loans' ≡ untold loans = handed.all in absurd cc
-
--- the same with no rest
-pub handed_all : (old mid new : Intake) (bytes waits : List ℕ) → HandsOn old mid bytes waits → TakesUpTo mid new waits [] → new ≡ after_told old bytes
-handed_all old mid new bytes waits handed done = sym (after_told_nothing new) ∙ up_to_joined mid new waits [] done ∙ handed.all

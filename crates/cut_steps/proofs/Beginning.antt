@@ -239,24 +239,6 @@ writing_begun size packet older pages continues done front chains unsent b none 
       continues_is = continues_is;
     }
 
--- in a held chunk, behind its fragments
-pub writing_begun_here : (size : ℕ) (packet : Packet) (older : List Packet) (pages : List Page) (q : Page) (done : List (List ℕ)) (now front : List ℕ)
-    (unsent : List Patch) → IsBetween size older pages (raw_chains (pages ++ q ∷ [])) unsent (offset_behind 4 (done ++ now ∷ []))
-    → q.fragments ≡ done ++ now ∷ [] → q.runs_on ≡ false → q.dropped ≡ false → q.continues ≡ last_runs_on false pages
-    → packet.kept ≡ true → packet.given_up ≡ None → packet.finished ≡ false → packet.text.levels ≡ front ∷ [] → packet.text.closed ≡ []
-    → is_fresh size packet.follows_flush older (raw_chains (pages ++ q ∷ [])) ≡ false
-    → IsWriting size packet older pages q.continues (done ++ now ∷ []) front unsent [] []
-writing_begun_here size packet older pages q done now front unsent b fragments stays unmarked continues kept given unfinished levels closed fresh =
-    let chains : List Chain = raw_chains (pages ++ q ∷ []) in
-    let none : earlier_pieces pages q.continues (done ++ now ∷ []) ≡ [] = earlier_pieces-same pages q.continues done now in
-    writing_begun size packet older pages q.continues (done ++ now ∷ []) front chains unsent b none (chains_before-page pages q done now fragments stays unmarked) continues
-    kept given unfinished levels closed
-    (begins_well-begun size packet older pages q.continues (done ++ now ∷ []) front chains kept none (behind_some done ∙ sym fresh))
-  where
-    behind_some : (done : List (List ℕ)) → (length (done ++ now ∷ []) == 0) ≡ false
-    behind_some [] = refl
-    behind_some (bytes ∷ others) = ne_eqb (length ((bytes ∷ others) ++ now ∷ [])) 0 (λ e. omega (arith, e))
-
 -- in a new chunk
 pub writing_begun_new : (size : ℕ) (packet : Packet) (older : List Packet) (pages : List Page) (front : List ℕ)
     → IsBetween size older pages (raw_chains pages) [] 4 → last_runs_on false pages ≡ false

@@ -56,9 +56,6 @@ same_wider from to lower upper old new low high same = record {
   size = same.size;
 }
 
-pub same_itself : (from to : ℕ) (bytes : List ℕ) → SameOutside from to bytes bytes
-same_itself from to bytes = record { below = λ place count under. refl; above = λ place count over. refl; size = refl }
-
 -- A piece inside a slice
 
 take_over : (front rest : List ℕ) (count more : ℕ) → count ≡ length front + more → take count (front ++ rest) ≡ front ++ take more rest
