@@ -50,7 +50,7 @@ READ = [
      'then Gap (place chunk_id passed) (place (suc chunk_id) 0) true'),
     ('goes on behind a part', 'Row.antt', 'if last && not stays then', 'if last then'),
     ('stops at an open patch of a closed sequence', 'Row.antt', '(chunk.awaits && is_last others) && not closed', 'chunk.awaits && is_last others'),
-    ('runs on behind a drop mark', 'Row.antt', 'if piece.runs_on && not piece.fragment.dropped then joined_to', 'if piece.runs_on then joined_to'),
+    ('runs on behind a drop mark', 'Row.antt', 'if piece.runs_on && not piece.fragment.dropped', 'if piece.runs_on'),
     ('counts a drop mark without its start', 'Reads.antt', 'turn_by Marked headless awaits = if headless then Skips else Counts Dropped',
      'turn_by Marked headless awaits = Counts Dropped'),
     ('counts a lost chain without its start', 'Reads.antt', 'turn_by IntoLost headless awaits = if headless then Skips else Counts Lost',

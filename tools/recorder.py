@@ -9,7 +9,7 @@ BRANCHES = (
     'a headless chain that ends in a drop mark', 'a headless chain that runs into a lost chunk', 'a chain that is cut by its next chunk',
     'a chain that runs into a lost chunk', 'a chain that runs into a chunk that never came', 'a chain that its sequence\'s end cuts',
     'a chain that awaits a patch when its sequence is closed', 'a drop mark in a chunk that runs on',
-    'a partial record that the cursor alone makes a double', 'a final partial record that is lost', 'a partial record that shuts a discard buffer',
+    'a partial record that the cursor alone makes a double', 'a final partial record that is lost unread', 'a partial record that shuts a discard buffer',
     'an arrival of which more was passed', 'an arrival of which just all was passed', 'padding that meets a record', 'a patch outside the last fragment', 'a patch for a chunk that is gone',
     'a commit with patches', 'an id that is too far', 'an id out of order', 'a double', 'a chunk that is unreadable', 'a partial record that grows',
     'a read that ends at its limit', 'a read that ends at a part', 'a read that ends at an open patch', 'a read that ends at a close',
@@ -60,8 +60,8 @@ class Buffer(TraceBuffer):
 
     def lose(self, record):
         sequence = record.sequence
-        if record.partial and sequence.closed:
-            notes_of(self).branches.add('a final partial record that is lost')
+        if record.partial and sequence.closed and sequence.is_unread(record):
+            notes_of(self).branches.add('a final partial record that is lost unread')
         if not (record.partial and not sequence.closed):
             self.losses.append((record, self.unread_starts_of(sequence, record.position, record.fragments, record.continues())))
         super().lose(record)

@@ -3,7 +3,7 @@ use Rattle.std.proofs.Common.{◌≡◌, ℕ, List, [], ◌∷◌, ◌++◌, len
 use Rattle.std.proofs.lemmas.Grind.{common_steps}
 use Rattle.std.proofs.lemmas.List.{take-append-drop, take-append-le, append_cancel_left}
 use Rattle.byte_io.specs.Bytes.{Loan, Intake, told, untold, after_told, lent_by, told_bytes, IsGrown, TakesPart, TakesUpTo, HandsOn}
-use Rattle.byte_io.proofs.Told.{after_told_again, after_told_nothing}
+use Rattle.byte_io.proofs.Told.{after_told_again}
 
 -- an adapter takes the bytes, and so does what it hands them on to
 pub after_told_lent : (loan : Loan) (old : Intake) (bytes : List ℕ) → after_told (lent_by loan old) bytes ≡ lent_by loan (after_told old bytes)

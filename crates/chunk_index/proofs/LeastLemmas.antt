@@ -1,10 +1,9 @@
 -- The least key of a range.
-use Rattle.std.proofs.Common.{◌≡◌, ◌≢◌, ℕ, suc, ◌+◌, ◌-◌, ◌^◌, ◌<◌, ◌≤◌, ⊎_elim, Bool, true, false, cond, List, length, Option, Some, None, refl, sym, ap, ◌∙◌, subst, arith, ne_eqb}
+use Rattle.std.proofs.Common.{◌≡◌, ◌≢◌, ℕ, suc, ◌+◌, ◌-◌, ◌^◌, ◌<◌, ◌≤◌, ⊎_elim, false, List, length, Option, Some, None, sym, ap, ◌∙◌, subst, arith}
 use Rattle.std.proofs.lemmas.Bool.{cases_eq, cases_lt}
-use Rattle.std.proofs.lemmas.Bool.Decides.{nat_tests}
 use Rattle.std.specs.FinMap.{get}
 use Rattle.chunk_index.specs.declared.slot.Entry.{Entry}
-use Rattle.chunk_index.specs.Least.{improves, nearer_of, NoneBetween, HasPlace, IsLeast}
+use Rattle.chunk_index.specs.Least.{NoneBetween, HasPlace, IsLeast}
 use Rattle.chunk_index.specs.Slots.{slot, has_key, entry_key, map_of}
 use Rattle.chunk_index.specs.Value.{IndexValue, key_of, IsFirstFrom, HasNoneFrom}
 use Rattle.chunk_index.proofs.SlotLemmas.{slot_beyond}

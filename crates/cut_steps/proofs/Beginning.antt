@@ -1,7 +1,7 @@
 -- Packets begin behind the chains that are there, or are dropped there.
 use Rattle.std.proofs.Common.{◌≡◌, ◌∙◌, ℕ, ◌==◌, Bool, true, false, not, ◌&&◌, ◌||◌, IsTrue, List, [], ◌∷◌, ◌++◌, map, length, Option, Some, None, is_some, unwrap_or, MatchOption, MatchBool, cond, refl, sym, ap, subst, arith, append-nil}
 use Rattle.std.specs.List.{AllZip, list_all}
-use Rattle.std.proofs.lemmas.Bool.{and_from, ne_eqb, true≢false}
+use Rattle.std.proofs.lemmas.Bool.{and_from, true≢false}
 use Rattle.std.proofs.lemmas.List.Elements.{All-nil}
 use Rattle.trace_model.specs.Images.{Patch}
 use Rattle.trace_model.specs.Packets.{Packet, Text, NestedLength, flat, open_length, body_of, kept_of, is_lost}
@@ -16,7 +16,6 @@ use Rattle.cut_steps.specs.Pending.{HasSent, sent_now, AllEndWithin, patches_so_
 use Rattle.cut_steps.specs.Growth.{HasBytes}
 use Rattle.cut_steps.specs.Writing.{IsWriting}
 use Rattle.cut_steps.specs.Between.{IsBetween}
-use Rattle.cut_steps.proofs.ChainLemmas.{earlier_pieces-same, chains_before-page}
 
 -- Nothing was written yet
 

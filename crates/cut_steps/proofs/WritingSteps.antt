@@ -2,8 +2,7 @@
 use Rattle.std.proofs.Common.{◌≡◌, ◌∙◌, ℕ, ◌+◌, ◌≤◌, Bool, List, [], ◌∷◌, ◌++◌, length, map, refl, sym, ap, subst, arith, length-append, append_assoc, append-nil}
 use Rattle.std.specs.Prelude.{IsTrue}
 use Rattle.trace_model.specs.Images.{Patch}
-use Rattle.trace_model.specs.Packets.{Packet, NestedLength, flat, open_length, open_places, written, with_more, body_of, kept_of, with_nested}
-use Rattle.trace_model.specs.Encoding.{nested_tag}
+use Rattle.trace_model.specs.Packets.{Packet, NestedLength, flat, open_length, open_places, written, with_more, body_of, kept_of}
 use Rattle.trace_model.specs.Pages.{Page}
 use Rattle.trace_model.specs.Sequences.{is_among}
 use Rattle.trace_model.specs.Row.{Piece, bytes_of}

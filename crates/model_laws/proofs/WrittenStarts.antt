@@ -8,7 +8,7 @@ use Rattle.std.proofs.lemmas.List.Folds.{list_any-append}
 use Rattle.trace_model.specs.Images.{Fragment, Chunk, Patch, patched_last}
 use Rattle.trace_model.specs.Pages.{Page, chunk_of, fragments_from, patches_of}
 use Rattle.trace_model.specs.Sequences.{Cursor}
-use Rattle.trace_model.specs.Row.{Piece, Chain, Whole, Marked, CutOff, Link, Joined, Gap, Stop, Unpatched, joined_to, with_piece, place, is_last, is_part, place_behind, chunk_links, row_of, chain_of}
+use Rattle.trace_model.specs.Row.{Piece, Chain, CutOff, Link, Joined, Gap, Stop, Unpatched, joined_to, with_piece, place, is_last, is_part, place_behind, chunk_links, row_of, chain_of}
 use Rattle.trace_model.specs.Written.{settled_fragments, settled_chunk, written_slots, written_row, chains_in, chains_of}
 use Rattle.trace_model.specs.Causes.{Fixed, is_same_place}
 use Rattle.model_laws.specs.Starts.{begins_one, AllBegin}

@@ -3,7 +3,7 @@ use Rattle.std.proofs.Common.{◌≡◌, ℕ, suc, max, Bool, true, false, not, 
 use Rattle.std.specs.Prelude.{cond, ◌==◌}
 use Rattle.trace_model.specs.Images.{Fragment, Chunk}
 use Rattle.trace_model.specs.Sequences.{Cursor}
-use Rattle.trace_model.specs.Row.{Slot, Here, Gone, Never, Piece, Chain, Whole, Marked, CutOff, Link, Joined, Gap, Stop, Missing, Partial, Unpatched, joined_to, with_piece, place, is_last, is_part, place_behind, chunk_links, row_of, chain_of}
+use Rattle.trace_model.specs.Row.{Slot, Here, Gone, Never, Piece, Chain, CutOff, Link, Joined, Gap, Stop, Missing, Partial, Unpatched, joined_to, with_piece, place, is_last, is_part, place_behind, chunk_links, row_of, chain_of}
 use Rattle.trace_model.specs.RowLaws.{Before, UpTo, Rises, RowsRise}
 use Rattle.trace_model.proofs.CursorLemmas.{up_to_up_to, before_up_to, before_then, same_up_to}
 
