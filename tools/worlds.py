@@ -2,15 +2,11 @@
 records of its sequence, which tell of the packets that it emitted."""
 
 import histories
-import laws
+import recorder
 import writer_scripts
 from antt_text import Statement, flag, listed, nested, octets, record
-from model import early, play, reader, writers
-from model.faults import Stalled
+from model import early, play, writers
 from model.fields import BEGIN, END, NUMBER
-from model.random_scenario import random_scenario
-from model.scenario import read_scenario
-from model.stage import Stage
 from model.wire import FRONT_MARK, record as trace_record
 
 STAGE = 13      # before images that no writer made
@@ -176,8 +172,9 @@ def statement_of(name, writer, world, reported, counts):
     spec = writer.spec
     buffer = world.service.buffers[spec.buffer - 1]
     sequence = writer.number + 1
-    history = laws.HISTORY.get(id(buffer), ())
-    events, _, _ = histories.events_of(history, lambda position: False)
+    notes = recorder.notes_of(buffer)
+    history = notes.events
+    events, *_ = histories.events_of(notes, lambda position: False)
     records = [one for kind, number, *rest in history if kind == 'read' and number == sequence for one in rest[1]]
     packets, pages = writer_scripts.packets_of(writer.calls), writer.pages()
     emitted = [packet.body()[len(packet.front):] for packet in packets[::-1] if packet.finished]
@@ -219,19 +216,13 @@ def statement_of(name, writer, world, reported, counts):
 
 
 def statements(first, wanted, counts):
-    reader.check_packet = lambda body: True
-    histories.record_all()
+    recorder.record_all()
     play.Writer = Recorded
     made, seed = 0, first
     while made < wanted:
-        laws.HISTORY.clear()
-        stage = Stage(STAGE)
-        world = play.World(read_scenario(random_scenario(seed, raw=False, stage=STAGE), stage))
+        world, whole = histories.played(seed, raw=False, stage=STAGE)
         seed += 1
-        try:
-            world.play_lines()
-            world.end()
-        except Stalled:
+        if not whole:
             continue
         done = world.done()
         for writer, reported in zip(world.writers, done.sequences):

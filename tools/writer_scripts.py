@@ -1,4 +1,5 @@
-"""Scripts of one writer's calls: its images are a cut of its packets, whose bodies are the model's."""
+"""Scripts of one writer's calls: its images are a cut of its packets, whose bodies are the model's; and the same images
+spoilt in one place are none."""
 
 import random
 from types import SimpleNamespace
@@ -163,6 +164,8 @@ class Run:
         self.writer.images = []
         self.calls = []
         self.depth = 0
+        # (some services take seldom, and some writers flush often: then packets are dropped at their begin)
+        self.taking, self.flushing = self.random.choice([(.3, .15), (.3, .15), (.02, .5)])
 
     def help(self):
         return self.random.random() >= .1 and self.take()
@@ -209,7 +212,7 @@ class Run:
             for _ in range(steps):
                 x = roll()
                 if not self.writer.in_packet:
-                    self.flush() if x < .15 else self.begin()
+                    self.flush() if x < self.flushing else self.begin()
                 elif x < .25:
                     self.call('Number', pick([1, 2, 900]), pick([7, 300, 2 ** 40]))
                 elif x < .45:
@@ -221,7 +224,7 @@ class Run:
                     self.call('Ended')
                 elif x < .9:
                     self.call('Finished')
-                if roll() < .3:
+                if roll() < self.taking:
                     self.take()
                     self.take()
         except writers.Stalled:
@@ -280,7 +283,6 @@ def bytes_proof(packet, bytes_written):
 def cut_proof(size, packets, pages, pages_term):
     kept = [packet for packet in packets if packet.kept]
     chains = chains_of(pages)
-    assert len(kept) == len(chains), (len(kept), len(chains))
     full = nested(record(some='omega arith', most='omega arith', whole='refl',
                          dropped='λ h. (refl, refl)' if page.dropped else 'λ h. absurd (cc)') for page in pages)
     goes_on = bool(packets) and not packets[0].lost() and not packets[0].finished
@@ -288,51 +290,167 @@ def cut_proof(size, packets, pages, pages_term):
     return record(
         full=f'All-from_recursion (IsFull {size}) {pages_term} {full}', flags=refls,
         last='λ h. refl' if goes_on else 'λ h. absurd (cc)',
-        chains=nested(record(marked='refl', bytes=bytes_proof(packet, chain), ends='refl', goes_on='refl',
-                             lengths='refl')
+        chains=nested(record(marked='refl', bytes=bytes_proof(packet, chain), ends='refl', goes_on='refl', lengths='refl')
                       for packet, chain in zip(kept, chains)),
         patches=record(sent=refls, lasts=nested('refl' for page in pages for _ in page.patches), awaits=refls,
                        placed='refl', behind=nested(nested('omega arith' for _ in page.patches) for page in pages)),
         begins='refl')
 
 
-def statement_of(name, run, counts):
-    packets, pages = packets_of(run.calls), run.pages()
+def statement_of(name, run, pages, counts):
+    packets = packets_of(run.calls)
     counts['packets'] += len(packets)
     counts['dropped at begin'] += sum(not packet.kept for packet in packets)
     counts['given up'] += sum(packet.given_up is not None for packet in packets)
     counts['patches'] += sum(len(page.patches) for page in pages)
     counts['images'] += len(pages)
+    return run_statement(name, run, packets, pages)
+
+
+def run_statement(name, run, packets, pages):
+    """That these pages are a cut of the packets, with all else that is said of a script."""
     oldest = packets[::-1]
     bodies = [packet.body() for packet in oldest if packet.kept]
     emissions = [packet.body()[len(packet.front):] for packet in oldest if packet.finished]
-    images = [record(sequence=SEQUENCE, chunk_id=number, count=page.count, flags=page.flags,
-                     payload=octets(page.payload)) for number, page in enumerate(pages)]
+    images = listed(record(sequence=SEQUENCE, chunk_id=number, count=page.count, flags=page.flags,
+                           payload=octets(page.payload)) for number, page in enumerate(pages))
     patches = listed(listed(map(patch_term, page.patches)) for page in pages)
-
-    def specs(images):
-        return (f'abbrev pub calls_{name} : List Call\ncalls_{name} = {listed(map(call_term, run.calls))}\n\n'
-                f'abbrev pub pages_{name} : List Page\npages_{name} = {listed(page.term() for page in pages)}\n\n'
-                f'abbrev pub Run{name} : Type 0\nRun{name} = IsComputed {run.size} calls_{name} {listed(images)} {patches} '
-                f'{listed(map(octets, bodies))} {listed(map(octets, emissions))} {len(packets)} '
-                f'{sum(not packet.kept for packet in packets)}\n')
-
+    specs = (f'abbrev pub calls_{name} : List Call\ncalls_{name} = {listed(map(call_term, run.calls))}\n\n'
+             f'abbrev pub pages_{name} : List Page\npages_{name} = {listed(page.term() for page in pages)}\n\n'
+             f'abbrev pub Run{name} : Type 0\nRun{name} = IsComputed {run.size} calls_{name} {images} {patches} '
+             f'{listed(map(octets, bodies))} {listed(map(octets, emissions))} {len(packets)} '
+             f'{sum(not packet.kept for packet in packets)}\n')
     proof = record(possible='refl', cut=record(pages=f'pages_{name}', images_are='refl', patches_are='refl',
                                                cut=cut_proof(run.size, packets, pages, f'pages_{name}')),
                    kept='refl', emitted='refl', counted='refl', refused='refl', read='refl')
-    wrong, uses = None, [f'pages_{name}']
-    if pages and pages[-1].flags & 2 == 0:
-        last = pages[-1]
-        spoilt = record(sequence=SEQUENCE, chunk_id=len(pages) - 1, count=last.count, flags=last.flags + 2,
-                        payload=octets(last.payload))
-        wrong = Statement(f'Run{name}', specs(images[:-1] + [spoilt]), proof, uses=uses)
-    return Statement(f'Run{name}', specs(images), proof, wrong, uses)
+    return Statement(f'Run{name}', specs, proof, uses=[f'pages_{name}'])
+
+
+def made_run(seed):
+    pick = random.Random(seed).choice
+    run = Run(pick([16, 20, 24, 30, 37, 50, 64, 90]), pick([2, 3, 5, 8]), pick(['drop', 'drop', 'stall']), seed)
+    run.play(pick([10, 25, 40]))
+    return run
 
 
 def statements(first, wanted, counts):
     for seed in range(first, first + wanted):
-        pick = random.Random(seed).choice
-        run = Run(pick([16, 20, 24, 30, 37, 50, 64, 90]), pick([2, 3, 5, 8]), pick(['drop', 'drop', 'stall']), seed)
-        run.play(pick([10, 25, 40]))
-        yield statement_of(str(seed), run, counts)
+        run = made_run(seed)
+        pages = run.pages()
+        assert len(chains_of(pages)) == sum(packet.kept for packet in packets_of(run.calls)), seed
+        yield statement_of(str(seed), run, pages, counts)
     counts['scripts'] += wanted
+
+
+# Spoilt runs: each is wrong in one place, and is to be refused.
+
+def with_page(pages, at, **changes):
+    old = pages[at]
+    fields = dict(count=old.count, flags=old.flags, payload=old.payload, patches=old.patches)
+    fields.update(changes)
+    return pages[:at] + [Page(**fields)] + pages[at + 1:]
+
+
+def with_patch(pages, at, number, **changes):
+    chunk_id, offset, data, last = pages[at].patches[number]
+    fields = dict(chunk_id=chunk_id, offset=offset, data=data, last=last)
+    fields.update(changes)
+    patch = (fields['chunk_id'], fields['offset'], fields['data'], fields['last'])
+    return with_page(pages, at, patches=pages[at].patches[:number] + [patch] + pages[at].patches[number + 1:])
+
+
+def with_byte(payload, at):
+    return payload[:at] + bytes([payload[at] ^ 1]) + payload[at + 1:]
+
+
+def flag_spoils(pages):
+    """Each flag of each page turned. That the last page doesn't run on is never wrong of a cut."""
+    names = {1: 'says that a page goes on from the one before', 2: 'says that a page runs on', 4: 'says that a page awaits'}
+    for at, page in enumerate(pages):
+        for bit, name in names.items():
+            if not (bit == 2 and page.flags & 2 and at == len(pages) - 1):
+                yield name, with_page(pages, at, flags=page.flags ^ bit)
+
+
+def patch_spoils(pages):
+    for at, page in enumerate(pages):
+        for number, (chunk_id, offset, data, last) in enumerate(page.patches):
+            yield 'turns `last`', with_patch(pages, at, number, last=not last)
+            yield 'patches another length in', with_patch(pages, at, number, data=bytes([data[0] ^ 1]) + bytes(data[1:]))
+            yield 'patches beside the length', with_patch(pages, at, number, offset=offset + 1)
+            yield 'patches another chunk', with_patch(pages, at, number, chunk_id=chunk_id + 1)
+            yield 'leaves a patch out', with_page(pages, at, patches=page.patches[:number] + page.patches[number + 1:])
+            yield 'sends a patch twice', with_page(pages, at, patches=page.patches[:number + 1] + page.patches[number:])
+        if page.patches and at + 1 < len(pages):
+            later = with_page(pages, at, patches=[])
+            yield 'sends patches a page later', with_page(later, at + 1, patches=page.patches + pages[at + 1].patches)
+
+
+def byte_spoils(pages):
+    """A byte of a fragment turned, and a fragment a byte shorter."""
+    for at, page in enumerate(pages):
+        place = 0
+        for number, fragment in enumerate(page.fragments):
+            last = number == len(page.fragments) - 1
+            if fragment and not (page.dropped and last):
+                yield 'writes another byte', with_page(pages, at, payload=with_byte(page.payload, place + 4))
+                # (the last packet may end anywhere behind what was written of it)
+                if last and at + 1 < len(pages):
+                    shorter = put_redundant(len(fragment) - 1)
+                    yield 'cuts the last byte of a fragment off', with_page(
+                        pages, at, payload=page.payload[:place] + bytes(shorter) + page.payload[place + 4:])
+            place += 4 + len(fragment)
+
+
+def page_spoils(pages):
+    """Two pages joined as one, one left out, one twice, and one that ends a fragment too early."""
+    for at, page in enumerate(pages):
+        yield 'leaves a page out', pages[:at] + pages[at + 1:]
+        yield 'sends a page twice', pages[:at + 1] + pages[at:]
+        if page.count > 1:
+            yield 'counts a fragment less', with_page(pages, at, count=page.count - 1)
+        if at + 1 < len(pages) and page.term() != pages[at + 1].term():
+            yield 'swaps two pages', pages[:at] + [pages[at + 1], page] + pages[at + 2:]
+
+
+def is_plain_end(pages, spoilt):
+    """The last page of a script may end anywhere behind what its packet has written: such a run isn't wrong."""
+    return len(spoilt) == len(pages) - 1 and spoilt == pages[:-1]
+
+
+def spoilt_statements(first, wanted, counts):
+    """So many runs for each way to spoil one; a run that would be as right as the one before isn't among them."""
+    made = {}
+    for seed in range(first, first + 2000):
+        run = made_run(seed)
+        pages, packets = run.pages(), packets_of(run.calls)
+        for makers in (flag_spoils, patch_spoils, byte_spoils, page_spoils):
+            options = list(makers(pages))
+            random.Random(seed).shuffle(options)
+            for name, spoilt in options:
+                if made.get(name, 0) >= wanted:
+                    continue
+                statement = spoilt_statement(f'{seed}_{sum(made.values())}', run, packets, pages, spoilt)
+                if statement:
+                    made[name] = made.get(name, 0) + 1
+                    counts[f'spoilt: {name}'] += 1
+                    yield statement
+                    break
+        if len(made) == len(SPOILS) and all(count >= wanted for count in made.values()):
+            return
+
+
+def spoilt_statement(name, run, packets, pages, spoilt):
+    """The statement of a spoilt run, or None where it can't be written or isn't wrong."""
+    if is_plain_end(pages, spoilt) or len(run.calls) > 25:
+        return None
+    try:
+        return run_statement(name, run, packets, spoilt)
+    except (AssertionError, IndexError):
+        return None
+
+
+SPOILS = ('says that a page goes on from the one before', 'says that a page runs on', 'says that a page awaits', 'turns `last`',
+          'patches another length in', 'patches beside the length', 'patches another chunk', 'leaves a patch out', 'sends a patch twice',
+          'sends patches a page later', 'writes another byte', 'cuts the last byte of a fragment off', 'leaves a page out',
+          'sends a page twice', 'counts a fragment less', 'swaps two pages')

@@ -3,7 +3,7 @@ use Rattle.std.proofs.Common.{◌≡◌, ℕ, List, [], ◌∷◌, ◌++◌, len
 use Rattle.std.proofs.lemmas.Grind.{common_steps}
 use Rattle.std.proofs.lemmas.List.{take-append-drop, take-append-le, append_cancel_left}
 use Rattle.byte_io.specs.Bytes.{Loan, Intake, told, untold, after_told, lent_by, told_bytes, IsGrown, TakesPart, TakesUpTo, HandsOn}
-use Rattle.byte_io.proofs.Told.{after_told_again, after_told_nothing}
+use Rattle.byte_io.proofs.Told.{after_told_again}
 
 -- an adapter takes the bytes, and so does what it hands them on to
 pub after_told_lent : (loan : Loan) (old : Intake) (bytes : List ℕ) → after_told (lent_by loan old) bytes ≡ lent_by loan (after_told old bytes)
@@ -108,7 +108,3 @@ handed_on (told first loans) (untold loans') new bytes waits rest handed done =
     let all : untold loans' ≡ told (first ++ bytes) loans = handed.all in absurd cc
 handed_on (untold loans) (told second loans') new bytes waits rest handed done =
     let all : told (second ++ waits) loans' ≡ untold loans = handed.all in absurd cc
-
--- the same with no rest
-pub handed_all : (old mid new : Intake) (bytes waits : List ℕ) → HandsOn old mid bytes waits → TakesUpTo mid new waits [] → new ≡ after_told old bytes
-handed_all old mid new bytes waits handed done = sym (after_told_nothing new) ∙ up_to_joined mid new waits [] done ∙ handed.all

@@ -1,5 +1,5 @@
 -- What follows from told bytes for the callers of sinks and sources.
-use Rattle.std.proofs.Common.{◌≡◌, ℕ, ◌+◌, ◌-◌, ◌<◌, ◌≤◌, List, [], ◌++◌, length, take, drop, Option, Some, None, IfSome, refl, sym, ◌∙◌, ap, subst, arith, append_assoc, append-nil}
+use Rattle.std.proofs.Common.{◌≡◌, ℕ, ◌+◌, ◌-◌, ◌<◌, ◌≤◌, List, [], ◌++◌, length, take, drop, Option, Some, None, IfSome, refl, sym, ◌∙◌, ap, subst, arith, append_assoc}
 use Rattle.std.proofs.lemmas.Grind.{common_steps}
 use Rattle.std.proofs.lemmas.List.{take_rest, take-append-drop, drop-drop}
 use Rattle.byte_io.specs.Bytes.{Intake, told, untold, before_told, after_told, GivesAtMost, TakesPart, TakesUpTo}
@@ -92,12 +92,3 @@ pub longer_told : (limit : ℕ) (items : List ℕ) (old left : Option (List ℕ)
 longer_told limit items old None given more = let P : Option (List ℕ) → Type 0 = λ given. IfSome given (λ bytes. limit < length bytes) in subst P (sym given) tt
 longer_told limit items old (Some rest) given more = let P : Option (List ℕ) → Type 0 = λ given. IfSome given (λ bytes. limit < length bytes) in
     subst P (sym given) (grind (arith, common_steps))
-
--- what holds of the bytes that came holds of the bytes that the source told
-pub told_has : (P : List ℕ → Type 0) (items : List ℕ) (old : Option (List ℕ)) → IfSome old (λ bytes. items ≡ bytes) → P items → IfSome old P
-told_has P items None same holds = tt
-told_has P items (Some bytes) same holds = subst P same holds
-
--- all of the bytes are a part of them
-pub part_whole : (old new : Intake) (bytes : List ℕ) → new ≡ after_told old bytes → TakesPart old new bytes
-part_whole old new bytes whole = record { part = bytes; rest = []; cut = sym (append-nil bytes); taken = whole }

@@ -9,7 +9,7 @@ use Rattle.trace_model.specs.Reading.{Fragments, Unreadable, size_of, fragment_o
 use Rattle.trace_model.proofs.ReadingLemmas.{StandsFirst, read_kept, read_dropped, read_sound}
 use Rattle.trace_model.proofs.ReadsAsLemmas.{reading_is_exact}
 use Rattle.chunk_image.specs.Readable.{readable_from}
-use Rattle.chunk_image.specs.Unread.{BeginsWith, StopsAt, IsFirstUnread}
+use Rattle.trace_model.specs.Unread.{BeginsWith, StopsAt, IsFirstUnread}
 use Rattle.chunk_image.proofs.ReadableLemmas.{readable_zero, readable_some, readable_none, length-readable_from-le, all_readable, part_readable}
 
 -- The model's reading of a payload, of which so many fragments are wanted, and at least one

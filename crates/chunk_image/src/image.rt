@@ -4,7 +4,7 @@ ghost use Rattle.trace_model.specs.Images as model;
 ghost use Rattle.trace_model.specs.Fragments.{ReadsAs};
 ghost use Rattle.trace_model.specs.Reading.{reading_of};
 ghost use Rattle.chunk_image.specs.Readable.{readable_from};
-ghost use Rattle.chunk_image.specs.Unread.{IsFirstUnread};
+ghost use Rattle.trace_model.specs.Unread.{IsFirstUnread};
 
 use crate::iterate::FragmentIter;
 use thiserror::Error;

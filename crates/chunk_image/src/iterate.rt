@@ -4,7 +4,7 @@ ghost use Rattle.std.specs.Iterator.{YieldsFirstBy, item_count};
 ghost use Rattle.trace_model.specs.Fragments.{ReadsAs};
 ghost use Rattle.chunk_image.specs.Values.{fragment_value};
 ghost use Rattle.chunk_image.specs.Readable.{readable_from};
-ghost use Rattle.chunk_image.specs.Unread.{IsFirstUnread};
+ghost use Rattle.trace_model.specs.Unread.{IsFirstUnread};
 
 use crate::read::{Fragment, read_fragment};
 use std::marker::Model;

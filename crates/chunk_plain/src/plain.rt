@@ -49,10 +49,12 @@ impl PlainTable {
         requires pages { All (λ producer. producer.pages ≤ MAX_PAGES) producers.now }
         requires writers { length writers.now ≤ MAX_WRITERS }
         ensures setup { IfOk result (λ made. ⟦<PlainTable as Words>⟧.means.setup made.0 ≡ setup_of producers.now writers.now) }
-        ensures told { IfOk result (λ made. ⟦<PlainTable as Words>⟧.means.told made.0 ≡ Some (first_world (setup_of producers.now writers.now))) }
+        ensures told { IfOk result (λ made. ⟦<PlainTable as Words>⟧.means.told made.0
+            ≡ Some (first_world (setup_of producers.now writers.now))) }
         ensures zero { IfOk result (λ made. AllZero made.0.words.items made.0.slots.items) }
         ensures seats { IfOk result (λ made. HasSeats (length writers.now) made.1.items) }
-        ensures sits { IfOk result (λ made. (seat : PlainWriter) → seat.place < length writers.now → ⟦<PlainTable as Words>⟧.means.sits made.0 seat) }
+        ensures sits { IfOk result (λ made. (seat : PlainWriter) → seat.place < length writers.now
+            → ⟦<PlainTable as Words>⟧.means.sits made.0 seat) }
         ensures serves { IfOk result (λ made. ⟦<PlainTable as Words>⟧.means.serves made.0 made.2) }
     {
         let layout = Layout::make(alloc, producers, writers)?;

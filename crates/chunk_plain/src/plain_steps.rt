@@ -58,10 +58,12 @@ impl PlainTable {
     /// Begins a chunk whose header is stored.
     pub(crate) fn set_written(&mut self, place: u16, chunk: u32)
         requires place { place < length self.old.layout.writers }
-        requires stamped { (writer self.old.seat.me.0 place).stamped ≡ Some (record { chunk = chunk; id = length (writer self.old.seat.me.0 place).begun }) }
+        requires stamped { (writer self.old.seat.me.0 place).stamped
+            ≡ Some (record { chunk = chunk; id = length (writer self.old.seat.me.0 place).begun }) }
         ensures layout { self.new.layout ≡ self.old.layout }
         ensures slots { self.new.slots.items ≡ self.old.slots.items }
-        ensures world { self.new.seat.me.0 ≡ moved self.old.seat.me.0 place (begins (writer self.old.seat.me.0 place) chunk (stored_at self.old.slots.items chunk).words) chunk
+        ensures world { self.new.seat.me.0 ≡ moved self.old.seat.me.0 place
+            (begins (writer self.old.seat.me.0 place) chunk (stored_at self.old.slots.items chunk).words) chunk
             (Writing place (length (writer self.old.seat.me.0 place).begun) (fresh (stored_at self.old.slots.items chunk).words)) }
     {
         let spot = self.layout.spot(chunk);
@@ -127,11 +129,13 @@ impl PlainTable {
         requires place { place < length self.old.layout.writers }
         requires held { IsHolding (writer self.old.seat.me.0 place) chunk id }
         requires body { IsSome (stored_at self.old.slots.items chunk).body }
-        requires whole { IfSome (stored_at self.old.slots.items chunk).body (λ body. StandsWhole (spot self.old.layout chunk).payload_size (writer self.old.seat.me.0 place) id body) }
+        requires whole { IfSome (stored_at self.old.slots.items chunk).body (λ body.
+            StandsWhole (spot self.old.layout chunk).payload_size (writer self.old.seat.me.0 place) id body) }
         ensures layout { self.new.layout ≡ self.old.layout }
         ensures world { IfSome (stored_at self.old.slots.items chunk).body (λ body.
             self.new.seat.me.0 ≡ moved self.old.seat.me.0 place
-            (completes (writer self.old.seat.me.0 place) chunk id (content_of place id (head_at (writer self.old.seat.me.0 place) id) body)) chunk
+            (completes (writer self.old.seat.me.0 place) chunk id
+            (content_of place id (head_at (writer self.old.seat.me.0 place) id) body)) chunk
             (Ready place id (content_of place id (head_at (writer self.old.seat.me.0 place) id) body))) }
     {
         let spot = self.layout.spot(chunk);
@@ -188,7 +192,8 @@ impl PlainTable {
         requires chunk { chunk < length self.old.layout.spots }
         requires word { word ≡ page_word self.old.layout self.old.words.items chunk }
         requires complete { HasState word (spot self.old.layout chunk).place CompleteState }
-        requires ready { ∥ ((content : Content) × (status self.old.seat.me.0 chunk ≡ Ready place (taken_of self.old.seat.me.0.service place).count content)) ∥₁ }
+        requires ready { ∥ ((content : Content) × (status self.old.seat.me.0 chunk
+            ≡ Ready place (taken_of self.old.seat.me.0.service place).count content)) ∥₁ }
         ensures layout { self.new.layout ≡ self.old.layout }
         ensures slots { self.new.slots.items ≡ self.old.slots.items }
         ensures world { self.new.seat.me.0 ≡ world_after self.old.seat.me.0 (Take place chunk word header) }
@@ -218,7 +223,8 @@ impl PlainTable {
     /// Notes the content of the chunk that was taken last of a writer.
     pub(crate) fn learn(&mut self, place: u16, chunk: u32, header: ChunkHeader, body: &CommitBody)
         requires place { place < length self.old.layout.writers }
-        requires last { (taken_of self.old.seat.me.0.service place).count ≡ length (taken_of self.old.seat.me.0.service place).contents + 1 }
+        requires last { (taken_of self.old.seat.me.0.service place).count
+            ≡ length (taken_of self.old.seat.me.0.service place).contents + 1 }
         requires content { ∥ status self.old.seat.me.0 chunk ≡ Reading place (length (taken_of self.old.seat.me.0.service place).contents)
             (content_of place header.chunk_id (record { count = header.count; flags = header.flags }) body.now) ∥₁ }
         ensures layout { self.new.layout ≡ self.old.layout }
@@ -237,7 +243,8 @@ impl PlainTable {
     pub(crate) fn set_free(&mut self, chunk: u32)
         requires reading { 0 < times chunk self.old.seat.me.0.service.reading }
         requires body { IsSome (stored_at self.old.slots.items chunk).body }
-        requires size { IfSome (stored_at self.old.slots.items chunk).body (λ body. vec_len body.payload ≡ (spot self.old.layout chunk).payload_size) }
+        requires size { IfSome (stored_at self.old.slots.items chunk).body (λ body.
+            vec_len body.payload ≡ (spot self.old.layout chunk).payload_size) }
         ensures layout { self.new.layout ≡ self.old.layout }
         ensures world { self.new.seat.me.0 ≡ served self.old.seat.me.0 (lets_go self.old.seat.me.0.service chunk) chunk Unclaimed }
     {

@@ -78,7 +78,9 @@ pub fn put_body(slots: &mut Vec<Slot>, chunk: u32, body: CommitBody)
 pub fn put_word(slots: &mut Vec<Slot>, chunk: u32, index: usize, word: u64)
     requires inside { chunk < vec_len slots.old }
     requires within { index < length (stored_at slots.old.items chunk).words }
-    ensures rest { slots.new.items ≡ slice_set slots.old.items chunk (record (stored_at slots.old.items chunk) { words = slice_set (stored_at slots.old.items chunk).words index word }) }
+    ensures rest { slots.new.items ≡ slice_set slots.old.items chunk (record (stored_at slots.old.items chunk) {
+      words = slice_set (stored_at slots.old.items chunk).words index word;
+    }) }
     ensures len { vec_len slots.new ≡ vec_len slots.old }
 {
     slots[chunk as usize].words[index] = word;

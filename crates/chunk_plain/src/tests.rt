@@ -101,7 +101,8 @@ fn drain<W: Words>(
     requires chunk { chunk < length (W.means.setup table.old).spots }
     requires writer { 1 ≤ writer }
     requires writers { writer ≤ length (W.means.setup table.old).writers }
-    requires id { id ≡ id_at (W.means.setup table.old) (writer - 1) (taken_of (W.means.service_view table.old seat.old) (writer - 1)).count }
+    requires id { id ≡ id_at (W.means.setup table.old) (writer - 1)
+        (taken_of (W.means.service_view table.old seat.old) (writer - 1)).count }
     requires none_out { (W.means.service_view table.old seat.old).reading ≡ [] }
     ensures refused { IfErr result (λ found. FindsOther (W.means.setup table.old) chunk writer id found
         (W.means.service_view table.old seat.old) (W.means.service_view table.new seat.new)) }

@@ -35,11 +35,14 @@ pub trait Words {
         requires seat { means.sits self.old seat.old }
         requires chunk { IsChunkOf (means.setup self.old) (producer_of (means.setup self.old) (means.place seat.old)) chunk }
         ensures chunk { IfSome result (λ claimed. claimed.chunk ≡ chunk) }
-        ensures won { IfSome result (λ _. TriesClaim (means.setup self.old) chunk true (means.view self.old seat.old) (means.view self.new seat.new)) }
-        ensures lost { IfNone result (TriesClaim (means.setup self.old) chunk false (means.view self.old seat.old) (means.view self.new seat.new)) }
+        ensures won { IfSome result (λ _. TriesClaim (means.setup self.old) chunk true
+            (means.view self.old seat.old) (means.view self.new seat.new)) }
+        ensures lost { IfNone result (TriesClaim (means.setup self.old) chunk false
+            (means.view self.old seat.old) (means.view self.new seat.new)) }
         ensures step { IsWriterStep means self.old seat.old self.new seat.new }
         ensures told_won { IfSome result (λ _. (world : World) → means.told self.old ≡ Some world → ∥ status world chunk ≡ Unclaimed ∥₁
-            × (means.told self.new ≡ Some (moved world (means.place seat.old) (means.view self.new seat.new) chunk (ClaimedBy (means.place seat.old))))) }
+            × (means.told self.new ≡ Some (moved world (means.place seat.old) (means.view self.new seat.new) chunk
+            (ClaimedBy (means.place seat.old))))) }
         ensures told_lost { IfNone result ((world : World) → means.told self.old ≡ Some world → (status world chunk ≡ Unclaimed → ⊥)
             × (means.told self.new ≡ Some (noted world (means.place seat.old) (means.view self.new seat.new)))) };
 
@@ -83,8 +86,10 @@ pub trait Words {
         requires count_fits { count ≤ MAX_FRAGMENTS }
         requires flags_fit { flags ≤ MAX_FLAGS }
         requires follows { MayFollow (head_at (means.view self.old seat.old) held.old.id) (record { count = count; flags = flags }) }
-        requires reads { HasFragments (published (means.view self.old seat.old) held.old.id) (ends_by (means.view self.old seat.old) held.old.id count) }
-        requires inside { sealed_to (ends_by (means.view self.old seat.old) held.old.id count) ≤ (spot (means.setup self.old) held.old.chunk).payload_size }
+        requires reads { HasFragments (published (means.view self.old seat.old) held.old.id)
+            (ends_by (means.view self.old seat.old) held.old.id count) }
+        requires inside { sealed_to (ends_by (means.view self.old seat.old) held.old.id count)
+            ≤ (spot (means.setup self.old) held.old.chunk).payload_size }
         ensures held { held.new ≡ held.old }
         ensures view { means.view self.new seat.new ≡ redrafts (means.view self.old seat.old) held.old.chunk held.old.id
             (with_head (draft_at (means.view self.old seat.old) held.old.id) (record { count = count; flags = flags })
@@ -161,7 +166,8 @@ pub trait Words {
         ensures step { IsServiceStep means self.old seat.old self.new seat.new }
         ensures told_taken { IfOk result (λ taken. (world : World) → means.told self.old ≡ Some world
             → ∥ status world chunk ≡ Ready (writer - 1) id (taken_content (writer - 1) taken) ∥₁
-            × (means.told self.new ≡ Some (served world (means.service_view self.new seat.new) chunk (Reading (writer - 1) id (taken_content (writer - 1) taken))))) }
+            × (means.told self.new ≡ Some (served world (means.service_view self.new seat.new) chunk
+            (Reading (writer - 1) id (taken_content (writer - 1) taken))))) }
         ensures told_other { IfErr result (λ _. (world : World) → means.told self.old ≡ Some world
             → means.told self.new ≡ Some (serviced world (means.service_view self.new seat.new))) };
 
@@ -199,7 +205,8 @@ pub trait Words {
         patches: &[Patch],
     )
         requires { means.serves self.old seat.old }
-        ensures view { means.service_view self.new seat.new ≡ notes_commit (means.service_view self.old seat.old) (committed_of header payload.now patches.now) }
+        ensures view { means.service_view self.new seat.new ≡ notes_commit (means.service_view self.old seat.old)
+            (committed_of header payload.now patches.now) }
         ensures step { IsServiceStep means self.old seat.old self.new seat.new }
         ensures told { (world : World) → means.told self.old ≡ Some world
             → means.told self.new ≡ Some (serviced world (means.service_view self.new seat.new)) };
@@ -207,9 +214,11 @@ pub trait Words {
     ghost laid: { (table : Self) → IsLaid (means.setup table) };
 
     // what a seat has between two calls
-    ghost rests: { (table : Self) (seat : Self.Writer) → means.sits table seat → IsAtRest (means.setup table) (means.place seat) (means.view table seat) };
+    ghost rests: { (table : Self) (seat : Self.Writer) → means.sits table seat
+        → IsAtRest (means.setup table) (means.place seat) (means.view table seat) };
 
-    ghost serving: { (table : Self) (seat : Self.Service) → means.serves table seat → IsServing (means.setup table) (means.service_view table seat) };
+    ghost serving: { (table : Self) (seat : Self.Service) → means.serves table seat
+        → IsServing (means.setup table) (means.service_view table seat) };
 
     // what was found of a chunk while it was written is in its content
     ghost learnt: { (table : Self) (seat : Self.Service) → means.serves table seat → LearntAsFound (means.service_view table seat) };
@@ -218,13 +227,16 @@ pub trait Words {
     ghost told_view: { (table : Self) (seat : Self.Writer) (world : World) → means.told table ≡ Some world → means.sits table seat
         → means.view table seat ≡ writer world (means.place seat) };
 
-    ghost told_service_view: { (table : Self) (seat : Self.Service) (world : World) → means.told table ≡ Some world → means.serves table seat
+    ghost told_service_view: { (table : Self) (seat : Self.Service) (world : World) → means.told table ≡ Some world
+        → means.serves table seat
         → means.service_view table seat ≡ world.service };
 
     // it has each writer and each chunk of the table
-    ghost told_writers: { (table : Self) (world : World) → means.told table ≡ Some world → length world.writers ≡ length (means.setup table).writers };
+    ghost told_writers: { (table : Self) (world : World) → means.told table ≡ Some world
+        → length world.writers ≡ length (means.setup table).writers };
 
-    ghost told_chunks: { (table : Self) (world : World) → means.told table ≡ Some world → length world.chunks ≡ length (means.setup table).spots };
+    ghost told_chunks: { (table : Self) (world : World) → means.told table ≡ Some world
+        → length world.chunks ≡ length (means.setup table).spots };
 
     // it is owned
     ghost told_owned: { (table : Self) (world : World) → means.told table ≡ Some world → ∥ IsOwned world ∥₁ };

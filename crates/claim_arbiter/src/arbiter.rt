@@ -39,7 +39,8 @@ pub fn claim_over<W: Words, L: Ledger>(
     steps: &mut Steps<L>,
 ) -> Option<Held>
     requires seat { W.means.sits table.old seat.old }
-    requires range { range_of (W.means.setup table.old) (producer_of (W.means.setup table.old) (W.means.place seat.old)) ≡ range_in arbiter.now }
+    requires range { range_of (W.means.setup table.old) (producer_of (W.means.setup table.old) (W.means.place seat.old))
+        ≡ range_in arbiter.now }
     requires few { held_count (W.means.view table.old seat.old).begun < MAX_HELD }
     requires id { id ≡ id_at (W.means.setup table.old) (W.means.place seat.old) (length (W.means.view table.old seat.old).begun) }
     requires id_fits { id < ID_LIMIT }

@@ -25,7 +25,8 @@ fn fill<W: Words, L: Ledger>(
     steps: &mut Steps<L>,
 ) -> Option<u32>
     requires seat { W.means.sits table.old seat.old }
-    requires range { range_of (W.means.setup table.old) (producer_of (W.means.setup table.old) (W.means.place seat.old)) ≡ range_in arbiter.now }
+    requires range { range_of (W.means.setup table.old) (producer_of (W.means.setup table.old) (W.means.place seat.old))
+        ≡ range_in arbiter.now }
     requires few { held_count (W.means.view table.old seat.old).begun < MAX_HELD }
     requires id { id ≡ id_at (W.means.setup table.old) (W.means.place seat.old) (length (W.means.view table.old seat.old).begun) }
     requires id_fits { id < ID_LIMIT }

@@ -1,7 +1,7 @@
 -- Packets begin behind the chains that are there, or are dropped there.
 use Rattle.std.proofs.Common.{◌≡◌, ◌∙◌, ℕ, ◌==◌, Bool, true, false, not, ◌&&◌, ◌||◌, IsTrue, List, [], ◌∷◌, ◌++◌, map, length, Option, Some, None, is_some, unwrap_or, MatchOption, MatchBool, cond, refl, sym, ap, subst, arith, append-nil}
 use Rattle.std.specs.List.{AllZip, list_all}
-use Rattle.std.proofs.lemmas.Bool.{and_from, ne_eqb, true≢false}
+use Rattle.std.proofs.lemmas.Bool.{and_from, true≢false}
 use Rattle.std.proofs.lemmas.List.Elements.{All-nil}
 use Rattle.trace_model.specs.Images.{Patch}
 use Rattle.trace_model.specs.Packets.{Packet, Text, NestedLength, flat, open_length, body_of, kept_of, is_lost}
@@ -16,7 +16,6 @@ use Rattle.cut_steps.specs.Pending.{HasSent, sent_now, AllEndWithin, patches_so_
 use Rattle.cut_steps.specs.Growth.{HasBytes}
 use Rattle.cut_steps.specs.Writing.{IsWriting}
 use Rattle.cut_steps.specs.Between.{IsBetween}
-use Rattle.cut_steps.proofs.ChainLemmas.{earlier_pieces-same, chains_before-page}
 
 -- Nothing was written yet
 
@@ -238,24 +237,6 @@ writing_begun size packet older pages continues done front chains unsent b none 
       flags = b.flags;
       continues_is = continues_is;
     }
-
--- in a held chunk, behind its fragments
-pub writing_begun_here : (size : ℕ) (packet : Packet) (older : List Packet) (pages : List Page) (q : Page) (done : List (List ℕ)) (now front : List ℕ)
-    (unsent : List Patch) → IsBetween size older pages (raw_chains (pages ++ q ∷ [])) unsent (offset_behind 4 (done ++ now ∷ []))
-    → q.fragments ≡ done ++ now ∷ [] → q.runs_on ≡ false → q.dropped ≡ false → q.continues ≡ last_runs_on false pages
-    → packet.kept ≡ true → packet.given_up ≡ None → packet.finished ≡ false → packet.text.levels ≡ front ∷ [] → packet.text.closed ≡ []
-    → is_fresh size packet.follows_flush older (raw_chains (pages ++ q ∷ [])) ≡ false
-    → IsWriting size packet older pages q.continues (done ++ now ∷ []) front unsent [] []
-writing_begun_here size packet older pages q done now front unsent b fragments stays unmarked continues kept given unfinished levels closed fresh =
-    let chains : List Chain = raw_chains (pages ++ q ∷ []) in
-    let none : earlier_pieces pages q.continues (done ++ now ∷ []) ≡ [] = earlier_pieces-same pages q.continues done now in
-    writing_begun size packet older pages q.continues (done ++ now ∷ []) front chains unsent b none (chains_before-page pages q done now fragments stays unmarked) continues
-    kept given unfinished levels closed
-    (begins_well-begun size packet older pages q.continues (done ++ now ∷ []) front chains kept none (behind_some done ∙ sym fresh))
-  where
-    behind_some : (done : List (List ℕ)) → (length (done ++ now ∷ []) == 0) ≡ false
-    behind_some [] = refl
-    behind_some (bytes ∷ others) = ne_eqb (length ((bytes ∷ others) ++ now ∷ [])) 0 (λ e. omega (arith, e))
 
 -- in a new chunk
 pub writing_begun_new : (size : ℕ) (packet : Packet) (older : List Packet) (pages : List Page) (front : List ℕ)

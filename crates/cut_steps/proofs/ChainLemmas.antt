@@ -7,8 +7,8 @@ use Rattle.trace_model.specs.RowLaws.{is_open}
 use Rattle.trace_model.specs.Pages.{Page, fragments_from}
 use Rattle.trace_model.specs.Written.{written_slots, chains_in}
 use Rattle.trace_model.specs.Cut.{IsFull, FlagsAgree, last_runs_on, older_chains}
-use Rattle.cut_steps.specs.RawChains.{placeless, raw_chains, page_with, newest_pieces, earlier_pieces, chains_before, offset_behind, piece_behind, fate_of, start_of, chain_to, current_chain}
-use Rattle.cut_steps.proofs.RowSteps.{chains_in-links_of, StartsAt, merged, entered, stop_at, piece_at, lone, chunk_with, AllClosed, Ends, behind, chains_after, IsRow, RunsOnHere, row-after, all_made, Split, split-cons, HasRow, row_of_pages}
+use Rattle.cut_steps.specs.RawChains.{placeless, raw_chains, page_with, newest_pieces, earlier_pieces, chains_before, offset_behind, piece_behind, fate_of, start_of, chain_to}
+use Rattle.cut_steps.proofs.RowSteps.{chains_in-links_of, StartsAt, merged, entered, stop_at, piece_at, lone, chunk_with, behind, chains_after, IsRow, RunsOnHere, row-after, all_made, Split, split-cons, HasRow, row_of_pages}
 
 raw-row : (pages : List Page) (runs_on : Bool) (chains : List Chain) → IsRow pages runs_on chains → raw_chains pages ≡ map placeless chains
 raw-row pages runs_on chains k =
@@ -128,17 +128,6 @@ pub earlier_pieces-same : (pages : List Page) (continues : Bool) (done : List (L
 earlier_pieces-same pages continues [] now = earlier_pieces-more pages continues now []
 earlier_pieces-same pages continues (bytes ∷ others) now = earlier_pieces-more pages continues bytes (others ++ now ∷ [])
 
-pub chains_before-same : (size : ℕ) (pages : List Page) (continues : Bool) (done : List (List ℕ)) (now : List ℕ)
-    → All (IsFull size) pages → FlagsAgree false pages → continues ≡ last_runs_on false pages
-    → chains_before pages continues (done ++ now ∷ []) ≡ current_chain pages continues done now ∷ chains_before pages continues done
-chains_before-same size pages continues done now full flags c =
-    as_page done
-    ∙ chains_end size pages (page_with continues (done ++ now ∷ [])) done now full flags refl c (λ e. refl)
-  where
-    as_page : (done : List (List ℕ)) → chains_before pages continues (done ++ now ∷ []) ≡ raw_chains (pages ++ page_with continues (done ++ now ∷ []) ∷ [])
-    as_page [] = chains_before-more pages continues now []
-    as_page (bytes ∷ others) = chains_before-more pages continues bytes (others ++ now ∷ [])
-
 -- A new page behind one that runs on
 
 pub earlier_pieces-run_on : (size : ℕ) (pages : List Page) (page : Page) (done : List (List ℕ)) (now : List ℕ)
@@ -158,32 +147,7 @@ chains_before-run_on size pages page done now full flags e c h = ap older_chains
 
 -- A new page behind one that does not
 
-pub earlier_pieces-begun : (pages : List Page) → earlier_pieces pages false [] ≡ []
-earlier_pieces-begun pages = refl
-
-pub chains_before-begun : (pages : List Page) → chains_before pages false [] ≡ raw_chains pages
-chains_before-begun pages = refl
-
 -- All chains
-
--- each chain begins with its first piece
-abbrev pub AllStart : List Chain → Type 0
-AllStart [] = ⊤
-AllStart (chain ∷ older) = StartsAt chain.at chain.pieces × AllStart older
-
-closed-start : (chains : List Chain) → AllClosed chains → AllStart (map placeless chains)
-closed-start [] h = tt
-closed-start (chain ∷ older) h = (h.0.starts, closed-start older h.1)
-
-ends-start : (runs_on : Bool) (chains : List Chain) → Ends runs_on chains → AllStart (map placeless chains)
-ends-start false chains h = closed-start chains h
-ends-start true [] h = absurd h
-ends-start true (chain ∷ older) h = (h.0.starts, closed-start older h.1)
-
-pub raw_chains_start : (size : ℕ) (pages : List Page) → All (IsFull size) pages → FlagsAgree false pages → AllStart (raw_chains pages)
-raw_chains_start size pages full flags =
-    let k : HasRow pages (last_runs_on false pages) = row_of_pages pages flags (all_made size pages full) in
-    subst AllStart (sym (raw-row pages (last_runs_on false pages) k.chains k.row)) (ends-start (last_runs_on false pages) k.chains k.row.ends)
 
 -- the pages have the same fragments, joined in the same way
 abbrev pub SameFragments : List Page → List Page → Type 0
@@ -220,10 +184,6 @@ SameFragments-one (page ∷ pages) a b h = (refl, refl, refl, refl, SameFragment
 pub raw_chains-one : (pages : List Page) (a b : Page) → a.continues ≡ b.continues → a.runs_on ≡ b.runs_on → a.dropped ≡ b.dropped → a.fragments ≡ b.fragments
     → raw_chains (pages ++ a ∷ []) ≡ raw_chains (pages ++ b ∷ [])
 raw_chains-one pages a b c r d e = raw_chains-same (pages ++ a ∷ []) (pages ++ b ∷ []) (SameFragments-one pages a b (c, r, d, e, tt))
-
-pub SameFragments-refl : (pages : List Page) → SameFragments pages pages
-SameFragments-refl [] = tt
-SameFragments-refl (page ∷ pages) = (refl, refl, refl, refl, SameFragments-refl pages)
 
 -- The newest chain runs on out of the pages.
 pub record RunsOnOut (pages : List Page) : Type 0 where

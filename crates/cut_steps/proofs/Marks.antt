@@ -1,6 +1,7 @@
 -- Which patches pages bring, which of them are the last of their chunks, and which pages await patches, as pages and
 -- patches are added.
 use Rattle.std.proofs.Common.{◌≡◌, ◌∙◌, ℕ, zero, suc, ◌+◌, ◌<◌, ◌≤◌, Bool, true, false, not, ◌&&◌, ◌||◌, cond, List, [], ◌∷◌, ◌++◌, length, map, refl, sym, ap, subst, arith, Some, None, Option}
+use Rattle.std.proofs.Math.Bool.{or_assoc}
 use Rattle.std.specs.Prelude.{◌==◌, IsTrue, filter, slice_get}
 use Rattle.std.specs.List.{list_all}
 use Rattle.std.proofs.lemmas.List.{map-append}
@@ -17,10 +18,6 @@ use Rattle.commit_body.proofs.PatchLemmas.{chunks_of-with_lasts}
 use Rattle.cut_steps.specs.Pending.{AllSentBy, AllSentFor, sent_chunks}
 
 -- Chunks among others
-
-or_assoc : (a b c : Bool) → ((a || b) || c) ≡ (a || (b || c))
-or_assoc true b c = refl
-or_assoc false b c = refl
 
 pub is_among-append : (n : ℕ) (xs ys : List ℕ) → is_among n (xs ++ ys) ≡ (is_among n xs || is_among n ys)
 is_among-append n xs ys = list_any-append (λ (m : ℕ). m == n) xs ys

@@ -38,16 +38,6 @@ pub SamePlaces-refl : (pieces : List Piece) → SamePlaces pieces pieces
 SamePlaces-refl [] = tt
 SamePlaces-refl (piece ∷ pieces) = (record { at = refl; offset = refl; long = refl }, SamePlaces-refl pieces)
 
-pub SameChains-refl : (chains : List Chain) → SameChains chains chains
-SameChains-refl [] = tt
-SameChains-refl (chain ∷ chains) = ((refl, SamePlaces-refl chain.pieces), SameChains-refl chains)
-
-pub SamePlaces-append : (pieces others more further : List Piece) → SamePlaces pieces others → SamePlaces more further → SamePlaces (pieces ++ more) (others ++ further)
-SamePlaces-append [] [] more further s t = t
-SamePlaces-append [] (other ∷ others) more further s t = absurd s
-SamePlaces-append (piece ∷ pieces) [] more further s t = absurd s
-SamePlaces-append (piece ∷ pieces) (other ∷ others) more further s t = (s.0, SamePlaces-append pieces others more further s.1 t)
-
 -- Bytes in their places
 
 pub chunk_at-places : (pieces others : List Piece) (at : ℕ) → SamePlaces pieces others → chunk_at pieces at ≡ chunk_at others at

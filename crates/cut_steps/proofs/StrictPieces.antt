@@ -1,19 +1,19 @@
 -- Each fragment of a packet but the first has a byte, and the four bytes of an open length stand in one chunk.
 use Rattle.std.proofs.Common.{◌≡◌, ◌∙◌, ℕ, ◌+◌, ◌-◌, ◌<◌, ◌≤◌, Bool, true, false, List, [], ◌∷◌, ◌++◌, length, refl, sym, ap, subst, arith, length-append, inl, inr}
-use Rattle.std.specs.Prelude.{◌==◌, ◌&&◌, nat_lt, nat_le, IsTrue, cond, filter, MatchBool}
+use Rattle.std.specs.Prelude.{◌==◌, ◌&&◌, nat_le, IsTrue, cond}
 use Rattle.std.specs.List.{list_all}
 use Rattle.std.proofs.lemmas.List.Folds.{list_all-append}
-use Rattle.std.proofs.lemmas.Bool.{cases_lt, cases_Bool, leb-true, and_from, and_parts, eq-eqb, lt-ltb}
-use Rattle.trace_model.specs.Packets.{Text, open_places}
+use Rattle.std.proofs.lemmas.Bool.{cases_lt, cases_Bool, leb-true, and_from, eq-eqb, lt-ltb}
+use Rattle.trace_model.specs.Packets.{Text}
 use Rattle.trace_model.specs.Pages.{Page, laid}
-use Rattle.trace_model.specs.Row.{Piece, bytes_of}
+use Rattle.trace_model.specs.Row.{Piece}
 use Rattle.trace_model.specs.Sent.{chunk_at, open_in, is_in_one}
 use Rattle.trace_model.specs.Cut.{IsFull, left_behind, has_byte, all_go_on}
 use Rattle.cut_steps.specs.RawChains.{earlier_pieces, offset_behind, current_piece}
 use Rattle.cut_steps.specs.Pieces.{StandsIn, AllStandIn, IsLarge, ContinuesWithByte}
 use Rattle.cut_steps.proofs.Places.{chunk_at-here, chunk_at-behind, stands-here, stands-behind}
 use Rattle.cut_steps.proofs.GrowingPlaces.{SamePlacesBelow}
-use Rattle.cut_steps.proofs.ZeroPatches.{inside, inside-standing}
+use Rattle.cut_steps.proofs.ZeroPatches.{inside}
 
 -- Bytes of each piece
 

@@ -2,8 +2,7 @@
 use Rattle.std.proofs.Common.{◌≡◌, ◌∙◌, ℕ, ◌+◌, ◌≤◌, Bool, List, [], ◌∷◌, ◌++◌, length, map, refl, sym, ap, subst, arith, length-append, append_assoc, append-nil}
 use Rattle.std.specs.Prelude.{IsTrue}
 use Rattle.trace_model.specs.Images.{Patch}
-use Rattle.trace_model.specs.Packets.{Packet, NestedLength, flat, open_length, open_places, written, with_more, body_of, kept_of, with_nested}
-use Rattle.trace_model.specs.Encoding.{nested_tag}
+use Rattle.trace_model.specs.Packets.{Packet, NestedLength, flat, open_length, open_places, written, with_more, body_of, kept_of}
 use Rattle.trace_model.specs.Pages.{Page}
 use Rattle.trace_model.specs.Sequences.{is_among}
 use Rattle.trace_model.specs.Row.{Piece, bytes_of}
@@ -38,20 +37,7 @@ with_more-none packet = ap (λ (levels : List (List ℕ)). record packet { text 
     none [] = refl
     none (level ∷ others) = ap (λ (xs : List ℕ). xs ∷ others) (append-nil level)
 
--- a nested message is begun by its tag and its length
-pub with_nested-open : (field : ℕ) (packet : Packet) → with_open (with_more (nested_tag field) packet) ≡ with_nested field packet
-with_nested-open field packet = refl
-
 -- What is known of a packet that is written
-
--- all its bytes stand in its pieces
-pub writing_long : (size : ℕ) (packet : Packet) (older : List Packet) (pages : List Page) (continues : Bool) (done : List (List ℕ)) (now : List ℕ)
-    (unsent : List Patch) (holes : List Hole) (coming : List ℕ) → IsWriting size packet older pages continues done now unsent holes coming
-    → length (bytes_of (earlier_pieces pages continues done)) + length now ≡ length (body_of packet)
-writing_long size packet older pages continues done now unsent holes coming w =
-    sym (length_bytes-one (earlier_pieces pages continues done) (current_piece pages done now))
-    ∙ long_bytes (patches_so_far pages holes unsent) w.first (earlier_pieces pages continues done) (current_piece pages done now) (w.level ∷ w.outer) w.bytes
-    ∙ ap (λ (levels : List (List ℕ)). length (flat open_length levels)) (sym w.levels)
 
 -- each open length of the packet has a hole
 pub writing_holes : (size : ℕ) (packet : Packet) (older : List Packet) (pages : List Page) (continues : Bool) (done : List (List ℕ)) (now : List ℕ)

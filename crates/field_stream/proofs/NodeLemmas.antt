@@ -10,7 +10,8 @@ use Rattle.trace_base.specs.declared.limits.TheConstants.{MAX_NESTING, MAX_PACKE
 use Rattle.trace_model.specs.Encoding.{Fields, NoFields, NumberField, BytesField, NestedField, encoding_of, depth_of, number_field, bytes_head, bytes_field, nested_tag}
 use Rattle.trace_model.specs.Packets.{open_length, flat, open_places}
 use Rattle.trace_model.specs.Images.{with_bytes}
-use Rattle.trace_model.proofs.EncodingLemmas.{length-repeat, length-redundant}
+use Rattle.trace_model.proofs.EncodingLemmas.{length-repeat}
+use Rattle.wire_varint.proofs.Lengths.{length-redundant}
 use Rattle.field_tree.specs.declared.node.FieldNode.{FieldNode}
 use Rattle.field_tree.specs.declared.node.FieldNode.TheVariants.{Number, Bytes, Begin, End}
 use Rattle.field_tree.specs.Nodes.{Shown, nodes_of}

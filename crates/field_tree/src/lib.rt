@@ -13,8 +13,6 @@ mod mode;
 mod node;
 mod parse;
 mod parser;
-#[cfg(test)]
-mod tests;
 mod tree;
 
 pub use fault::{FieldError, FieldFault};

@@ -3,16 +3,17 @@ use Rattle.std.proofs.Common.{◌≡◌, ◌∙◌, ℕ, ◌+◌, ◌≤◌, Boo
 use Rattle.std.specs.Prelude.{cond, ◌⊎◌, ◌==◌, filter, slice_get}
 use Rattle.std.proofs.lemmas.Bool.{cases_eq, eqb-true, eq-eqb, ne_eqb, false≢true}
 use Rattle.trace_model.specs.Counts.{raised}
-use Rattle.trace_model.specs.Images.{Chunk, Patch, whole_chunk, complete_chunk, partial_chunk}
+use Rattle.trace_model.specs.Images.{Chunk, whole_chunk, complete_chunk, partial_chunk}
 use Rattle.trace_model.specs.Reading.{Reading, Fragments, Unreadable, reading_of}
 use Rattle.trace_model.specs.Sequences.{Sequence, sequence_in, is_known, changed_at}
 use Rattle.trace_model.specs.Buffers.{Buffer, BufferRecord, meets, with_losses, empty_buffer}
 use Rattle.trace_model.specs.Arrivals.{Arrived, Kept, Rewritten, Duplicate, Discarded, TooFar, BadChunk, arrival_of, partial_arrival_of, with_arrived, with_discarded, discarded_buffer, settled, makes_arrive, with_arrival, once_read, with_image}
-use Rattle.trace_model.specs.Patches.{with_patch, with_patches, closed_sequence, closed_buffer, with_close}
+use Rattle.trace_model.specs.Patches.{with_patches, closed_sequence, closed_buffer, with_close}
 use Rattle.trace_model.specs.Row.{Link, row_from_cursor}
 use Rattle.trace_model.specs.Reads.{Delivery, turn_of, delivers, count_of, passed_by, link_bytes, delivered_of, missing_after, sequence_after, is_marked, delivered_by, with_read}
 use Rattle.trace_model.specs.History.{Event, Arrives, ArrivesInPart, Patched, Committed, Closed, Read, event_sequence, after, buffer_after, delivered_at, delivered_to}
 use Rattle.trace_model.proofs.SequenceLemmas.{sequence_in-map, known-map, changed_here, changed_other, known_changed}
+use Rattle.trace_model.proofs.CountedLemmas.{patched_sequences}
 use Rattle.model_laws.specs.MarkLaws.{links_at, links_passed, ends_delivered, MarksTellWhatIsMissing}
 use Rattle.model_laws.proofs.PlaceCounts.{count-cons}
 
@@ -154,10 +155,6 @@ keeps_image : (reading : Reading) (q p chunk_id flags : ℕ) (b : Buffer) → is
 keeps_image (Fragments fragments) q p chunk_id flags b known = keeps_arrival q p chunk_id b (whole_chunk flags fragments) known
 keeps_image (Unreadable number) q p chunk_id flags b known = keeps_same q b.sequences known
 
-same_patched : (patches : List Patch) (b : Buffer) (p : ℕ) → (with_patches b p patches).sequences ≡ b.sequences
-same_patched [] b p = refl
-same_patched (patch ∷ patches) b p = same_patched patches (with_patch b p patch) p
-
 keeps_closed : (x : Bool) (q p : ℕ) (b : Buffer) → is_known b.sequences q ≡ true → Keeps q b.sequences (cond x b (closed_buffer b p)).sequences
 keeps_closed true q p b known = keeps_same q b.sequences known
 keeps_closed false q p b known = keeps_changed p q (closed_sequence b.live) (λ s. refl) (λ s. refl) (λ s. refl) b.sequences known
@@ -205,10 +202,10 @@ goes_event q b (ArrivesInPart p chunk_id chunk) known =
     goes_kept q b (settled (partial_arrival_of b p chunk_id (length chunk.fragments)) b p chunk_id (partial_chunk chunk))
     (keeps_settled (partial_arrival_of b p chunk_id (length chunk.fragments)) q p chunk_id b (partial_chunk chunk) known)
 goes_event q b (Patched p patches) known =
-    goes_kept q b (with_patches b p patches) (subst (λ (ss : List Sequence). Keeps q b.sequences ss) (sym (same_patched patches b p)) (keeps_same q b.sequences known))
+    goes_kept q b (with_patches b p patches) (subst (λ (ss : List Sequence). Keeps q b.sequences ss) (sym (patched_sequences patches b p)) (keeps_same q b.sequences known))
 goes_event q b (Committed image patches) known =
     goes_kept q b (with_patches (with_image b image) image.sequence patches)
-    (subst (λ (ss : List Sequence). Keeps q b.sequences ss) (sym (same_patched patches (with_image b image) image.sequence))
+    (subst (λ (ss : List Sequence). Keeps q b.sequences ss) (sym (patched_sequences patches (with_image b image) image.sequence))
     (keeps_image (reading_of image.count image.payload) q image.sequence image.chunk_id image.flags b known))
 goes_event q b (Closed p) known = goes_kept q b (with_close b p) (keeps_closed (sequence_in b.sequences p).closed q p b known)
 goes_event q b (Read p limit) known = goes_read q p limit b known

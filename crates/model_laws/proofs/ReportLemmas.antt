@@ -19,6 +19,7 @@ use Rattle.trace_model.specs.Causes.{Fixed, Outcome, Delivered, Absent, is_same_
 use Rattle.trace_model.specs.CauseLaws.{AreDistinct, AreCounted}
 use Rattle.trace_model.specs.Balance.{outcomes_of, is_delivered, is_absent_under, packet_outcomes}
 use Rattle.trace_model.proofs.OneOutcomeLemmas.{packets_have_one_outcome}
+use Rattle.trace_model.proofs.TallyLemmas.{tally}
 use Rattle.trace_model.proofs.CountedLemmas.{counts_are_outcomes}
 use Rattle.model_laws.specs.Starts.{begins_one, AllBegin}
 use Rattle.model_laws.specs.OutcomeLaws.{FixedPlacesAreStarts, IsHistoryOf, CountsAreOfOutcomes, CountsAreBalanced}
@@ -111,9 +112,6 @@ outcomes_count test fixed (packet ∷ packets) (chain ∷ chains) long = step pa
         longer false = refl
 
 -- Each outcome is one of four
-
-abbrev tally : (Outcome → Bool) → List Fixed → ℕ
-tally test fixed = count_by (λ (f : Fixed). test f.outcome) fixed
 
 four_kinds : (fixed : List Fixed)
     → length fixed ≡ tally is_delivered fixed + tally (is_absent_under Dropped) fixed + tally (is_absent_under Lost) fixed + tally (is_absent_under Cut) fixed

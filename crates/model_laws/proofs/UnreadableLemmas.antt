@@ -1,23 +1,30 @@
 -- The fragment that reading stops at is the first that can't be read.
-use Rattle.std.proofs.Common.{◌≡◌, ◌∙◌, ℕ, zero, suc, ◌+◌, ◌-◌, ◌<◌, Bool, true, false, List, [], ◌∷◌, ◌++◌, length, drop, Option, Some, None, refl, sym, ap, subst, arith, length-append, inl, inr}
-use Rattle.std.specs.Prelude.{All, ◌==◌, ◌↔◌}
+use Rattle.std.proofs.Common.{◌≡◌, ◌∙◌, ℕ, zero, suc, ◌+◌, ◌-◌, ◌<◌, Bool, true, false, List, [], ◌∷◌, length, drop, Option, Some, None, refl, sym, ap, subst, arith, inl, inr}
+use Rattle.std.specs.Prelude.{All, ◌==◌}
 use Rattle.std.proofs.lemmas.List.Elements.{All-drop}
 use Rattle.std.proofs.lemmas.Bool.{eqb-true, eq-eqb, false≢true}
 use Rattle.std.proofs.lemmas.Option.{none-some}
 use Rattle.trace_model.specs.Images.{Fragment}
-use Rattle.trace_model.specs.Fragments.{ReadsOne}
+use Rattle.trace_model.specs.Fragments.{ReadsOne, ReadsDropped}
 use Rattle.trace_model.specs.Reading.{size_of, fragment_of, Reading, Fragments, Unreadable, behind, place_behind, read_on, reading_from, reading_of}
-use Rattle.trace_model.proofs.ReadingLemmas.{StandsFirst, read_kept, read_dropped, read_sound, drop-front}
-use Rattle.model_laws.specs.UnreadableLaws.{ReadsUpTo, NoneReads, IsFirstUnread, UnreadableIsFirst}
+use Rattle.trace_model.proofs.ReadingLemmas.{StandsFirst, read_kept, read_dropped, read_sound}
+use Rattle.trace_model.specs.Unread.{BeginsWith, StopsAt}
+use Rattle.trace_model.proofs.ReadsAsLemmas.{rest_behind}
+use Rattle.model_laws.specs.UnreadableLaws.{UnreadableIsFirst}
 
--- the same of so many fragments, of which the first has the number
+-- No fragment stands at the place; where the last one of a chunk is due none with the drop mark does either.
+record NoneReads (last : Bool) (at : ℕ) (bytes : List ℕ) : Type 0 where
+  kept : (fragment : Fragment) (rest : List ℕ) → ReadsOne at bytes fragment rest → ⊥
+  dropped : last ≡ true → (fragment : Fragment) → ReadsDropped at bytes fragment → ⊥
+
+-- the first fragment that can't be read, of so many fragments of which the first has the number
 record IsFirstFrom (left number at : ℕ) (bytes : List ℕ) (k : ℕ) : Type 0 where
   below : k < number + left
   before : List Fragment
   many : number + length before ≡ k
   place : ℕ
   rest : List ℕ
-  reads : ReadsUpTo at bytes before place rest
+  reads : BeginsWith at bytes before place rest
   none : NoneReads (suc k == number + left) place rest
 
 -- what a reading answers
@@ -30,12 +37,6 @@ is_read (Fragments fragments) = true
 is_read (Unreadable number) = false
 
 -- the rest behind a fragment
-rest_behind : (at : ℕ) (bytes : List ℕ) (fragment : Fragment) (rest : List ℕ) → ReadsOne at bytes fragment rest → drop (place_behind fragment - at) bytes ≡ rest
-rest_behind at bytes fragment rest reads =
-    ap (λ (n : ℕ). drop n bytes) (omega (arith, reads.offset, length-append reads.size fragment.bytes))
-    ∙ ap (drop (length (reads.size ++ fragment.bytes))) reads.cut
-    ∙ drop-front (reads.size ++ fragment.bytes) rest
-
 -- where nothing is read no fragment stands
 none_there : (left number at : ℕ) (bytes : List ℕ) → fragment_of (left == 0) at bytes (size_of 4 bytes) ≡ None → NoneReads (suc number == number + suc left) at bytes
 none_there left number at bytes none = record {
@@ -92,7 +93,7 @@ unread_from (suc left) number at bytes k below e = by_fragment (fragment_of (lef
 
 -- where those before it can be read, and it can't, reading stops there
 stops_from : (before : List Fragment) (left number at : ℕ) (bytes : List ℕ) (place : ℕ) (rest : List ℕ) → All (λ byte. byte < 256) bytes
-    → number + length before < number + left → ReadsUpTo at bytes before place rest → NoneReads (suc (number + length before) == number + left) place rest
+    → number + length before < number + left → BeginsWith at bytes before place rest → NoneReads (suc (number + length before) == number + left) place rest
     → reading_from left number at bytes ≡ Unreadable (number + length before)
 stops_from before zero number at bytes place rest below less reads none = absurd (omega (arith, less))
 stops_from [] (suc left) number at bytes place rest below less reads none =
@@ -126,31 +127,30 @@ stops_from (fragment ∷ before) (suc left) number at bytes place rest below les
     (omega (arith, less)) reads.2 later)
     ∙ ap Unreadable total
 
-some_unread : (count : ℕ) (payload : List ℕ) (number : ℕ) → All (λ byte. byte < 256) payload → 0 < count
-    → (reading_of count payload ≡ Unreadable number) ↔ IsFirstUnread count payload number
-some_unread zero payload number below some = absurd (omega (arith, some))
-some_unread (suc more) payload number below some = (first, stops)
+pub unreadable_is_first : UnreadableIsFirst
+unreadable_is_first zero payload number below = (λ e. sym (ap number_in e), λ is. ap Unreadable (sym is))
+unreadable_is_first (suc more) payload number below = (first, stops)
   where
-    first : reading_of (suc more) payload ≡ Unreadable number → IsFirstUnread (suc more) payload number
+    first : reading_of (suc more) payload ≡ Unreadable number → StopsAt (suc more) number payload
     first e =
         let from : IsFirstFrom (suc more) 0 0 payload number = unread_from (suc more) 0 0 payload number below e in
         record {
-          below = omega (arith, from.below);
+          among = omega (arith, from.below);
           before = from.before;
-          many = omega (arith, from.many);
           place = from.place;
           rest = from.rest;
-          reads = from.reads;
-          none = subst (λ (m : ℕ). NoneReads (suc number == m) from.place from.rest) (omega arith) from.none;
+          number_is = omega (arith, from.many);
+          begins = from.reads;
+          unread = from.none.kept;
+          undropped = λ last. from.none.dropped (eq-eqb (suc number) (0 + suc more) (omega (arith, last)));
         }
 
-    stops : IsFirstUnread (suc more) payload number → reading_of (suc more) payload ≡ Unreadable number
+    stops : StopsAt (suc more) number payload → reading_of (suc more) payload ≡ Unreadable number
     stops is =
-        let same : 0 + length is.before ≡ number = omega (arith, is.many) in
-        stops_from is.before (suc more) 0 0 payload is.place is.rest below (omega (arith, is.below, is.many)) is.reads
-        (subst (λ (m : ℕ). NoneReads (suc (0 + length is.before) == m) is.place is.rest) (omega arith)
-        (subst (λ (m : ℕ). NoneReads (suc m == suc more) is.place is.rest) (sym same) is.none))
+        let same : 0 + length is.before ≡ number = omega (arith, is.number_is) in
+        let none : NoneReads (suc (0 + length is.before) == 0 + suc more) is.place is.rest = record {
+          kept = is.unread;
+          dropped = λ last. is.undropped (omega (arith, same, eqb-true (suc (0 + length is.before)) (0 + suc more) last));
+        } in
+        stops_from is.before (suc more) 0 0 payload is.place is.rest below (omega (arith, is.among, is.number_is)) is.begins none
         ∙ ap Unreadable same
-
-pub unreadable_is_first : UnreadableIsFirst
-unreadable_is_first = record { some = some_unread; none = λ payload. refl }

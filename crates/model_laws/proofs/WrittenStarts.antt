@@ -8,7 +8,7 @@ use Rattle.std.proofs.lemmas.List.Folds.{list_any-append}
 use Rattle.trace_model.specs.Images.{Fragment, Chunk, Patch, patched_last}
 use Rattle.trace_model.specs.Pages.{Page, chunk_of, fragments_from, patches_of}
 use Rattle.trace_model.specs.Sequences.{Cursor}
-use Rattle.trace_model.specs.Row.{Piece, Chain, Whole, Marked, CutOff, Link, Joined, Gap, Stop, Unpatched, joined_to, with_piece, place, is_last, is_part, place_behind, chunk_links, row_of}
+use Rattle.trace_model.specs.Row.{Piece, Chain, CutOff, Link, Joined, Gap, Stop, Unpatched, joined_to, with_piece, place, is_last, is_part, place_behind, chunk_links, row_of, chain_of}
 use Rattle.trace_model.specs.Written.{settled_fragments, settled_chunk, written_slots, written_row, chains_in, chains_of}
 use Rattle.trace_model.specs.Causes.{Fixed, is_same_place}
 use Rattle.model_laws.specs.Starts.{begins_one, AllBegin}
@@ -48,29 +48,18 @@ joined_heads chain (Joined rest ∷ links) h = step rest.headless
 joined_heads chain (Gap here next lost ∷ links) h = inl (refl, h)
 joined_heads chain (Stop here why may ∷ links) h = inl (refl, h)
 
--- the chain of a piece alone
-abbrev piece_chain : Piece → Cursor → Bool → Bool → Chain
-piece_chain piece next headless awaits = record {
-  at = piece.at;
-  next = next;
-  headless = headless;
-  pieces = piece ∷ [];
-  awaits = awaits;
-  fate = cond piece.fragment.dropped Marked Whole;
-}
-
 piece_keeps : (at : Cursor) (piece : Piece) (next : Cursor) (headless awaits : Bool) (links : List Link) → HasHead at links → HasHead at (with_piece piece next headless awaits links)
 piece_keeps at piece next headless awaits links h = step (piece.runs_on && not piece.fragment.dropped)
   where
-    step : (b : Bool) → HasHead at (cond b (joined_to (piece_chain piece next headless awaits) links) (Joined (piece_chain piece next headless awaits) ∷ links))
-    step true = joined_keeps at (piece_chain piece next headless awaits) links h
+    step : (b : Bool) → HasHead at (cond b (joined_to (chain_of piece next headless awaits) links) (Joined (chain_of piece next headless awaits) ∷ links))
+    step true = joined_keeps at (chain_of piece next headless awaits) links h
     step false = inr h
 
 piece_heads : (piece : Piece) (next : Cursor) (headless awaits : Bool) (links : List Link) → headless ≡ false → HasHead piece.at (with_piece piece next headless awaits links)
 piece_heads piece next headless awaits links h = step (piece.runs_on && not piece.fragment.dropped)
   where
-    step : (b : Bool) → HasHead piece.at (cond b (joined_to (piece_chain piece next headless awaits) links) (Joined (piece_chain piece next headless awaits) ∷ links))
-    step true = joined_heads (piece_chain piece next headless awaits) links h
+    step : (b : Bool) → HasHead piece.at (cond b (joined_to (chain_of piece next headless awaits) links) (Joined (chain_of piece next headless awaits) ∷ links))
+    step true = joined_heads (chain_of piece next headless awaits) links h
     step false = inl (refl, h)
 
 -- Chunks of which nothing is awaited

@@ -16,7 +16,7 @@ use Rattle.scenario_text.specs.Items.{item}
 use Rattle.scenario_text.specs.Ranges.{value, is_within, is_page_size, is_chunk_count}
 use Rattle.scenario_text.specs.State.{State}
 use Rattle.scenario_text.specs.Sound.{is_cut}
-use Rattle.scenario_text.specs.Reasons.{first, when, front_reasons, is_out_of_range, is_producer_in_range, is_late, is_too_many, lacks_producer, lacks_buffer, lacks_writer, has_larger_chunks}
+use Rattle.scenario_text.specs.Reasons.{first, when, front_reasons, is_out_of_range, is_producer_in_range, is_late, is_too_many, lacks_producer, lacks_buffer, lacks_writer, has_larger_chunks, has_closed_producer, meets_packet, lacks_packet, lacks_nesting, leaves_nesting}
 use Rattle.scenario_text.proofs.SoundLemmas.{both}
 
 none_when : (test : Bool) (reason : Reason) (more : List (Option Reason)) → first (when test reason ∷ more) ≡ None
@@ -32,6 +32,10 @@ pub record IsPassed (state : State) (form : Form) : Type 0 where
   pub buffer : lacks_buffer state form ≡ false
   pub writer : lacks_writer state form ≡ false
   pub larger : has_larger_chunks state form ≡ false
+  pub none_begun : meets_packet state form ≡ false
+  pub begun : lacks_packet state form ≡ false
+  pub nested : lacks_nesting state form ≡ false
+  pub level : leaves_nesting state form ≡ false
 
 pub passed : (state : State) (form : Form) → first (front_reasons state form) ≡ None → IsPassed state form
 unfolding front_reasons
@@ -43,7 +47,23 @@ passed state form none =
     let five = none_when (lacks_buffer state form) _ _ four.1 in
     let six = none_when (lacks_writer state form) _ _ five.1 in
     let seven = none_when (has_larger_chunks state form) _ _ six.1 in
-    record { in_range = one.0; room = three.0; producer = four.0; buffer = five.0; writer = six.0; larger = seven.0 }
+    let eight = none_when (has_closed_producer state form) _ _ seven.1 in
+    let nine = none_when (meets_packet state form) _ _ eight.1 in
+    let ten = none_when (lacks_packet state form) _ _ nine.1 in
+    let eleven = none_when (lacks_nesting state form) _ _ ten.1 in
+    let twelve = none_when (leaves_nesting state form) _ _ eleven.1 in
+    record {
+      in_range = one.0;
+      room = three.0;
+      producer = four.0;
+      buffer = five.0;
+      writer = six.0;
+      larger = seven.0;
+      none_begun = nine.0;
+      begun = ten.0;
+      nested = eleven.0;
+      level = twelve.0;
+    }
 
 pub not_false : (b : Bool) → not b ≡ false → b ≡ true
 not_false true h = refl

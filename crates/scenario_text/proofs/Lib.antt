@@ -9,5 +9,10 @@ pub mod WriteLemmas
 pub mod PlayLemmas
 pub mod LineLemmas
 pub mod ReadLemmas
+pub mod StateLemmas
 pub mod LimitLemmas
 pub mod TreeLemmas
+pub mod AcceptedFields
+pub mod AcceptedCalls
+pub mod AcceptedLines
+pub mod AcceptedLemmas

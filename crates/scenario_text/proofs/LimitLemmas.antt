@@ -1,5 +1,5 @@
 -- Why each scenario keeps to the limits: each accepted line does.
-use Rattle.std.proofs.Common.{◌≡◌, ℕ, zero, suc, ◌+◌, ◌-◌, ◌*◌, ◌<◌, ◌≤◌, nat_eq, nat_lt, Bool, true, false, cond, List, [], ◌∷◌, ◌++◌, length, Option, Some, None, Result, Ok, Err, is_none, slice_get, refl, ap, arith}
+use Rattle.std.proofs.Common.{◌≡◌, ℕ, zero, suc, ◌-◌, ◌*◌, ◌<◌, ◌≤◌, nat_eq, nat_lt, Bool, true, false, cond, List, [], ◌∷◌, ◌++◌, length, Option, Some, None, is_none, slice_get, refl, subst, arith}
 use Rattle.std.specs.List.{AllByRecursion}
 use Rattle.std.proofs.lemmas.Grind.{common_steps}
 use Rattle.std.proofs.lemmas.List.{length-append}
@@ -14,27 +14,24 @@ use Rattle.scenario_text.specs.declared.form.Form.{Form}
 use Rattle.scenario_text.specs.declared.form.Form.TheVariants.{Buffer, Producer, Writer, OfWriter, OfProducer, Read, Request}
 use Rattle.scenario_text.specs.declared.form.ProducerStep.{ProducerStep}
 use Rattle.scenario_text.specs.declared.form.ProducerStep.TheVariants.{Collect, Scrape, Close}
-use Rattle.scenario_text.specs.declared.reason.Reason.{Reason}
 use Rattle.scenario_text.specs.declared.scenario.BufferLine.{BufferLine}
 use Rattle.scenario_text.specs.declared.scenario.ProducerLine.{ProducerLine}
 use Rattle.scenario_text.specs.declared.scenario.Scenario.{Scenario}
 use Rattle.field_tree.specs.Nodes.{Shown}
-use Rattle.scenario_text.specs.Pieces.{pieces}
 use Rattle.scenario_text.specs.Items.{item}
 use Rattle.scenario_text.specs.Ranges.{value}
 use Rattle.scenario_text.specs.State.{State, beginning}
 use Rattle.scenario_text.specs.Sound.{is_cut}
 use Rattle.scenario_text.specs.Reasons.{first, front_reasons, back_reasons, refusal_of, given, is_larger, is_out_of_range, has_larger_chunks, lacks_producer, lacks_buffer}
 use Rattle.scenario_text.specs.Effects.{moved, nodes_given, written, with_line, with_packet, with_closed, with_bytes, served}
-use Rattle.scenario_text.specs.Forms.{form_of}
-use Rattle.scenario_text.specs.Grammar.{after_form, after_line, after_lines, and_then, at_end, first_left, says_nothing, state_after, unless, unless_left}
-use Rattle.scenario_text.specs.Scenario.{IsScenario, parts_of, parts_said, said, scenario_of}
+use Rattle.scenario_text.specs.Scenario.{IsScenario, Parts}
 use Rattle.scenario_text.specs.Limits.{IsBuffer, IsProducer, IsSetUp, IsWriter}
 use Rattle.scenario_text.proofs.SoundLemmas.{cut_pages, cut_chunks}
+use Rattle.scenario_text.proofs.StateLemmas.{first_none, scenario_holds}
 use Rattle.scenario_text.proofs.FrontLemmas.{passed, not_false, within_least, within_most, of_producer_line, producer_cut, room_for_buffer, room_for_producer, room_for_writer}
 
-abbrev Keeps : State → Type 0
-Keeps state = IsSetUp state.buffers state.producers state.writers
+abbrev KeepsLimits : State → Type 0
+KeepsLimits state = IsSetUp state.buffers state.producers state.writers
 
 -- ---- lists that grow
 
@@ -167,14 +164,14 @@ producer_known state pages page_size chunks none =
 
 -- ---- one line
 
-served_keeps : (state : State) (producer : Numeral) (step : ProducerStep) → Keeps state → Keeps (served state producer step)
+served_keeps : (state : State) (producer : Numeral) (step : ProducerStep) → KeepsLimits state → KeepsLimits (served state producer step)
 unfolding served with_closed
 served_keeps state producer Collect keeps = keeps
 served_keeps state producer Scrape keeps = keeps
 served_keeps state producer Close keeps = keeps
 
-moved_keeps : (state : State) (number : ℕ) (form : Form) (nodes : List Shown) → first (front_reasons state form) ≡ None → Keeps state
-    → Keeps (moved state number form nodes)
+moved_keeps : (state : State) (number : ℕ) (form : Form) (nodes : List Shown) → first (front_reasons state form) ≡ None → KeepsLimits state
+    → KeepsLimits (moved state number form nodes)
 unfolding moved written with_line with_packet with_bytes
 moved_keeps state number (Buffer kb policy) nodes none keeps =
     more_buffer state.buffers state.producers state.writers _ keeps (room_for_buffer state kb policy none) (buffer_known state kb policy none)
@@ -189,64 +186,13 @@ moved_keeps state number (OfProducer producer step) nodes none keeps = served_ke
 moved_keeps state number (Read buffer limit) nodes none keeps = keeps
 moved_keeps state number Request nodes none keeps = keeps
 
-first_none : (front back : List (Option Reason)) → first (front ++ back) ≡ None → first front ≡ None
-first_none [] back none = refl
-first_none (None ∷ front) back none = first_none front back none
-first_none (Some reason ∷ front) back none = cc
+line_keeps : (state : State) (number : ℕ) (line : List ℕ) (form : Form) → refusal_of state line form ≡ None → KeepsLimits state
+    → KeepsLimits (moved state number form (nodes_given (given state line form)))
+unfolding refusal_of
+line_keeps state number line form none keeps =
+    moved_keeps state number form (nodes_given (given state line form)) (first_none (front_reasons state form) (back_reasons state line form) none).0 keeps
 
-unless_keeps : (refusal : Option Reason) (state after : State) (number : ℕ) (line : List ℕ) (form : Form) (nodes : List Shown)
-    → refusal_of state line form ≡ refusal → Keeps state → unless refusal (moved state number form nodes) ≡ Ok after → Keeps after
-unfolding unless refusal_of
-unless_keeps None state after number line form nodes is keeps leads =
-    let none = first_none (front_reasons state form) (back_reasons state line form) is in
-    let same : moved state number form nodes ≡ after = cc in
-    rw (← same) (moved_keeps state number form nodes none keeps)
-unless_keeps (Some reason) state after number line form nodes is keeps leads = absurd cc
-
-form_keeps : (form : Option Form) (state after : State) (number : ℕ) (line : List ℕ) → Keeps state
-    → after_form state number line form ≡ Ok after → Keeps after
-unfolding after_form
-form_keeps None state after number line keeps leads = absurd cc
-form_keeps (Some form) state after number line keeps leads =
-    unless_keeps (refusal_of state line form) state after number line form (nodes_given (given state line form)) refl keeps leads
-
-says_keeps : (nothing : Bool) (state after : State) (number : ℕ) (line : List ℕ) → Keeps state
-    → cond nothing (Ok state) (after_form state number line (form_of line)) ≡ Ok after → Keeps after
-says_keeps true state after number line keeps leads = let same : state ≡ after = cc in rw (← same) keeps
-says_keeps false state after number line keeps leads = form_keeps (form_of line) state after number line keeps leads
-
-line_keeps : (state after : State) (number : ℕ) (line : List ℕ) → Keeps state → after_line state number line ≡ Ok after → Keeps after
-unfolding after_line
-line_keeps state after number line keeps leads = says_keeps (says_nothing line) state after number line keeps leads
-
--- ---- all lines
-
-left_keeps : (left : Option ℕ) (state after : State) → Keeps state → unless_left left state ≡ Ok after → Keeps after
-unfolding unless_left
-left_keeps None state after keeps leads = let same : state ≡ after = cc in rw (← same) keeps
-left_keeps (Some line) state after keeps leads = absurd cc
-
-end_keeps : (state after : State) → Keeps state → at_end state ≡ Ok after → Keeps after
-unfolding at_end
-end_keeps state after keeps leads = left_keeps (first_left state None 1 state.writers) state after keeps leads
-
-then_keeps : (middle : Result State Reason) (state after : State) (number : ℕ) (line : List ℕ) (others : State → Result State (ℕ × Reason))
-    → after_line state number line ≡ middle → Keeps state → ((next : State) → Keeps next → others next ≡ Ok after → Keeps after)
-    → and_then number middle others ≡ Ok after → Keeps after
-unfolding and_then
-then_keeps (Ok next) state after number line others is keeps again leads = again next (line_keeps state next number line keeps is) leads
-then_keeps (Err reason) state after number line others is keeps again leads = absurd cc
-
-lines_keep : (lines : List (List ℕ)) (state after : State) (number : ℕ) → Keeps state → after_lines state number lines ≡ Ok after → Keeps after
-unfolding after_lines
-lines_keep [] state after number keeps leads = end_keeps state after keeps leads
-lines_keep ([] ∷ []) state after number keeps leads = end_keeps state after keeps leads
-lines_keep ((byte ∷ bytes) ∷ []) state after number keeps leads = absurd cc
-lines_keep (line ∷ next ∷ others) state after number keeps leads =
-    then_keeps (after_line state number line) state after number line (λ middle. after_lines middle (number + 1) (next ∷ others)) refl keeps
-    (λ middle kept goes. lines_keep (next ∷ others) middle after (number + 1) kept goes) leads
-
-nothing_kept : Keeps beginning
+nothing_kept : KeepsLimits beginning
 nothing_kept = record {
   few_buffers = omega arith;
   few_producers = omega arith;
@@ -256,19 +202,8 @@ nothing_kept = record {
   are_writers = tt;
 }
 
-said_keeps : (outcome : Result State (ℕ × Reason)) (text : List ℕ) (scenario : Scenario) → state_after text ≡ outcome
-    → said outcome ≡ Ok (parts_of scenario) → IsSetUp scenario.buffers.items scenario.producers.items scenario.writers.items
-unfolding said state_after
-said_keeps (Ok state) text scenario is same =
-    let kept = lines_keep (pieces 10 text) beginning state 1 nothing_kept is in
-    let parts : parts_said state ≡ parts_of scenario = cc in
-    let buffers : state.buffers ≡ scenario.buffers.items = ap (λ p. p.buffers) parts in
-    let producers : state.producers ≡ scenario.producers.items = ap (λ p. p.producers) parts in
-    let writers : state.writers ≡ scenario.writers.items = ap (λ p. p.writers) parts in
-    rw (← buffers, ← producers, ← writers) kept
-said_keeps (Err fault) text scenario is same = absurd cc
-
 pub scenario_is_set_up : (scenario : Scenario) → IsScenario scenario
     → IsSetUp scenario.buffers.items scenario.producers.items scenario.writers.items
-unfolding scenario_of
-scenario_is_set_up scenario is = said_keeps (state_after is.text) is.text scenario refl is.said_by
+scenario_is_set_up scenario is =
+    let end = scenario_holds KeepsLimits line_keeps nothing_kept scenario is in
+    subst (λ (parts : Parts). IsSetUp parts.buffers parts.producers parts.writers) end.says end.holds

@@ -55,10 +55,6 @@ pub pieces_behind_some : (separator : ℕ) (behind : List ℕ) → pieces_behind
 unfolding pieces_behind
 pieces_behind_some separator behind = refl
 
-pub pieces_behind_none : (separator : ℕ) → pieces_behind separator None ≡ []
-unfolding pieces_behind
-pieces_behind_none separator = refl
-
 -- there is always a piece
 pub record HasPiece (all : List (List ℕ)) : Type 0 where
   pub first : List ℕ

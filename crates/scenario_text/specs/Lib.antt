@@ -11,6 +11,7 @@ pub mod Grammar
 pub mod Scenario
 pub mod Limits
 pub mod Answers
+pub mod Accepted
 pub mod Additions
 pub mod Texts
 pub mod Trees

@@ -1,4 +1,5 @@
 //! What holds of every scenario, as functions that do nothing and ensure it.
+ghost use Rattle.scenario_text.specs.Accepted.{ScenariosAreAccepted};
 ghost use Rattle.scenario_text.specs.Limits.{ScenariosAreSetUp};
 ghost use Rattle.scenario_text.specs.Trees.{ScenariosGiveTrees};
 
@@ -10,4 +11,8 @@ pub fn scenarios_are_set_up()
 #[tactic(auto, using(crate::proofs::TreeLemmas::scenario_gives_trees))]
 pub fn scenarios_give_trees()
     ensures { ScenariosGiveTrees }
+{}
+
+pub fn scenarios_are_accepted()
+    ensures { ScenariosAreAccepted }
 {}

@@ -23,10 +23,8 @@ pub mod reading;
 mod reason;
 mod refusals;
 mod scenario;
-#[cfg(test)]
-mod tests;
 
-pub use laws::{scenarios_are_set_up, scenarios_give_trees};
+pub use laws::{scenarios_are_accepted, scenarios_are_set_up, scenarios_give_trees};
 pub use lines::read_scenario;
 pub use printing::refusal_line;
 pub use reason::{Reason, ScenarioFault};

@@ -15,15 +15,15 @@ use Rattle.trace_model.specs.PacketLaws.{WholePacket, packet_calls, whole_bodies
 use Rattle.trace_model.specs.Record.{mark_where}
 
 -- the account whose newest packet has these levels and closed lengths
-abbrev at_text : Packet → List Packet → Bool → List (List ℕ) → List NestedLength → Account
+abbrev pub at_text : Packet → List Packet → Bool → List (List ℕ) → List NestedLength → Account
 at_text packet older flushed levels closed =
     record { packets = record packet { text = record { levels = levels; closed = closed } } ∷ older; flushed = flushed }
 
 -- these calls turn the first account's innermost level into the second one
-record Writes (packet : Packet) (older : List Packet) (flushed : Bool) (calls : List Call) (level after : List ℕ)
+pub record Writes (packet : Packet) (older : List Packet) (flushed : Bool) (calls : List Call) (level after : List ℕ)
     (outer : List (List ℕ)) (closed : List NestedLength) : Type 0 where
-  more : List NestedLength
-  is : fold noted (at_text packet older flushed (level ∷ outer) closed) calls ≡ at_text packet older flushed (after ∷ outer) more
+  pub more : List NestedLength
+  pub is : fold noted (at_text packet older flushed (level ∷ outer) closed) calls ≡ at_text packet older flushed (after ∷ outer) more
 
 module _ (packet : Packet) (older : List Packet) (flushed : Bool) where
   writes_same : (calls : List Call) (level after after' : List ℕ) (outer : List (List ℕ)) (closed : List NestedLength)
@@ -31,7 +31,7 @@ module _ (packet : Packet) (older : List Packet) (flushed : Bool) where
   writes_same calls level after after' outer closed e h =
       record { more = h.more; is = h.is ∙ ap (λ (xs : List ℕ). at_text packet older flushed (xs ∷ outer) h.more) e }
 
-  writes_fields : (fields : Fields) (level : List ℕ) (outer : List (List ℕ)) (closed : List NestedLength)
+  pub writes_fields : (fields : Fields) (level : List ℕ) (outer : List (List ℕ)) (closed : List NestedLength)
       → Writes packet older flushed (calls_of fields) level (level ++ encoding_of fields) outer closed
   writes_fields NoFields level outer closed = record {
     more = closed;

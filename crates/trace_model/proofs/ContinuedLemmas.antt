@@ -1,9 +1,10 @@
 -- A row goes on where more chunks come.
 use Rattle.std.proofs.Common.{◌≡◌, ◌∙◌, ℕ, suc, ◌+◌, max, Bool, true, false, not, ◌&&◌, ◌||◌, List, [], ◌∷◌, ◌++◌, length, refl, sym, ap, subst, arith, append_assoc}
+use Rattle.std.proofs.Math.Bool.{or_assoc}
 use Rattle.std.specs.Prelude.{cond, ◌==◌}
 use Rattle.trace_model.specs.Images.{Chunk, Fragment}
 use Rattle.trace_model.specs.Sequences.{Cursor}
-use Rattle.trace_model.specs.Row.{Slot, Here, Gone, Never, Piece, Chain, Fate, Whole, Marked, IntoLost, CutOff, Open, Link, Joined, Gap, Stop, Partial, Unpatched, joined_to, with_piece, place, is_last, is_part, place_behind, chunk_links, row_of}
+use Rattle.trace_model.specs.Row.{Slot, Here, Gone, Never, Piece, Chain, Fate, Whole, Marked, IntoLost, CutOff, Open, Link, Joined, Gap, Stop, Partial, Unpatched, joined_to, with_piece, place, is_last, is_part, place_behind, chunk_links, row_of, chain_of}
 use Rattle.trace_model.specs.RowLaws.{is_open, continued, AreWhole, RowsContinue}
 
 -- a chain may run on into the row's stop place
@@ -28,10 +29,6 @@ joined-fate chain fate (Joined other ∷ links) = step other.headless
     step false = refl
 joined-fate chain fate (Gap at next lost ∷ links) = refl
 joined-fate chain fate (Stop at why may ∷ links) = refl
-
-or_assoc : (a b c : Bool) → ((a || b) || c) ≡ (a || (b || c))
-or_assoc true b c = refl
-or_assoc false b c = refl
 
 -- two chains joined
 abbrev merged : Chain → Chain → Chain
@@ -124,11 +121,6 @@ may_join chain (Joined other ∷ links) m = step other.headless
 may_join chain (Gap at next lost ∷ links) m = m
 may_join chain (Stop at why may ∷ links) m = m
 
--- a piece before the row
-abbrev alone : Piece → Cursor → Bool → Bool → Chain
-alone piece next headless awaits =
-    record { at = piece.at; next = next; headless = headless; pieces = piece ∷ []; awaits = awaits; fate = cond piece.fragment.dropped Marked Whole }
-
 not_open : (b : Bool) → is_open (cond b Marked Whole) ≡ false
 not_open true = refl
 not_open false = refl
@@ -137,16 +129,16 @@ piece-continued : (piece : Piece) (next : Cursor) (headless awaits : Bool) (link
     → with_piece piece next headless awaits (continued links rest) ≡ continued (with_piece piece next headless awaits links) rest
 piece-continued piece next headless awaits links rest m = step (piece.runs_on && not piece.fragment.dropped)
   where
-    step : (b : Bool) → cond b (joined_to (alone piece next headless awaits) (continued links rest)) (Joined (alone piece next headless awaits) ∷ continued links rest)
-        ≡ continued (cond b (joined_to (alone piece next headless awaits) links) (Joined (alone piece next headless awaits) ∷ links)) rest
-    step true = joined-continued (alone piece next headless awaits) links rest m
-    step false = sym (ended_isnt_open (alone piece next headless awaits) links rest (not_open piece.fragment.dropped))
+    step : (b : Bool) → cond b (joined_to (chain_of piece next headless awaits) (continued links rest)) (Joined (chain_of piece next headless awaits) ∷ continued links rest)
+        ≡ continued (cond b (joined_to (chain_of piece next headless awaits) links) (Joined (chain_of piece next headless awaits) ∷ links)) rest
+    step true = joined-continued (chain_of piece next headless awaits) links rest m
+    step false = sym (ended_isnt_open (chain_of piece next headless awaits) links rest (not_open piece.fragment.dropped))
 
 may_piece : (piece : Piece) (next : Cursor) (headless awaits : Bool) (links : List Link) → MayEnd links → MayEnd (with_piece piece next headless awaits links)
 may_piece piece next headless awaits links m = step (piece.runs_on && not piece.fragment.dropped)
   where
-    step : (b : Bool) → MayEnd (cond b (joined_to (alone piece next headless awaits) links) (Joined (alone piece next headless awaits) ∷ links))
-    step true = may_join (alone piece next headless awaits) links m
+    step : (b : Bool) → MayEnd (cond b (joined_to (chain_of piece next headless awaits) links) (Joined (chain_of piece next headless awaits) ∷ links))
+    step true = may_join (chain_of piece next headless awaits) links m
     step false = m
 
 -- a fragment of a chunk that awaits nothing isn't the stop place

@@ -223,7 +223,7 @@ counted_read q p limit b known = step (cases_eq p q)
 
 -- Events
 
-patched_sequences : (patches : List Patch) (b : Buffer) (p : ℕ) → (with_patches b p patches).sequences ≡ b.sequences
+pub patched_sequences : (patches : List Patch) (b : Buffer) (p : ℕ) → (with_patches b p patches).sequences ≡ b.sequences
 patched_sequences [] b p = refl
 patched_sequences (patch ∷ patches) b p = patched_sequences patches (with_patch b p patch) p
 

@@ -21,10 +21,6 @@ pub each-then : {X : Type 0} (P Q : X → Type 0) → ((x : X) → P x → Q x) 
 each-then P Q f [] h = tt
 each-then P Q f (x ∷ xs) h = (f x h.0, each-then P Q f xs h.1)
 
-pub each-both : {X : Type 0} (P Q : X → Type 0) (xs : List X) → Each P xs → Each Q xs → Each (λ x. P x × Q x) xs
-each-both P Q [] h k = tt
-each-both P Q (x ∷ xs) h k = ((h.0, k.0), each-both P Q xs h.1 k.1)
-
 pub each-filter : {X : Type 0} (P : X → Type 0) (p : X → Bool) (xs : List X) → Each P xs → Each P (filter p xs)
 each-filter P p [] h = tt
 each-filter {X = X} P p (x ∷ xs) h = step (p x) (each-filter P p xs h.1)
@@ -49,12 +45,6 @@ before_up_to a b c (inl h) (inl k) = inl (omega (arith, h, k))
 before_up_to a b c (inl h) (inr k) = inl (omega (arith, h, k.0))
 before_up_to a b c (inr h) (inl k) = inl (omega (arith, h.0, k))
 before_up_to a b c (inr h) (inr k) = inr (h.0 ∙ k.0, omega (arith, h.1, k.1))
-
-pub up_to_before : (a b c : Cursor) → UpTo a b → Before b c → Before a c
-up_to_before a b c (inl h) (inl k) = inl (omega (arith, h, k))
-up_to_before a b c (inl h) (inr k) = inl (omega (arith, h, k.0))
-up_to_before a b c (inr h) (inl k) = inl (omega (arith, h.0, k))
-up_to_before a b c (inr h) (inr k) = inr (h.0 ∙ k.0, omega (arith, h.1, k.1))
 
 pub before_then : (a b : Cursor) → Before a b → UpTo a b
 before_then a b (inl h) = inl h

@@ -3,17 +3,14 @@ use Rattle.std.proofs.Common.{◌≡◌, ◌∙◌, ℕ, zero, suc, ◌+◌, ◌
 use Rattle.std.proofs.Math.Nat.{zero-mul, suc-mul}
 use Rattle.std.specs.List.{repeat}
 use Rattle.wire_varint.specs.Varint.{redundant}
+use Rattle.wire_varint.proofs.Lengths.{length-redundant}
 use Rattle.trace_model.specs.Encoding.{Fields, NoFields, NumberField, BytesField, NestedField, number_field, bytes_head, bytes_field, nested_tag, encoding_of, encoding_len}
 
 pub length-repeat : (n : ℕ) (xs : List ℕ) → length (repeat n xs) ≡ n * length xs
 length-repeat zero xs = sym (zero-mul (length xs))
 length-repeat (suc n) xs = length-append xs (repeat n xs) ∙ omega (arith, length-repeat n xs, suc-mul n (length xs))
 
-pub length-redundant : (n : ℕ) → length (redundant n) ≡ 4
-unfolding redundant
-length-redundant n = refl
-
-length-bytes_field : (field : ℕ) (text : List ℕ) (times : ℕ)
+pub length-bytes_field : (field : ℕ) (text : List ℕ) (times : ℕ)
     → length (bytes_field field text times) ≡ length (bytes_head field (times * length text)) + times * length text
 unfolding bytes_field
 length-bytes_field field text times =

@@ -6,7 +6,7 @@ use Rattle.std.proofs.lemmas.List.{drop-drop}
 use Rattle.std.proofs.lemmas.Grind.{flat_map-append}
 use Rattle.trace_model.specs.Images.{Chunk, Fragment}
 use Rattle.trace_model.specs.Sequences.{Cursor}
-use Rattle.trace_model.specs.Row.{Slot, Here, Gone, Never, Piece, Chain, Fate, Whole, Marked, IntoLost, CutOff, Open, Link, Joined, Gap, Stop, Missing, Partial, Unpatched, bytes_of, joined_to, with_piece, place, is_last, is_part, place_behind, chunk_links, row_of}
+use Rattle.trace_model.specs.Row.{Slot, Here, Gone, Never, Piece, Chain, Fate, Whole, Marked, IntoLost, CutOff, Open, Link, Joined, Gap, Stop, Missing, Partial, Unpatched, bytes_of, joined_to, with_piece, place, is_last, is_part, place_behind, chunk_links, row_of, chain_of}
 use Rattle.trace_model.proofs.ContinuedLemmas.{unstopped}
 use Rattle.trace_model.specs.Fading.{ShowFragments, ShowsChunk, Show, written_from, StandsIn, Fades, RowsFade}
 
@@ -30,11 +30,6 @@ never_whole : (fate : Fate) → is_whole fate ≡ false → fate ≡ Whole → �
 never_whole fate h e = false≢true (sym h ∙ ap is_whole e)
 
 -- Chains
-
--- the chain of one piece, as it is seen and as it was written
-abbrev piece_chain : Piece → Cursor → Bool → Bool → Chain
-piece_chain piece next headless awaits =
-    record { at = piece.at; next = next; headless = headless; pieces = piece ∷ []; awaits = awaits; fate = cond piece.fragment.dropped Marked Whole }
 
 bytes_append : (xs ys : List Piece) → bytes_of (xs ++ ys) ≡ bytes_of xs ++ bytes_of ys
 bytes_append xs ys = flat_map-append (λ (piece : Piece). piece.fragment.bytes) xs ys
@@ -108,16 +103,16 @@ fades_piece written piece first next next' headless headless' awaits awaits' lin
     bytes_are a = ap (λ (xs : List ℕ). xs ++ []) (sym (same.bytes a))
 
     written_as : (x : Bool) → runs piece ≡ x → written_from written piece.at
-        ≡ cond x (joined_to (piece_chain first next' headless' awaits') rest) (Joined (piece_chain first next' headless' awaits') ∷ rest)
-    written_as x e = w ∙ ap (λ (y : Bool). cond y (joined_to (piece_chain first next' headless' awaits') rest) (Joined (piece_chain first next' headless' awaits') ∷ rest)) (sym same.same_runs ∙ e)
+        ≡ cond x (joined_to (chain_of first next' headless' awaits') rest) (Joined (chain_of first next' headless' awaits') ∷ rest)
+    written_as x e = w ∙ ap (λ (y : Bool). cond y (joined_to (chain_of first next' headless' awaits') rest) (Joined (chain_of first next' headless' awaits') ∷ rest)) (sym same.same_runs ∙ e)
 
     step : (x : Bool) → runs piece ≡ x
-        → Fades written (cond x (joined_to (piece_chain piece next headless awaits) links) (Joined (piece_chain piece next headless awaits) ∷ links))
+        → Fades written (cond x (joined_to (chain_of piece next headless awaits) links) (Joined (chain_of piece next headless awaits) ∷ links))
     step true e =
-        fades_joined written (piece_chain piece next headless awaits) (piece_chain first next' headless' awaits') links rest (onward e).0 (onward e).1 (written_as true e) same.head bytes_are
+        fades_joined written (chain_of piece next headless awaits) (chain_of first next' headless' awaits') links rest (onward e).0 (onward e).1 (written_as true e) same.head bytes_are
     step false e = (
       (λ g a. record {
-        same = piece_chain first next' headless' awaits';
+        same = chain_of first next' headless' awaits';
         others = rest;
         there = written_as false e;
         fate = ap (λ (d : Bool). cond d Marked Whole) (sym same.dropped) ∙ g;
@@ -130,18 +125,18 @@ fades_piece written piece first next next' headless headless' awaits awaits' lin
 front_piece : (piece : Piece) (next : Cursor) (headless awaits : Bool) (links : List Link) → Front piece.at (with_piece piece next headless awaits links)
 front_piece piece next headless awaits links = step (runs piece)
   where
-    joined : (rest : List Link) → Front piece.at (joined_to (piece_chain piece next headless awaits) rest)
+    joined : (rest : List Link) → Front piece.at (joined_to (chain_of piece next headless awaits) rest)
     joined [] = λ h. refl
     joined (Joined other ∷ rest) = by_head other.headless
       where
-        by_head : (x : Bool) → Front piece.at (cond x (Joined (merged (piece_chain piece next headless awaits) other) ∷ rest)
-            (Joined (record (piece_chain piece next headless awaits) { fate = CutOff }) ∷ Joined other ∷ rest))
+        by_head : (x : Bool) → Front piece.at (cond x (Joined (merged (chain_of piece next headless awaits) other) ∷ rest)
+            (Joined (record (chain_of piece next headless awaits) { fate = CutOff }) ∷ Joined other ∷ rest))
         by_head true = λ h. refl
         by_head false = λ h. refl
     joined (Gap at n lost ∷ rest) = λ h. refl
     joined (Stop at why may ∷ rest) = λ h. refl
 
-    step : (x : Bool) → Front piece.at (cond x (joined_to (piece_chain piece next headless awaits) links) (Joined (piece_chain piece next headless awaits) ∷ links))
+    step : (x : Bool) → Front piece.at (cond x (joined_to (chain_of piece next headless awaits) links) (Joined (chain_of piece next headless awaits) ∷ links))
     step true = joined links
     step false = λ h. refl
 

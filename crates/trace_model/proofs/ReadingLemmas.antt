@@ -20,7 +20,7 @@ mod_below : (n : ℕ) → n % 128 < 128
 mod_below n = omega arith
 
 -- a size in front is read
-size_complete : (size : List ℕ) (most : ℕ) (rest : List ℕ) → IsWhole size → length size ≤ most
+pub size_complete : (size : List ℕ) (most : ℕ) (rest : List ℕ) → IsWhole size → length size ≤ most
     → size_of most (size ++ rest) ≡ Some (record { value = joined size; width = length size })
 size_complete [] most rest h k = absurd h
 size_complete (byte ∷ []) zero rest h k = absurd (omega (arith, k))
@@ -34,20 +34,20 @@ size_complete (byte ∷ next ∷ size) (suc most) rest h k =
     ∙ ap (λ (n : ℕ). Some (record { value = byte % 128 + 128 * joined (next ∷ size); width = n })) (omega arith)
 
 -- a size that is read stands in front
-record HasSize (most : ℕ) (bytes : List ℕ) (size : Size) : Type 0 where
-  front : List ℕ
-  rest : List ℕ
-  cut : bytes ≡ front ++ rest
-  whole : IsWhole front
-  width : length front ≡ size.width
-  few : length front ≤ most
-  value : joined front ≡ size.value
+pub record HasSize (most : ℕ) (bytes : List ℕ) (size : Size) : Type 0 where
+  pub front : List ℕ
+  pub rest : List ℕ
+  pub cut : bytes ≡ front ++ rest
+  pub whole : IsWhole front
+  pub width : length front ≡ size.width
+  pub few : length front ≤ most
+  pub value : joined front ≡ size.value
 
 longer_whole : (byte : ℕ) (front : List ℕ) → 128 ≤ byte → IsWhole front → IsWhole (byte ∷ front)
 longer_whole byte [] h k = absurd k
 longer_whole byte (next ∷ front) h k = (h, k)
 
-size_sound : (most : ℕ) (bytes : List ℕ) (size : Size) → size_of most bytes ≡ Some size → HasSize most bytes size
+pub size_sound : (most : ℕ) (bytes : List ℕ) (size : Size) → size_of most bytes ≡ Some size → HasSize most bytes size
 size_sound zero bytes size e = absurd (none-some size e)
 size_sound (suc most) [] size e = absurd (none-some size e)
 size_sound (suc most) (byte ∷ bytes) size e = step (cases_lt byte 128) (size_sound most bytes)

@@ -10,7 +10,7 @@ use Rattle.trace_model.specs.ReadingLaws.{ReadingIsExact}
 use Rattle.trace_model.proofs.ReadingLemmas.{StandsFirst, read_kept, read_dropped, read_sound, drop-front}
 
 -- the rest behind a fragment
-rest_behind : (at : ℕ) (bytes : List ℕ) (fragment : Fragment) (rest : List ℕ) → ReadsOne at bytes fragment rest → drop (place_behind fragment - at) bytes ≡ rest
+pub rest_behind : (at : ℕ) (bytes : List ℕ) (fragment : Fragment) (rest : List ℕ) → ReadsOne at bytes fragment rest → drop (place_behind fragment - at) bytes ≡ rest
 rest_behind at bytes fragment rest reads =
     ap (λ (n : ℕ). drop n bytes) (omega (arith, reads.offset, length-append reads.size fragment.bytes))
     ∙ ap (drop (length (reads.size ++ fragment.bytes))) reads.cut

@@ -3,7 +3,7 @@ use Rattle.std.proofs.Common.{◌≡◌, ℕ, suc, max, Bool, true, false, not, 
 use Rattle.std.specs.Prelude.{cond, ◌==◌}
 use Rattle.trace_model.specs.Images.{Fragment, Chunk}
 use Rattle.trace_model.specs.Sequences.{Cursor}
-use Rattle.trace_model.specs.Row.{Slot, Here, Gone, Never, Piece, Chain, Whole, Marked, CutOff, Link, Joined, Gap, Stop, Missing, Partial, Unpatched, joined_to, with_piece, place, is_last, is_part, place_behind, chunk_links, row_of}
+use Rattle.trace_model.specs.Row.{Slot, Here, Gone, Never, Piece, Chain, CutOff, Link, Joined, Gap, Stop, Missing, Partial, Unpatched, joined_to, with_piece, place, is_last, is_part, place_behind, chunk_links, row_of, chain_of}
 use Rattle.trace_model.specs.RowLaws.{Before, UpTo, Rises, RowsRise}
 use Rattle.trace_model.proofs.CursorLemmas.{up_to_up_to, before_up_to, before_then, same_up_to}
 
@@ -23,17 +23,6 @@ rises_from a b (Joined chain ∷ links) h k = (up_to_up_to a b chain.at h k.0, k
 rises_from a b (Gap here next lost ∷ links) h k = (up_to_up_to a b here h k.0, k.1, k.2)
 rises_from a b (Stop here why may ∷ links) h k = tt
 
--- the chain of a piece alone
-abbrev piece_chain : Piece → Cursor → Bool → Bool → Chain
-piece_chain piece next headless awaits = record {
-  at = piece.at;
-  next = next;
-  headless = headless;
-  pieces = piece ∷ [];
-  awaits = awaits;
-  fate = cond piece.fragment.dropped Marked Whole;
-}
-
 module _ (P : ℕ → Type 0) where
   stands_joined : (at : Cursor) (chain : Chain) (links : List Link) → UpTo at chain.at → Before chain.at chain.next → P chain.at.chunk_id
       → Stands P chain.next links → Stands P at (joined_to chain links)
@@ -51,7 +40,7 @@ module _ (P : ℕ → Type 0) where
   stands_piece : (piece : Piece) (next : Cursor) (headless awaits : Bool) (links : List Link) → Before piece.at next → P piece.at.chunk_id
       → Stands P next links → Stands P piece.at (with_piece piece next headless awaits links)
   stands_piece piece next headless awaits links k p s =
-      step (piece.runs_on && not piece.fragment.dropped) (piece_chain piece next headless awaits) (same_up_to piece.at) k p refl
+      step (piece.runs_on && not piece.fragment.dropped) (chain_of piece next headless awaits) (same_up_to piece.at) k p refl
     where
       step : (b : Bool) (chain : Chain) → UpTo piece.at chain.at → Before chain.at chain.next → P chain.at.chunk_id → chain.next ≡ next → Stands P piece.at (cond b (joined_to chain links) (Joined chain ∷ links))
       step true chain h k p e = stands_joined piece.at chain links h k p (subst (λ (at : Cursor). Stands P at links) (sym e) s)

@@ -40,10 +40,6 @@ tally-lost test (at ∷ places) =
     more true = omega arith
     more false = refl
 
-length-places_from : (count chunk_id passed : ℕ) → length (places_from chunk_id passed count) ≡ count
-length-places_from zero chunk_id passed = refl
-length-places_from (suc count) chunk_id passed = ap suc (length-places_from count chunk_id (suc passed))
-
 -- behind the first fragment each one begins a packet
 starts_behind : (chunk : Chunk) (count chunk_id passed : ℕ) → length (starts_among chunk (places_from chunk_id (suc passed) count)) ≡ count
 starts_behind chunk zero chunk_id passed = refl

@@ -31,6 +31,7 @@ pub mod Sent
 pub mod Sequences
 pub mod Tells
 pub mod TellsLaws
+pub mod Unread
 pub mod WorkedRounds
 pub mod WorkedRows
 pub mod WorkedWriters

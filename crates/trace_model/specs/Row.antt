@@ -78,18 +78,23 @@ joined_to chain (Gap at next lost ∷ links) =
 joined_to chain (Stop at why may ∷ links) =
     Joined (record chain { fate = if may then Open else CutOff }) ∷ Stop at why may ∷ links
 
+-- a fragment alone, as a chain: a drop mark ends it
+abbrev pub chain_of : Piece → Cursor → Bool → Bool → Chain
+chain_of piece next headless awaits = record {
+  at = piece.at;
+  next = next;
+  headless = headless;
+  pieces = piece ∷ [];
+  awaits = awaits;
+  fate = if piece.fragment.dropped then Marked else Whole;
+}
+
 -- a fragment before the rest of the row: a drop mark ends its chain, whatever flag 2 says
 abbrev pub with_piece : Piece → Cursor → Bool → Bool → List Link → List Link
 with_piece piece next headless awaits links =
-    let chain : Chain = record {
-      at = piece.at;
-      next = next;
-      headless = headless;
-      pieces = piece ∷ [];
-      awaits = awaits;
-      fate = if piece.fragment.dropped then Marked else Whole;
-    } in
-    if piece.runs_on && not piece.fragment.dropped then joined_to chain links else Joined chain ∷ links
+    if piece.runs_on && not piece.fragment.dropped
+    then joined_to (chain_of piece next headless awaits) links
+    else Joined (chain_of piece next headless awaits) ∷ links
 
 -- Chunks
 

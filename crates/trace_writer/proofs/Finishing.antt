@@ -20,7 +20,7 @@ use Rattle.cut_steps.specs.RawChains.{raw_chains, page_with, offset_behind, curr
 use Rattle.cut_steps.specs.Pending.{hole_at}
 use Rattle.cut_steps.specs.Writing.{IsWriting}
 use Rattle.cut_steps.specs.Between.{IsBetween}
-use Rattle.trace_model.proofs.EncodingLemmas.{length-redundant}
+use Rattle.wire_varint.proofs.Lengths.{length-redundant}
 use Rattle.cut_steps.proofs.ChainLemmas.{chains_end}
 use Rattle.cut_steps.proofs.BetweenCuts.{between_finished}
 use Rattle.trace_writer.specs.declared.chunk.HeldChunk.{HeldChunk}

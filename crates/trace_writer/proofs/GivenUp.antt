@@ -12,7 +12,7 @@ use Rattle.trace_model.specs.Pages.{Page, laid}
 use Rattle.trace_model.specs.Sequences.{is_among}
 use Rattle.trace_model.specs.Row.{bytes_of, Piece, Chain}
 use Rattle.trace_model.specs.Cut.{IsFull, is_fresh, is_end, newest_piece}
-use Rattle.trace_model.proofs.EncodingLemmas.{length-redundant}
+use Rattle.wire_varint.proofs.Lengths.{length-redundant}
 use Rattle.commit_body.specs.declared.hole.Hole.{Hole}
 use Rattle.commit_body.specs.declared.closed.Closed.{Closed}
 use Rattle.commit_body.specs.declared.closed.Closed.TheVariants.{Here, Later}
@@ -29,6 +29,7 @@ use Rattle.cut_steps.specs.Pending.{patches_so_far}
 use Rattle.cut_steps.specs.GivingUp.{GivesUp}
 use Rattle.cut_steps.specs.Writing.{with_open}
 use Rattle.cut_steps.proofs.Growing.{long_bytes}
+use Rattle.cut_steps.proofs.WritingSteps.{with_more-none}
 use Rattle.cut_steps.proofs.GrowingPlaces.{length_bytes-one}
 use Rattle.cut_steps.proofs.StepLemmas.{last_runs_on-one}
 use Rattle.cut_steps.proofs.GivesUpSteps.{gives_up, gives_up_nested, gives_up_stands_here, gives_up_here, gives_up_later, gave_up}
@@ -322,13 +323,6 @@ ends_given_up site old new before mid after first last chunk closes none held by
 
 -- What is lost of the packet
 
-written_none : (levels : List (List ℕ)) → written [] levels ≡ levels
-written_none [] = refl
-written_none (level ∷ others) = ap (λ (bytes : List ℕ). bytes ∷ others) (append-nil level)
-
-more_none : (packet : Packet) → with_more [] packet ≡ packet
-more_none packet = ap (λ (levels : List (List ℕ)). record packet { text = record packet.text { levels = levels } }) (written_none packet.text.levels)
-
 next_among : (packet : Packet) (level : List ℕ) (outer : List (List ℕ)) → packet.text.levels ≡ level ∷ outer
     → IsTrue (is_among (length (body_of packet)) (open_places ([] ∷ packet.text.levels)))
 next_among packet level outer levels =
@@ -354,7 +348,7 @@ loses_rest site old new before after first drops filled e = record {
       subst (λ (policy : WriterPolicy). StopsAs policy site (with_open packet) older new after) (sym drops)
       (given_idle site packet (given_up_packet (with_open packet)) older old new before after first (with_open packet).text refl refl refl filled
       (λ less. next_among packet w.writing.level w.writing.outer w.writing.levels) w
-      (subst (λ (p : Packet). GivesUp site.size packet older w.pages first.continues w.done w.now before.unsent (reverse before.holes) (with_open p).text) (more_none packet)
+      (subst (λ (p : Packet). GivesUp site.size packet older w.pages first.continues w.done w.now before.unsent (reverse before.holes) (with_open p).text) (with_more-none packet)
       (given_nested site packet older old before first w)) e);
 }
 

@@ -6,7 +6,7 @@ use Rattle.trace_model.specs.Images.{Patch, with_bytes}
 use Rattle.trace_model.specs.Fragments.{drop_mark}
 use Rattle.trace_model.specs.Pages.{Page, framed, laid}
 use Rattle.trace_model.specs.Cut.{IsFull}
-use Rattle.trace_model.proofs.EncodingLemmas.{length-redundant}
+use Rattle.wire_varint.proofs.Lengths.{length-redundant}
 use Rattle.cut_steps.specs.RawChains.{offset_behind}
 use Rattle.cut_steps.proofs.Places.{with_bytes_left, with_bytes_right, with_bytes_mid, length_with_bytes}
 use Rattle.cut_steps.specs.Pieces.{ContinuesWithByte}

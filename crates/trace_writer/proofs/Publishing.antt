@@ -114,8 +114,8 @@ module _ (setup : Setup) (view mid : WriterView) (chunk : HeldChunk) (count to :
         subst (λ (n : ℕ). HasFragments byte (ends_from byte 0 n) × (sealed_to (ends_from byte 0 n) ≡ length (frames fit.done))) (sym (many_is ∙ fit.count_is))
         (frames_read byte fit.done (All-from_recursion (λ (fragment : List ℕ). length fragment < 2 ^ 28) fit.done (small_each fit.done few))
         (λ j below.
-          let within = fit.inside in
-          published_up j (omega (arith, below, within)) ∙ ap (λ (xs : List ℕ). byte_in xs j) fit.payload_is ∙ byte_front (frames fit.done) fit.rest j below))
+        let within = fit.inside in
+        published_up j (omega (arith, below, within)) ∙ ap (λ (xs : List ℕ). byte_in xs j) fit.payload_is ∙ byte_front (frames fit.done) fit.rest j below))
 
     pub head_stays : head_at mid chunk.held.id ≡ head_at view chunk.held.id
     head_stays = ap (λ (d : Draft). d.head) (published_draft view mid chunk.held.chunk chunk.held.id chunk.sealed to chunk.held.body.payload.items fit.holds publishes)

@@ -45,7 +45,8 @@ pub fn status_of<R: Threads + Wait + Sync + AllocGlobal, S: Source, T: Sink + Se
     text: &mut O,
 ) -> Result<u8, AllocError>
     ensures plays { IfOk result (λ status. status ≢ 2) }
-    ensures delivers { IfOk result (λ status. status ≡ 0 → IfSome (S.left input.old) (λ given. Delivers given (T.taken trace.old) (T.taken trace.new))) }
+    ensures delivers { IfOk result (λ status. status ≡ 0 → (given : List ℕ) × IfSome (S.left input.old) (λ told. given ≡ told)
+        × Delivers given (T.taken trace.old) (T.taken trace.new)) }
     ensures read_fault { IfOk result (λ status. (status ≡ 4 → Faulted (S.faults input.old) (S.faults input.new)) × (S.faults input.old < S.faults input.new → status ≡ 4)) }
     ensures write_fault { IfOk result (λ status. (status ≡ 5 → Faulted (T.faults trace.old) (T.faults trace.new)) × (T.faults trace.old < T.faults trace.new → status ≡ 5)) }
     ensures untouched { IfOk result (λ status. status ≢ 0 → status ≢ 5 → T.taken trace.new ≡ T.taken trace.old) }

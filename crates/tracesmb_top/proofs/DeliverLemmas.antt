@@ -1,10 +1,9 @@
 -- The lone writer's trace is faithful and complete, and the packets are those of the scenario.
-use Rattle.std.proofs.Common.{◌≡◌, ℕ, zero, suc, ◌+◌, ◌<◌, ◌≤◌, if◌then◌else◌, Bool, true, false, nat_le, length, Option, Some, None, Ok, IfSome, List, [], ◌∷◌, All, refl, subst, sym, ap, ◌∙◌, lit<, lit≤}
+use Rattle.std.proofs.Common.{◌≡◌, ℕ, zero, suc, ◌+◌, ◌<◌, ◌≤◌, if◌then◌else◌, Bool, true, false, nat_le, length, Option, Some, None, Ok, List, [], ◌∷◌, All, refl, subst, sym, ap, ◌∙◌, lit<, lit≤}
 use Rattle.std.specs.Prelude.{slice_get}
 use Rattle.std.proofs.lemmas.List.Elements.{All-cons, All-nil}
 use Rattle.std.specs.Option.{option_map}
 use Rattle.byte_io.specs.Bytes.{Intake, after_told, TakesPart}
-use Rattle.byte_io.proofs.Told.{told_has}
 use Rattle.trace_model.specs.Delivery.{Delivered, records_of, sequence_of, IsFaithful, IsComplete}
 use Rattle.trace_model.specs.Record.{record_of}
 use Rattle.trace_model.specs.Tells.{Tells}
@@ -127,18 +126,14 @@ delivers_part : (text : List ℕ) (packets : List (List ℕ)) (old new : Intake)
 unfolding lone_trace
 delivers_part text packets old new played part = record { packets = packets; played = played; part = part }
 
--- ---- the same of a source that told the text
+-- ---- the same of a text that was read as a scenario
 
-pub delivers_told : (left : Option (List ℕ)) (text : List ℕ) (parts : Parts) (old new : Intake) → IfSome left (λ told. text ≡ told)
+pub delivers_read : (text : List ℕ) (parts : Parts) (old new : Intake)
     → scenario_of text ≡ Ok parts → refusal_of text ≡ None → GiveTrees parts.lines
-    → new ≡ after_told old (lone_trace true (packets_of parts.lines)) → IfSome left (λ told. Delivers told old new)
-delivers_told left text parts old new same is none trees taken =
-    told_has (λ (told : List ℕ). Delivers told old new) text left same
-    (delivers text (packets_of parts.lines) old new (is_played text parts is none trees) taken)
+    → new ≡ after_told old (lone_trace true (packets_of parts.lines)) → Delivers text old new
+delivers_read text parts old new is none trees taken = delivers text (packets_of parts.lines) old new (is_played text parts is none trees) taken
 
-pub delivers_part_told : (left : Option (List ℕ)) (text : List ℕ) (parts : Parts) (old new : Intake) → IfSome left (λ told. text ≡ told)
+pub delivers_read_part : (text : List ℕ) (parts : Parts) (old new : Intake)
     → scenario_of text ≡ Ok parts → refusal_of text ≡ None → GiveTrees parts.lines
-    → TakesPart old new (lone_trace true (packets_of parts.lines)) → IfSome left (λ told. DeliversPart told old new)
-delivers_part_told left text parts old new same is none trees part =
-    told_has (λ (told : List ℕ). DeliversPart told old new) text left same
-    (delivers_part text (packets_of parts.lines) old new (is_played text parts is none trees) part)
+    → TakesPart old new (lone_trace true (packets_of parts.lines)) → DeliversPart text old new
+delivers_read_part text parts old new is none trees part = delivers_part text (packets_of parts.lines) old new (is_played text parts is none trees) part

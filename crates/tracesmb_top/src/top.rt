@@ -1,7 +1,7 @@
 //! The top call.
-ghost use Rattle.std.specs.Prelude.{◌≡◌, ◌≢◌, ℕ, ◌<◌, ◌≤◌, ◌⊎◌, ◌↔◌, List, [], length, map, Some, None, IfSome};
+ghost use Rattle.std.specs.Prelude.{◌≡◌, ◌≢◌, ℕ, ◌+◌, ◌<◌, ◌≤◌, ◌⊎◌, ◌↔◌, List, [], length, map, Some, None, IfSome};
 ghost use Rattle.std.specs.String.{string_bytes};
-ghost use Rattle.byte_io.specs.Bytes.{Faulted, NoFault};
+ghost use Rattle.byte_io.specs.Bytes.{Faulted, GivesAtMost, NoFault};
 ghost use Rattle.tracesmb_top.specs.Words.{HasWrittenForm};
 ghost use Rattle.tracesmb_top.specs.Refusals.{refusal_of};
 ghost use Rattle.tracesmb_top.specs.Answers.{Delivers, DeliversPart, Says, usage_line, memory_line, read_line, write_line, long_line};
@@ -42,7 +42,8 @@ pub fn trace_top<R: Threads + Wait + Sync, S: Source, T: Sink + Send, O: Sink, G
     ensures known { (result ≤ 5) ⊎ (result ≡ 7) }
 
     // Status 0: the input was read whole, its packets are delivered, and nothing failed.
-    ensures delivers { result ≡ 0 → IfSome (S.left input.old) (λ told. Delivers told (T.taken trace.old) (T.taken trace.new)) }
+    ensures delivers { result ≡ 0 → (given : List ℕ) × IfSome (S.left input.old) (λ told. given ≡ told)
+        × Delivers given (T.taken trace.old) (T.taken trace.new) }
     ensures read { (result ≡ 0) ⊎ (result ≡ 3) → IfSome (S.left input.new) (λ left. left ≡ []) }
     ensures quiet { result ≡ 0 → O.taken text.new ≡ O.taken text.old }
     ensures steady_input { result ≡ 0 → S.faults input.new ≡ S.faults input.old }
@@ -67,12 +68,14 @@ pub fn trace_top<R: Threads + Wait + Sync, S: Source, T: Sink + Send, O: Sink, G
     // Status 4: only where the input's faults rose, and always where they rose.
     ensures read_fault { result ≡ 4 → Faulted (S.faults input.old) (S.faults input.new) }
     ensures input_fault { S.faults input.old < S.faults input.new → result ≡ 4 }
+    ensures read_within { result ≡ 4 → GivesAtMost MAX_INPUT (S.left input.old) (S.left input.new) }
     ensures says_read { result ≡ 4 → Says (O.taken text.old) (O.taken text.new) (O.faults text.old) (O.faults text.new) read_line }
 
     // Status 5: only where the trace's faults rose, and always where they rose. It holds a front part then.
     ensures write_fault { result ≡ 5 → Faulted (T.faults trace.old) (T.faults trace.new) }
     ensures trace_fault { T.faults trace.old < T.faults trace.new → result ≡ 5 }
-    ensures part { result ≡ 5 → IfSome (S.left input.old) (λ told. DeliversPart told (T.taken trace.old) (T.taken trace.new)) }
+    ensures part { result ≡ 5 → (given : List ℕ) × IfSome (S.left input.old) (λ told. given ≡ told)
+        × DeliversPart given (T.taken trace.old) (T.taken trace.new) }
     ensures says_write { result ≡ 5 → Says (O.taken text.old) (O.taken text.new) (O.faults text.old) (O.faults text.new) write_line }
 
     // Status 7: exactly where more bytes came than an input may have.
@@ -81,7 +84,9 @@ pub fn trace_top<R: Threads + Wait + Sync, S: Source, T: Sink + Send, O: Sink, G
         → IfSome (S.left input.old) (λ told. MAX_INPUT < length told → (result ≡ 7) ⊎ (result ≡ 1)) }
     ensures says_long { result ≡ 7 → Says (O.taken text.old) (O.taken text.new) (O.faults text.old) (O.faults text.new) long_line }
 
-    // The trace is as it was, but under 0 and 5; no count falls; and what can be done is done.
+    // At most one byte more than an input may have is read. The trace is as it was, but under 0 and 5; no count falls; and
+    // what can be done is done.
+    ensures taken { GivesAtMost (MAX_INPUT + 1) (S.left input.old) (S.left input.new) }
     ensures untouched { result ≢ 0 → result ≢ 5 → T.taken trace.new ≡ T.taken trace.old }
     ensures later_input { S.faults input.old ≤ S.faults input.new }
     ensures later_trace { T.faults trace.old ≤ T.faults trace.new }

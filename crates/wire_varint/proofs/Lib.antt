@@ -1,5 +1,3 @@
-pub mod ByteBounds
-pub mod FewBytes
 pub mod Groups
 pub mod Joined
 pub mod Lengths

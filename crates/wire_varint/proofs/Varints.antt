@@ -40,20 +40,6 @@ one_varint front other behind follows m n p q e =
     let rest : behind ≡ follows = sym (drop_at front behind _ refl) ∙ (cut ∙ drop_at other follows _ (ap length (sym same))) in
     (same, sym p.value ∙ (ap joined same ∙ q.value), rest)
 
--- two readings of the front of the same bytes are one
-pub one_front : (bytes : List ℕ) (l k m n : ℕ) → l ≤ length bytes → k ≤ length bytes → IsVarint (take l bytes) m → IsVarint (take k bytes) n
-    → (l ≡ k) × (m ≡ n)
-one_front bytes l k m n l_within k_within p q =
-    let whole : take l bytes ++ drop l bytes ≡ take k bytes ++ drop k bytes = take-append-drop l bytes ∙ sym (take-append-drop k bytes) in
-    let one = one_varint (take l bytes) (take k bytes) (drop l bytes) (drop k bytes) m n p q whole in
-    (sym (length-take-le l bytes l_within) ∙ (ap length one.0 ∙ length-take-le k bytes k_within), one.1)
-
--- what is written in front can be told from what follows
-pub varint_cancels : (m n : ℕ) (x y : List ℕ) → m < 2 ^ 64 → n < 2 ^ 64 → varint m ++ x ≡ varint n ++ y → (m ≡ n) × (x ≡ y)
-varint_cancels m n x y p q e =
-    let one = one_varint (varint m) (varint n) x y m n (varint_is_varint m p) (varint_is_varint n q) e in
-    (one.1, one.2)
-
 pub varint_shortest : (bytes : List ℕ) (n : ℕ) → IsVarint bytes n → length (varint n) ≤ length bytes
 varint_shortest [] n p = absurd p.whole
 varint_shortest (byte ∷ bytes) n p =

@@ -85,7 +85,6 @@ complete-requires-clause-published g c =
     (g.W.Words.means.view c.args.table.now c.args.seat.now) (g.W.Words.means.view c.publish.new.self c.publish.new.seat) =
     subst (λ (n : ℕ). PublishesBytes chunk.held.chunk chunk.held.id chunk.sealed n chunk.held.body.payload.items
     (g.W.Words.means.view c.args.table.now c.args.seat.now) (g.W.Words.means.view c.publish.new.self c.publish.new.seat)) c.len-size.ensures c.publish.ensures.view in
-   
     published_all (g.W.Words.means.setup c.args.table.now) (g.W.Words.means.view c.args.table.now c.args.seat.now) (g.W.Words.means.view c.publish.new.self c.publish.new.seat)
     (g.W.Words.means.view c.set_header.new.self c.set_header.new.seat) chunk (chunk.count - 1) c.requires.fit publishes _ c.set_header.new.held _ _
     (ap (λ (h : Held). h.chunk) c.publish.ensures.held) (ap (λ (h : Held). h.id) c.publish.ensures.held)

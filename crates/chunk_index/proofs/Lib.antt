@@ -1,0 +1,7 @@
+pub mod FoundLemmas
+pub mod HoleLemmas
+pub mod LeastLemmas
+pub mod MapLemmas
+pub mod SearchLemmas
+pub mod SlotLemmas
+pub mod StepLemmas

@@ -1,0 +1,29 @@
+use Rattle.std.proofs.Common.{◌≡◌, ℕ, ◌+◌, ◌*◌, None, length, replicate, sym, ap, ◌∙◌, subst, rules}
+use Rattle.std.proofs.lemmas.List.{length-replicate}
+use Rattle.std.specs.FinMap.{FinMap, len, len-empty}
+use Rattle.std.specs.Ordering.{nat_cmp}
+use Rattle.chunk_index.specs.Slots.{entries_of, map_of}
+use Rattle.chunk_index.specs.Table.{IsTable}
+use Rattle.chunk_index.proofs.SlotLemmas.{entries_replicate}
+use Rattle.chunk_index.proofs.MapLemmas.{map_empty, table_empty}
+use Rattle.chunk_index.proofs.index.Index.make.Goals as goal
+
+pub invariant_of-result : goal.invariant_of-result
+invariant_of-result c =
+    let items : c.in_ok-slots.slots.items ≡ replicate (3 * c.args.capacity + 1) None =
+    c.in_ok-slots.ensures.items_if_clones_equal (λ y h. search rules) in
+    record {
+      room = ap length items ∙ length-replicate _ None;
+      table = subst (IsTable c.args.capacity) (sym items) (table_empty c.args.capacity (3 * c.args.capacity + 1));
+      count =
+          ap (λ s. len (map_of s)) items
+          ∙ ap (λ (m : FinMap nat_cmp ℕ). len m) (map_empty (3 * c.args.capacity + 1))
+          ∙ len-empty nat_cmp ℕ
+          ∙ sym (ap (λ s. length (entries_of s)) items ∙ ap length (entries_replicate (3 * c.args.capacity + 1)));
+    }
+
+pub returns : goal.returns
+returns c =
+    let items : c.in_ok-slots.slots.items ≡ replicate (3 * c.args.capacity + 1) None =
+    c.in_ok-slots.ensures.items_if_clones_equal (λ y h. search rules) in
+    ap (λ (m : FinMap nat_cmp ℕ). record { capacity = c.args.capacity; places = m }) (ap map_of items ∙ map_empty (3 * c.args.capacity + 1))

@@ -1,0 +1,6 @@
+use Rattle.std.proofs.Common.{◌≡◌}
+use Rattle.std.specs.FinMap.{len}
+use Rattle.chunk_index.proofs.tests.keys_with_one_home_are_kept_apart.Given as goal
+
+abbrev pub invariant-loop-id : goal.invariant-loop-id
+invariant-loop-id g l = (len l.index.places ≡ l.id-index) × (l.index.capacity ≡ 16)

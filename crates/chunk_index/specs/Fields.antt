@@ -1,0 +1,16 @@
+-- What the fields of an index mean.
+use Rattle.std.specs.Prelude.{◌≡◌, ◌+◌, ◌*◌, length}
+use Rattle.std.specs.FinMap.{len}
+use Rattle.chunk_index.specs.declared.index.Index.TheInside.{Inside}
+use Rattle.chunk_index.specs.Slots.{entries_of, map_of}
+use Rattle.chunk_index.specs.Table.{IsTable}
+use Rattle.chunk_index.specs.Value.{IndexValue}
+
+abbrev pub index_view : Inside → IndexValue
+index_view index = record { capacity = index.capacity; places = map_of index.slots.items }
+
+pub record IsIndex (index : Inside) : Type 0 where
+  pub room : length index.slots.items ≡ 3 * index.capacity + 1
+  pub table : IsTable index.capacity index.slots.items
+  -- no entry is hidden by an earlier one with its key
+  pub count : len (map_of index.slots.items) ≡ length (entries_of index.slots.items)

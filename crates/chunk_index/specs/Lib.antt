@@ -1,0 +1,5 @@
+pub mod Fields
+pub mod Least
+pub mod Slots
+pub mod Table
+pub mod Value

@@ -1,0 +1,110 @@
+//! The index.
+ghost use Rattle.std.specs.Prelude.{◌≡◌, ℕ, ◌+◌, ◌<◌, ◌≤◌, ◌^◌, IfOk, IfSome, IfNone, IsSome};
+ghost use Rattle.std.specs.FinMap as map;
+ghost use Rattle.chunk_index.specs.Value.{key_of, place_of, empty_index, with_place, without_place, IsFirstFrom, HasNoneFrom};
+
+use crate::least::nearer;
+use crate::slot::{Entry, close_hole, find_slot, key_number, place_for};
+use std::alloc::{AllocError, Global};
+use std::marker::Model;
+use trace_base::limits::IDS_AHEAD;
+
+/// A finite map from sequence and chunk id to a place, with room for a fixed number of entries.
+#[derive(Drop)]
+pub struct Index {
+    capacity: u32,
+    /// Three slots for each entry that there can be, and one more.
+    slots: Vec<Option<Entry>>,
+}
+
+impl Model for Index {
+    ghost use Rattle.chunk_index.specs.Value.{IndexValue, index_code};
+
+    ghost Value = { IndexValue };
+
+    ghost coded = { index_code };
+
+    ghost use Rattle.chunk_index.specs.Fields.{index_view, IsIndex};
+
+    ghost view = { index_view };
+
+    ghost invariant = { IsIndex };
+}
+
+impl Index {
+    /// An index with no entry, and room for so many.
+    pub fn make(alloc: Global, capacity: u32) -> Result<Index, AllocError>
+        ensures { IfOk result (λ index. index ≡ empty_index capacity) }
+    {
+        let slots = vec![in alloc; None; 3 * capacity as usize + 1]?;
+        Ok(Index { capacity, slots })
+    }
+
+    /// The place of a chunk's record.
+    pub fn find(&self, sequence: u32, chunk_id: u32) -> Option<u32>
+        ensures { result ≡ place_of self.now sequence chunk_id }
+    {
+        let key = key_number(sequence, chunk_id);
+        let at = find_slot(&self.slots, self.capacity, key);
+        if at == self.slots.len() {
+            return None;
+        }
+        place_for(self.slots[at], key)
+    }
+
+    pub fn add(&mut self, sequence: u32, chunk_id: u32, place: u32)
+        requires room { map.len self.old.places < self.old.capacity }
+        requires absent { place_of self.old sequence chunk_id ≡ None }
+        ensures { self.new ≡ with_place self.old sequence chunk_id place }
+    {
+        let at = find_slot(&self.slots, self.capacity, key_number(sequence, chunk_id));
+        self.slots[at] = Some(Entry {
+            sequence,
+            chunk_id,
+            place,
+        });
+    }
+
+    pub fn remove(&mut self, sequence: u32, chunk_id: u32)
+        requires { IsSome (place_of self.old sequence chunk_id) }
+        ensures { self.new ≡ without_place self.old sequence chunk_id }
+    {
+        let at = find_slot(&self.slots, self.capacity, key_number(sequence, chunk_id));
+        self.slots[at] = None;
+        close_hole(&mut self.slots, self.capacity, at);
+    }
+
+    /// The least chunk id of a sequence at or above this one, with its place. Ids near ahead are tried
+    /// one by one; where none of them is there, all entries are gone over.
+    pub fn first_from(&self, sequence: u32, chunk_id: u32) -> Option<(u32, u32)>
+        ensures found { IfSome result (λ first. IsFirstFrom self.now sequence chunk_id first.0 first.1) }
+        ensures none { IfNone result (HasNoneFrom self.now sequence chunk_id) }
+    {
+        for ahead in 0..IDS_AHEAD {
+            let Some(near) = chunk_id.checked_add(ahead) else {
+                return None;
+            };
+            if let Some(place) = self.find(sequence, near) {
+                return Some((near, place));
+            }
+        }
+        self.first_of_all(sequence, chunk_id)
+    }
+
+    /// The same by one pass over the slots.
+    fn first_of_all(&self, sequence: u32, chunk_id: u32) -> Option<(u32, u32)>
+        ensures found { IfSome result (λ first. IsFirstFrom self.now sequence chunk_id first.0 first.1) }
+        ensures none { IfNone result (HasNoneFrom self.now sequence chunk_id) }
+    {
+        let low = key_number(sequence, chunk_id);
+        let high = key_number(sequence, u32::MAX);
+        let mut best = None;
+        for slot in &self.slots {
+            best = nearer(low, high, best, *slot);
+        }
+        let Some((key, place)) = best else {
+            return None;
+        };
+        Some(((key - key_number(sequence, 0)) as u32, place))
+    }
+}

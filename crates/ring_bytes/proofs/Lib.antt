@@ -1,0 +1,13 @@
+pub mod ChangeLemmas
+pub mod ChangedRing
+pub mod CutLemmas
+pub mod HeaderLemmas
+pub mod ListLemmas
+pub mod LiveLemmas
+pub mod MetLemmas
+pub mod PlaceLemmas
+pub mod RingLemmas
+pub mod RowLemmas
+pub mod SliceLemmas
+pub mod WalkLemmas
+pub mod WriteLemmas

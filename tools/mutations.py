@@ -1,0 +1,87 @@
+"""Wrong definitions: single changes, each of which is to be refused by some run."""
+
+from collections import namedtuple
+
+# `runs` are the kinds of run that are tried, in their order.
+Mutation = namedtuple('Mutation', 'name file old new runs')
+
+CUT = [
+    ('begins packets at 13 bytes left', 'Cut.antt', 'room_to_begin = 12', 'room_to_begin = 13'),
+    ('wants a length next at three bytes left', 'Cut.antt', 'nat_lt (left_behind size piece) 4 && is_among',
+     'nat_lt (left_behind size piece) 3 && is_among'),
+    ('forgets that the page before runs on', 'Cut.antt', '(page.continues ≡ runs_on) × FlagsAgree page.runs_on pages',
+     '(page.continues ≡ runs_on) × FlagsAgree false pages'),
+    ('lets a packet that is given up leave two bytes', 'Cut.antt', 'length unused ≤ 3', 'length unused ≤ 2'),
+    ('begins no chunk behind a lost packet', 'Cut.antt', 'is_lost packet || (flushed || is_end size (newest_piece chains))',
+     'flushed || is_end size (newest_piece chains)'),
+    ('wants two bytes of each further fragment', 'Cut.antt', 'has_byte piece = nat_lt 0', 'has_byte piece = nat_lt 1'),
+    ('wants five bytes of an open length in one chunk', 'Sent.antt', 'chunk_at pieces at == chunk_at pieces (at + 3)',
+     'chunk_at pieces at == chunk_at pieces (at + 4)'),
+    ('wants patches two chunks behind', 'Sent.antt', '(patch.chunk_id < bound) × AllChunksBelow', '(suc patch.chunk_id < bound) × AllChunksBelow'),
+    ('crosses a byte early', 'Sent.antt', 'not (chunk_at pieces nested.at == chunk_at pieces (nested.at + 3 + nested.size))',
+     'not (chunk_at pieces nested.at == chunk_at pieces (nested.at + 4 + nested.size))'),
+    ('marks a patch as last while a length is open', 'Sent.antt',
+     'not (is_among patch.chunk_id (chunks_of later) || is_among patch.chunk_id open_ones)', 'not (is_among patch.chunk_id (chunks_of later))'),
+    ('lets a held page await', 'Sent.antt', '(page.awaits ≡ (page.runs_on && is_among chunk_id crossing))', '(page.awaits ≡ is_among chunk_id crossing)'),
+    ('sends open lengths with the chunk before the drop mark', 'Sent.antt', 'by = last_chunk pieces;', 'by = chunk_at pieces at;'),
+]
+
+ARRIVAL = [
+    ('leaves the cursor where an arrival passes it', 'Arrivals.antt', 'nat_le count state.cursor.passed', 'nat_le (suc count) state.cursor.passed'),
+    ('takes a part that the cursor has passed', 'Arrivals.antt', '\n    || (unread_of (sequence_in buffer.sequences sequence) chunk_id count == 0))', ')'),
+    ('counts a refused part as discarded', 'Arrivals.antt',
+     'if chunk.partial then record buffer { shut = true } else discarded_buffer buffer sequence chunk_id chunk',
+     'discarded_buffer buffer sequence chunk_id chunk'),
+    ('takes records after discarding', 'Arrivals.antt', 'buffer.shut || list_any', 'list_any'),
+    ('takes ids that are too far', 'Arrivals.antt', 'nat_le (base_of state + IDS_AHEAD) chunk_id', 'nat_le (base_of state + IDS_AHEAD + IDS_AHEAD) chunk_id'),
+    ('loses a packet twice that continues', 'Sequences.antt',
+     '\n    - one_if (chunk.continues && (unread_of state chunk_id (length chunk.fragments) == length chunk.fragments))', ''),
+    ('loses nothing with a final part', 'Buffers.antt', 'not (stored.chunk.partial && not state.closed)', 'not stored.chunk.partial'),
+    ('lets padding meet nothing', 'Places.antt', 'if fits room next size then 0 else room - next', '0'),
+    ('patches outside the last fragment', 'Patches.antt', 'if last_holds stored.chunk.fragments patch then Applied else BadOffset', 'Applied'),
+    ('counts each record of a closed sequence as unpatched', 'Patches.antt',
+     '(count_by (λ stored. (stored.sequence == sequence) && stored.chunk.awaits) buffer.live)',
+     '(count_by (λ stored. stored.sequence == sequence) buffer.live)'),
+]
+
+READ = [
+    ('forgets that a chain awaits', 'Row.antt', 'awaits = chain.awaits || rest.awaits;', 'awaits = rest.awaits;'),
+    ('takes a chunk that never came for a lost one', 'Row.antt', 'then Gap (place chunk_id passed) (place (suc chunk_id) 0) false',
+     'then Gap (place chunk_id passed) (place (suc chunk_id) 0) true'),
+    ('goes on behind a part', 'Row.antt', 'if last && not stays then', 'if last then'),
+    ('stops at an open patch of a closed sequence', 'Row.antt', '(chunk.awaits && is_last others) && not closed', 'chunk.awaits && is_last others'),
+    ('runs on behind a drop mark', 'Row.antt', 'if piece.runs_on && not piece.fragment.dropped', 'if piece.runs_on'),
+    ('counts a drop mark without its start', 'Reads.antt', 'turn_by Marked headless awaits = if headless then Skips else Counts Dropped',
+     'turn_by Marked headless awaits = Counts Dropped'),
+    ('counts a lost chain without its start', 'Reads.antt', 'turn_by IntoLost headless awaits = if headless then Skips else Counts Lost',
+     'turn_by IntoLost headless awaits = Counts Lost'),
+    ('delivers what awaits a patch', 'Reads.antt', 'turn_by Whole false awaits = if awaits then Counts Cut else Delivers', 'turn_by Whole false awaits = Delivers'),
+    ('marks all that follows a gap', 'Reads.antt', 'missing_after (not (delivers (turn_of link))) links',
+     'missing_after (missing || not (delivers (turn_of link))) links'),
+    ('ends at the limit where nothing is due', 'Reads.antt',
+     'end_before (link ∷ links) = if delivers (turn_of link) then AtLimit else Stopped (stop_place (link ∷ links))', 'end_before (link ∷ links) = AtLimit'),
+]
+
+CAUSES = [
+    ('fixes no packet that is passed', 'Causes.antt', 'fixed_by_turn at (Counts cause) = record { at = at; outcome = Absent cause } ∷ []',
+     'fixed_by_turn at (Counts cause) = []'),
+    ('fixes the rest of a packet too', 'Causes.antt', 'filter (λ at. not (chunk.continues && (at.passed == 0))) places', 'places'),
+    ('fixes no discarded packet', 'Causes.antt', 'if (state.number == owner.number) && not partial', 'if (state.number == owner.number) && partial'),
+]
+
+WHOLE = [
+    ('forgets what reads passed as cut', 'Balance.antt', 'cut = raised state.cut (begun_count calls - counted_packets calls state);',
+     'cut = begun_count calls - counted_packets calls state;'),
+    ('takes what nothing fixed for lost', 'Balance.antt', '(Absent Cut) ∷ outcomes_of fixed packets chains', '(Absent Lost) ∷ outcomes_of fixed packets chains'),
+    ('wants a chunk less of each packet', 'Enough.antt', '1 + length packet / (payload - 7)', 'length packet / (payload - 7)'),
+    ('wants bytes for payloads alone', 'Enough.antt', '* record_size (payload_of producers load)', '* (payload_of producers load / 2)'),
+]
+
+TELLS = [
+    ('marks the first record alone', 'Tells.antt', '(first || not (place == next))', 'first'),
+    ('wants a mark behind each record', 'Tells.antt', 'TellsFrom emitted sequence false (suc place) others', 'TellsFrom emitted sequence false place others'),
+]
+
+ALL = [Mutation(*one, ('scripts', 'worlds')) for one in CUT] \
+    + [Mutation(*one, ('histories', 'worlds')) for one in ARRIVAL + READ + CAUSES] \
+    + [Mutation(*one, ('worlds',)) for one in WHOLE + TELLS]
