@@ -17,6 +17,7 @@ mod flow;
 mod fragment;
 mod helper;
 mod here;
+mod ids;
 mod laws;
 mod packet;
 mod route;
@@ -28,5 +29,6 @@ mod writer;
 
 pub use fault::{Begun, CallFault};
 pub use helper::{HelperOn, NoHelp};
+pub use ids::PACKET_IDS;
 pub use laws::{agreeing_is_cut, drops_never_stall, held_is_published, newest_is_held};
 pub use writer::WriterCore;
