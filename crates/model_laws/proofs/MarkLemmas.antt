@@ -3,12 +3,12 @@ use Rattle.std.proofs.Common.{◌≡◌, ◌∙◌, ℕ, ◌+◌, ◌≤◌, Boo
 use Rattle.std.specs.Prelude.{cond, ◌⊎◌, ◌==◌, filter, slice_get}
 use Rattle.std.proofs.lemmas.Bool.{cases_eq, eqb-true, eq-eqb, ne_eqb, false≢true}
 use Rattle.trace_model.specs.Counts.{raised}
-use Rattle.trace_model.specs.Images.{Chunk, Patch, whole_chunk, complete_chunk, partial_chunk}
+use Rattle.trace_model.specs.Images.{Chunk, whole_chunk, complete_chunk, partial_chunk}
 use Rattle.trace_model.specs.Reading.{Reading, Fragments, Unreadable, reading_of}
 use Rattle.trace_model.specs.Sequences.{Sequence, sequence_in, is_known, changed_at}
 use Rattle.trace_model.specs.Buffers.{Buffer, BufferRecord, meets, with_losses, empty_buffer}
 use Rattle.trace_model.specs.Arrivals.{Arrived, Kept, Rewritten, Duplicate, Discarded, TooFar, BadChunk, arrival_of, partial_arrival_of, with_arrived, with_discarded, discarded_buffer, settled, makes_arrive, with_arrival, once_read, with_image}
-use Rattle.trace_model.specs.Patches.{with_patch, with_patches, closed_sequence, closed_buffer, with_close}
+use Rattle.trace_model.specs.Patches.{with_patches, closed_sequence, closed_buffer, with_close}
 use Rattle.trace_model.specs.Row.{Link, row_from_cursor}
 use Rattle.trace_model.specs.Reads.{Delivery, turn_of, delivers, count_of, passed_by, link_bytes, delivered_of, missing_after, sequence_after, is_marked, delivered_by, with_read}
 use Rattle.trace_model.specs.History.{Event, Arrives, ArrivesInPart, Patched, Committed, Closed, Read, event_sequence, after, buffer_after, delivered_at, delivered_to}

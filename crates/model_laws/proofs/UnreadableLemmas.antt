@@ -1,14 +1,14 @@
 -- The fragment that reading stops at is the first that can't be read.
-use Rattle.std.proofs.Common.{◌≡◌, ◌∙◌, ℕ, zero, suc, ◌+◌, ◌-◌, ◌<◌, Bool, true, false, List, [], ◌∷◌, ◌++◌, length, drop, Option, Some, None, refl, sym, ap, subst, arith, length-append, inl, inr}
-use Rattle.std.specs.Prelude.{All, ◌==◌, ◌↔◌}
+use Rattle.std.proofs.Common.{◌≡◌, ◌∙◌, ℕ, zero, suc, ◌+◌, ◌-◌, ◌<◌, Bool, true, false, List, [], ◌∷◌, length, drop, Option, Some, None, refl, sym, ap, subst, arith, inl, inr}
+use Rattle.std.specs.Prelude.{All, ◌==◌}
 use Rattle.std.proofs.lemmas.List.Elements.{All-drop}
 use Rattle.std.proofs.lemmas.Bool.{eqb-true, eq-eqb, false≢true}
 use Rattle.std.proofs.lemmas.Option.{none-some}
 use Rattle.trace_model.specs.Images.{Fragment}
 use Rattle.trace_model.specs.Fragments.{ReadsOne, ReadsDropped}
 use Rattle.trace_model.specs.Reading.{size_of, fragment_of, Reading, Fragments, Unreadable, behind, place_behind, read_on, reading_from, reading_of}
-use Rattle.trace_model.proofs.ReadingLemmas.{StandsFirst, read_kept, read_dropped, read_sound, drop-front}
-use Rattle.trace_model.specs.Unread.{BeginsWith, StopsAt, IsFirstUnread}
+use Rattle.trace_model.proofs.ReadingLemmas.{StandsFirst, read_kept, read_dropped, read_sound}
+use Rattle.trace_model.specs.Unread.{BeginsWith, StopsAt}
 use Rattle.trace_model.proofs.ReadsAsLemmas.{rest_behind}
 use Rattle.model_laws.specs.UnreadableLaws.{UnreadableIsFirst}
 
