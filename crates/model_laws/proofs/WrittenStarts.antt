@@ -8,7 +8,7 @@ use Rattle.std.proofs.lemmas.List.Folds.{list_any-append}
 use Rattle.trace_model.specs.Images.{Fragment, Chunk, Patch, patched_last}
 use Rattle.trace_model.specs.Pages.{Page, chunk_of, fragments_from, patches_of}
 use Rattle.trace_model.specs.Sequences.{Cursor}
-use Rattle.trace_model.specs.Row.{Piece, Chain, Whole, Marked, CutOff, Link, Joined, Gap, Stop, Unpatched, joined_to, with_piece, place, is_last, is_part, place_behind, chunk_links, row_of, chain_of}
+use Rattle.trace_model.specs.Row.{Piece, Chain, CutOff, Link, Joined, Gap, Stop, Unpatched, joined_to, with_piece, place, is_last, is_part, place_behind, chunk_links, row_of, chain_of}
 use Rattle.trace_model.specs.Written.{settled_fragments, settled_chunk, written_slots, written_row, chains_in, chains_of}
 use Rattle.trace_model.specs.Causes.{Fixed, is_same_place}
 use Rattle.model_laws.specs.Starts.{begins_one, AllBegin}
@@ -105,7 +105,7 @@ chunk_heads k (fragment ∷ others) chunk_id passed chunk rest e low high begins
 
 -- Pages
 
-settled_long : (patches : List Patch) (chunk_id : ℕ) (fragments : List Fragment) → length (settled_fragments patches chunk_id fragments) ≡ length fragments
+pub settled_long : (patches : List Patch) (chunk_id : ℕ) (fragments : List Fragment) → length (settled_fragments patches chunk_id fragments) ≡ length fragments
 settled_long [] chunk_id fragments = refl
 settled_long (patch ∷ others) chunk_id fragments =
     settled_long others chunk_id (cond (patch.chunk_id == chunk_id) (patched_last patch fragments) fragments)
@@ -115,7 +115,7 @@ settled_long (patch ∷ others) chunk_id fragments =
     step true = same_long fragments patch
     step false = refl
 
-fragments_long : (at : ℕ) (dropped : Bool) (fragments : List (List ℕ)) → length (fragments_from at dropped fragments) ≡ length fragments
+pub fragments_long : (at : ℕ) (dropped : Bool) (fragments : List (List ℕ)) → length (fragments_from at dropped fragments) ≡ length fragments
 fragments_long at dropped [] = refl
 fragments_long at dropped (bytes ∷ []) = refl
 fragments_long at dropped (bytes ∷ next ∷ others) = ap suc (fragments_long (at + length bytes + 4) dropped (next ∷ others))
