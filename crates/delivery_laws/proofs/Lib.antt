@@ -1,0 +1,17 @@
+pub mod AdjacentLemmas
+pub mod CallLemmas
+pub mod CompleteLemmas
+pub mod EmissionLemmas
+pub mod EventLemmas
+pub mod HistoryLemmas
+pub mod IdLemmas
+pub mod KeepLemmas
+pub mod KnownLemmas
+pub mod OrderLemmas
+pub mod OwnEvents
+pub mod PieceLemmas
+pub mod ReadTells
+pub mod RowWalks
+pub mod Walks
+pub mod WorkedAccountLemmas
+pub mod WrittenPackets
