@@ -149,14 +149,15 @@ awaits_them pages chunk_id page get (patch ∷ patches) h among =
 -- Sheets
 
 -- the sheet of a page
-record IsSheetOf (patches : List Patch) (pages : List Page) (first place : ℕ) (sheet : Sheet) : Type 0 where
-  page : Page
-  get : slice_get pages place ≡ Some page
-  awaits : sheet.chunk.awaits ≡ page.awaits
-  fragments : sheet.chunk.fragments ≡ (chunk_of page).fragments
-  written : sheet.written ≡ settled_fragments patches (first + place) (chunk_of page).fragments
+pub record IsSheetOf (patches : List Patch) (pages : List Page) (first place : ℕ) (sheet : Sheet) : Type 0 where
+  pub page : Page
+  pub get : slice_get pages place ≡ Some page
+  pub continues : sheet.chunk.continues ≡ page.continues
+  pub awaits : sheet.chunk.awaits ≡ page.awaits
+  pub fragments : sheet.chunk.fragments ≡ (chunk_of page).fragments
+  pub written : sheet.written ≡ settled_fragments patches (first + place) (chunk_of page).fragments
 
-sheet_at : (patches : List Patch) (goes : Bool) (pages : List Page) (first place : ℕ) (sheet : Sheet) → slice_get (sheets_from patches first goes pages) place ≡ Some sheet
+pub sheet_at : (patches : List Patch) (goes : Bool) (pages : List Page) (first place : ℕ) (sheet : Sheet) → slice_get (sheets_from patches first goes pages) place ≡ Some sheet
     → IsSheetOf patches pages first place sheet
 sheet_at patches goes [] first place sheet get = absurd (cc)
 sheet_at patches goes (page ∷ []) first zero sheet get = here goes get
@@ -168,6 +169,7 @@ sheet_at patches goes (page ∷ []) first zero sheet get = here goes get
         record {
           page = page;
           get = refl;
+          continues = sym (ap (λ (s : Sheet). s.chunk.continues) same);
           awaits = sym (ap (λ (s : Sheet). s.chunk.awaits) same);
           fragments = sym (ap (λ (s : Sheet). s.chunk.fragments) same);
           written = sym (ap (λ (s : Sheet). s.written) same) ∙ ap (λ (n : ℕ). settled_fragments patches n (chunk_of page).fragments) at;
@@ -179,6 +181,7 @@ sheet_at patches goes (page ∷ next ∷ pages) first zero sheet get =
     record {
       page = page;
       get = refl;
+      continues = sym (ap (λ (s : Sheet). s.chunk.continues) same);
       awaits = sym (ap (λ (s : Sheet). s.chunk.awaits) same);
       fragments = sym (ap (λ (s : Sheet). s.chunk.fragments) same);
       written = sym (ap (λ (s : Sheet). s.written) same) ∙ ap (λ (n : ℕ). settled_fragments patches n (chunk_of page).fragments) at;
@@ -189,6 +192,7 @@ sheet_at patches goes (page ∷ next ∷ pages) first (suc place) sheet get =
     record {
       page = is.page;
       get = is.get;
+      continues = is.continues;
       awaits = is.awaits;
       fragments = is.fragments;
       written = is.written ∙ ap (λ (n : ℕ). settled_fragments patches n (chunk_of is.page).fragments) at;

@@ -11,6 +11,7 @@ pub mod OrderLemmas
 pub mod OwnEvents
 pub mod PieceLemmas
 pub mod ReadTells
+pub mod ReportLemmas
 pub mod RowWalks
 pub mod Walks
 pub mod WorkedAccountLemmas

@@ -1,8 +1,9 @@
 -- Every history tells: what its reads deliver of a sequence are packets of the sequence's writer.
-use Rattle.std.specs.Prelude.{◌≡◌, ℕ, true, false, List, [], map}
+use Rattle.std.specs.Prelude.{◌≡◌, ℕ, ◌≤◌, true, false, List, [], map}
 use Rattle.trace_base.specs.declared.policy.FullPolicy.{FullPolicy}
 use Rattle.trace_model.specs.Calls.{Call}
-use Rattle.trace_model.specs.Packets.{packets_of, emissions_of, AreCalls}
+use Rattle.trace_model.specs.Counts.{last_count}
+use Rattle.trace_model.specs.Packets.{packets_of, emissions_of, begun_count, AreCalls}
 use Rattle.trace_model.specs.Pages.{Page}
 use Rattle.trace_model.specs.Cut.{CutsInto, newest_goes_on}
 use Rattle.trace_model.specs.Sequences.{Sequence, fresh, sequence_in, is_known}
@@ -11,6 +12,7 @@ use Rattle.trace_model.specs.History.{Event, delivered_to}
 use Rattle.trace_model.specs.Reads.{Delivery}
 use Rattle.trace_model.specs.Record.{record_of}
 use Rattle.trace_model.specs.Tells.{Tells}
+use Rattle.model_laws.specs.OutcomeLaws.{IsHistoryOf}
 use Rattle.delivery_laws.specs.Sheets.{Sheet, SheetsAgree, all_parts, packets_in, sheet_patches}
 use Rattle.delivery_laws.specs.Histories.{AreTold, Legal}
 use Rattle.delivery_laws.specs.Orders.{InOrder}
@@ -44,3 +46,11 @@ EveryWriterIsTold =
     → Tells (emissions_of calls) sequence
     (map (λ (delivery : Delivery). record_of delivery.body sequence delivery.marked)
     (delivered_to sequence (empty_buffer room policy sequences) events))
+
+-- Each account is a history as the laws on reports want it: so each packet that was begun has one outcome, the report's counts
+-- are those of the outcomes, and its sum says so.
+abbrev pub AccountsAreHistories : Type 0
+AccountsAreHistories =
+    (size : ℕ) (calls : List Call) (pages : List Page) (sequences : List Sequence) (sequence record_size : ℕ) (events : List Event)
+    → IsAccountOf size calls pages sequences sequence record_size events → begun_count calls ≤ last_count
+    → IsHistoryOf size calls pages sequences sequence record_size events

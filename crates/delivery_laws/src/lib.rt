@@ -7,4 +7,4 @@
 
 mod laws;
 
-pub use laws::{every_history_tells, every_writer_is_told, worked_account};
+pub use laws::{accounts_are_histories, every_history_tells, every_writer_is_told, worked_account};
