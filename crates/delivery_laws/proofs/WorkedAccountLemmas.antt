@@ -1,0 +1,69 @@
+-- The worked account, computed.
+use Rattle.std.proofs.Common.{refl, arith}
+use Rattle.wire_varint.specs.Varint.{varint, groups, tag, redundant}
+use Rattle.trace_model.specs.Encoding.{number_field, bytes_head, bytes_field}
+use Rattle.trace_model.proofs.WorkedLemmas.{worked_rows}
+use Rattle.delivery_laws.specs.WorkedAccounts.{WorkedAccount}
+
+pub worked_account : WorkedAccount
+unfolding groups varint tag redundant number_field bytes_head bytes_field
+worked_account = record {
+  account = record {
+    possible = refl;
+    cut = worked_rows.given_up.cut;
+    known = refl;
+    start = refl;
+    order = (
+      refl,
+      (
+        refl,
+        refl,
+        record { sheet = _; there = refl; continues = refl; shows = (refl, (λ e. refl), tt); some = omega arith },
+        (
+          refl,
+          (
+            refl,
+            (
+              refl,
+              refl,
+              _,
+              refl,
+              refl,
+              (
+                refl,
+                (
+                  refl,
+                  (
+                    refl,
+                    refl,
+                    _,
+                    refl,
+                    refl,
+                    (
+                      refl,
+                      (
+                        refl,
+                        (
+                          refl,
+                          refl,
+                          _,
+                          refl,
+                          refl,
+                          (
+                            refl,
+                            (refl, (refl, (refl, (refl, (refl, refl))))),
+                          ),
+                        ),
+                      ),
+                    ),
+                  ),
+                ),
+              ),
+            ),
+          ),
+        ),
+      ),
+    );
+  };
+  delivered = refl;
+}

@@ -1,0 +1,6 @@
+pub mod DeliveryLaws
+pub mod Histories
+pub mod Orders
+pub mod Sheets
+pub mod WorkedAccounts
+pub mod WriterSheets
