@@ -1,4 +1,5 @@
 pub mod ChunkCountLemmas
+pub mod LaterCallLemmas
 pub mod LossLemmas
 pub mod MarkLemmas
 pub mod PlaceCounts

@@ -167,7 +167,7 @@ same_finished packet asked h = record {
 
 -- Calls
 
-abbrev account_with : List Packet → Bool → Account
+abbrev pub account_with : List Packet → Bool → Account
 account_with packets flushed = record { packets = packets; flushed = flushed }
 
 same_newest : (f g : Packet → Packet) → ((packet asked : Packet) → SamePacket packet asked → SamePacket (f packet) (g asked))

@@ -8,8 +8,9 @@ use Rattle.wire_varint.proofs.Lengths.{length-redundant}
 use Rattle.trace_model.specs.Calls.{Call, Begun, Number, Bytes, Nested, Ended, GivenUp, Finished, Flushed}
 use Rattle.trace_model.specs.Encoding.{number_field, bytes_field, nested_tag}
 use Rattle.trace_model.specs.Sequences.{is_among}
-use Rattle.trace_model.specs.Packets.{Packet, Account, Text, NestedLength, flat, open_length, open_places, written, closed_levels, begun_packet, on_newest, with_more, with_nested, with_nested_ended, given_up_packet, finished_packet, noted, packets_of, is_writing, is_possible, are_possible_after, AreCalls}
+use Rattle.trace_model.specs.Packets.{Packet, Text, NestedLength, flat, open_length, open_places, written, closed_levels, begun_packet, on_newest, with_more, with_nested, with_nested_ended, given_up_packet, finished_packet, noted, packets_of, is_writing, is_possible, are_possible_after, AreCalls}
 use Rattle.trace_model.specs.Cut.{length_places}
+use Rattle.model_laws.proofs.LossLemmas.{account_with}
 
 abbrev pub text_size : List (List ℕ) → ℕ
 text_size levels = length (flat open_length levels)
@@ -163,9 +164,6 @@ sized_ended : (packet : Packet) → IsSized packet → IsSized (with_nested_ende
 sized_ended packet h = sized_changed packet (with_nested_ended packet) refl (grows_ended packet.text.levels packet.text.closed) h
 
 -- Calls
-
-abbrev account_with : List Packet → Bool → Account
-account_with packets flushed = record { packets = packets; flushed = flushed }
 
 sound_newest : (change : Packet → Packet) → ((packet : Packet) → IsSized packet → IsSized (change packet)) → (packets : List Packet) (flushed : Bool)
     → AreSound packets → AreSound (on_newest change (account_with packets flushed)).packets

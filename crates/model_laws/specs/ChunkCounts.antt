@@ -1,6 +1,6 @@
 -- How many chunks a writer begins: no more than its packets ask for, whatever was dropped. An image that runs on carries all
 -- its payload but at most seven bytes of the packet: four for the fragment's size, and three before a nested length.
-use Rattle.std.specs.Prelude.{◌≡◌, ℕ, ◌+◌, ◌<◌, ◌≤◌, true, false, List, [], ◌∷◌, length, filter}
+use Rattle.std.specs.Prelude.{◌≡◌, ℕ, ◌+◌, ◌<◌, ◌≤◌, true, false, List, [], ◌∷◌, ◌++◌, length, filter}
 use Rattle.trace_model.specs.Calls.{Call, Begun}
 use Rattle.trace_model.specs.Images.{Image, Patch}
 use Rattle.trace_model.specs.Packets.{Packet, packets_of, emissions_of, is_lost, is_writing, AreCalls}
@@ -30,6 +30,12 @@ EveryImageIsCounted =
     (size sequence : ℕ) (asked noted : List Call) (images : List Image) (patches : List (List Patch)) → Loses asked noted
     → IsCut size sequence noted images patches → AreCalls noted → is_writing (packets_of noted) ≡ false → 7 < size
     → length images ≤ most_chunks size (emissions_of asked)
+
+-- What comes later takes no chunk back: so what a writer takes at most once all its calls are made is a bound at each of them.
+abbrev pub MoreCallsTakeMore : Type 0
+MoreCallsTakeMore =
+    (size : ℕ) (calls more : List Call) → AreCalls (calls ++ more)
+    → most_chunks size (emissions_of calls) ≤ most_chunks size (emissions_of (calls ++ more))
 
 -- Calls and pages of which no less is a bound.
 pub record IsReached (size : ℕ) (calls : List Call) (pages : List Page) : Type 0 where

@@ -1,5 +1,5 @@
 //! Laws about the definitions: each is the contract of a function with nothing to do.
-ghost use Rattle.model_laws.specs.ChunkCounts.{ChunkCountsAreReached, EveryImageIsCounted, EveryPageIsCounted};
+ghost use Rattle.model_laws.specs.ChunkCounts.{ChunkCountsAreReached, EveryImageIsCounted, EveryPageIsCounted, MoreCallsTakeMore};
 ghost use Rattle.model_laws.specs.Losses.{LossesChangeNoShape};
 ghost use Rattle.model_laws.specs.MarkLaws.{MarksTellWhatIsMissing};
 ghost use Rattle.model_laws.specs.OutcomeLaws.{CountsAreBalanced, CountsAreOfOutcomes, FixedPlacesAreStarts};
@@ -78,6 +78,11 @@ pub fn every_page_is_counted()
 /// at most, whatever of it was lost.
 pub fn every_image_is_counted()
     ensures { EveryImageIsCounted }
+{}
+
+/// What a writer's calls take at most doesn't get less by later ones.
+pub fn more_calls_take_more()
+    ensures { MoreCallsTakeMore }
 {}
 
 /// There are packets that take as many chunks, and a packet that isn't finished takes a chunk that
