@@ -1,6 +1,6 @@
 -- Bytes from a place on, and eight of them set one behind another.
-use Rattle.std.proofs.Common.{◌≡◌, ℕ, zero, suc, ◌+◌, ◌-◌, ◌<◌, ◌≤◌, List, [], ◌∷◌, length, take, drop, set, subst, sym, ap, ◌∙◌, arith, length-set}
-use Rattle.std.proofs.lemmas.List.{get_or-take, get_or-set_same, get_or-set_other}
+use Rattle.std.proofs.Common.{◌≡◌, ℕ, zero, suc, ◌+◌, ◌-◌, ◌<◌, ◌≤◌, List, [], ◌∷◌, ◌++◌, length, get_or, take, drop, set, subst, sym, ap, ◌∙◌, arith, length-set, length-append}
+use Rattle.std.proofs.lemmas.List.{get_or-take, get_or-set_same, get_or-set_other, get_or_append_left, get_or-append_right, length-take-le}
 use Rattle.std.proofs.lemmas.Grind.{elements}
 use native.Mathlib.Decide.{ℕ_discrete}
 use mathlib.Core.Logic.{dite}
@@ -67,3 +67,12 @@ set_none rest = record {
     zeros (suc (suc (suc (suc (suc (suc zero)))))) = omega arith
     zeros (suc (suc (suc (suc (suc (suc (suc zero))))))) = omega arith
     zeros (suc (suc (suc (suc (suc (suc (suc (suc i)))))))) = omega arith
+
+-- bytes that were put at a place
+pub byte_put : (xs bs rest : List ℕ) (at m : ℕ) → at ≤ length xs → m < length bs → byte_in (take at xs ++ bs ++ rest) (at + m) ≡ byte_in bs m
+byte_put xs bs rest at m within below =
+    let front = take at xs in
+    let long : length front ≡ at = length-take-le at xs within in
+    get_or_append_left (front ++ bs) rest 0 (at + m) (let both = length-append front bs in omega arith)
+    ∙ get_or-append_right front bs at (at + m) 0 long (omega arith)
+    ∙ ap (λ i. get_or bs i 0) (let back : at + m - at ≡ m = omega arith in back)

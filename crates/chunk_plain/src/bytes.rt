@@ -1,5 +1,5 @@
 //! Payload bytes in words, eight a word, the lowest first.
-ghost use Rattle.std.specs.Prelude.{◌≡◌, ℕ, ◌+◌, ◌*◌, ◌/◌, ◌<◌, ◌≤◌, length};
+ghost use Rattle.std.specs.Prelude.{◌≡◌, ℕ, ◌+◌, ◌*◌, ◌/◌, ◌<◌, ◌≤◌, ◌++◌, length, take, drop};
 ghost use Rattle.chunk_plain.specs.Payload.{byte_of, byte_at, byte_in};
 
 /// The word with the bytes from a place on, and zeros behind the last of them.
@@ -31,13 +31,35 @@ pub fn word_end(from: u32, to: u32) -> usize
     }
 }
 
+/// Puts eight bytes at a place.
+fn put_eight(into: &mut [u8], at: usize, eight: [u8; 8])
+    requires { at + 8 ≤ length into.old }
+    ensures { into.new ≡ take at into.old ++ eight ++ drop (at + 8) into.old }
+{
+    into[at..at + 8].copy_from_slice(&eight);
+}
+
+/// Puts the bytes of a word at a place.
+fn put_bytes(into: &mut [u8], at: usize, word: u64)
+    requires { at + 8 ≤ length into.old }
+    ensures size { length into.new ≡ length into.old }
+    ensures here { (m : ℕ) → m < 8 → byte_in into.new (at + m) ≡ byte_of word m }
+    ensures before { (j : ℕ) → j < at → byte_in into.new j ≡ byte_in into.old j }
+{
+    put_eight(into, at, word.to_le_bytes());
+}
+
 /// Fills the bytes from the words.
 pub fn unpack(words: &[u64], into: &mut [u8])
     requires { length into.old ≤ 8 * length words.now }
     ensures size { length into.new ≡ length into.old }
     ensures bytes { (j : ℕ) → j < length into.new → byte_in into.new j ≡ byte_at words.now j }
 {
-    for j in 0..into.len() {
+    let whole = into.len() / 8;
+    for k in 0..whole {
+        put_bytes(into, 8 * k, words[k]);
+    }
+    for j in 8 * whole..into.len() {
         into[j] = words[j / 8].to_le_bytes()[j % 8];
     }
 }

@@ -53,12 +53,6 @@ writes_behind setup place route old mid new before between after fragment now on
   lost.1,
 )
 
--- the first of them doesn't
-pub writes_lost : (site : Site) (old new : WriterView) (before after : Pending) (fragment : OpenFragment) (one two : List ℕ)
-    → StopsIn site old new before after fragment one → CannotWrite site old new before after fragment (with_more (one ++ two))
-writes_lost site old new before after fragment one two lost =
-    lost_write site old new before after fragment (one ++ two) (lost_within site old new before after fragment one two lost)
-
 -- A tag and a length
 
 -- the length goes on behind the tag, or not

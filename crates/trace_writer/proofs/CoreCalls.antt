@@ -148,5 +148,3 @@ finished_out view new notes =
     ap (λ (a : Account). is_writing a.packets) (ap account_of notes ∙ account_one view.calls Finished)
     ∙ finished_writing (account_of view.calls).packets (account_of view.calls).flushed
 
-pub flushed_out : (view new : WriterView) → new.calls ≡ view.calls ++ Flushed ∷ [] → in_packet new ≡ in_packet view
-flushed_out view new notes = ap (λ (a : Account). is_writing a.packets) (ap account_of notes ∙ account_one view.calls Flushed)

@@ -72,11 +72,6 @@ open_depth_of (packet ∷ older) (Some open_packet) e =
 pub depth_is : (setup : Setup) (place : ℕ) (view : WriterView) (writer : Writer) → Agrees setup place view writer → depth_of writer.packet ≡ open_depth view
 depth_is setup place view writer agrees = open_depth_of (packets_of view.calls) writer.packet agrees.packet
 
--- a message is open only in a packet that is begun
-pub deep_is_begun : (open_one : Option OpenPacket) → 0 < depth_of open_one → is_begun open_one ≡ true
-deep_is_begun None deep = absurd (omega (arith, deep))
-deep_is_begun (Some open_packet) deep = refl
-
 -- Refusals
 
 none_of : (a b : Bool) (first second : CallFault) → (if a then Some first else (if b then Some second else None)) ≡ None → b ≡ false

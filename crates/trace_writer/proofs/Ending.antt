@@ -119,16 +119,20 @@ pub behind_of : (setup : Setup) (place : ℕ) (view : WriterView) (writer : Writ
     → IsBehind (site_of setup place writer.route) (account_of view.calls) view writer.pending chunk
 behind_of setup place view writer chunk state agrees = subst (StateAgrees (site_of setup place writer.route) (account_of view.calls) view writer.pending) state agrees.state
 
--- as it stands, or with its header anew
+-- its payload begins with the fragments before the last one
+pub behind_payload : (site : Site) (account : Account) (view : WriterView) (pending : Pending) (chunk : HeldChunk) (behind : IsBehind site account view pending chunk)
+    → chunk.held.body.payload.items ≡ frames behind.before ++ (frames (behind.last ∷ []) ++ behind.filled.rest)
+behind_payload site account view pending chunk behind =
+    behind.filled.payload_is
+    ∙ ap (λ (xs : List (List ℕ)). frames xs ++ behind.filled.rest) behind.parts
+    ∙ ap (λ (xs : List ℕ). xs ++ behind.filled.rest) (flat_map-append framed behind.before (behind.last ∷ []))
+    ∙ append_assoc (frames behind.before) (frames (behind.last ∷ [])) behind.filled.rest
+
 pub behind_fits : (site : Site) (account : Account) (view : WriterView) (pending : Pending) (chunk : HeldChunk) → IsBehind site account view pending chunk
     → IsFit site.setup view chunk (chunk.count - 1) (vec_len chunk.held.body.payload)
 behind_fits site account view pending chunk behind =
-    let all : List (List ℕ) = behind.first ∷ behind.others in
     let rest : List ℕ = frames (behind.last ∷ []) ++ behind.filled.rest in
-    let payload : chunk.held.body.payload.items ≡ frames behind.before ++ rest = behind.filled.payload_is
-    ∙ ap (λ (xs : List (List ℕ)). frames xs ++ behind.filled.rest) behind.parts
-    ∙ ap (λ (xs : List ℕ). xs ++ behind.filled.rest) (flat_map-append framed behind.before (behind.last ∷ []))
-    ∙ append_assoc (frames behind.before) (frames (behind.last ∷ [])) behind.filled.rest in
+    let payload : chunk.held.body.payload.items ≡ frames behind.before ++ rest = behind_payload site account view pending chunk behind in
     let long : length chunk.held.body.payload.items ≡ vec_len chunk.held.body.payload = sym chunk.held.body.payload.ok.0 in
     let many = ap (λ (xs : List (List ℕ)). length xs) behind.parts in
     fits site.setup view chunk behind.draft chunk.continues behind.completed [] (chunk.count - 1) chunk.count (vec_len chunk.held.body.payload) behind.before behind.before rest rest
@@ -141,10 +145,7 @@ pub behind_fits_next : (site : Site) (account : Account) (view : WriterView) (pe
 behind_fits_next site account view pending chunk behind =
     let all : List (List ℕ) = behind.first ∷ behind.others in
     let rest : List ℕ = frames (behind.last ∷ []) ++ behind.filled.rest in
-    let payload : chunk.held.body.payload.items ≡ frames behind.before ++ rest = behind.filled.payload_is
-    ∙ ap (λ (xs : List (List ℕ)). frames xs ++ behind.filled.rest) behind.parts
-    ∙ ap (λ (xs : List ℕ). xs ++ behind.filled.rest) (flat_map-append framed behind.before (behind.last ∷ []))
-    ∙ append_assoc (frames behind.before) (frames (behind.last ∷ [])) behind.filled.rest in
+    let payload : chunk.held.body.payload.items ≡ frames behind.before ++ rest = behind_payload site account view pending chunk behind in
     fits site.setup view chunk behind.draft chunk.continues behind.completed [] chunk.count chunk.count chunk.at all behind.before behind.filled.rest rest
     behind.begun (behind.id ∙ sym (shows_long site 0 behind.completed behind.pages behind.shown)) (behind.whole ∙ sym behind.sized) behind.filled.payload_is
     behind.filled.count_is (omega (arith, behind.filled.at_is)) payload behind.sealed behind.drafted

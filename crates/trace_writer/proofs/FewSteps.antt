@@ -19,9 +19,6 @@ record Grows (count : ℕ) (stopped : Bool) (old new : WriterView) : Type 0 wher
   begun : length new.begun ≡ length old.begun + more
   few : length new.asked + length new.begun ≤ length old.asked + length old.begun + more * (count + 1) + (if stopped then count else 0)
 
-grows_by : (count some more : ℕ) → some + more * (count + 1) + (count + 1) ≡ some + (1 + more) * (count + 1)
-grows_by count some more = omega arith
-
 -- a chunk is claimed and begun first
 grows_one : (setup : Setup) (first count chunk : ℕ) (stopped : Bool) (old mid new : WriterView) → ClaimsInTurn setup first count chunk old mid → Grows count stopped mid new → Grows count stopped old new
 grows_one setup first count chunk stopped old mid new claims rest =

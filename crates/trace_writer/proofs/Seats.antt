@@ -46,11 +46,6 @@ completed_here view new completed later chunk id draft content begun id_is is =
     ∙ ap (λ (i : ℕ). set (completed ++ Held chunk draft ∷ later) i (Completed chunk content)) id_is
     ∙ set-append_seam completed (Held chunk draft) later (Completed chunk content)
 
--- one fragment more may be counted in the header
-pub follows_held : (head : Head) (count : ℕ) (continues : Bool) → head ≡ held_head count continues → MayFollow head (held_head (count + 1) continues)
-follows_held head count continues is =
-    subst (λ (h : Head). MayFollow h (held_head (count + 1) continues)) (sym is) (record { count_grows = omega arith; front_stays = λ some. refl })
-
 -- Pages
 
 pub shows_long : (site : Site) (id : ℕ) (begun : List Begun) (pages : List Page) → ShowsPages site id begun pages → length begun ≡ length pages

@@ -107,6 +107,3 @@ sets_behind site old new before between after fragment now next runs low put at_
   byte = λ continues first. omega (arith, at_is, now.behind);
 }
 
-pub cannot_set : (site : Site) (old new : WriterView) (before after : Pending) (fragment : OpenFragment)
-    → StopsHere site old new before after fragment → CannotSetAside site old new before after fragment
-cannot_set site old new before after fragment stops = record { calls = stops.calls; stopped = stops.length_next }

@@ -4,6 +4,8 @@ use Rattle.std.proofs.lemmas.Bool.{ne_eqb}
 use Rattle.std.proofs.lemmas.Bool.Decides.{nat_tests}
 use Rattle.std.proofs.lemmas.List.{take-append-drop, length-take, length-append}
 use Rattle.trace_base.specs.declared.limits.TheConstants.{MAX_FRAGMENTS, MAX_OPEN_HOLES}
+use Rattle.chunk_plain.specs.declared.tokens.TheConstants.{ID_LIMIT}
+use Rattle.trace_writer.specs.declared.ids.TheConstants.{PACKET_IDS}
 use Rattle.trace_model.specs.Calls.{Call}
 use Rattle.trace_model.specs.Images.{Patch}
 use Rattle.trace_model.specs.Row.{Chain}
@@ -117,7 +119,7 @@ started_inside site account packet view new pending chunk fragment pages complet
 
 pub new_roomy : (setup : Setup) (place : ℕ) (route : Route) (account : Account) (view new : WriterView) (pending : Pending) (held : HeldToken) (chunk : HeldChunk) (id : ℕ)
     → IsRoute setup place route → chunk.held ≡ held → chunk.sealed ≡ 0 → chunk.at ≡ 0 → chunk.count ≡ 0 → chunk.continues ≡ false
-    → id ≡ length view.begun → id + 4096 ≤ 4294967295
+    → id ≡ length view.begun → id + PACKET_IDS ≤ ID_LIMIT
     → Wins route held.chunk view new → IsBegun setup held.chunk id held
     → IsIdle (site_of setup place route) account view pending → IsRoomy (site_of setup place route) account new pending chunk
 new_roomy setup place route account view new pending held chunk id is_route held_is sealed_is at_is count_is continues_is id_is ids claims begun idle =
@@ -177,7 +179,7 @@ chains_of_held pages true first others = refl
 chains_of_held pages false first others = refl
 
 pub behind_roomy : (site : Site) (account : Account) (view : WriterView) (pending : Pending) (chunk : HeldChunk)
-    → chunk.held.id + 4097 ≤ 4294967295 → has_room site.size chunk ≡ true
+    → chunk.held.id + 1 + PACKET_IDS ≤ ID_LIMIT → has_room site.size chunk ≡ true
     → IsBehind site account view pending chunk → IsRoomy site account view pending chunk
 behind_roomy site account view pending chunk ids roomy behind =
     let done : List (List ℕ) = behind.first ∷ behind.others in

@@ -1,11 +1,12 @@
 -- Chunk ids don't run out within a packet: a chunk that a packet runs on from holds at least 277 bytes of it, but for the
 -- chunk in which it begins.
 use Rattle.std.specs.Prelude.{ℕ, ◌+◌, ◌-◌, ◌*◌, ◌==◌, ◌≤◌, if◌then◌else◌}
+use Rattle.chunk_plain.specs.declared.tokens.TheConstants.{ID_LIMIT}
 use Rattle.trace_writer.specs.declared.fragment.OpenFragment.{OpenFragment}
 
 -- the greatest id
 abbrev pub last_id : ℕ
-last_id = 4294967294
+last_id = ID_LIMIT - 1
 
 -- the bytes by which a packet fills at least a chunk of 284 bytes, behind the fragment's size and before a length that doesn't fit
 abbrev pub least_filled : ℕ

@@ -1,11 +1,14 @@
 -- Laws on writers that agree with the views of their seats.
-use Rattle.std.specs.Prelude.{◌≡◌, ℕ, ◌+◌, false}
+use Rattle.std.specs.Prelude.{◌≡◌, ℕ, ◌+◌, ◌<◌, false, List, [], ◌∷◌, ◌++◌, length}
 use Rattle.trace_base.specs.declared.policy.WriterPolicy.TheVariants.{Drops}
+use Rattle.trace_model.specs.Images.{Image}
 use Rattle.trace_model.specs.Packets.{account_of}
 use Rattle.chunk_plain.specs.Setup.{Setup}
-use Rattle.chunk_plain.specs.Views.{WriterView}
+use Rattle.chunk_plain.specs.Payload.{byte_at, byte_in}
+use Rattle.chunk_plain.specs.Views.{Draft, Begun, Held, WriterView}
 use Rattle.trace_writer.specs.declared.state.Writer.{Writer}
 use Rattle.trace_writer.specs.Core.{WriterAgrees, last_is_held, holds_newest}
+use Rattle.trace_writer.specs.Filled.{frames}
 use Rattle.trace_writer.specs.Empty.{is_stalled}
 use Rattle.trace_writer.specs.Outcomes.{images_so_far, patches_so_far, held_images, HasCut}
 
@@ -23,3 +26,22 @@ DropsNeverStall = (setup : Setup) (place : ℕ) (view : WriterView) (writer : Wr
 abbrev pub NewestIsHeld : Type 0
 NewestIsHeld = (setup : Setup) (place : ℕ) (view : WriterView) (writer : Writer) → WriterAgrees setup place view writer
     → is_stalled writer.state ≡ false → last_is_held view.begun ≡ holds_newest (account_of view.calls)
+
+-- What is held stands in the table's words: the header has the count and the flags of this image, and the bytes of all its fragments but the last
+-- one were published.
+pub record IsHeldImage (view : WriterView) (image : Image) : Type 0 where
+  pub completed : List Begun
+  pub chunk : ℕ
+  pub draft : Draft
+  pub begun : view.begun ≡ completed ++ Held chunk draft ∷ []
+  pub id : image.chunk_id ≡ length completed
+  pub head : draft.head ≡ record { count = image.count; flags = image.flags }
+  pub before : List (List ℕ)
+  pub count : image.count ≡ length before + 1
+  pub rest : List ℕ
+  pub payload : image.payload ≡ frames before ++ rest
+  pub bytes : (j : ℕ) → j < length (frames before) → byte_at draft.words j ≡ byte_in (frames before) j
+
+abbrev pub HeldIsPublished : Type 0
+HeldIsPublished = (setup : Setup) (place : ℕ) (view : WriterView) (writer : Writer) → WriterAgrees setup place view writer
+    → (image : Image) → held_images place writer.state ≡ image ∷ [] → IsHeldImage view image

@@ -1,5 +1,7 @@
 //! Where a packet begins.
 ghost use Rattle.std.specs.Prelude.{◌≡◌, ℕ, ◌+◌, ◌<◌, ◌≤◌, true, false, [], ◌∷◌, ◌++◌, List, None, length, not, Ok, Err, MatchResult, vec_len};
+ghost use Rattle.chunk_plain.specs.declared.tokens.TheConstants.{ID_LIMIT};
+ghost use Rattle.trace_writer.specs.declared.ids.TheConstants.{PACKET_IDS};
 ghost use Rattle.trace_model.specs.Packets.{Account, account_of};
 ghost use Rattle.commit_body.specs.Pending.{Pending};
 ghost use Rattle.trace_base.specs.declared.policy.WriterPolicy.TheVariants.{Drops, Stalls};
@@ -51,7 +53,7 @@ fn new_place<W: Words, L: Ledger, H: HelperOn<W>>(
     requires needs { H.needs help.old table.old }
     requires route { IsRoute (W.means.setup table.old) (W.means.place seat.old) route.now }
     requires next { next_id ≡ length (W.means.view table.old seat.old).begun }
-    requires ids { next_id + 4096 ≤ 4294967295 }
+    requires ids { next_id + PACKET_IDS ≤ ID_LIMIT }
     requires none_held { NoneHeld (W.means.view table.old seat.old).begun }
     ensures calls { (W.means.view table.new seat.new).calls ≡ (W.means.view table.old seat.old).calls }
     ensures place { (account : Account) (pending : Pending)
@@ -81,7 +83,7 @@ fn place_behind<W: Words, L: Ledger, H: HelperOn<W>>(
     requires needs { H.needs help.old table.old }
     requires route { IsRoute (W.means.setup table.old) (W.means.place seat.old) route.now }
     requires behind { (account : Account) × IsBehind (site_of (W.means.setup table.old) (W.means.place seat.old) route.now) account (W.means.view table.old seat.old) pending.old chunk }
-    requires ids { chunk.held.id + 4097 ≤ 4294967295 }
+    requires ids { chunk.held.id + 1 + PACKET_IDS ≤ ID_LIMIT }
     ensures calls { (W.means.view table.new seat.new).calls ≡ (W.means.view table.old seat.old).calls }
     ensures place { (account : Account)
         → IsBehind (site_of (W.means.setup table.old) (W.means.place seat.old) route.now) account (W.means.view table.old seat.old) pending.old chunk
@@ -187,7 +189,7 @@ pub(crate) fn begin<W: Words, L: Ledger, H: HelperOn<W>>(
     requires needs { H.needs help.old table.old }
     requires agrees { Agrees (W.means.setup table.old) (W.means.place seat.old) (W.means.view table.old seat.old) writer.old }
     requires none_begun { is_begun writer.old.packet ≡ false }
-    requires ids { length (W.means.view table.old seat.old).begun + 4096 ≤ 4294967295 }
+    requires ids { length (W.means.view table.old seat.old).begun + PACKET_IDS ≤ ID_LIMIT }
     ensures agrees { Agrees (W.means.setup table.old) (W.means.place seat.old) (W.means.view table.new seat.new) writer.new }
     ensures route { writer.new.route ≡ writer.old.route }
     ensures stays { is_stalled_state writer.old.state ≡ true

@@ -1,6 +1,7 @@
 //! A held chunk behind its last fragment.
 ghost use Rattle.std.specs.Prelude.{◌≡◌, ◌≢◌, ℕ, ◌+◌, ◌-◌, ◌%◌, ◌<◌, ◌≤◌, Bool, false, ◌&&◌, nat_le, nat_lt, [], if◌then◌else◌, vec_len};
-ghost use Rattle.trace_base.specs.declared.limits.TheConstants.{MAX_FRAGMENTS};
+ghost use Rattle.chunk_plain.specs.declared.tokens.TheConstants.{ID_LIMIT};
+ghost use Rattle.trace_base.specs.declared.limits.TheConstants.{MAX_FRAGMENTS, MAX_PAGE_SIZE};
 ghost use Rattle.trace_model.specs.Sequences.{is_among};
 ghost use Rattle.commit_body.specs.Patches.{hole_chunks, with_lasts};
 ghost use Rattle.chunk_plain.specs.Setup.{spot};
@@ -58,10 +59,10 @@ pub(crate) struct HeldChunk {
     pub continues: bool,
     ghost order: { sealed ≤ at },
     ghost within: { at ≤ vec_len held.body.payload },
-    ghost small: { vec_len held.body.payload ≤ 65536 },
-    ghost few: { count ≤ 1023 },
+    ghost small: { vec_len held.body.payload ≤ MAX_PAGE_SIZE },
+    ghost few: { count ≤ MAX_FRAGMENTS },
     ghost empty: { held.body.patches.value.items ≡ [] },
-    ghost id_fits: { held.id < 4294967295 },
+    ghost id_fits: { held.id < ID_LIMIT },
 }
 
 impl HeldChunk {
@@ -69,9 +70,9 @@ impl HeldChunk {
 
     /// A chunk that was just begun.
     pub fn new(held: Held, continues: bool) -> HeldChunk
-        requires small { vec_len held.body.payload ≤ 65536 }
+        requires small { vec_len held.body.payload ≤ MAX_PAGE_SIZE }
         requires empty { held.body.patches.value.items ≡ [] }
-        requires id_fits { held.id < 4294967295 }
+        requires id_fits { held.id < ID_LIMIT }
         ensures held { result.held ≡ held }
         ensures sealed { result.sealed ≡ 0 }
         ensures at { result.at ≡ 0 }

@@ -1,5 +1,6 @@
 //! How a writer gets its next chunk.
 ghost use Rattle.std.specs.Prelude.{◌≡◌, ◌+◌, ◌^◌, ◌-◌, ◌<◌, ◌≤◌, length, not, is_some, IfSome, IfNone};
+ghost use Rattle.chunk_plain.specs.declared.tokens.TheConstants.{ID_LIMIT};
 ghost use Rattle.trace_base.specs.declared.policy.WriterPolicy.TheVariants.{Drops, Stalls};
 ghost use Rattle.chunk_plain.specs.Drafts.{IsHolding};
 ghost use Rattle.chunk_plain.specs.Words.{IsBegun};
@@ -31,7 +32,7 @@ pub(crate) fn claim_asking<W: Words, L: Ledger, H: HelperOn<W>>(
     requires route { IsRoute (W.means.setup table.old) (W.means.place seat.old) route.now }
     requires stalls { route.now.spec.policy ≡ Stalls }
     requires id { next_id ≡ length (W.means.view table.old seat.old).begun }
-    requires id_fits { next_id < 2 ^ 32 - 1 }
+    requires id_fits { next_id < ID_LIMIT }
     requires none_held { NoneHeld (W.means.view table.old seat.old).begun }
     ensures won { IfSome result (λ held. Wins route.now held.chunk (W.means.view table.old seat.old) (W.means.view table.new seat.new)) }
     ensures begun { IfSome result (λ held. IsBegun (W.means.setup table.old) held.chunk next_id held) }
@@ -62,7 +63,7 @@ pub(crate) fn claim_next<W: Words, L: Ledger, H: HelperOn<W>>(
     requires needs { H.needs help.old table.old }
     requires route { IsRoute (W.means.setup table.old) (W.means.place seat.old) route.now }
     requires id { next_id ≡ length (W.means.view table.old seat.old).begun }
-    requires id_fits { next_id < 2 ^ 32 - 1 }
+    requires id_fits { next_id < ID_LIMIT }
     requires none_held { NoneHeld (W.means.view table.old seat.old).begun }
     ensures won { IfSome result (λ held. Wins route.now held.chunk (W.means.view table.old seat.old) (W.means.view table.new seat.new)) }
     ensures begun { IfSome result (λ held. IsBegun (W.means.setup table.old) held.chunk next_id held) }

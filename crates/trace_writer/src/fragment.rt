@@ -1,8 +1,9 @@
 //! A held chunk while a fragment is written into it.
 ghost use Rattle.std.specs.Prelude.{◌≡◌, ℕ, ◌+◌, ◌-◌, ◌*◌, ◌^◌, ◌<◌, ◌≤◌, false, true, [], ◌∷◌, ◌++◌, List, min, take, length, nat_le, vec_len, if◌then◌else◌};
+ghost use Rattle.chunk_plain.specs.declared.tokens.TheConstants.{ID_LIMIT};
 ghost use Rattle.std.specs.List.{repeat};
 ghost use Rattle.wire_varint.specs.Varint.{redundant};
-ghost use Rattle.trace_base.specs.declared.limits.TheConstants.{MAX_PACKET_LEN, MAX_OPEN_HOLES};
+ghost use Rattle.trace_base.specs.declared.limits.TheConstants.{MAX_PACKET_LEN, MAX_OPEN_HOLES, MAX_PAGE_SIZE, MAX_FRAGMENTS};
 ghost use Rattle.trace_model.specs.Images.{with_bytes};
 ghost use Rattle.trace_model.specs.Packets.{open_length};
 ghost use Rattle.trace_model.specs.Fragments.{drop_mark};
@@ -30,10 +31,10 @@ pub(crate) struct OpenFragment {
     pub continues: bool,
     ghost behind: { start + 4 ≤ at },
     ghost within: { at ≤ vec_len held.body.payload },
-    ghost small: { vec_len held.body.payload ≤ 65536 },
-    ghost few: { count ≤ 1023 },
+    ghost small: { vec_len held.body.payload ≤ MAX_PAGE_SIZE },
+    ghost few: { count ≤ MAX_FRAGMENTS },
     ghost empty: { held.body.patches.value.items ≡ [] },
-    ghost id_fits: { held.id < 4294967295 },
+    ghost id_fits: { held.id < ID_LIMIT },
 }
 
 impl OpenFragment {

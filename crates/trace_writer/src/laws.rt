@@ -1,5 +1,5 @@
 //! Laws on writers. The functions do nothing: a caller's proof has their clauses.
-ghost use Rattle.trace_writer.specs.Laws.{AgreeingIsCut, DropsNeverStall, NewestIsHeld};
+ghost use Rattle.trace_writer.specs.Laws.{AgreeingIsCut, DropsNeverStall, NewestIsHeld, HeldIsPublished};
 
 /// A writer that agrees with its view has cut its packets into its chunks; where it holds none, the
 /// last one runs on exactly where its newest packet goes on.
@@ -16,4 +16,10 @@ pub fn drops_never_stall()
 /// isn't lost and no flush came behind it.
 pub fn newest_is_held()
     ensures { NewestIsHeld }
+{}
+
+/// The header of the held chunk counts the fragments that the chunk has so far, and the bytes of all
+/// but the last of them were published.
+pub fn held_is_published()
+    ensures { HeldIsPublished }
 {}

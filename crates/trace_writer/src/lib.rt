@@ -1,8 +1,9 @@
 //! Writers: the packets of one thread, streamed into the chunks of its producer.
 //! A layer above may rely on this: after any calls the writer's chunks are a cut of the packets that
 //! the calls say, each call joins the calls in the seat's view, a packet is dropped only where a
-//! claim was lost, and a refused call leaves the packet as it was. It works over any table of chunks,
-//! takes no memory, and writes each byte of a packet once.
+//! claim was lost, and a refused call leaves the packet as it was. What the header of a held chunk
+//! counts was published, but for its last fragment. It works over any table of chunks, takes no
+//! memory, and copies each byte of a packet once into a payload and once into the table's words.
 #![tactic(auto)]
 
 mod begin;
@@ -16,6 +17,7 @@ mod flow;
 mod fragment;
 mod helper;
 mod here;
+mod ids;
 mod laws;
 mod packet;
 mod route;
@@ -27,5 +29,6 @@ mod writer;
 
 pub use fault::{Begun, CallFault};
 pub use helper::{HelperOn, NoHelp};
-pub use laws::{agreeing_is_cut, drops_never_stall, newest_is_held};
+pub use ids::PACKET_IDS;
+pub use laws::{agreeing_is_cut, drops_never_stall, held_is_published, newest_is_held};
 pub use writer::WriterCore;

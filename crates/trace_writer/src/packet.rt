@@ -19,7 +19,7 @@ pub(crate) struct OpenPacket {
     pub len: u32,
     /// The length behind each open nested length, the innermost last.
     pub starts: ArrayVec<u32, MAX_OPEN_HOLES>,
-    ghost most: { len ≤ 1048576 },
+    ghost most: { len ≤ MAX_PACKET_LEN },
 }
 
 impl OpenPacket {

@@ -1,5 +1,7 @@
 //! A writer with its seat: what its callers have.
 ghost use Rattle.std.specs.Prelude.{◌≡◌, ℕ, ◌+◌, ◌-◌, ◌*◌, ◌<◌, ◌≤◌, Bool, true, false, Some, None, [], ◌∷◌, ◌++◌, length, slice_get, IfOk, IfErr, MatchResult};
+ghost use Rattle.chunk_plain.specs.declared.tokens.TheConstants.{ID_LIMIT};
+ghost use Rattle.trace_writer.specs.declared.ids.TheConstants.{PACKET_IDS};
 ghost use Rattle.trace_base.specs.declared.limits.TheConstants.{MAX_FIELD, MAX_INPUT, MAX_OPEN_HOLES};
 ghost use Rattle.trace_base.specs.declared.policy.WriterPolicy.TheVariants.{Drops};
 ghost use Rattle.page_geometry.specs.Sizes.{payload_size};
@@ -85,7 +87,7 @@ impl<S> WriterCore<S> {
         requires needs { H.needs help.old table.old }
         requires agrees { CoreAgrees (W.means.setup table.old) (W.means.place self.old.seat) (W.means.view table.old self.old.seat) self.old }
         requires none_begun { in_packet (W.means.view table.old self.old.seat) ≡ false }
-        requires ids { length (W.means.view table.old self.old.seat).begun + 4096 ≤ 4294967295 }
+        requires ids { length (W.means.view table.old self.old.seat).begun + PACKET_IDS ≤ ID_LIMIT }
         ensures agrees { CoreAgrees (W.means.setup table.old) (W.means.place self.old.seat) (W.means.view table.new self.new.seat) self.new }
         ensures needs { H.needs help.new table.new }
         ensures others { LeavesOthers W.means table.old self.old.seat table.new self.new.seat }
@@ -316,7 +318,7 @@ impl<S> WriterCore<S> {
 
     /// Chunk ids that are left.
     pub fn ids_left(&self) -> u64
-        ensures { (setup : Setup) (place : ℕ) (view : WriterView) → CoreAgrees setup place view self.now → result ≡ 4294967295 - length view.begun }
+        ensures { (setup : Setup) (place : ℕ) (view : WriterView) → CoreAgrees setup place view self.now → result ≡ ID_LIMIT - length view.begun }
     {
         let next_id = match &self.writer.state {
             State::Between(chunk) => chunk.held.id + 1,

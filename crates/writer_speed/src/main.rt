@@ -3,6 +3,8 @@
 #![tactic(auto)]
 
 ghost use Rattle.std.specs.Prelude.{◌≡◌, ◌+◌, ◌<◌, ◌≤◌, false, length};
+ghost use Rattle.chunk_plain.specs.declared.tokens.TheConstants.{ID_LIMIT};
+ghost use Rattle.trace_writer.specs.declared.ids.TheConstants.{PACKET_IDS};
 ghost use Rattle.trace_writer.specs.Core.{in_packet};
 ghost use Rattle.writer_speed.specs.Collecting.{IsCollecting};
 ghost use Rattle.writer_speed.specs.Going.{IsReady};
@@ -23,7 +25,7 @@ use std::marker::Brand;
 use std::sync::ledger::{Blank, Ledger};
 use trace_base::policy::{WriterPolicy, WriterSpec};
 use trace_base::steps::Steps;
-use trace_writer::WriterCore;
+use trace_writer::{PACKET_IDS, WriterCore};
 
 /// The collector runs where so many chunks wait, half of those that there are.
 const FULL: u32 = 7;
@@ -46,7 +48,7 @@ fn write_round<W: Words, L: Ledger>(
 ) -> u32
     requires ready { IsReady W.means table.old writer.old }
     requires outside { in_packet (W.means.view table.old writer.old.seat) ≡ false }
-    requires ids { length (W.means.view table.old writer.old.seat).begun + 4096 ≤ 4294967295 }
+    requires ids { length (W.means.view table.old writer.old.seat).begun + PACKET_IDS ≤ ID_LIMIT }
     requires collects { IsCollecting W.means table.old service.old range taken }
     ensures ready { IsReady W.means table.new writer.new }
     ensures outside { in_packet (W.means.view table.new writer.new.seat) ≡ false }
@@ -76,7 +78,7 @@ fn write_all<W: Words, L: Ledger>(
 {
     let mut taken = 0;
     for _ in 0..packets {
-        if writer.ids_left() < 4096 {
+        if writer.ids_left() < PACKET_IDS {
             return;
         }
         taken = write_round(writer, table, service, range, taken, steps);

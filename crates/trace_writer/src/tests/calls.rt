@@ -5,6 +5,7 @@ ghost use Rattle.trace_writer.specs.Core.{CoreAgrees};
 
 use crate::fault::CallFault;
 use crate::helper::HelperOn;
+use crate::ids::PACKET_IDS;
 use crate::writer::WriterCore;
 use chunk_plain::Words;
 use std::sync::ledger::Ledger;
@@ -132,7 +133,7 @@ fn make_call<W: Words, L: Ledger, H: HelperOn<W>>(
     } = call;
     let begun = writer.in_packet();
     match kind {
-        Kind::Packet if !begun && writer.ids_left() >= 4096 => {
+        Kind::Packet if !begun && writer.ids_left() >= PACKET_IDS => {
             return writer.begin(table, help, steps).map(|_begun| ());
         }
         Kind::Number(value) if begun => return writer.varint(table, help, field, value, steps),

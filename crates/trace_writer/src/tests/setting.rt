@@ -89,6 +89,22 @@ fn set_up(
     Ok((table, writer, collector))
 }
 
+/// Ends the writer behind a packet, or where it is stalled.
+fn end<R: Abort>(rt: &R, table: &mut PlainTable, mut writer: WriterCore<PlainWriter>)
+    requires seat { ⟦<PlainTable as Words>⟧.means.sits table.old writer.seat }
+    requires agrees { CoreAgrees (⟦<PlainTable as Words>⟧.means.setup table.old) (⟦<PlainTable as Words>⟧.means.place writer.seat) (⟦<PlainTable as Words>⟧.means.view table.old writer.seat) writer }
+{
+    if is_stalled(&writer.writer.state) {
+        let _seat = writer.into_seat();
+        return;
+    }
+    if writer.in_packet() {
+        panic!(rt; "a packet is left");
+    }
+    writer.flush(table);
+    let _seat = writer.into_seat();
+}
+
 /// Plays the scripts one after another, and ends the writer.
 fn play<R: Abort, L: Ledger, H: HelperOn<PlainTable>>(
     rt: &R,
@@ -118,15 +134,7 @@ fn play<R: Abort, L: Ledger, H: HelperOn<PlainTable>>(
         unsent: writer.writer.pending.unsent(),
         front,
     };
-    if is_stalled(&writer.writer.state) {
-        let _seat = writer.into_seat();
-        return left;
-    }
-    if writer.in_packet() {
-        panic!(rt; "a packet is left");
-    }
-    writer.flush(table);
-    let _seat = writer.into_seat();
+    end(rt, table, writer);
     left
 }
 

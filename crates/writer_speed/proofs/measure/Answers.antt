@@ -21,11 +21,10 @@ write_all-requires-clause-ready g c =
     let range : range_of setup 1 ≡ range_in c.new-arbiter.result =
     ap (λ (n : ℕ). let one : ChunkRange = record { first = n; count = (range_of setup 1).count } in one) (sym first)
     ∙ ap (λ (n : ℕ). let one : ChunkRange = record { first = c.new-arbiter.result.first; count = n } in one) (sym chunks) in
-    let inside : 0 < length setup.writers = subst (λ (s : Setup). 0 < length s.writers) (sym setup_is) (omega arith) in
     let agrees : CoreAgrees setup 0 (writer table.seat.me.0 0) core =
     first_agrees setup table.seat.me.0 c.in-Ok.geometry c.new-arbiter.result core setup_is world_is range c.make-writer.ensures.agrees in
     record {
-      seat = subst (λ (s : PlainWriter). s.place < length setup.writers) (sym c.make-writer.ensures.seat) inside;
+      seat = c.in-Ok-make.ensures.sits core.seat (subst (λ (s : PlainWriter). s.place < 1) (sym c.make-writer.ensures.seat) (omega arith));
       agrees = subst (λ (s : PlainWriter). CoreAgrees setup s.place (writer table.seat.me.0 s.place) core) (sym c.make-writer.ensures.seat) agrees;
       drops = first_drops setup c.in-Ok.geometry (writer table.seat.me.0 0) core setup_is agrees;
     }
