@@ -144,25 +144,25 @@ pub row_adjacent : (closed : Bool) (slots : List Slot) (chunk_id passed : ℕ) �
 row_adjacent closed slots chunk_id passed some = (row_is closed slots chunk_id passed some).adjacent
 
 -- where a reader stands that has passed these links, and has those left
-abbrev pub place_after : Cursor → List Link → List Link → Cursor
-place_after cursor [] left = cursor
-place_after cursor (link ∷ passed) left = begin_of left
+abbrev pub reader_after : Cursor → List Link → List Link → Cursor
+reader_after cursor [] left = cursor
+reader_after cursor (link ∷ passed) left = begin_of left
 
 -- behind something that was passed the cursor stands where the rest begins
 onward : (links : List Link) (n : ℕ) (next : Cursor) → next ≡ begin_of links
-    → cursor_after next (passed_by n links) ≡ place_after next (passed_by n links) (left_by n links) → cursor_after next (passed_by n links) ≡ begin_of (left_by n links)
+    → cursor_after next (passed_by n links) ≡ reader_after next (passed_by n links) (left_by n links) → cursor_after next (passed_by n links) ≡ begin_of (left_by n links)
 onward [] n next e h = h ∙ e
 onward (link ∷ links) n next e h = step (ends (turn_of link) || (delivers (turn_of link) && (n == 0))) h
   where
     step : (b : Bool)
         → cursor_after next (cond b [] (link ∷ passed_by (n - one_if (delivers (turn_of link))) links))
-        ≡ place_after next (cond b [] (link ∷ passed_by (n - one_if (delivers (turn_of link))) links)) (cond b (link ∷ links) (left_by (n - one_if (delivers (turn_of link))) links))
+        ≡ reader_after next (cond b [] (link ∷ passed_by (n - one_if (delivers (turn_of link))) links)) (cond b (link ∷ links) (left_by (n - one_if (delivers (turn_of link))) links))
         → cursor_after next (cond b [] (link ∷ passed_by (n - one_if (delivers (turn_of link))) links)) ≡ begin_of (cond b (link ∷ links) (left_by (n - one_if (delivers (turn_of link))) links))
     step true h = e
     step false h = h
 
 pub cursor_is : (limit : ℕ) (links : List Link) (cursor : Cursor) → Adjacent links
-    → cursor_after cursor (passed_by limit links) ≡ place_after cursor (passed_by limit links) (left_by limit links)
+    → cursor_after cursor (passed_by limit links) ≡ reader_after cursor (passed_by limit links) (left_by limit links)
 cursor_is limit [] cursor a = refl
 cursor_is limit (Stop at why may ∷ links) cursor a = refl
 cursor_is limit (Gap at next lost ∷ links) cursor a = onward links (limit - 0) next a.0 (cursor_is (limit - 0) links next a.1)
@@ -172,7 +172,7 @@ cursor_is limit (Joined chain ∷ links) cursor a =
   where
     by_turn : (b : Bool) → cursor_after chain.next (passed_by (limit - one_if (delivers (turn_of (Joined chain)))) links) ≡ begin_of (left_by (limit - one_if (delivers (turn_of (Joined chain)))) links)
         → cursor_after cursor (cond b [] (Joined chain ∷ passed_by (limit - one_if (delivers (turn_of (Joined chain)))) links))
-        ≡ place_after cursor (cond b [] (Joined chain ∷ passed_by (limit - one_if (delivers (turn_of (Joined chain)))) links))
+        ≡ reader_after cursor (cond b [] (Joined chain ∷ passed_by (limit - one_if (delivers (turn_of (Joined chain)))) links))
         (cond b (Joined chain ∷ links) (left_by (limit - one_if (delivers (turn_of (Joined chain)))) links))
     by_turn true h = refl
     by_turn false h = h

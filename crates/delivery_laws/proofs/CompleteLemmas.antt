@@ -100,7 +100,7 @@ settled_from (page ∷ pages) first (suc place) chunk_id fs behind low =
     settled_behind page.patches (patches_of pages) first chunk_id fs behind.0 (omega (arith, low))
     ∙ settled_from pages (suc first) place chunk_id fs behind.1 (omega (arith, low))
 
-lasts_behind : (open_ones : List ℕ) (patches more : List Patch) → LastsAre open_ones (patches ++ more) → LastsAre open_ones more
+pub lasts_behind : (open_ones : List ℕ) (patches more : List Patch) → LastsAre open_ones (patches ++ more) → LastsAre open_ones more
 lasts_behind open_ones [] more h = h
 lasts_behind open_ones (patch ∷ patches) more h = lasts_behind open_ones patches more h.1
 
@@ -198,7 +198,7 @@ sheet_at patches goes (page ∷ next ∷ pages) first (suc place) sheet get =
       written = is.written ∙ ap (λ (n : ℕ). settled_fragments patches n (chunk_of is.page).fragments) at;
     }
 
-patches_left : (patches : List Patch) (goes : Bool) (pages : List Page) (first place : ℕ) → sheet_patches (drop place (sheets_from patches first goes pages)) ≡ patches_of (drop place pages)
+pub patches_left : (patches : List Patch) (goes : Bool) (pages : List Page) (first place : ℕ) → sheet_patches (drop place (sheets_from patches first goes pages)) ≡ patches_of (drop place pages)
 patches_left patches goes [] first zero = refl
 patches_left patches goes [] first (suc place) = refl
 patches_left patches goes (page ∷ []) first zero = refl
@@ -218,7 +218,7 @@ pub record IsCompleted (sheets : List Sheet) (chunk_id : ℕ) (sheet : Sheet) : 
 abbrev pub EachCompletes : List Sheet → Type 0
 EachCompletes sheets = (chunk_id : ℕ) (sheet : Sheet) → slice_get sheets chunk_id ≡ Some sheet → IsCompleted sheets chunk_id sheet
 
-full_at : (size : ℕ) (pages : List Page) (place : ℕ) (page : Page) → AreFull size pages → slice_get pages place ≡ Some page → IsFull size page
+pub full_at : (size : ℕ) (pages : List Page) (place : ℕ) (page : Page) → AreFull size pages → slice_get pages place ≡ Some page → IsFull size page
 full_at size [] place page full get = absurd (cc)
 full_at size (first ∷ pages) zero page full get =
     let same : first ≡ page = cc in

@@ -128,7 +128,7 @@ module _ (sheets : List Sheet) (q come : ℕ) (later : List Patch) where
           )
 
   -- in order no chunk comes twice or too far ahead
-  arrival_is : (b : Buffer) → IsKnown sheets q come false later b → arrival_of b q come ≡ placing_of b q come
+  pub arrival_is : (b : Buffer) → IsKnown sheets q come false later b → arrival_of b q come ≡ placing_of b q come
   arrival_is b known =
       ap (λ (x : Bool). cond x Duplicate (cond (is_too_far (sequence_in b.sequences q) come) TooFar (placing_of b q come)))
       (ap (is_among come) known.arrived ∙ not_upto come come (omega arith))

@@ -3,9 +3,10 @@ use Rattle.std.proofs.Common.{◌≡◌, ◌∙◌, ℕ, zero, suc, ◌+◌, ◌
 use Rattle.std.specs.Prelude.{cond, ◌==◌, slice_get, MatchBool}
 use Rattle.std.proofs.lemmas.Bool.{false≢true, eqb-true, eqb-false, ne_eqb}
 use Rattle.trace_model.specs.Counts.{raised}
+use Rattle.trace_base.specs.declared.policy.FullPolicy.{FullPolicy}
 use Rattle.trace_model.specs.Images.{Chunk, Fragment, Patch}
 use Rattle.trace_model.specs.Fading.{ShowFragments}
-use Rattle.trace_model.specs.Sequences.{Sequence, Cursor, sequence_in, is_known, is_among}
+use Rattle.trace_model.specs.Sequences.{Sequence, Cursor, fresh, sequence_in, is_known, is_among}
 use Rattle.trace_model.specs.Buffers.{Buffer, empty_buffer}
 use Rattle.trace_model.specs.Arrivals.{with_arrival, with_partial_arrival}
 use Rattle.trace_model.specs.Patches.{with_patches, with_close}
@@ -18,7 +19,7 @@ use Rattle.delivery_laws.specs.Histories.{AreTold, IsComplete, IsPart, Legal}
 use Rattle.delivery_laws.specs.DeliveryLaws.{EveryHistoryTells}
 use Rattle.delivery_laws.proofs.Walks.{Walks, parts_at, Inside, StandsAt}
 use Rattle.delivery_laws.proofs.RowWalks.{all_at_start, inside_first}
-use Rattle.delivery_laws.proofs.AdjacentLemmas.{begin_of, Adjacent, row_adjacent, place_after, cursor_is}
+use Rattle.delivery_laws.proofs.AdjacentLemmas.{begin_of, Adjacent, row_adjacent, reader_after, cursor_is}
 use Rattle.delivery_laws.proofs.ReadTells.{IsBefore, read_tells}
 use Rattle.delivery_laws.proofs.KnownLemmas.{IsGood, IsKnown, Past, completes_shows, horizon_most, known_some, known_walks}
 use Rattle.delivery_laws.proofs.KeepLemmas.{Keeps, keeps_event, SameReader, reader_kept, known_kept}
@@ -78,7 +79,7 @@ marked_after s link links = by_missing (missing_after (not (delivers (turn_of li
         by_last h = some (by_first (delivered_last (not (delivers (turn_of link))) links e))
 
 -- where the rest of a row walks, its first link stands
-walk_stands : (At : ℕ → ℕ → List Part → Type 0) (Over : ℕ → Type 0) (links : List Link) (parts : List Part) → Walks At Over links parts
+pub walk_stands : (At : ℕ → ℕ → List Part → Type 0) (Over : ℕ → Type 0) (links : List Link) (parts : List Part) → Walks At Over links parts
     → At (begin_of links).chunk_id (begin_of links).passed parts ⊎ Over (begin_of links).chunk_id
 walk_stands At Over [] parts w = absurd w
 walk_stands At Over (Stop at why may ∷ links) parts w = w
@@ -87,7 +88,7 @@ walk_stands At Over (Gap at to lost ∷ links) (part ∷ parts) w = inl w.1.here
 walk_stands At Over (Joined chain ∷ links) [] w = absurd w
 walk_stands At Over (Joined chain ∷ links) (part ∷ parts) w = inl w.1.here
 
-as_long : (awaits : Bool) (fragments written : List Fragment) → ShowFragments false awaits fragments written → length written ≤ length fragments
+pub as_long : (awaits : Bool) (fragments written : List Fragment) → ShowFragments false awaits fragments written → length written ≤ length fragments
 as_long awaits [] [] h = omega arith
 as_long awaits [] (w ∷ ws) h = absurd h
 as_long awaits (f ∷ fs) [] h = absurd h
@@ -185,7 +186,7 @@ module _ (sheets : List Sheet) (agree : SheetsAgree false sheets) (q : ℕ) wher
       cursor_now =
           ap (λ (x : Sequence). x.cursor) now
           ∙ cursor_is limit (row_from_cursor b (sequence_in b.sequences q)) (sequence_in b.sequences q).cursor adjacent
-          ∙ ap (λ (ls : List Link). place_after (sequence_in b.sequences q).cursor ls (left_by limit (row_from_cursor b (sequence_in b.sequences q)))) some
+          ∙ ap (λ (ls : List Link). reader_after (sequence_in b.sequences q).cursor ls (left_by limit (row_from_cursor b (sequence_in b.sequences q)))) some
 
       marked_now : is_marked (sequence_in (with_read b q limit).sequences q)
           ≡ missing_after (is_marked (sequence_in b.sequences q)) (passed_by limit (row_from_cursor b (sequence_in b.sequences q)))
@@ -366,18 +367,23 @@ module _ (sheets : List Sheet) (agree : SheetsAgree false sheets) (q : ℕ) wher
   history_tells (Read other limit ∷ events) b come closed later first next known stands legal =
       reads_tell b come closed later first next other limit events (history_tells events) known stands legal
 
+-- at the start of a history
+pub fresh_known : (sheets : List Sheet) (q record_size room : ℕ) (policy : FullPolicy) (sequences : List Sequence) (later : List Patch) → is_known sequences q ≡ true
+    → sequence_in sequences q ≡ fresh q record_size → IsKnown sheets q 0 false later (empty_buffer room policy sequences)
+fresh_known sheets q record_size room policy sequences later known start = record {
+  known = known;
+  arrived = ap (λ (s : Sequence). s.arrived) start;
+  shut = ap (λ (s : Sequence). s.closed) start;
+  none = λ c. ap (λ (s : Sequence). s.final) start;
+  final = λ i h. absurd (false≢true (sym (ap (λ (s : Sequence). is_among i s.final) start) ∙ h));
+  came = λ i low. absurd (omega (arith, low));
+  live = tt;
+}
+
 pub every_history_tells : EveryHistoryTells
 every_history_tells sheets q record_size room policy sequences events agree known start legal =
     history_tells sheets agree q events (empty_buffer room policy sequences) 0 false (sheet_patches sheets) true 0
-    (record {
-      known = known;
-      arrived = ap (λ (s : Sequence). s.arrived) start;
-      shut = ap (λ (s : Sequence). s.closed) start;
-      none = λ c. ap (λ (s : Sequence). s.final) start;
-      final = λ i h. absurd (false≢true (sym (ap (λ (s : Sequence). is_among i s.final) start) ∙ h));
-      came = λ i low. absurd (omega (arith, low));
-      live = tt;
-    })
+    (fresh_known sheets q record_size room policy sequences (sheet_patches sheets) known start)
     (inr (subst (IsInside sheets agree q true 0) (sym start) (record {
       inside = inside_first sheets false 0 agree;
       before = record {

@@ -79,7 +79,7 @@ completes_shows (patch ∷ later) chunk_id awaits fs ws h =
     by_id true h here other = subst (λ (a : Bool). ShowFragments false a fs ws) (sym h.0) (shows_before patch (not patch.last) fs ws (here h.2))
     by_id false h here other = other h
 
-good_shows : (sheets : List Sheet) (come : ℕ) (later : List Patch) (r : BufferRecord) (good : IsGood sheets come later r) → ShowsSheet good.sheet r.chunk
+pub good_shows : (sheets : List Sheet) (come : ℕ) (later : List Patch) (r : BufferRecord) (good : IsGood sheets come later r) → ShowsSheet good.sheet r.chunk
 good_shows sheets come later r good = record {
   continues = good.continues;
   shows = by_part r.chunk.partial refl;
@@ -119,7 +119,7 @@ pub base_is : (come : ℕ) (arrived : List ℕ) → arrived ≡ upto come → fi
 base_is come arrived e = ap least_of e ∙ least_upto come (length (upto come)) 0 (let long = length_upto come in omega (arith, long))
 
 module _ (sheets : List Sheet) (q come : ℕ) (closed : Bool) (later : List Patch) (b : Buffer) (known : IsKnown sheets q come closed later b) where
-  arrived_above : above_all (sequence_in b.sequences q).arrived ≡ come
+  pub arrived_above : above_all (sequence_in b.sequences q).arrived ≡ come
   arrived_above = ap above_all known.arrived ∙ above_upto come
 
   -- one above the last chunk of which the row can show anything
@@ -135,11 +135,11 @@ module _ (sheets : List Sheet) (q come : ℕ) (closed : Bool) (later : List Patc
           let base = base_is come (sequence_in b.sequences q).arrived known.arrived in
           omega (arith, base)
 
-  arrived_is : (i : ℕ) → has_arrived (sequence_in b.sequences q) i ≡ is_among i (upto come)
+  pub arrived_is : (i : ℕ) → has_arrived (sequence_in b.sequences q) i ≡ is_among i (upto come)
   arrived_is i = ap (is_among i) known.arrived
 
   -- an id of which nothing is known
-  unknown_open : (i : ℕ) → i < horizon (sequence_in b.sequences q)
+  pub unknown_open : (i : ℕ) → i < horizon (sequence_in b.sequences q)
       → (has_arrived (sequence_in b.sequences q) i || is_among i (sequence_in b.sequences q).final) ≡ false → (sequence_in b.sequences q).closed ≡ false
   unknown_open i low unknown = by_close (sequence_in b.sequences q).closed refl low
     where
@@ -173,7 +173,7 @@ module _ (sheets : List Sheet) (q come : ℕ) (closed : Bool) (later : List Patc
           by_place (inr high) = absurd (false≢true (sym (arrived_is i ∙ not_upto i come high) ∙ e))
       by_arrived false e h = (known.final i h).1
 
-  live_is : (i : ℕ) → live_at b (sequence_in b.sequences q).number i ≡ live_at b q i
+  pub live_is : (i : ℕ) → live_at b (sequence_in b.sequences q).number i ≡ live_at b q i
   live_is i = ap (λ (n : ℕ). live_at b n i) (number_of b.sequences q known.known)
 
   pub known_fits : (count i : ℕ) → (0 < count → i + count ≡ horizon (sequence_in b.sequences q))

@@ -1,7 +1,11 @@
 pub mod AdjacentLemmas
 pub mod CallLemmas
+pub mod CalmLemmas
+pub mod CleanRows
 pub mod CompleteLemmas
+pub mod DeliversAll
 pub mod EmissionLemmas
+pub mod EnoughLemmas
 pub mod EventLemmas
 pub mod HistoryLemmas
 pub mod IdLemmas
@@ -12,7 +16,10 @@ pub mod OwnEvents
 pub mod PieceLemmas
 pub mod ReadTells
 pub mod ReportLemmas
+pub mod RoomLemmas
 pub mod RowWalks
+pub mod WaitLemmas
 pub mod Walks
+pub mod WholeLemmas
 pub mod WorkedAccountLemmas
 pub mod WrittenPackets

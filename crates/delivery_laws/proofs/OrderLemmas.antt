@@ -20,7 +20,7 @@ use Rattle.delivery_laws.proofs.CallLemmas.{calls_in_turn, calls_are_paired}
 use Rattle.delivery_laws.proofs.CompleteLemmas.{EachCompletes, each_completes}
 
 -- the patches from a chunk on are its own and then the others
-patches_next : (sheets : List Sheet) (chunk_id : ℕ) (sheet : Sheet) → slice_get sheets chunk_id ≡ Some sheet
+pub patches_next : (sheets : List Sheet) (chunk_id : ℕ) (sheet : Sheet) → slice_get sheets chunk_id ≡ Some sheet
     → sheet_patches (drop chunk_id sheets) ≡ sheet.patches ++ sheet_patches (drop (suc chunk_id) sheets)
 patches_next [] chunk_id sheet get = absurd (cc)
 patches_next (first ∷ sheets) zero sheet get =

@@ -119,7 +119,7 @@ module _ (sheets : List Sheet) (q come : ℕ) (closed : Bool) where
           absurd (false≢true (sym e ∙ and_from (awaits_at q patch.chunk_id r) (last_holds r.chunk.fragments patch) (and_from (is_of q patch.chunk_id r) r.chunk.awaits is h.0) h.1))
       elsewhere false f h = h
 
-  patched_known : (patch : Patch) (later : List Patch) (b : Buffer) → IsKnown sheets q come closed (patch ∷ later) b → IsKnown sheets q come closed later (with_patch b q patch)
+  pub patched_known : (patch : Patch) (later : List Patch) (b : Buffer) → IsKnown sheets q come closed (patch ∷ later) b → IsKnown sheets q come closed later (with_patch b q patch)
   patched_known patch later b known = record {
     known = known.known;
     arrived = known.arrived;

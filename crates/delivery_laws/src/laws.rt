@@ -1,6 +1,7 @@
 //! Laws about what histories deliver: each is the contract of a function with nothing to do.
 ghost use Rattle.delivery_laws.specs.DeliveryLaws.{AccountsAreHistories, EveryHistoryTells, EveryWriterIsTold};
-ghost use Rattle.delivery_laws.specs.WorkedAccounts.{WorkedAccount};
+ghost use Rattle.delivery_laws.specs.EnoughLaws.{EveryPacketIsDelivered};
+ghost use Rattle.delivery_laws.specs.WorkedAccounts.{WorkedAccount, WorkedEnough};
 
 /// Whatever a history does with the chunks of a writer, what its reads deliver are packets that the
 /// writer wrote whole, in order, each once, and marked exactly where one is missing.
@@ -19,8 +20,18 @@ pub fn accounts_are_histories()
     ensures { AccountsAreHistories }
 {}
 
+/// Where all is finished and the buffer has the bytes that are asked for, each packet is delivered.
+pub fn every_packet_is_delivered()
+    ensures { EveryPacketIsDelivered }
+{}
+
 /// There is an account that meets all that the law asks for, with a part of a chunk, a patch and a
 /// packet that was given up.
 pub fn worked_account()
     ensures { WorkedAccount }
+{}
+
+/// There is an account of which nothing is absent, with a buffer of just the bytes that it asks for.
+pub fn worked_enough()
+    ensures { WorkedEnough }
 {}

@@ -7,4 +7,7 @@
 
 mod laws;
 
-pub use laws::{accounts_are_histories, every_history_tells, every_writer_is_told, worked_account};
+pub use laws::{
+    accounts_are_histories, every_history_tells, every_packet_is_delivered, every_writer_is_told,
+    worked_account, worked_enough,
+};
