@@ -1,4 +1,5 @@
 pub mod AdjacentLemmas
+pub mod AskLemmas
 pub mod CallLemmas
 pub mod CalmLemmas
 pub mod CleanRows

@@ -65,7 +65,7 @@ none_refused b size roomy low =
         or_from (meets b size r && is_unread b.sequences r) (list_any (λ stored. meets b size stored && is_unread b.sequences stored) rs)
         (ap (λ (x : Bool). x && is_unread b.sequences r) (none_met b size low r h.0)) (none rs h.1)
 
-abbrev is_discarded : Arrived → Bool
+abbrev pub is_discarded : Arrived → Bool
 is_discarded Discarded = true
 is_discarded other = false
 
@@ -140,10 +140,10 @@ settled_grows b q chunk_id chunk roomy TooFar kept low = same_grows b roomy
 settled_grows b q chunk_id chunk roomy (BadChunk fragment) kept low = same_grows b roomy
 
 -- an outcome is refused only where a new place is
-abbrev NotRefused : Buffer → ℕ → Arrived → Type 0
+abbrev pub NotRefused : Buffer → ℕ → Arrived → Type 0
 NotRefused b q outcome = b.next + asks_for outcome (sequence_in b.sequences q).size ≤ b.room → is_discarded outcome ≡ false
 
-placing_not : (b : Buffer) (q chunk_id : ℕ) → IsRoomy b → NotRefused b q (placing_of b q chunk_id)
+pub placing_not : (b : Buffer) (q chunk_id : ℕ) → IsRoomy b → NotRefused b q (placing_of b q chunk_id)
 placing_not b q chunk_id roomy = by_live (is_some (live_at b q chunk_id))
   where
     by_refused : (y : Bool) → is_refused b (sequence_in b.sequences q).size ≡ y → NotRefused b q (cond y Discarded Kept)
@@ -154,7 +154,7 @@ placing_not b q chunk_id roomy = by_live (is_some (live_at b q chunk_id))
     by_live true low = refl
     by_live false low = by_refused (is_refused b (sequence_in b.sequences q).size) refl low
 
-arrival_not : (b : Buffer) (q chunk_id : ℕ) → IsRoomy b → NotRefused b q (arrival_of b q chunk_id)
+pub arrival_not : (b : Buffer) (q chunk_id : ℕ) → IsRoomy b → NotRefused b q (arrival_of b q chunk_id)
 arrival_not b q chunk_id roomy = by_case (has_arrived (sequence_in b.sequences q) chunk_id) (is_too_far (sequence_in b.sequences q) chunk_id)
   where
     by_case : (x y : Bool) → NotRefused b q (cond x Duplicate (cond y TooFar (placing_of b q chunk_id)))
@@ -162,7 +162,7 @@ arrival_not b q chunk_id roomy = by_case (has_arrived (sequence_in b.sequences q
     by_case false true low = refl
     by_case false false low = placing_not b q chunk_id roomy low
 
-part_not : (b : Buffer) (q chunk_id count : ℕ) → IsRoomy b → NotRefused b q (partial_arrival_of b q chunk_id count)
+pub part_not : (b : Buffer) (q chunk_id count : ℕ) → IsRoomy b → NotRefused b q (partial_arrival_of b q chunk_id count)
 part_not b q chunk_id count roomy =
     by_case (has_arrived (sequence_in b.sequences q) chunk_id || (has_as_many count (live_at b q chunk_id) || (unread_of (sequence_in b.sequences q) chunk_id count == 0)))
     (is_too_far (sequence_in b.sequences q) chunk_id)

@@ -81,4 +81,6 @@ worked_enough = record {
   whole = (refl, refl, refl, tt);
   finishes = (refl, inl (refl, refl, omega arith));
   bytes = omega arith;
+  below = ((λ k. omega arith), ((λ k. omega arith), tt));
+  room = omega arith;
 }

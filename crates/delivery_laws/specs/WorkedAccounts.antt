@@ -1,6 +1,6 @@
 -- A worked account that meets all that the law on writers asks for: three packets in three chunks, of which the second is given
 -- up while a length of it is open. A scrape brings the first packet before its chunk is complete.
-use Rattle.std.specs.Prelude.{◌≡◌, ◌≤◌, true, false, List, [], ◌∷◌, ◌++◌, length}
+use Rattle.std.specs.Prelude.{◌≡◌, ℕ, ◌≤◌, ◌==◌, true, false, List, [], ◌∷◌, ◌++◌, length, if◌then◌else◌}
 use Rattle.trace_model.specs.Images.{first_fragments}
 use Rattle.trace_model.specs.Pages.{Page, chunk_of}
 use Rattle.trace_model.specs.Sequences.{Sequence, fresh}
@@ -12,7 +12,7 @@ use Rattle.trace_model.specs.WorkedWriters.{patched_calls, patched_pages, given_
 use Rattle.trace_model.specs.WorkedRows.{no_limit, taken, ended}
 use Rattle.delivery_laws.specs.DeliveryLaws.{IsAccountOf}
 use Rattle.delivery_laws.specs.Finishing.{AllWhole, Finishes}
-use Rattle.delivery_laws.specs.Room.{asked}
+use Rattle.delivery_laws.specs.Room.{asked, wanted, EachBelow}
 
 -- the first fragment of the first of these pages
 abbrev pub scraped : List Page → List Event
@@ -40,8 +40,14 @@ small_sequences = fresh 2 304 ∷ fresh 3 304 ∷ []
 abbrev pub finished_events : List Event
 finished_events = taken 2 0 patched_pages ++ ended
 
+-- two chunks of the first sequence, and none of the other
+abbrev pub two_chunks : ℕ → ℕ
+two_chunks sequence = if sequence == 2 then 2 else 0
+
 pub record WorkedEnough : Type 0 where
   pub account : IsAccountOf 284 patched_calls patched_pages small_sequences 2 304 finished_events
   pub whole : AllWhole (packets_of patched_calls)
   pub finishes : Finishes 2 (length patched_pages) (begun_count patched_calls) 0 false finished_events
   pub bytes : asked (empty_buffer 608 Ring small_sequences) finished_events ≤ 608
+  pub below : EachBelow two_chunks small_sequences finished_events
+  pub room : wanted two_chunks small_sequences ≤ 608

@@ -1,6 +1,6 @@
 //! Laws about what histories deliver: each is the contract of a function with nothing to do.
 ghost use Rattle.delivery_laws.specs.DeliveryLaws.{AccountsAreHistories, EveryHistoryTells, EveryWriterIsTold};
-ghost use Rattle.delivery_laws.specs.EnoughLaws.{EveryPacketIsDelivered};
+ghost use Rattle.delivery_laws.specs.EnoughLaws.{EveryAskIsCounted, EveryPacketIsDelivered};
 ghost use Rattle.delivery_laws.specs.WorkedAccounts.{WorkedAccount, WorkedEnough};
 
 /// Whatever a history does with the chunks of a writer, what its reads deliver are packets that the
@@ -23,6 +23,11 @@ pub fn accounts_are_histories()
 /// Where all is finished and the buffer has the bytes that are asked for, each packet is delivered.
 pub fn every_packet_is_delivered()
     ensures { EveryPacketIsDelivered }
+{}
+
+/// A history asks for no more bytes than a record for each chunk takes.
+pub fn every_ask_is_counted()
+    ensures { EveryAskIsCounted }
 {}
 
 /// There is an account that meets all that the law asks for, with a part of a chunk, a patch and a

@@ -8,6 +8,6 @@
 mod laws;
 
 pub use laws::{
-    accounts_are_histories, every_history_tells, every_packet_is_delivered, every_writer_is_told,
-    worked_account, worked_enough,
+    accounts_are_histories, every_ask_is_counted, every_history_tells, every_packet_is_delivered,
+    every_writer_is_told, worked_account, worked_enough,
 };
