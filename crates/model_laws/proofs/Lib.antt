@@ -1,12 +1,17 @@
+pub mod ChunkCountLemmas
+pub mod LaterCallLemmas
 pub mod LossLemmas
 pub mod MarkLemmas
 pub mod PlaceCounts
+pub mod ReachedCountLemmas
 pub mod ReportLemmas
 pub mod RisingLemmas
 pub mod RowEnds
 pub mod SpoiltLemmas
 pub mod StartLemmas
 pub mod StopLemmas
+pub mod TextSizes
 pub mod UnreadableLemmas
 pub mod WorkedReportLemmas
+pub mod WrittenShapes
 pub mod WrittenStarts

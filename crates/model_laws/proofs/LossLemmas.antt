@@ -167,7 +167,7 @@ same_finished packet asked h = record {
 
 -- Calls
 
-abbrev account_with : List Packet → Bool → Account
+abbrev pub account_with : List Packet → Bool → Account
 account_with packets flushed = record { packets = packets; flushed = flushed }
 
 same_newest : (f g : Packet → Packet) → ((packet asked : Packet) → SamePacket packet asked → SamePacket (f packet) (g asked))
@@ -241,13 +241,13 @@ same_encoding packet asked h =
     ∙ drop_front front (body_of asked)
     ∙ sym (ap (λ (xs : List ℕ). drop (length xs) (body_of asked)) unmarked)
 
-abbrev emitted_by : List Packet → List (List ℕ)
+abbrev pub emitted_by : List Packet → List (List ℕ)
 emitted_by packets = map packet_encoding (filter (λ packet. packet.finished) (reverse packets))
 
-abbrev emitted_one : Packet → List (List ℕ)
+abbrev pub emitted_one : Packet → List (List ℕ)
 emitted_one packet = cond packet.finished (packet_encoding packet ∷ []) []
 
-emitted_more : (packet : Packet) (packets : List Packet) → emitted_by (packet ∷ packets) ≡ emitted_by packets ++ emitted_one packet
+pub emitted_more : (packet : Packet) (packets : List Packet) → emitted_by (packet ∷ packets) ≡ emitted_by packets ++ emitted_one packet
 emitted_more packet packets =
     ap (λ (ps : List Packet). map packet_encoding (filter (λ one. one.finished) ps)) (reverse-append (packet ∷ []) packets)
     ∙ ap (map packet_encoding) (filter-append (λ (one : Packet). one.finished) (reverse packets) (packet ∷ []))

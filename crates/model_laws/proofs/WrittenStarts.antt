@@ -105,7 +105,7 @@ chunk_heads k (fragment ∷ others) chunk_id passed chunk rest e low high begins
 
 -- Pages
 
-settled_long : (patches : List Patch) (chunk_id : ℕ) (fragments : List Fragment) → length (settled_fragments patches chunk_id fragments) ≡ length fragments
+pub settled_long : (patches : List Patch) (chunk_id : ℕ) (fragments : List Fragment) → length (settled_fragments patches chunk_id fragments) ≡ length fragments
 settled_long [] chunk_id fragments = refl
 settled_long (patch ∷ others) chunk_id fragments =
     settled_long others chunk_id (cond (patch.chunk_id == chunk_id) (patched_last patch fragments) fragments)
@@ -115,7 +115,7 @@ settled_long (patch ∷ others) chunk_id fragments =
     step true = same_long fragments patch
     step false = refl
 
-fragments_long : (at : ℕ) (dropped : Bool) (fragments : List (List ℕ)) → length (fragments_from at dropped fragments) ≡ length fragments
+pub fragments_long : (at : ℕ) (dropped : Bool) (fragments : List (List ℕ)) → length (fragments_from at dropped fragments) ≡ length fragments
 fragments_long at dropped [] = refl
 fragments_long at dropped (bytes ∷ []) = refl
 fragments_long at dropped (bytes ∷ next ∷ others) = ap suc (fragments_long (at + length bytes + 4) dropped (next ∷ others))

@@ -1,3 +1,4 @@
+pub mod ChunkCounts
 pub mod Losses
 pub mod MarkLaws
 pub mod OutcomeLaws

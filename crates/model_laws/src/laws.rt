@@ -1,4 +1,5 @@
 //! Laws about the definitions: each is the contract of a function with nothing to do.
+ghost use Rattle.model_laws.specs.ChunkCounts.{ChunkCountsAreReached, EveryImageIsCounted, EveryPageIsCounted, MoreCallsTakeMore};
 ghost use Rattle.model_laws.specs.Losses.{LossesChangeNoShape};
 ghost use Rattle.model_laws.specs.MarkLaws.{MarksTellWhatIsMissing};
 ghost use Rattle.model_laws.specs.OutcomeLaws.{CountsAreBalanced, CountsAreOfOutcomes, FixedPlacesAreStarts};
@@ -65,4 +66,27 @@ pub fn spoilt_cuts_are_refused()
 /// There is a history that meets all that the laws on reports ask for.
 pub fn worked_report()
     ensures { WorkedReport }
+{}
+
+/// A writer's pages and lost packets are no more than the chunks that its packets take at most, as
+/// long as none is being written.
+pub fn every_page_is_counted()
+    ensures { EveryPageIsCounted }
+{}
+
+/// A writer between two packets has begun at most as many chunks as what it was asked to write takes
+/// at most, whatever of it was lost.
+pub fn every_image_is_counted()
+    ensures { EveryImageIsCounted }
+{}
+
+/// What a writer's calls take at most doesn't get less by later ones.
+pub fn more_calls_take_more()
+    ensures { MoreCallsTakeMore }
+{}
+
+/// There are packets that take as many chunks, and a packet that isn't finished takes a chunk that
+/// nothing emitted accounts for.
+pub fn chunk_counts_are_reached()
+    ensures { ChunkCountsAreReached }
 {}

@@ -147,4 +147,3 @@ pub finished_out : (view new : WriterView) → new.calls ≡ view.calls ++ Finis
 finished_out view new notes =
     ap (λ (a : Account). is_writing a.packets) (ap account_of notes ∙ account_one view.calls Finished)
     ∙ finished_writing (account_of view.calls).packets (account_of view.calls).flushed
-

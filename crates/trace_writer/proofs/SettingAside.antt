@@ -106,4 +106,3 @@ sets_behind site old new before between after fragment now next runs low put at_
   ids = λ further h. ids_behind now next now.at open_length 4 further put at_is (ids_next fragment now (4 + further) runs.start runs.at runs.id low h);
   byte = λ continues first. omega (arith, at_is, now.behind);
 }
-

@@ -1,0 +1,9 @@
+pub mod DeliveryLaws
+pub mod EnoughLaws
+pub mod Finishing
+pub mod Histories
+pub mod Orders
+pub mod Room
+pub mod Sheets
+pub mod WorkedAccounts
+pub mod WriterSheets
