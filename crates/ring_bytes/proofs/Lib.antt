@@ -1,3 +1,4 @@
+pub mod BehindLemmas
 pub mod ChangeLemmas
 pub mod ChangedRing
 pub mod CutLemmas

@@ -1,10 +1,10 @@
 //! The ring.
-ghost use Rattle.std.specs.Prelude.{◌≡◌, ℕ, ◌+◌, ◌*◌, ◌%◌, ◌<◌, ◌≤◌, true, length, sum_by, IfOk, IfSome, IsSome, IsSomeAnd};
+ghost use Rattle.std.specs.Prelude.{◌≡◌, ℕ, ◌+◌, ◌*◌, ◌%◌, ◌^◌, ◌<◌, ◌≤◌, true, length, sum_by, IfOk, IfSome, IsSome, IsSomeAnd};
 ghost use Rattle.std.specs.Option.{option_map};
 ghost use Rattle.page_geometry.specs.Sizes.{record_size};
 ghost use Rattle.trace_model.specs.Places.{place_after, padding_before};
 ghost use Rattle.ring_bytes.specs.Value.{Stored, IsMetAt, next_met_of, stored_at, size_of, empty_ring, written, dropped_at, changed_at, with_awaits, with_bytes, with_contents, turned};
-ghost use Rattle.ring_bytes.specs.Walked.{next_behind, IsAlone};
+ghost use Rattle.ring_bytes.specs.Walked.{next_behind, next_met_behind, newer_limit_of, IsAlone};
 
 use crate::header::{Header, put, put_header, read_header};
 use crate::key::{Place, RecordKey};
@@ -113,6 +113,34 @@ impl Ring {
             return first_of_two(&self.bytes, self.size, self.size, behind, self.next);
         }
         first_of_two(&self.bytes, behind, self.size, self.front, self.next)
+    }
+
+    /// The live record behind this one, in the order of placement, that a next record of this size, or
+    /// the padding before it, would meet.
+    pub fn met_behind(&self, len: u32, place: u32) -> Option<u32>
+        requires room { len ≤ self.now.room }
+        requires there { IsSome (stored_at self.now place) }
+        ensures next { result ≡ next_met_behind self.now len place }
+        ensures alone { IfSome result (IsMetAt self.now len) }
+    {
+        let behind = place + size_of_record(read_header(&self.bytes, place).len);
+        let newer = newer_limit(self.next, len, self.size);
+        if place < self.next {
+            return first_live(&self.bytes, behind, self.next, newer);
+        }
+        let older = (self.next + len).min(self.size);
+        match first_live(&self.bytes, behind, self.size, older) {
+            Some(found) => Some(found),
+            None => first_live(&self.bytes, self.front, self.next, newer),
+        }
+    }
+
+    /// Its size in bytes.
+    pub fn size(&self) -> u32
+        ensures is { result ≡ self.now.room }
+        ensures most { self.now.room ≤ MAX_RING_SIZE }
+    {
+        self.size
     }
 
     pub fn key_at(&self, place: u32) -> RecordKey
@@ -224,4 +252,15 @@ impl Ring {
         self.clear = end;
         at
     }
+}
+
+/// Where the newer records end that a next record of this size meets.
+fn newer_limit(next: u32, len: u32, size: u32) -> u32
+    requires { next + len < 2 ^ 32 }
+    ensures { result ≡ newer_limit_of next len size }
+{
+    if size < next + len {
+        return next.min(len);
+    }
+    0
 }

@@ -1,20 +1,14 @@
-use Rattle.std.proofs.Common.{◌≡◌, ◌+◌, ℕ, List, length, sym, ap, ◌∙◌, subst, arith}
+use Rattle.std.proofs.Common.{◌≡◌, ◌+◌, length, sym, ap, ◌∙◌, subst, arith}
 use Rattle.page_geometry.specs.Sizes.{record_size}
 use Rattle.ring_bytes.specs.declared.header.Header.{Header}
-use Rattle.ring_bytes.specs.declared.ring.Ring.TheInside.{Inside}
 use Rattle.ring_bytes.specs.Header.{header_at}
 use Rattle.ring_bytes.specs.Rows.{IsRow}
 use Rattle.ring_bytes.specs.Value.{RingValue}
 use Rattle.ring_bytes.proofs.RowLemmas.{size_least, row_none}
-use Rattle.ring_bytes.proofs.RingLemmas.{IsLive, live_at}
+use Rattle.ring_bytes.proofs.RingLemmas.{live_at}
+use Rattle.ring_bytes.proofs.BehindLemmas.{end_of}
 use Rattle.ring_bytes.proofs.LiveLemmas.{next_none, next_some, first_of_all, first_behind_it, behind_newer, behind_older}
 use Rattle.ring_bytes.proofs.ring.Ring.live_behind.Goals as goal
-
--- where the record ends
-end_of : (a : Inside) (v : RingValue) (at size : ℕ) (seen : List ℕ) (header : Header) → (l : IsLive a v at) → seen ≡ a.bytes.items → header ≡ header_at seen at → size ≡ record_size header.len → at + size ≡ at + record_size l.here.header.len
-end_of a v at size seen header l same read is =
-    let header_is : header ≡ l.here.header = read ∙ ap (λ b. header_at b at) same ∙ l.here.there in
-    ap (λ n. at + n) (is ∙ ap (λ (h : Header). record_size h.len) header_is)
 
 pub returns-in_default-clause-next : goal.returns-in_default-clause-next
 returns-in_default-clause-next c =
