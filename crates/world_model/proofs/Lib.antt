@@ -1,0 +1,5 @@
+pub mod FaithfulLemmas
+pub mod MakingLemmas
+pub mod OwnLemmas
+pub mod PartLemmas
+pub mod ProjectLemmas
