@@ -1,4 +1,5 @@
 pub mod FaithfulLemmas
+pub mod FrontLemmas
 pub mod MakingLemmas
 pub mod OwnLemmas
 pub mod PartLemmas

@@ -86,7 +86,7 @@ same_front (x ∷ xs) (y ∷ ys) us vs e f =
     let tail = same_front xs ys us vs rest (omega (arith, f)) in
     ap (λ (z : ℕ). z ∷ xs) head ∙ ap (λ (l : List ℕ). y ∷ l) tail
 
-all_small : (texts : List (List ℕ)) → length (flat_map framed texts) < 2 ^ 28 → All (λ (text : List ℕ). length text < 2 ^ 28) texts
+pub all_small : (texts : List (List ℕ)) → length (flat_map framed texts) < 2 ^ 28 → All (λ (text : List ℕ). length text < 2 ^ 28) texts
 all_small [] low = All-nil (λ (text : List ℕ). length text < 2 ^ 28)
 all_small (text ∷ texts) low =
     let whole = length-append (framed text) (flat_map framed texts) in
