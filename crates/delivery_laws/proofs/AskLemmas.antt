@@ -96,6 +96,12 @@ known_shapes : (ss : List Sequence) (q : ℕ) → is_known ss q ≡ list_any (λ
 known_shapes [] q = refl
 known_shapes (s ∷ ss) q = ap (λ (b : Bool). (s.number == q) || b) (known_shapes ss q)
 
+pub known_after : (b : Buffer) (event : Event) (q : ℕ) → is_known (buffer_after b event).sequences q ≡ is_known b.sequences q
+known_after b event q =
+    known_shapes (buffer_after b event).sequences q
+    ∙ ap (λ (xs : List Shape). list_any (λ (s : Shape). s.number == q) xs) (shapes_event b event)
+    ∙ sym (known_shapes b.sequences q)
+
 known_same : (b : Buffer) (ss : List Sequence) (q : ℕ) → shapes b.sequences ≡ shapes ss → is_known b.sequences q ≡ true → is_known ss q ≡ true
 known_same b ss q same k = known_shapes ss q ∙ ap (λ (xs : List Shape). list_any (λ (s : Shape). s.number == q) xs) (sym same) ∙ sym (known_shapes b.sequences q) ∙ k
 

@@ -1,0 +1,143 @@
+-- The first buffers: the sequence of a writer is in one of them, or in none.
+use Rattle.std.proofs.Common.{◌≡◌, ◌∙◌, ℕ, zero, suc, ◌+◌, ◌<◌, ◌≤◌, ◌⊎◌, Bool, true, false, ◌||◌, List, [], ◌∷◌, length, Some, refl, ap, subst, arith, inl, inr}
+use Rattle.std.specs.Prelude.{cond, ◌==◌, slice_get}
+use Rattle.std.proofs.lemmas.Bool.{false≢true, eqb-true, eq-eqb, ne_eqb}
+use Rattle.trace_base.specs.declared.policy.FullPolicy.{FullPolicy}
+use Rattle.trace_base.specs.declared.policy.WriterSpec.{WriterSpec}
+use Rattle.page_geometry.specs.Sizes.{record_size}
+use Rattle.trace_model.specs.Sequences.{Sequence, fresh, sequence_in, is_known}
+use Rattle.trace_model.specs.Buffers.{Buffer, empty_buffer}
+use Rattle.chunk_plain.specs.Setup.{Setup, size_of}
+use Rattle.world_model.specs.FirstBuffers.{BufferSpec, sequences_from, first_buffers}
+use Rattle.world_model.proofs.ProjectLemmas.{Without, Once, Only}
+
+-- the sequence is one of so many writers, of which the first has this place
+abbrev pub IsAmong : (place count q : ℕ) → Type 0
+IsAmong place count q = (place + 2 ≤ q) × (q < place + count + 2)
+
+-- a buffer has sequences of writers alone
+pub known_range : (setup : Setup) (n place : ℕ) (specs : List WriterSpec) (q : ℕ) → is_known (sequences_from setup n place specs) q ≡ true → IsAmong place (length specs) q
+known_range setup n place [] q h = absurd (false≢true h)
+known_range setup n place (spec ∷ specs) q h = step (spec.buffer == n) h (known_range setup n (suc place) specs q)
+  where
+    behind : IsAmong (suc place) (length specs) q → IsAmong place (length (spec ∷ specs)) q
+    behind range = let low = range.0 in let high = range.1 in (omega (arith, low), omega (arith, high))
+
+    here : (x : Bool) → (place + 2 == q) ≡ x → (x || is_known (sequences_from setup n (suc place) specs) q) ≡ true
+        → (is_known (sequences_from setup n (suc place) specs) q ≡ true → IsAmong (suc place) (length specs) q) → IsAmong place (length (spec ∷ specs)) q
+    here true e k rest = let same = eqb-true (place + 2) q e in (omega (arith, same), omega (arith, same))
+    here false e k rest = behind (rest k)
+
+    step : (x : Bool) → is_known (cond x (fresh (place + 2) (record_size (size_of setup spec.producer)) ∷ sequences_from setup n (suc place) specs) (sequences_from setup n (suc place) specs)) q ≡ true
+        → (is_known (sequences_from setup n (suc place) specs) q ≡ true → IsAmong (suc place) (length specs) q) → IsAmong place (length (spec ∷ specs)) q
+    step true k rest = here (place + 2 == q) refl k rest
+    step false k rest = behind (rest k)
+
+not_known : (setup : Setup) (n place : ℕ) (specs : List WriterSpec) (q : ℕ) → q < place + 2 → is_known (sequences_from setup n place specs) q ≡ false
+not_known setup n place specs q low = step (is_known (sequences_from setup n place specs) q) refl
+  where
+    step : (x : Bool) → is_known (sequences_from setup n place specs) q ≡ x → x ≡ false
+    step true e = let range = known_range setup n place specs q e in let least = range.0 in absurd (omega (arith, low, least))
+    step false e = refl
+
+-- The buffer has the sequence of the writer with this spec, as it is at first, or hasn't it.
+pub record IsSet (setup : Setup) (n q size : ℕ) (sequences : List Sequence) (named : Bool) : Type 0 where
+  pub known : is_known sequences q ≡ named
+  pub start : named ≡ true → sequence_in sequences q ≡ fresh q size
+
+set_from : (setup : Setup) (n place : ℕ) (specs : List WriterSpec) (i : ℕ) (spec : WriterSpec) → slice_get specs i ≡ Some spec
+    → IsSet setup n (place + i + 2) (record_size (size_of setup spec.producer)) (sequences_from setup n place specs) (spec.buffer == n)
+set_from setup n place [] i spec get = absurd (cc)
+set_from setup n place (first ∷ specs) zero spec get =
+    let same : first ≡ spec = cc in
+    let at : place + 2 ≡ place + 0 + 2 = omega arith in
+    subst (λ (q : ℕ). IsSet setup n q (record_size (size_of setup spec.producer)) (sequences_from setup n place (first ∷ specs)) (spec.buffer == n)) at
+    (subst (λ (s : WriterSpec). IsSet setup n (place + 2) (record_size (size_of setup s.producer)) (sequences_from setup n place (first ∷ specs)) (s.buffer == n)) same
+    (step (first.buffer == n)))
+  where
+    step : (x : Bool)
+        → IsSet setup n (place + 2) (record_size (size_of setup first.producer)) (cond x (fresh (place + 2) (record_size (size_of setup first.producer)) ∷ sequences_from setup n (suc place) specs) (sequences_from setup n (suc place) specs)) x
+    step true = record {
+      known = ap (λ (b : Bool). b || is_known (sequences_from setup n (suc place) specs) (place + 2)) (eq-eqb (place + 2) (place + 2) refl);
+      start = λ e. ap (λ (b : Bool). cond b (fresh (place + 2) (record_size (size_of setup first.producer))) (sequence_in (sequences_from setup n (suc place) specs) (place + 2))) (eq-eqb (place + 2) (place + 2) refl);
+    }
+    step false = record {
+      known = not_known setup n (suc place) specs (place + 2) (omega arith);
+      start = λ e. absurd (false≢true e);
+    }
+set_from setup n place (first ∷ specs) (suc i) spec get =
+    let at : suc place + i + 2 ≡ place + suc i + 2 = omega arith in
+    let rest = subst (λ (q : ℕ). IsSet setup n q (record_size (size_of setup spec.producer)) (sequences_from setup n (suc place) specs) (spec.buffer == n)) at
+    (set_from setup n (suc place) specs i spec get) in
+    let apart : (place + 2 == place + suc i + 2) ≡ false = ne_eqb (place + 2) (place + suc i + 2) (λ e. omega (arith, e)) in
+    step (first.buffer == n) rest apart
+  where
+    step : (x : Bool) → IsSet setup n (place + suc i + 2) (record_size (size_of setup spec.producer)) (sequences_from setup n (suc place) specs) (spec.buffer == n)
+        → (place + 2 == place + suc i + 2) ≡ false
+        → IsSet setup n (place + suc i + 2) (record_size (size_of setup spec.producer)) (cond x (fresh (place + 2) (record_size (size_of setup first.producer)) ∷ sequences_from setup n (suc place) specs) (sequences_from setup n (suc place) specs)) (spec.buffer == n)
+    step true rest apart = record {
+      known = ap (λ (b : Bool). b || is_known (sequences_from setup n (suc place) specs) (place + suc i + 2)) apart ∙ rest.known;
+      start = λ e. ap (λ (b : Bool). cond b (fresh (place + 2) (record_size (size_of setup first.producer))) (sequence_in (sequences_from setup n (suc place) specs) (place + suc i + 2))) apart ∙ rest.start e;
+    }
+    step false rest apart = rest
+
+-- One buffer has the sequence, as it is at first; or none has it.
+pub record IsOnce (q size : ℕ) (bs : List Buffer) : Type 0 where
+  pub room : ℕ
+  pub policy : FullPolicy
+  pub sequences : List Sequence
+  pub known : is_known sequences q ≡ true
+  pub start : sequence_in sequences q ≡ fresh q size
+  pub once : Once q (empty_buffer room policy sequences) bs
+
+module _ (setup : Setup) (place : ℕ) (spec : WriterSpec) (get : slice_get setup.writers place ≡ Some spec) where
+  set_at : (n : ℕ) → IsSet setup n (place + 2) (record_size (size_of setup spec.producer)) (sequences_from setup n 0 setup.writers) (spec.buffer == n)
+  set_at n =
+      let at : 0 + place + 2 ≡ place + 2 = omega arith in
+      subst (λ (q : ℕ). IsSet setup n q (record_size (size_of setup spec.producer)) (sequences_from setup n 0 setup.writers) (spec.buffer == n)) at
+      (set_from setup n 0 setup.writers place spec get)
+
+  -- buffers behind the one that the writer names
+  none_behind : (n : ℕ) (buffers : List BufferSpec) → spec.buffer < n → Without (place + 2) (first_buffers setup n buffers)
+  none_behind n [] low = tt
+  none_behind n (buffer ∷ buffers) low =
+      let apart : (spec.buffer == n) ≡ false = ne_eqb spec.buffer n (λ e. omega (arith, e, low)) in
+      let is = set_at n in
+      (is.known ∙ apart, none_behind (suc n) buffers (omega (arith, low)))
+
+  pub in_one : (n : ℕ) (buffers : List BufferSpec)
+      → IsOnce (place + 2) (record_size (size_of setup spec.producer)) (first_buffers setup n buffers) ⊎ Without (place + 2) (first_buffers setup n buffers)
+  in_one n [] = inr tt
+  in_one n (buffer ∷ buffers) = step (spec.buffer == n) refl (in_one (suc n) buffers)
+    where
+      more : (spec.buffer == n) ≡ false
+          → IsOnce (place + 2) (record_size (size_of setup spec.producer)) (first_buffers setup (suc n) buffers) ⊎ Without (place + 2) (first_buffers setup (suc n) buffers)
+          → IsOnce (place + 2) (record_size (size_of setup spec.producer)) (first_buffers setup n (buffer ∷ buffers)) ⊎ Without (place + 2) (first_buffers setup n (buffer ∷ buffers))
+      more e (inl h) = inl (record {
+        room = h.room;
+        policy = h.policy;
+        sequences = h.sequences;
+        known = h.known;
+        start = h.start;
+        once = inr ((set_at n).known ∙ e, h.once);
+      })
+      more e (inr h) = inr ((set_at n).known ∙ e, h)
+
+      step : (x : Bool) → (spec.buffer == n) ≡ x
+          → IsOnce (place + 2) (record_size (size_of setup spec.producer)) (first_buffers setup (suc n) buffers) ⊎ Without (place + 2) (first_buffers setup (suc n) buffers)
+          → IsOnce (place + 2) (record_size (size_of setup spec.producer)) (first_buffers setup n (buffer ∷ buffers)) ⊎ Without (place + 2) (first_buffers setup n (buffer ∷ buffers))
+      step true e rest =
+          let same = eqb-true spec.buffer n e in
+          inl (record {
+            room = buffer.size;
+            policy = buffer.policy;
+            sequences = sequences_from setup n 0 setup.writers;
+            known = (set_at n).known ∙ e;
+            start = (set_at n).start e;
+            once = inl (refl, (set_at n).known ∙ e, none_behind (suc n) buffers (omega (arith, same)));
+          })
+      step false e rest = more e rest
+
+pub only_writers : (setup : Setup) (n : ℕ) (buffers : List BufferSpec) → Only (λ s. (2 ≤ s) × (s < length setup.writers + 2)) (first_buffers setup n buffers)
+only_writers setup n [] = tt
+only_writers setup n (buffer ∷ buffers) = ((λ s known. let range = known_range setup n 0 setup.writers s known in let low = range.0 in let high = range.1 in (omega (arith, low), omega (arith, high))), only_writers setup (suc n) buffers)

@@ -1,0 +1,19 @@
+-- The delivery law over tables of chunks.
+use Rattle.std.specs.Prelude.{List, map}
+use Rattle.trace_model.specs.Packets.{emissions_of}
+use Rattle.trace_model.specs.Delivery.{IsFaithful}
+use Rattle.trace_model.specs.History.{records_after}
+use Rattle.chunk_plain.specs.Setup.{Setup}
+use Rattle.chunk_plain.specs.Views.{WriterView}
+use Rattle.chunk_plain.specs.World.{World}
+use Rattle.chunk_plain.specs.Histories.{history_of}
+use Rattle.world_model.specs.FirstBuffers.{BufferSpec, first_buffers}
+use Rattle.world_model.specs.Accounts.{IsAccount}
+
+-- Of any account, the records that the service's history writes are faithful to the packets that the writers emitted: each is of
+-- a writer's sequence, and those of each sequence are emitted packets, exact, whole, once, in order, and marked exactly where one
+-- is missing.
+abbrev pub EveryAccountIsFaithful : Type 0
+EveryAccountIsFaithful = (setup : Setup) (buffers : List BufferSpec) (world : World) → IsAccount setup world
+    → IsFaithful (map (λ (view : WriterView). emissions_of view.calls) world.writers)
+    (records_after (first_buffers setup 1 buffers) (history_of world.service))

@@ -1,0 +1,4 @@
+pub mod AccountLaws
+pub mod Accounts
+pub mod FirstBuffers
+pub mod FrontLaws
