@@ -1,0 +1,62 @@
+use Rattle.std.proofs.Common.{◌≡◌, Some, sym, ap, ◌∙◌, subst, arith, false, None, is_some, true≢false}
+use Rattle.std.specs.Option.{option_map}
+use Rattle.ring_bytes.specs.declared.key.RecordKey.{RecordKey}
+use Rattle.ring_bytes.specs.Value.{RingValue, size_of}
+use Rattle.trace_model.specs.Arrivals.{is_too_far, with_rewritten}
+use Rattle.trace_model.specs.Buffers.{Buffer, live_at}
+use Rattle.trace_model.specs.Counts.{raised}
+use Rattle.trace_model.specs.Sequences.{is_known, sequence_in, has_arrived}
+use Rattle.trace_buffer.specs.BufferFields.{buffer_view}
+use Rattle.trace_buffer.specs.Records.{record_of, chunk_of, is_at_key}
+use Rattle.trace_buffer.proofs.ChangeLemmas.{parts_rewritten, records_rewritten}
+use Rattle.trace_buffer.proofs.FindLemmas.{is_found, kept_found, place_had, its_sequence, none_is, live_is}
+use Rattle.trace_buffer.proofs.buffer.TraceBuffer.rewrite.Goals as goal
+
+pub rewrite-requires-clause-there : goal.rewrite-requires-clause-there
+rewrite-requires-clause-there c =
+    let f = is_found c.self.inside.ring c.args.key.sequence c.args.key.chunk_id c.in-Some.place c.find_place.result c.in-Some.is c.find_place.ensures.place c.find_place.ensures.there in
+    let kept = kept_found (is_at_key c.args.key.sequence c.args.key.chunk_id) c.self.inside.rows.items c.self.inside.ring.live f.stored c.self.invariant.kept f.found in
+    ap (option_map size_of) f.there
+    ∙ ap (λ n. Some n)
+    (kept.size
+    ∙ ap (λ n. (sequence_in c.self.inside.rows.items n).size) (its_sequence c.args.key.sequence c.args.key.chunk_id c.self.inside.ring.live f.stored f.found)
+    ∙ ap (λ (b : Buffer). (sequence_in b.sequences c.args.key.sequence).size) c.self.view_is
+    ∙ sym c.requires.size)
+
+pub invariant_of-self : goal.invariant_of-self
+invariant_of-self c =
+    let f = is_found c.self.inside.ring c.args.key.sequence c.args.key.chunk_id c.in-Some.place c.find_place.result c.in-Some.is c.find_place.ensures.place c.find_place.ensures.there in
+    let key : RecordKey = c.args.key in
+    let view = c.self.view_is in
+    parts_rewritten c.self.inside.ring c.rewrite.new.self c.self.inside.index c.self.inside.rows.items key c.args.payload.now f.stored c.in-Some.place c.self.invariant f.found
+    (place_had c.self.inside.ring key.sequence key.chunk_id c.in-Some.place c.find_place.result f.stored c.in-Some.is c.find_place.ensures.place f.found)
+    (λ t. record {
+      known = ap (λ (b : Buffer). is_known b.sequences key.sequence) view ∙ c.requires.known;
+      size = c.requires.size ∙ sym (ap (λ (b : Buffer). (sequence_in b.sequences key.sequence).size) view);
+      reads = c.requires.reads;
+      number = omega arith;
+      id = omega arith;
+      part = λ partial. subst (λ (b : Buffer). (has_arrived (sequence_in b.sequences key.sequence) key.chunk_id ≡ false) × (is_too_far (sequence_in b.sequences key.sequence) key.chunk_id ≡ false)) (sym view) (c.requires.part partial);
+    })
+    c.rewrite.ensures
+
+pub returns : goal.returns
+returns c =
+    let f = is_found c.self.inside.ring c.args.key.sequence c.args.key.chunk_id c.in-Some.place c.find_place.result c.in-Some.is c.find_place.ensures.place c.find_place.ensures.there in
+    let key : RecordKey = c.args.key in
+    let live = records_rewritten c.self.inside.ring c.rewrite.new.self c.self.inside.index c.self.inside.rows.items key c.args.payload.now f.stored c.in-Some.place c.self.invariant f.found
+    (place_had c.self.inside.ring key.sequence key.chunk_id c.in-Some.place c.find_place.result f.stored c.in-Some.is c.find_place.ensures.place f.found)
+    (c.requires.size ∙ sym (ap (λ (b : Buffer). (sequence_in b.sequences key.sequence).size) c.self.view_is))
+    c.rewrite.ensures in
+    let room_is : c.rewrite.new.self.room ≡ c.self.inside.ring.room = ap (λ (r : RingValue). r.room) c.rewrite.ensures in
+    let next_is : c.rewrite.new.self.next ≡ c.self.inside.ring.next = ap (λ (r : RingValue). r.next) c.rewrite.ensures in
+    let count : c.saturating_add-self-inside.result ≡ raised c.self.inside.rewritten 1 = omega (arith, c.saturating_add-self-inside.ensures) in
+    (λ i. record (buffer_view c.self.inside) { room = room_is i; next = next_is i; live = live i; rewritten = count i })
+    ∙ ap (λ (b : Buffer). with_rewritten b key.sequence key.chunk_id (chunk_of key c.args.payload.now)) c.self.view_is
+
+pub returns-in_default : goal.returns-in_default
+returns-in_default c =
+    let none : live_at c.args.self.now c.args.key.sequence c.args.key.chunk_id ≡ None =
+    live_is c.self.inside.ring c.args.self.now.live c.args.key.sequence c.args.key.chunk_id (ap (λ (b : Buffer). b.live) c.self.view_is)
+    ∙ ap (option_map record_of) (none_is c.self.inside.ring c.args.key.sequence c.args.key.chunk_id c.find_place.result c.in_default.is c.find_place.ensures.place) in
+    absurd (true≢false (sym c.requires.there ∙ ap is_some none))

@@ -1,0 +1,10 @@
+pub mod Answers
+pub mod BufferFields
+pub mod Calls
+pub mod Circle
+pub mod Closing
+pub mod Keys
+pub mod Made
+pub mod Patching
+pub mod Records
+pub mod RowFields

@@ -1,0 +1,33 @@
+//! Bits for as many ids from a base on as may be ahead, as a circle: the bit of an id stands at its
+//! remainder, so that nothing is moved when the base rises.
+ghost use Rattle.std.specs.Prelude.{◌≡◌, ℕ, ◌%◌, ◌<◌, ◌≤◌, ◌^◌, true, false, length};
+ghost use Rattle.trace_model.specs.Sequences.{is_among};
+ghost use Rattle.trace_buffer.specs.Circle.{bit, arrived_of};
+
+use trace_base::limits::IDS_AHEAD;
+
+/// Raises the base over the bits that are set, and clears them.
+pub fn settle(bits: &mut [bool], base: u64) -> u64
+    requires len { length bits.old ≡ IDS_AHEAD }
+    requires low { base ≤ 2 ^ 32 }
+    requires small { (i : ℕ) → is_among i (arrived_of base bits.old) ≡ true → i < 2 ^ 32 }
+    ensures len { length bits.new ≡ IDS_AHEAD }
+    ensures same { arrived_of result bits.new ≡ arrived_of base bits.old }
+    ensures settled { bit bits.new result ≡ false }
+    ensures low { result ≤ 2 ^ 32 }
+{
+    let mut base = base;
+    while bits[place_of(base)] {
+        bits[place_of(base)] = false;
+        base += 1;
+    }
+    base
+}
+
+/// Where the bit of an id stands.
+pub fn place_of(id: u64) -> usize
+    ensures is { result ≡ id % IDS_AHEAD }
+    ensures within { result < IDS_AHEAD }
+{
+    (id % u64::from(IDS_AHEAD)) as usize
+}

@@ -1,0 +1,260 @@
+//! What a buffer keeps of one sequence.
+ghost use Rattle.std.specs.Prelude.{◌≡◌, [], true, false, IfOk};
+ghost use Rattle.trace_model.specs.Counts.{raised};
+ghost use Rattle.trace_model.specs.Sequences.{fresh, has_arrived, is_among, unread_of, with_number};
+ghost use Rattle.trace_model.specs.Arrivals.{is_too_far, with_arrived};
+ghost use Rattle.trace_model.specs.Reads.{advanced};
+ghost use Rattle.trace_buffer.specs.Answers.{cursor_value, turn_value, state_of};
+ghost use Rattle.trace_buffer.specs.Keys as keys;
+ghost use Rattle.trace_buffer.specs.Keys.{cursor_behind};
+
+use crate::answers::{Cursor, Passed, SequenceState};
+use crate::circle::{place_of, settle};
+use page_geometry::FIRST_CONTINUES;
+use ring_bytes::RecordKey;
+use std::alloc::{AllocError, Global};
+use std::marker::Model;
+use trace_base::limits::IDS_AHEAD;
+use trace_base::policy::FullPolicy;
+
+/// A sequence of a buffer. All ids below `base` arrived complete, and `base` didn't.
+#[derive(Drop)]
+pub struct SequenceRow {
+    number: u32,
+    size: u32,
+    base: u64,
+    /// Which ids from `base` on arrived complete.
+    ahead: Vec<bool>,
+    /// Which ids from `base` on had a part there when the sequence was closed.
+    finals: Vec<bool>,
+    at: u64,
+    passed: u16,
+    closed: bool,
+    missing: bool,
+    delivered: u64,
+    dropped: u64,
+    lost: u64,
+    cut: u64,
+}
+
+impl Model for SequenceRow {
+    ghost use Rattle.trace_model.specs.Sequences.{Sequence};
+
+    ghost Value = { Sequence };
+
+    ghost use Rattle.trace_buffer.specs.RowFields.{row_view, IsSequence};
+
+    ghost view = { row_view };
+
+    ghost invariant = { IsSequence };
+}
+
+impl SequenceRow {
+    pub fn make(alloc: Global, number: u32, size: u32) -> Result<SequenceRow, AllocError>
+        ensures { IfOk result (λ row. row ≡ fresh number size) }
+    {
+        let ahead = vec![in alloc; false; IDS_AHEAD as usize]?;
+        let finals = vec![in alloc; false; IDS_AHEAD as usize]?;
+        Ok(SequenceRow {
+            number,
+            size,
+            base: 0,
+            ahead,
+            finals,
+            at: 0,
+            passed: 0,
+            closed: false,
+            missing: false,
+            delivered: 0,
+            dropped: 0,
+            lost: 0,
+            cut: 0,
+        })
+    }
+
+    pub fn number(&self) -> u32
+        ensures { result ≡ self.now.number }
+    {
+        self.number
+    }
+
+    pub fn size(&self) -> u32
+        ensures { result ≡ self.now.size }
+    {
+        self.size
+    }
+
+    #[tactic(auto, using(crate::proofs::CircleLemmas::arrived_below, crate::proofs::CircleLemmas::arrived_ahead, crate::proofs::CircleLemmas::arrived_beyond))]
+    pub fn has_arrived(&self, id: u64) -> bool
+        ensures { result ≡ has_arrived self.now id }
+    {
+        if id < self.base {
+            return true;
+        }
+        id - self.base < u64::from(IDS_AHEAD) && self.ahead[place_of(id)]
+    }
+
+    #[tactic(auto, using(crate::proofs::CircleLemmas::base_is))]
+    pub fn is_too_far(&self, id: u32) -> bool
+        ensures { result ≡ is_too_far self.now id }
+    {
+        u64::from(id) >= self.base + u64::from(IDS_AHEAD)
+    }
+
+    /// Whether a part of the id was there when the sequence was closed.
+    #[tactic(auto, using(crate::proofs::CircleLemmas::marked_in, crate::proofs::CircleLemmas::final_below, crate::proofs::CircleLemmas::final_beyond))]
+    pub fn is_final(&self, id: u64) -> bool
+        ensures { result ≡ is_among id self.now.final }
+    {
+        if id < self.base || id - self.base >= u64::from(IDS_AHEAD) {
+            return false;
+        }
+        self.finals[place_of(id)]
+    }
+
+    /// Of so many fragments of an id, those that the cursor hasn't passed.
+    pub fn unread_of(&self, id: u32, count: u16) -> u16
+        ensures { result ≡ unread_of self.now id count }
+    {
+        let id = u64::from(id);
+        if id < self.at {
+            return 0;
+        }
+        if id == self.at {
+            return count.saturating_sub(self.passed);
+        }
+        count
+    }
+
+    pub fn lose(&mut self, packets: u64)
+        ensures { self.new ≡ record self.old { lost = raised self.old.lost packets } }
+    {
+        self.lost = self.lost.saturating_add(packets);
+    }
+
+    /// Loses a record, and answers whether something of it was unread.
+    pub fn lose_record(&mut self, key: RecordKey) -> bool
+        ensures after { self.new ≡ record self.old { lost = raised self.old.lost (keys.packets_lost self.old key) } }
+        ensures unread { result ≡ keys.is_unread_loss self.old key }
+    {
+        if key.partial && !self.closed {
+            return false;
+        }
+        let unread = self.unread_of(key.chunk_id, key.count);
+        self.lose(u64::from(starts_in(key, unread)));
+        unread > 0
+    }
+
+    /// A chunk gets no place: the packets that begin in it are lost.
+    pub fn discard(&mut self, key: RecordKey)
+        ensures { self.new ≡ record self.old { lost = raised self.old.lost (keys.unread_starts self.old key) } }
+    {
+        let unread = self.unread_of(key.chunk_id, key.count);
+        self.lose(u64::from(starts_in(key, unread)));
+    }
+
+    /// A chunk with so many fragments has arrived complete.
+    pub fn note_arrived(&mut self, id: u32, count: u16)
+        requires open { self.old.closed ≡ false }
+        requires fresh { has_arrived self.old id ≡ false }
+        requires near { is_too_far self.old id ≡ false }
+        ensures { self.new ≡ with_arrived id count self.old }
+    {
+        self.ahead[place_of(u64::from(id))] = true;
+        self.base = settle(&mut self.ahead, self.base);
+        let cursor = cursor_behind(self.at, self.passed, id, count);
+        self.at = cursor.chunk_id;
+        self.passed = cursor.passed;
+    }
+
+    pub fn advance(&mut self, to: Cursor, passed: Passed)
+        ensures { self.new ≡ advanced (cursor_value to) (turn_value passed) self.old }
+    {
+        self.at = to.chunk_id;
+        self.passed = to.passed;
+        self.missing = passed != Passed::Delivered;
+        match passed {
+            Passed::Delivered => self.delivered = self.delivered.saturating_add(1),
+            Passed::Dropped => self.dropped = self.dropped.saturating_add(1),
+            Passed::Overwritten | Passed::Discarded => self.lost = self.lost.saturating_add(1),
+            Passed::Cut => self.cut = self.cut.saturating_add(1),
+            Passed::Nothing => {}
+        }
+    }
+
+    pub fn close(&mut self)
+        requires { self.old.closed ≡ false }
+        ensures after { self.new ≡ record self.old { closed = true } }
+
+        // No id is final before.
+        ensures none { self.old.final ≡ [] }
+    {
+        self.closed = true;
+    }
+
+    /// A part of the id is there as the sequence is closed.
+    pub fn mark_final(&mut self, id: u32)
+        requires closed { self.old.closed ≡ true }
+        requires fresh { has_arrived self.old id ≡ false }
+        requires near { is_too_far self.old id ≡ false }
+        ensures { self.new ≡ record self.old { final = with_number id self.old.final } }
+    {
+        self.finals[place_of(u64::from(id))] = true;
+    }
+
+    #[tactic(auto, using(crate::proofs::CircleLemmas::base_is))]
+    pub fn state(&self, policy: FullPolicy) -> SequenceState
+        ensures { result ≡ state_of policy self.now }
+    {
+        SequenceState {
+            cursor: Cursor {
+                chunk_id: self.at,
+                passed: self.passed,
+            },
+            base: self.base,
+            closed: self.closed,
+            missing: self.missing,
+            delivered: self.delivered,
+            dropped: self.dropped,
+            overwritten: if policy == FullPolicy::Ring {
+                self.lost
+            } else {
+                0
+            },
+            discarded: if policy == FullPolicy::Discard {
+                self.lost
+            } else {
+                0
+            },
+            cut: self.cut,
+        }
+    }
+}
+
+/// How many packets begin in the unread fragments of a record: a first one that continues a packet
+/// begins none.
+fn starts_in(key: RecordKey, unread: u16) -> u16
+    ensures { result ≡ keys.starts_in key unread }
+{
+    if key.flags % 2 == FIRST_CONTINUES && unread == key.count {
+        return unread.saturating_sub(1);
+    }
+    unread
+}
+
+/// The cursor once a chunk has arrived complete, which is behind it where all of it was passed.
+fn cursor_behind(at: u64, passed: u16, id: u32, count: u16) -> Cursor
+    ensures { cursor_value result ≡ cursor_behind at passed id count }
+{
+    let id = u64::from(id);
+    if at == id && count <= passed {
+        return Cursor {
+            chunk_id: id + 1,
+            passed: 0,
+        };
+    }
+    Cursor {
+        chunk_id: at,
+        passed,
+    }
+}

@@ -1,0 +1,88 @@
+//! The sequences of a buffer, each found by its number.
+ghost use Rattle.std.specs.Prelude.{◌≡◌, ◌<◌, true, false, length, map, slice_index_or, if◌then◌else◌, IfOk};
+ghost use Rattle.trace_model.specs.Sequences.{fresh, is_known, sequence_in, changed_at, has_arrived};
+ghost use Rattle.trace_model.specs.Arrivals.{is_too_far, with_arrived};
+ghost use Rattle.trace_model.specs.Reads.{advanced};
+ghost use Rattle.trace_buffer.specs.Answers.{cursor_value, turn_value};
+ghost use Rattle.trace_buffer.specs.Keys.{LosesAt, discarded_by};
+ghost use Rattle.trace_buffer.specs.Made.{sequence_of, AllSmall};
+ghost use Rattle.trace_buffer.specs.BufferFields.{NumbersOnce};
+
+use crate::answers::{Cursor, Passed, SequenceSpec};
+use crate::row::SequenceRow;
+use ring_bytes::{MAX_RING_SIZE, RecordKey, size_of_record};
+use std::alloc::{AllocError, Global};
+
+pub fn make_rows(alloc: Global, specs: &[SequenceSpec]) -> Result<Vec<SequenceRow>, AllocError>
+    requires { AllSmall MAX_RING_SIZE specs.now }
+    ensures { IfOk result (λ rows. rows.items ≡ map sequence_of specs.now) }
+{
+    let mut rows = Vec::with_capacity(alloc, specs.len())?;
+    for spec in specs {
+        rows.push(SequenceRow::make(alloc, spec.sequence, size_of_record(spec.payload))?)?;
+    }
+    Ok(rows)
+}
+
+/// Where the sequence with this number stands.
+pub fn find_row(rows: &[SequenceRow], number: u32) -> usize
+    requires { is_known rows.now number ≡ true }
+    ensures within { result < length rows.now }
+    ensures number { (slice_index_or rows.now result (fresh 0 0)).number ≡ number }
+{
+    let mut i = 0;
+    while rows[i].number() != number {
+        i += 1;
+    }
+    i
+}
+
+/// The record is lost. Answers how many sequences lose something unread with it, at most one.
+pub fn note_loss(rows: &mut [SequenceRow], key: RecordKey) -> u64
+    requires known { is_known rows.old key.sequence ≡ true }
+    requires once { NumbersOnce rows.old }
+    ensures { LosesAt rows.old rows.new key result }
+{
+    let i = find_row(rows, key.sequence);
+    let row = &mut rows[i];
+    one_if(row.lose_record(key))
+}
+
+fn one_if(is: bool) -> u64
+    ensures { result ≡ (if is then 1 else 0) }
+{
+    if is { 1 } else { 0 }
+}
+
+pub fn note_discarded(rows: &mut [SequenceRow], key: RecordKey)
+    requires known { is_known rows.old key.sequence ≡ true }
+    requires once { NumbersOnce rows.old }
+    ensures { rows.new ≡ changed_at key.sequence (discarded_by key) rows.old }
+{
+    let i = find_row(rows, key.sequence);
+    let row = &mut rows[i];
+    row.discard(key);
+}
+
+pub fn note_arrived(rows: &mut [SequenceRow], number: u32, id: u32, count: u16)
+    requires known { is_known rows.old number ≡ true }
+    requires once { NumbersOnce rows.old }
+    requires open { (sequence_in rows.old number).closed ≡ false }
+    requires fresh { has_arrived (sequence_in rows.old number) id ≡ false }
+    requires near { is_too_far (sequence_in rows.old number) id ≡ false }
+    ensures { rows.new ≡ changed_at number (with_arrived id count) rows.old }
+{
+    let i = find_row(rows, number);
+    let row = &mut rows[i];
+    row.note_arrived(id, count);
+}
+
+pub fn advance(rows: &mut [SequenceRow], number: u32, to: Cursor, passed: Passed)
+    requires known { is_known rows.old number ≡ true }
+    requires once { NumbersOnce rows.old }
+    ensures { rows.new ≡ changed_at number (advanced (cursor_value to) (turn_value passed)) rows.old }
+{
+    let i = find_row(rows, number);
+    let row = &mut rows[i];
+    row.advance(to, passed);
+}
