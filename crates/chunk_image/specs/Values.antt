@@ -7,6 +7,7 @@ use Rattle.chunk_image.specs.declared.image.ImageFault.{ImageFault}
 use Rattle.chunk_image.specs.declared.image.ImageFault.TheVariants.{BadChunk}
 use Rattle.chunk_image.specs.declared.read.Fragment.{Fragment}
 
+-- an image as one of the model
 abbrev pub image_value : Image → model.Image
 image_value image = record {
   sequence = image.sequence;
@@ -16,6 +17,7 @@ image_value image = record {
   payload = image.payload.now;
 }
 
+-- a fragment as one of the model
 abbrev pub fragment_value : Fragment → model.Fragment
 fragment_value fragment =
     record { bytes = fragment.bytes.now; dropped = fragment.dropped; offset = fragment.offset }

@@ -6,9 +6,11 @@ use Rattle.chunk_index.specs.Slots.{entries_of, map_of}
 use Rattle.chunk_index.specs.Table.{IsTable}
 use Rattle.chunk_index.specs.Value.{IndexValue}
 
+-- an index as its callers see it
 abbrev pub index_view : Inside → IndexValue
 index_view index = record { capacity = index.capacity; places = map_of index.slots.items }
 
+-- the fields of an index hold together
 pub record IsIndex (index : Inside) : Type 0 where
   pub room : length index.slots.items ≡ 3 * index.capacity + 1
   pub table : IsTable index.capacity index.slots.items

@@ -11,16 +11,20 @@ use Rattle.chunk_index.specs.Value.{key_of}
 unfoldable pub home : ℕ → ℕ → ℕ
 home capacity key = key * 0x9e3779b97f4a7c15 % 2 ^ 64 * (2 * capacity + 1) / 2 ^ 64
 
+-- the key of an entry
 abbrev pub entry_key : Entry → ℕ
 entry_key entry = key_of entry.sequence entry.chunk_id
 
+-- the slot at a place
 abbrev pub slot : List (Option Entry) → ℕ → Option Entry
 slot slots at = slice_index_or slots at None
 
+-- the slot has an entry
 abbrev pub is_used : Option Entry → Bool
 is_used None = false
 is_used (Some entry) = true
 
+-- the slot has the entry of this key
 abbrev pub has_key : ℕ → Option Entry → Bool
 has_key key None = false
 has_key key (Some entry) = key == entry_key entry
@@ -35,5 +39,6 @@ entries_of [] = []
 entries_of (None ∷ slots) = entries_of slots
 entries_of (Some entry ∷ slots) = (entry_key entry, entry.place) ∷ entries_of slots
 
+-- the finite map that the slots are
 abbrev pub map_of : List (Option Entry) → FinMap nat_cmp ℕ
 map_of slots = from_entries (entries_of slots)

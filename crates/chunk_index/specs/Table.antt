@@ -15,6 +15,7 @@ pub record EndsAt (slots : List (Option Entry)) (key from at : ℕ) : Type 0 whe
   pub passes : Passes slots key from at
   pub ends : (length slots ≤ at) ⊎ (is_used (slot slots at) ≡ false) ⊎ (has_key key (slot slots at) ≡ true)
 
+-- every entry stands where a search for it comes by
 pub record IsTable (capacity : ℕ) (slots : List (Option Entry)) : Type 0 where
   -- no entry stands before its home
   pub reached : (at key : ℕ) → has_key key (slot slots at) ≡ true → home capacity key ≤ at

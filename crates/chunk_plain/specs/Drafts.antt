@@ -13,9 +13,11 @@ pub record IsSealed (head : Head) (byte : ℕ → ℕ) (ends : List ℕ) : Type 
   pub count : length ends ≡ head.count - 1
   pub reads : HasFragments byte ends
 
+-- the ends in a draft are those of the fragments that its words read as
 abbrev pub IsDraft : Draft → Type 0
 IsDraft draft = IsSealed draft.head (byte_at draft.words) draft.ends
 
+-- the head of a content's image
 abbrev pub head_of : Content → Head
 head_of content = record { count = content.image.count; flags = content.image.flags }
 

@@ -41,24 +41,29 @@ abbrev pub once_read : (Chunk → model.Event) → ℕ → Reading → List mode
 once_read event flags (Fragments fragments) = event (whole_chunk flags fragments) ∷ []
 once_read event flags (Unreadable number) = []
 
+-- the event of a chunk's arrival
 abbrev pub arrival_of : (sequence chunk_id : ℕ) → Option Content → List model.Event
 arrival_of sequence chunk_id None = []
 arrival_of sequence chunk_id (Some content) =
     once_read (λ chunk. model.Arrives sequence chunk_id chunk) content.image.flags (reading_of content.image.count content.image.payload)
 
+-- the event of a part's arrival, by what a look found
 abbrev pub part_of : (sequence chunk_id count : ℕ) → Option Found → List model.Event
 part_of sequence chunk_id count None = []
 part_of sequence chunk_id count (Some found) =
     once_read (λ chunk. model.ArrivesInPart sequence chunk_id chunk) found.head.flags (reading_of count found.sealed)
 
+-- the event of a body's patches
 abbrev pub patches_of : ℕ → Option Content → List model.Event
 patches_of sequence None = []
 patches_of sequence (Some content) = model.Patched sequence content.patches ∷ []
 
+-- the event of a commit
 abbrev pub commit_of : Option Committed → List model.Event
 commit_of None = []
 commit_of (Some committed) = model.Committed committed.image committed.patches ∷ []
 
+-- what a note of the service says, with the images and patches that its view has
 abbrev pub happened : ServiceView → Noted → List model.Event
 happened service (Arrive sequence chunk_id) = arrival_of sequence chunk_id (content_at service sequence chunk_id)
 happened service (Partial sequence chunk_id count) =
@@ -68,5 +73,6 @@ happened service (Closed sequence) = model.Closed sequence ∷ []
 happened service (Read sequence limit) = model.Read sequence limit ∷ []
 happened service (Commit place) = commit_of (slice_get service.commits place)
 
+-- the history that the notes in a service's view say
 abbrev pub history_of : ServiceView → List model.Event
 history_of service = flat_map (happened service) service.events

@@ -51,6 +51,7 @@ pub record ServiceStepsKeep (world : World) (place chunk : ℕ) : Type 0 where
   pub notes_it : (service : ServiceView) → service.looks ≡ world.service.looks → service.taken ≡ world.service.taken
       → service.reading ≡ world.service.reading → IsOwned (serviced world service)
 
+-- Each step leaves every chunk owned by exactly one.
 abbrev pub StepsKeep : Type 0
 StepsKeep = (world : World) (place chunk : ℕ) → IsOwned world → place < length world.writers → chunk < length world.chunks
     → WriterStepsKeep world place chunk × ServiceStepsKeep world place chunk

@@ -8,6 +8,7 @@ use Rattle.chunk_plain.specs.declared.setup.Spot.{Spot}
 use Rattle.chunk_plain.specs.declared.setup.ChunkRange.{ChunkRange}
 use Rattle.chunk_plain.specs.Setup.{Setup}
 
+-- a chunk's spot, by its page and its place there
 abbrev pub spot_at : ℕ → ℕ → Geometry → Spot
 spot_at page place geometry = record {
   page = page;
@@ -33,6 +34,7 @@ spots_of page [] = []
 spots_of page (producer ∷ producers) =
     pages_spots page producer.geometry producer.pages ++ spots_of (page + producer.pages) producers
 
+-- how many chunks a producer has
 abbrev pub chunks_in : ProducerSpec → ℕ
 chunks_in producer = producer.pages * producer.geometry.chunks
 
@@ -46,6 +48,7 @@ ranges_of first (producer ∷ producers) =
 abbrev pub sizes_of : List ProducerSpec → List ℕ
 sizes_of producers = map (λ (producer : ProducerSpec). payload_size producer.geometry.page_size producer.geometry.chunks) producers
 
+-- how many pages the producers have
 abbrev pub pages_in : List ProducerSpec → ℕ
 pages_in [] = 0
 pages_in (producer ∷ producers) = producer.pages + pages_in producers

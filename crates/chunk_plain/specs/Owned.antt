@@ -36,6 +36,7 @@ pub record Owns (count place : ℕ) (view : WriterView) (chunk : ℕ) (is : Stat
   -- taken, and still read
   pub reading_is : (id : ℕ) (content : Content) → is ≡ Reading place id content → At view.begun id (Completed chunk content) × (id < count)
 
+-- one where a header is stored that isn't begun yet, else none
 abbrev pub stamps_in : Option Stamp → ℕ
 stamps_in None = 0
 stamps_in (Some _) = 1
@@ -70,6 +71,7 @@ pub record Counts (taken : Taken) (place : ℕ) (view : WriterView) : Type 0 whe
 abbrev pub Won : World → ℕ → Type 0
 Won world chunk = (place i : ℕ) × (ask : Ask) × At (writer world place).asked i ask × (ask.won ≡ true) × (ask.chunk ≡ chunk)
 
+-- each chunk is owned by exactly one, as a table keeps it between two steps
 pub record IsOwned (world : World) : Type 0 where
   pub owns : (place chunk : ℕ) → Owns (taken_of world.service place).count place (writer world place) chunk (status world chunk)
   pub counts : (place : ℕ) → Counts (taken_of world.service place) place (writer world place)

@@ -40,6 +40,7 @@ abbrev pub read_as : Status → Status
 read_as (Ready place id content) = Reading place id content
 read_as other = other
 
+-- the world after a step
 abbrev pub world_after : World → Step → World
 world_after world (Claim place chunk found true) =
     moved world place (claims (writer world place) chunk found true) chunk (Claimed place)

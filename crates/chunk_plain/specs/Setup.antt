@@ -7,6 +7,7 @@ use Rattle.trace_base.specs.declared.policy.WriterSpec.{WriterSpec}
 use Rattle.chunk_plain.specs.declared.setup.Spot.{Spot}
 use Rattle.chunk_plain.specs.declared.setup.ChunkRange.{ChunkRange}
 
+-- how a table is laid out, and who writes into it
 pub record Setup : Type 0 where
   -- how many pages there are
   pub pages : ℕ
@@ -18,9 +19,11 @@ pub record Setup : Type 0 where
   pub sizes : List ℕ
   pub writers : List WriterSpec
 
+-- the spot of a chunk that there isn't
 abbrev pub no_spot : Spot
 no_spot = record { page = 0; place = 0; chunks = 0; layout = 0; payload_size = 0 }
 
+-- where a chunk lies
 abbrev pub spot : Setup → ℕ → Spot
 spot setup chunk = slice_index_or setup.spots chunk no_spot
 

@@ -58,6 +58,7 @@ pub record IsHeader (setup : Setup) (word place id : ℕ) (head : Head) : Type 0
   pub count_fits : head.count < 2 ^ 10
   pub flags_fit : head.flags < 2 ^ 6
 
+-- the header word of a chunk is that of its status
 abbrev pub ShowsHeader : Setup → ℕ → Status → Type 0
 ShowsHeader setup word Unclaimed = Unit {0}
 ShowsHeader setup word (Claimed place) = Unit {0}
@@ -118,9 +119,11 @@ pub record ShowsSlot (size : ℕ) (is : Status) (slot : Stored) : Type 0 where
   pub words : ShowsWords size is slot.words
   pub body : ShowsBody size is slot.body
 
+-- the word of the page that a chunk lies in
 abbrev pub page_word : Setup → List ℕ → ℕ → ℕ
 page_word setup words chunk = slice_index words (spot setup chunk).page
 
+-- the header word of a chunk
 abbrev pub header_word : Setup → List ℕ → ℕ → ℕ
 header_word setup words chunk = slice_index words (setup.pages + chunk)
 

@@ -42,9 +42,11 @@ with_head draft head ends = record draft { head = head; ends = ends }
 abbrev pub with_word : Draft → ℕ → ℕ → Draft
 with_word draft index word = record draft { words = slice_set draft.words index word }
 
+-- the writer has completed the chunk
 abbrev pub completes : WriterView → ℕ → ℕ → Content → WriterView
 completes view chunk id content = record view { begun = slice_set view.begun id (Completed chunk content) }
 
+-- the writer has noted the call
 abbrev pub notes_call : WriterView → Call → WriterView
 notes_call view call = record view { calls = view.calls ++ call ∷ [] }
 
@@ -54,6 +56,7 @@ notes_call view call = record view { calls = view.calls ++ call ∷ [] }
 abbrev pub taken_counts : ServiceView → List ℕ
 taken_counts service = map (λ (taken : Taken). taken.count) service.taken
 
+-- the service has looked at the chunk, and found this
 abbrev pub looks_at : ServiceView → ℕ → ℕ → ℕ → Option Found → ServiceView
 looks_at service chunk word header found = record service {
   looks = service.looks ++ record { chunk = chunk; word = word; header = header; found = found; taken = taken_counts service } ∷ [];
@@ -72,12 +75,15 @@ learns service place content = record service {
   taken = slice_set service.taken place (record (taken_of service place) { contents = (taken_of service place).contents ++ content ∷ [] });
 }
 
+-- the service reads the chunk no longer
 abbrev pub lets_go : ServiceView → ℕ → ServiceView
 lets_go service chunk = record service { reading = without chunk service.reading }
 
+-- the service has noted the event
 abbrev pub notes : ServiceView → Noted → ServiceView
 notes service event = record service { events = service.events ++ event ∷ [] }
 
+-- the service has noted a commit, with its image and patches
 abbrev pub notes_commit : ServiceView → Committed → ServiceView
 notes_commit service committed = record service {
   events = service.events ++ Commit (length service.commits) ∷ [];

@@ -27,6 +27,7 @@ pub record Head : Type 0 where
   pub count : ℕ
   pub flags : ℕ
 
+-- the head of a chunk that was just begun
 abbrev pub no_head : Head
 no_head = record { count = 0; flags = 0 }
 
@@ -41,6 +42,7 @@ pub record Draft : Type 0 where
 abbrev pub fresh : List ℕ → Draft
 fresh words = record { head = no_head; words = words; ends = [] }
 
+-- a draft of nothing
 abbrev pub no_draft : Draft
 no_draft = fresh []
 
@@ -60,6 +62,7 @@ pub record Stamp : Type 0 where
   pub chunk : ℕ
   pub id : ℕ
 
+-- what a writer's seat has done
 pub record WriterView : Type 0 where
   -- its claims, in their order
   pub asked : List Ask
@@ -71,6 +74,7 @@ pub record WriterView : Type 0 where
   -- the calls that it noted
   pub calls : List Call
 
+-- the view of a seat that has done nothing
 abbrev pub newcomer : WriterView
 newcomer = record { asked = []; claimed = []; stamped = None; begun = []; calls = [] }
 
@@ -82,6 +86,7 @@ pub record Taken : Type 0 where
   -- each one's content, from the last step of its take on
   pub contents : List Content
 
+-- nothing was taken of the writer
 abbrev pub none_taken : Taken
 none_taken = record { count = 0; contents = [] }
 
@@ -121,6 +126,7 @@ pub record Committed : Type 0 where
   pub image : Image
   pub patches : List Patch
 
+-- what the service's seat has done
 pub record ServiceView : Type 0 where
   pub looks : List Look
   -- by writer
@@ -130,6 +136,7 @@ pub record ServiceView : Type 0 where
   pub events : List Noted
   pub commits : List Committed
 
+-- what was taken of a writer
 abbrev pub taken_of : ServiceView → ℕ → Taken
 taken_of service writer = slice_index_or service.taken writer none_taken
 

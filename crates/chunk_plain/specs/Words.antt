@@ -174,6 +174,7 @@ call_of writer_call.GivenUp = call.GivenUp
 call_of writer_call.Finished = call.Finished
 call_of writer_call.Flushed = call.Flushed
 
+-- the event that a note says
 abbrev pub event_of : ServiceEvent → Noted
 event_of (event.Arrive sequence chunk_id) = Arrive sequence chunk_id
 event_of (event.Partial sequence chunk_id limit) = Partial sequence chunk_id limit

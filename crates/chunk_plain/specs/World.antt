@@ -16,14 +16,17 @@ pub data Status : Type 0 where
   -- the service is reading it
   Reading : (writer id : ℕ) → Content → Status
 
+-- the whole of a table: what each chunk's state is, and the views of all seats
 pub record World : Type 0 where
   pub chunks : List Status
   pub writers : List WriterView
   pub service : ServiceView
 
+-- the state of a chunk
 abbrev pub status : World → ℕ → Status
 status world chunk = slice_index_or world.chunks chunk Unclaimed
 
+-- the view of a writer's seat
 abbrev pub writer : World → ℕ → WriterView
 writer world place = slice_index_or world.writers place newcomer
 

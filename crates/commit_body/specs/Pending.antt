@@ -6,6 +6,7 @@ use Rattle.commit_body.specs.declared.hole.Hole.{Hole}
 use Rattle.commit_body.specs.declared.closed.Closed.{Closed}
 use Rattle.commit_body.specs.declared.closed.Closed.TheVariants.{Here, Later}
 
+-- what a writer has still to send: its open holes, and the patches of those that it closed
 pub record Pending : Type 0 where
   -- the open holes, outer ones first
   pub holes : List Hole

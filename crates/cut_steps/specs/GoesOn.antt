@@ -4,6 +4,7 @@ use Rattle.trace_model.specs.Packets.{Packet, flat, open_length, open_places, bo
 use Rattle.trace_model.specs.Sequences.{is_among}
 use Rattle.trace_model.specs.Cut.{Begins}
 
+-- each number is at least so large
 abbrev pub AllFrom : ℕ → List ℕ → Type 0
 AllFrom bound [] = ⊤
 AllFrom bound (n ∷ numbers) = (bound ≤ n) × AllFrom bound numbers

@@ -22,6 +22,7 @@ pub record IsHeldPage (size : ℕ) (page : Page) (fragments : List (List ℕ)) (
   pub brings : page.patches ≡ with_lasts (hole_chunks holes) unsent
   pub full : IsFull size page
 
+-- From each state of a writer its pages are a cut of its packets.
 pub record StatesAreCuts : Type 0 where
   -- no chunk is held
   pub idle : (size : ℕ) (packets : List Packet) (pages : List Page) (offset : ℕ) → IsBetween size packets pages (raw_chains pages) [] offset

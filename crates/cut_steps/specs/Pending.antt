@@ -17,6 +17,7 @@ hole_at pieces at = record { chunk_id = chunk_at pieces at; offset = offset_at p
 abbrev pub patches_so_far : List Page → List Hole → List Patch → List Patch
 patches_so_far pages holes unsent = patches_of pages ++ with_lasts (hole_chunks holes) unsent
 
+-- each patch has four bytes
 abbrev pub AllHaveFour : List Patch → Type 0
 AllHaveFour [] = ⊤
 AllHaveFour (patch ∷ patches) = (length patch.bytes ≡ 4) × AllHaveFour patches
@@ -26,6 +27,7 @@ abbrev pub AllSentBy : ℕ → List SentPatch → Type 0
 AllSentBy bound [] = ⊤
 AllSentBy bound (one ∷ others) = (one.by < bound) × AllSentBy bound others
 
+-- each patch is for an earlier chunk than this one
 abbrev pub AllSentFor : ℕ → List SentPatch → Type 0
 AllSentFor bound [] = ⊤
 AllSentFor bound (one ∷ others) = (one.chunk_id < bound) × AllSentFor bound others
@@ -34,6 +36,7 @@ AllSentFor bound (one ∷ others) = (one.chunk_id < bound) × AllSentFor bound o
 abbrev pub sent_now : List Piece → List NestedLength → List SentPatch
 sent_now pieces closed = map (sent_for pieces) (filter (crosses pieces) closed)
 
+-- the chunks that the patches are for
 abbrev pub sent_chunks : List SentPatch → List ℕ
 sent_chunks sent = map (λ (one : SentPatch). one.chunk_id) sent
 

@@ -18,6 +18,7 @@ StandsIn (piece ∷ pieces) at =
     (at + 4 ≤ length piece.fragment.bytes)
     (StandsIn pieces (at - length piece.fragment.bytes))
 
+-- the four bytes at each of these places of a packet stand in one of its pieces
 abbrev pub AllStandIn : List Piece → List ℕ → Type 0
 AllStandIn pieces [] = ⊤
 AllStandIn pieces (at ∷ others) = StandsIn pieces at × AllStandIn pieces others
@@ -43,6 +44,7 @@ pub record RunsOnFrom (pages : List Page) (piece : Piece) : Type 0 where
   pub runs_on : page.runs_on ≡ true
   pub last : EndsWith (chunk_of page).fragments piece.fragment
 
+-- each piece runs on where its page says so
 abbrev pub AllRunOn : List Page → List Piece → Type 0
 AllRunOn pages [] = ⊤
 AllRunOn pages (piece ∷ pieces) = RunsOnFrom pages piece × AllRunOn pages pieces
@@ -55,10 +57,12 @@ EndsBefore chunk_id offset piece =
     (piece.at.chunk_id < chunk_id)
     ⊎ ((piece.at.chunk_id ≡ chunk_id) × (piece.fragment.offset + length piece.fragment.bytes ≤ offset))
 
+-- each piece of a chain ends before this place
 abbrev pub AllEndBefore : ℕ → ℕ → List Piece → Type 0
 AllEndBefore chunk_id offset [] = ⊤
 AllEndBefore chunk_id offset (piece ∷ pieces) = EndsBefore chunk_id offset piece × AllEndBefore chunk_id offset pieces
 
+-- each piece of each chain ends before this place
 abbrev pub ChainsEndBefore : ℕ → ℕ → List Chain → Type 0
 ChainsEndBefore chunk_id offset [] = ⊤
 ChainsEndBefore chunk_id offset (chain ∷ chains) =

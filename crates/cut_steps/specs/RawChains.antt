@@ -35,6 +35,7 @@ abbrev pub settled_piece : List Patch → Piece → Piece
 settled_piece [] piece = piece
 settled_piece (patch ∷ patches) piece = settled_piece patches (patched_piece patch piece)
 
+-- the chain with the patches put in
 abbrev pub settled_chain : List Patch → Chain → Chain
 settled_chain patches chain = record chain { pieces = map (settled_piece patches) chain.pieces }
 
@@ -52,6 +53,7 @@ page_with continues fragments = record {
   patches = [];
 }
 
+-- the pieces of the newest chain
 abbrev pub newest_pieces : List Chain → List Piece
 newest_pieces [] = []
 newest_pieces (chain ∷ older) = chain.pieces
@@ -86,9 +88,11 @@ piece_behind pages done now runs_on dropped = record {
 abbrev pub current_piece : List Page → List (List ℕ) → List ℕ → Piece
 current_piece pages done now = piece_behind pages done now false false
 
+-- the pieces of the packet that is being written
 abbrev pub current_pieces : List Page → Bool → List (List ℕ) → List ℕ → List Piece
 current_pieces pages continues done now = earlier_pieces pages continues done ++ current_piece pages done now ∷ []
 
+-- what becomes of a chain that ends with this piece
 abbrev pub fate_of : Piece → Fate
 fate_of piece = if piece.fragment.dropped then Marked else (if piece.runs_on then Open else Whole)
 
@@ -108,5 +112,6 @@ chain_to pages continues done piece = record {
   fate = fate_of piece;
 }
 
+-- the chain of the packet that is being written
 abbrev pub current_chain : List Page → Bool → List (List ℕ) → List ℕ → Chain
 current_chain pages continues done now = chain_to pages continues done (current_piece pages done now)

@@ -18,6 +18,7 @@ pub record IsRawChainOf (size : ℕ) (patches : List Patch) (packet : Packet) (c
   pub goes_on : IsTrue (all_go_on chain.pieces)
   pub lengths : IsTrue (list_all (is_in_one chain.pieces) (open_in chain.pieces (text_of packet)))
 
+-- a cut, said of chains without their patches
 pub record CutsRaw (size : ℕ) (packets : List Packet) (pages : List Page) : Type 0 where
   pub full : All (IsFull size) pages
   pub flags : FlagsAgree false pages

@@ -11,9 +11,11 @@ is_placing Kept = true
 is_placing Discarded = true
 is_placing other = false
 
+-- the bytes that an arrival of this outcome asks of the buffer
 abbrev pub asks_for : Arrived → ℕ → ℕ
 asks_for outcome size = if is_placing outcome then size else 0
 
+-- the bytes that an event asks of the buffer
 abbrev pub asks : Buffer → Event → ℕ
 asks buffer (Arrives sequence chunk_id chunk) =
     asks_for (arrival_of buffer sequence chunk_id) (sequence_in buffer.sequences sequence).size

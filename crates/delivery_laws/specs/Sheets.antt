@@ -29,6 +29,7 @@ parts_from continues runs_on (fragment ∷ others) =
       bytes = fragment.bytes;
     } ∷ parts_from false runs_on others
 
+-- the fragments of a sheet, with what each continues
 abbrev pub parts_of : Sheet → List Part
 parts_of sheet = parts_from sheet.chunk.continues sheet.chunk.runs_on sheet.written
 

@@ -19,12 +19,15 @@ abbrev pub scraped : List Page → List Event
 scraped [] = []
 scraped (page ∷ pages) = ArrivesInPart 2 0 (first_fragments 1 (chunk_of page)) ∷ Read 2 no_limit ∷ []
 
+-- a part of the chunk is scraped, then all of it is taken, and then the end
 abbrev pub scraped_events : List Event
 scraped_events = scraped given_up_pages ++ taken 2 0 given_up_pages ++ ended
 
+-- two sequences of which nothing has come
 abbrev pub two_sequences : List Sequence
 two_sequences = fresh 2 2064 ∷ fresh 3 2064 ∷ []
 
+-- an account that meets what the delivery law asks, and what is delivered of it
 pub record WorkedAccount : Type 0 where
   pub account : IsAccountOf 2036 given_up_calls given_up_pages two_sequences 2 2064 scraped_events
   -- the first packet, by the scrape, and the third one, behind the one that is missing
@@ -37,6 +40,7 @@ pub record WorkedAccount : Type 0 where
 abbrev pub small_sequences : List Sequence
 small_sequences = fresh 2 304 ∷ fresh 3 304 ∷ []
 
+-- both pages are taken, and then the end
 abbrev pub finished_events : List Event
 finished_events = taken 2 0 patched_pages ++ ended
 
@@ -44,6 +48,7 @@ finished_events = taken 2 0 patched_pages ++ ended
 abbrev pub two_chunks : ℕ → ℕ
 two_chunks sequence = if sequence == 2 then 2 else 0
 
+-- an account that meets what the law on enough bytes asks
 pub record WorkedEnough : Type 0 where
   pub account : IsAccountOf 284 patched_calls patched_pages small_sequences 2 304 finished_events
   pub whole : AllWhole (packets_of patched_calls)

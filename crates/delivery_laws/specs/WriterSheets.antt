@@ -21,5 +21,6 @@ sheets_from patches chunk_id goes_on (page ∷ []) = sheet_of patches chunk_id g
 sheets_from patches chunk_id goes_on (page ∷ next ∷ pages) =
     sheet_of patches chunk_id page.runs_on page ∷ sheets_from patches (suc chunk_id) goes_on (next ∷ pages)
 
+-- the pages of a writer as sheets, of which the last one goes on or not
 abbrev pub sheets_of : Bool → List Page → List Sheet
 sheets_of goes_on pages = sheets_from (patches_of pages) 0 goes_on pages

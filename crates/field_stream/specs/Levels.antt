@@ -14,6 +14,7 @@ levels_at levels (Bytes field times) text = written (bytes_field field text time
 levels_at levels (Begin field) text = [] ∷ written (nested_tag field) levels
 levels_at levels End text = (closed_levels levels []).levels
 
+-- the levels of a packet's text after these nodes
 abbrev pub levels_after : List (List ℕ) → List Shown → List (List ℕ)
 levels_after levels [] = levels
 levels_after levels (node ∷ nodes) = levels_after (levels_at levels node.0 node.1) nodes

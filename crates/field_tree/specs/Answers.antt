@@ -37,10 +37,12 @@ abbrev pub unless : Option FieldFault → List Shown → Result (List Shown) Fie
 unless None nodes = Ok nodes
 unless (Some fault) nodes = Err fault
 
+-- what a text of FIELDS comes to: its nodes where the packet may have them, else the fault
 abbrev pub judged : ℕ → Result (List Shown) ℕ → Result (List Shown) FieldFault
 judged depth (Ok nodes) = unless (nodes_refusal depth nodes) nodes
 judged depth (Err column) = Err (BadField column)
 
+-- the answer on a text at a depth of nesting
 unfoldable pub outcome : ℕ → List ℕ → Result (List Shown) FieldFault
 outcome depth text = judged depth (nodes_or_column text)
 
@@ -51,6 +53,7 @@ Parses depth text (Ok tree) = Means depth text (Ok tree)
 Parses depth text (Err OutOfMemory) = Unit {0}
 Parses depth text (Err (Fault fault)) = Means depth text (Err fault)
 
+-- the parser's answer is the one that is due; want of memory is free
 abbrev pub Gives : Result FieldTree FieldError → Result (List Shown) FieldFault → Type 0
 Gives (Ok tree) given = given ≡ Ok tree
 Gives (Err OutOfMemory) given = Unit {0}

@@ -12,6 +12,7 @@ use Rattle.trace_model.specs.Encoding.{Fields, NoFields, NumberField, BytesField
 abbrev pub IsTextByte : ℕ → Type 0
 IsTextByte byte = (32 ≤ byte) × (byte ≤ 126) × (byte ≢ 34) × (byte ≢ 92)
 
+-- the number is a byte
 abbrev pub IsByte : ℕ → Type 0
 IsByte byte = byte < 256
 
@@ -80,6 +81,7 @@ pub record IsFrontOfFields (text : List ℕ) : Type 0 where
 abbrev pub is_digit : ℕ → Bool
 is_digit byte = nat_le 48 byte && nat_le byte 57
 
+-- the digits in front
 abbrev pub leading_digits : List ℕ → List ℕ
 leading_digits [] = []
 leading_digits (byte ∷ bytes) = if is_digit byte then byte ∷ leading_digits bytes else []

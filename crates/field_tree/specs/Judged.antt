@@ -18,9 +18,11 @@ node_len_at (Bytes field times) len = length (bytes_head field (times * len)) + 
 node_len_at (Begin field) len = length (nested_tag field) + 4
 node_len_at End len = 0
 
+-- how many bytes of encoding a node adds
 abbrev pub node_len : Shown → ℕ
 node_len n = node_len_at n.0 (length n.1)
 
+-- how many bytes of encoding the nodes have
 abbrev pub nodes_len : List Shown → ℕ
 nodes_len nodes = sum_by node_len nodes
 
@@ -61,6 +63,7 @@ unfoldable pub reserved_at : ℕ → FieldNode → Option ℕ → Option ℕ
 reserved_at zero node later = node_reserved_or node later
 reserved_at (suc now) node later = later
 
+-- the first reserved field at the top level, behind so many open messages
 unfoldable pub reserved_from : ℕ → List FieldNode → Option ℕ
 reserved_from now [] = None
 reserved_from now (node ∷ nodes) = reserved_at now node (reserved_from (level now node) nodes)

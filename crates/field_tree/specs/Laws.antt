@@ -15,6 +15,7 @@ OneTree = (text : List ℕ) (a b : Fields) → IsTextOf a text → IsTextOf b te
 abbrev pub OneFault : Type 0
 OneFault = (text : List ℕ) (c d : ℕ) → IsFaultAt text c → IsFaultAt text d → c ≡ d
 
+-- A text with a fault spells no fields.
 abbrev pub FaultsHaveNoTree : Type 0
 FaultsHaveNoTree = (text : List ℕ) (c : ℕ) (fields : Fields) → IsFaultAt text c → IsTextOf fields text → ⊥
 
@@ -26,6 +27,7 @@ FieldsBeginBeforeFaults = (text : List ℕ) (c : ℕ) → IsFaultAt text c → I
 abbrev pub OutcomesAreRight : Type 0
 OutcomesAreRight = (depth : ℕ) (text : List ℕ) → Means depth text (outcome depth text)
 
+-- The answer on a text is the only one that means what it is to mean.
 abbrev pub NoOtherIsRight : Type 0
 NoOtherIsRight = (depth : ℕ) (text : List ℕ) (answer : Result (List Shown) FieldFault) → Means depth text answer → answer ≡ outcome depth text
 

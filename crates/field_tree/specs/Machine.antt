@@ -11,9 +11,11 @@ use Rattle.field_tree.specs.declared.mode.Action.TheVariants.{Refuse, Go, Keep, 
 use Rattle.field_tree.specs.Nodes.{Shown}
 use Rattle.field_tree.specs.Grammar.{number, is_digit}
 
+-- a digit that a number may begin with
 abbrev pub is_first_digit : ℕ → Bool
 is_first_digit byte = nat_le 49 byte && nat_le byte 57
 
+-- a byte that a quoted text may have
 abbrev pub is_text_byte : ℕ → Bool
 is_text_byte byte = nat_le 32 byte && nat_le byte 126 && not (byte == 34) && not (byte == 92)
 
@@ -27,6 +29,7 @@ unfoldable pub hex_value : ℕ → Option ℕ
 hex_value byte =
     if is_digit byte then Some (byte - 48) else if nat_le 97 byte && nat_le byte 102 then Some (byte - 87) else None
 
+-- the action with a number, where there is one; else the text is refused
 abbrev pub go_on : Option ℕ → (ℕ → Action) → Action
 go_on None action = Refuse
 go_on (Some n) action = action n
@@ -79,6 +82,7 @@ with_node node r = record { nodes = r.nodes ++ (node, r.text) ∷ []; depth = r.
 abbrev pub with_byte : ℕ → Reading → Reading
 with_byte byte r = record r { text = r.text ++ byte ∷ [] }
 
+-- the node that was being read is complete
 abbrev pub settled_as : Option FieldNode → Reading → Reading
 settled_as None r = r
 settled_as (Some node) r = record (with_node node r) { mode = After }
@@ -87,6 +91,7 @@ settled_as (Some node) r = record (with_node node r) { mode = After }
 unfoldable pub settled : Reading → Reading
 settled r = settled_as (pending r.mode) r
 
+-- the reading after an action
 unfoldable pub applied : Action → Reading → Option Reading
 applied Refuse r = None
 applied (Go mode) r = Some (record r { mode = mode })
@@ -98,12 +103,15 @@ applied Close r = Some (record (with_node End r) { depth = r.depth - 1; mode = A
 abbrev pub before_byte : ℕ → Reading → Reading
 before_byte byte r = if byte == 32 || byte == 125 then settled r else r
 
+-- the reading after a byte, without what the byte ends
 abbrev pub moved : ℕ → Reading → Option Reading
 moved byte r = applied (act r.mode (nat_lt 0 r.depth) byte) r
 
+-- the reading after a byte
 unfoldable pub next : Reading → ℕ → Option Reading
 next r byte = moved byte (before_byte byte r)
 
+-- goes on where the reading wasn't refused
 abbrev pub then_run : (Reading → Option Reading) → Option Reading → Option Reading
 then_run f None = None
 then_run f (Some r) = f r
@@ -113,6 +121,7 @@ unfoldable pub run : Reading → List ℕ → Option Reading
 run r [] = Some r
 run r (byte ∷ bytes) = then_run (λ q. run q bytes) (next r byte)
 
+-- a field has just ended
 abbrev pub is_after : Mode → Bool
 is_after After = true
 is_after mode = false
@@ -121,12 +130,15 @@ is_after mode = false
 abbrev pub ended : Reading → Option (List Shown)
 ended r = if is_after r.mode && r.depth == 0 then Some r.nodes else None
 
+-- the nodes, where the text may end here
 unfoldable pub finish : Reading → Option (List Shown)
 finish r = ended (settled r)
 
+-- the reading of nothing
 unfoldable pub beginning : Reading
 beginning = record { nodes = []; depth = 0; text = []; mode = Start false }
 
+-- the first digit of a pair is one of sixteen
 abbrev pub HalfFits : Mode → Type 0
 HalfFits (Half n high) = high < 16
 HalfFits mode = Unit {0}
@@ -148,14 +160,17 @@ abbrev pub at_end : ℕ → Option (List Shown) → Result (List Shown) ℕ
 at_end place None = Err (place + 1)
 at_end place (Some nodes) = Ok nodes
 
+-- goes on where the byte wasn't refused; else its column is the fault's
 abbrev pub at_byte : ℕ → (Reading → Result (List Shown) ℕ) → Option Reading → Result (List Shown) ℕ
 at_byte column f None = Err column
 at_byte column f (Some r) = f r
 
+-- the nodes of the rest of a text, or the column of its first fault
 unfoldable pub nodes_or_column_from : Reading → ℕ → List ℕ → Result (List Shown) ℕ
 nodes_or_column_from r place [] = at_end place (finish r)
 nodes_or_column_from r place (byte ∷ bytes) =
     at_byte (place + 1 - length (taken_back r.mode byte)) (λ q. nodes_or_column_from q (place + 1) bytes) (next r byte)
 
+-- the nodes of a text, or the column of its first fault
 unfoldable pub nodes_or_column : List ℕ → Result (List Shown) ℕ
 nodes_or_column text = nodes_or_column_from beginning 0 text

@@ -9,6 +9,7 @@ use Rattle.field_tree.specs.declared.node.FieldNode.TheVariants.{Number, Bytes, 
 abbrev pub Shown : Type 0
 Shown = FieldNode × List ℕ
 
+-- the fields as a list of nodes, nested messages between their begin and their end
 abbrev pub nodes_of : Fields → List Shown
 nodes_of NoFields = []
 nodes_of (NumberField field value others) = (Number field value, []) ∷ nodes_of others

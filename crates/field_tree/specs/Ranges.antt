@@ -12,10 +12,12 @@ use Rattle.field_tree.specs.Judged.{nodes_len}
 abbrev pub shown : List ℕ → Node → Shown
 shown bytes n = (n.node, take n.len (drop n.start bytes))
 
+-- the nodes of a list, however it is kept
 abbrev pub listed : NodeList → List Node
 listed (One n) = n ∷ []
 listed (Many ns) = ns.items
 
+-- the node's text lies inside the bytes
 abbrev pub IsRange : List ℕ → Node → Type 0
 IsRange bytes n = n.start + n.len ≤ length bytes
 

@@ -18,9 +18,11 @@ first_reserved (NumberField field value others) = reserved_or field (first_reser
 first_reserved (BytesField field text times others) = reserved_or field (first_reserved others)
 first_reserved (NestedField field inner others) = reserved_or field (first_reserved others)
 
+-- the fault, where it holds
 abbrev pub when : Bool → FieldFault → Option FieldFault
 when test fault = if test then Some fault else None
 
+-- the first of two faults
 abbrev pub or_else : Option FieldFault → Option FieldFault → Option FieldFault
 or_else None later = later
 or_else (Some fault) later = Some fault

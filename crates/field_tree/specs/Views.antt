@@ -13,6 +13,7 @@ use Rattle.field_tree.specs.Nodes.{Shown}
 use Rattle.field_tree.specs.Machine.{Reading}
 use Rattle.field_tree.specs.Ranges.{shown, listed, IsRange, IsKept}
 
+-- the nodes that a parser has read
 abbrev pub nodes_read : Parser → List Shown
 nodes_read p = map (shown p.bytes.items) p.nodes.items
 
@@ -20,6 +21,7 @@ nodes_read p = map (shown p.bytes.items) p.nodes.items
 abbrev pub text_read : Parser → List ℕ
 text_read p = drop p.start p.bytes.items
 
+-- what a parser has read, as the grammar's machine sees it
 abbrev pub reading : Parser → Mode → Reading
 reading p mode = record { nodes = nodes_read p; depth = p.depth; text = text_read p; mode = mode }
 
@@ -33,6 +35,7 @@ abbrev pub AddsByte : ℕ → Parser → Parser → Type 0
 AddsByte byte old new =
     (nodes_read new ≡ nodes_read old) × (text_read new ≡ text_read old ++ byte ∷ []) × (new.depth ≡ old.depth)
 
+-- the texts that a parser keeps are its nodes', one behind another
 abbrev pub Keeps : Parser → Type 0
 Keeps p = IsKept p.bytes.items p.nodes.items p.start
 
@@ -45,6 +48,7 @@ Takes false given new = given ≡ None
 abbrev pub nodes_in : Parsed → List Shown
 nodes_in parsed = map (shown parsed.bytes.items) (listed parsed.nodes)
 
+-- the texts of all nodes lie inside the bytes
 abbrev pub HasRanges : Parsed → Type 0
 HasRanges parsed = AllByRecursion (IsRange parsed.bytes.items) (listed parsed.nodes)
 

@@ -33,5 +33,6 @@ pub record HasShapeOf (asked noted : List Call) : Type 0 where
   pub depth : open_count (packets_of noted) ≡ open_count (packets_of asked)
   pub long : newest_length (packets_of noted) ≡ newest_length (packets_of asked)
 
+-- Drops and giving up change neither which packets are emitted nor their fields.
 abbrev pub LossesChangeNoShape : Type 0
 LossesChangeNoShape = (asked noted : List Call) → Loses asked noted → HasShapeOf asked noted

@@ -34,6 +34,7 @@ pub record AreMarkedDeliveries (links : List Link) (delivered : List Delivery) :
       → slice_get delivered (count_of delivers before)
       ≡ Some (record { body = link_bytes link; marked = not (ends_delivered before) })
 
+-- A record is marked exactly where something was passed since the record before.
 abbrev pub MarksTellWhatIsMissing : Type 0
 MarksTellWhatIsMissing =
     (room : ℕ) (policy : FullPolicy) (sequences : List Sequence) (sequence size : ℕ) (events : List Event)

@@ -17,6 +17,7 @@ abbrev pub AllRising : List Sequence → Type 0
 AllRising [] = ⊤
 AllRising (state ∷ others) = (IsRising state.arrived × IsRising state.final) × AllRising others
 
+-- Rising lists are sets: a list is told by its members.
 pub record RisingListsAreSets : Type 0 where
   -- a number that is put in is a member, beside those that were, and the list still rises
   pub put : (n : ℕ) (numbers : List ℕ) → IsRising numbers → IsRising (with_number n numbers)
@@ -28,6 +29,7 @@ pub record RisingListsAreSets : Type 0 where
   -- histories keep them so
   pub kept : (buffer : Buffer) (events : List Event) → AllRising buffer.sequences → AllRising (state_after buffer events).sequences
 
+-- A sequence that is closed twice is as one that is closed once.
 abbrev pub SecondCloseChangesNothing : Type 0
 SecondCloseChangesNothing = (buffer : Buffer) (sequence : ℕ) → is_known buffer.sequences sequence ≡ true
     → with_close (with_close buffer sequence) sequence ≡ with_close buffer sequence

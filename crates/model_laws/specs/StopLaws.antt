@@ -49,6 +49,7 @@ pub record IsOpenIn (buffer : Buffer) (state : Sequence) : Type 0 where
   pub come : (chunk_id : ℕ) (stored : BufferRecord) → live_at buffer state.number chunk_id ≡ Some stored
       → stored.chunk.partial ≡ false → has_arrived state chunk_id ≡ true
 
+-- The stop place is the first place at or past the cursor at which a read has to stop.
 pub record StopPlacesAreFirst : Type 0 where
   pub unclosed : (buffer : Buffer) (state : Sequence) → IsOpenIn buffer state
       → IsFirstStop buffer state (stop_place (row_from_cursor buffer state))

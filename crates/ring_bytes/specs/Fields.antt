@@ -7,13 +7,16 @@ use Rattle.ring_bytes.specs.declared.ring.Ring.TheInside.{Inside}
 use Rattle.ring_bytes.specs.Rows.{IsPast, live_row}
 use Rattle.ring_bytes.specs.Value.{Stored, RingValue}
 
+-- the live records: the older ones from the write place on, then the newer ones in front
 abbrev pub live_of : List ℕ → ℕ → ℕ → List Stored
 live_of bytes next size = live_row bytes next size ++ live_row bytes 0 next
 
+-- a ring as its callers see it
 abbrev pub ring_view : Inside → RingValue
 ring_view ring =
     record { room = ring.size; next = ring.next; live = live_of ring.bytes.items ring.next ring.size }
 
+-- the fields of a ring hold together
 pub record IsRing (ring : Inside) : Type 0 where
   pub small : ring.size ≤ MAX_RING_SIZE
   pub next_in : ring.next ≤ ring.size

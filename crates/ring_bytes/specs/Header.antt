@@ -10,6 +10,7 @@ use Rattle.ring_bytes.specs.declared.key.RecordKey.{RecordKey}
 use Rattle.ring_bytes.specs.declared.header.Header.{Header}
 use Rattle.ring_bytes.specs.Bytes.{slice}
 
+-- a truth value as a bit
 abbrev pub bit_of : Bool → ℕ
 bit_of b = if b then 1 else 0
 

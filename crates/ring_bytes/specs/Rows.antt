@@ -9,6 +9,7 @@ use Rattle.ring_bytes.specs.Bytes.{slice}
 use Rattle.ring_bytes.specs.Header.{header_at, is_live}
 use Rattle.ring_bytes.specs.Value.{Stored}
 
+-- a part of the ring, at its place
 pub record Part : Type 0 where
   pub at : ℕ
   pub header : Header
@@ -37,6 +38,7 @@ AreParts bytes at (part ∷ rest) end =
 pub record IsRow (bytes : List ℕ) (at end : ℕ) : Type 0 where
   pub are : AreParts bytes at (row bytes at end) end
 
+-- the record that a part is
 abbrev pub stored_of : List ℕ → Part → Stored
 stored_of bytes part =
     record { at = part.at; key = part.header.key; payload = slice (part.at + RECORD_HEADER_SIZE) part.header.len bytes }
@@ -47,6 +49,7 @@ live_in bytes [] = []
 live_in bytes (part ∷ rest) =
     if is_live part.header then stored_of bytes part ∷ live_in bytes rest else live_in bytes rest
 
+-- the live records of a row
 abbrev pub live_row : List ℕ → ℕ → ℕ → List Stored
 live_row bytes at end = live_in bytes (row bytes at end)
 

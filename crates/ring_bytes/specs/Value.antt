@@ -12,6 +12,7 @@ pub record Stored : Type 0 where
   pub key : RecordKey
   pub payload : List ℕ
 
+-- a ring as its callers see it
 pub record RingValue : Type 0 where
   -- its size in bytes
   pub room : ℕ
@@ -20,6 +21,7 @@ pub record RingValue : Type 0 where
   -- the live records, in the order in which they got their places
   pub live : List Stored
 
+-- a ring without records
 abbrev pub empty_ring : ℕ → RingValue
 empty_ring room = record { room = room; next = 0; live = [] }
 
@@ -37,9 +39,11 @@ meets_stored ring size stored = is_met ring.room ring.next size stored.at (size_
 abbrev pub next_met_of : RingValue → ℕ → Option ℕ
 next_met_of ring size = option_map (λ (stored : Stored). stored.at) (find (meets_stored ring size) ring.live)
 
+-- the record lies at this place
 abbrev pub is_at : ℕ → Stored → Bool
 is_at place stored = stored.at == place
 
+-- the live record at a place
 abbrev pub stored_at : RingValue → ℕ → Option Stored
 stored_at ring place = find (is_at place) ring.live
 
@@ -48,6 +52,7 @@ stored_at ring place = find (is_at place) ring.live
 abbrev pub without_stored : ℕ → List Stored → List Stored
 without_stored place records = filter (λ stored. not (is_at place stored)) records
 
+-- the ring without the record at a place
 abbrev pub dropped_at : RingValue → ℕ → RingValue
 dropped_at ring place = record ring { live = without_stored place ring.live }
 
@@ -55,12 +60,15 @@ dropped_at ring place = record ring { live = without_stored place ring.live }
 abbrev pub change_at : ℕ → (Stored → Stored) → List Stored → List Stored
 change_at place change records = map (λ stored. if is_at place stored then change stored else stored) records
 
+-- the ring with the record at a place changed
 abbrev pub changed_at : RingValue → ℕ → (Stored → Stored) → RingValue
 changed_at ring place change = record ring { live = change_at place change ring.live }
 
+-- the record awaits a patch from now on, or doesn't
 abbrev pub with_awaits : Bool → Stored → Stored
 with_awaits awaits stored = record stored { key = record stored.key { awaits = awaits } }
 
+-- the record with another key and payload
 abbrev pub with_contents : RecordKey → List ℕ → Stored → Stored
 with_contents key payload stored = record stored { key = key; payload = payload }
 
@@ -68,6 +76,7 @@ with_contents key payload stored = record stored { key = key; payload = payload 
 abbrev pub put_at : ℕ → List ℕ → List ℕ → List ℕ
 put_at at piece bytes = take at bytes ++ (piece ++ drop (at + length piece) bytes)
 
+-- the record with these bytes put into its payload
 abbrev pub with_bytes : ℕ → List ℕ → Stored → Stored
 with_bytes offset bytes stored = record stored { payload = put_at offset bytes stored.payload }
 
@@ -76,6 +85,7 @@ abbrev pub placed : RingValue → RecordKey → List ℕ → Stored
 placed ring key payload =
     record { at = place_after ring.room ring.next (record_size (length payload)); key = key; payload = payload }
 
+-- the ring with one record more, behind all others
 abbrev pub written : RingValue → RecordKey → List ℕ → RingValue
 written ring key payload = record ring {
   next = place_after ring.room ring.next (record_size (length payload)) + record_size (length payload);

@@ -83,6 +83,7 @@ unfoldable pub closes : ℕ → LineKind → Bool
 closes producer (line.Close number) = producer == number
 closes producer other = false
 
+-- a line closes the producer
 abbrev pub is_closed_by : List NumberedLine → ℕ → Bool
 is_closed_by lines producer = list_any (λ line. closes producer line.what) lines
 
@@ -92,6 +93,7 @@ pub record AsksWell (lines : List NumberedLine) (number : ℕ) (writer : WriterS
   pub accepted : AreAccepted nothing_yet (calls_asked number lines)
   pub ended : is_closed_by lines writer.producer ≡ false → is_writing (packets_of (calls_asked number lines)) ≡ false
 
+-- The calls of each writer of a scenario are ones that a writer accepts.
 abbrev pub ScenariosAreAccepted : Type 0
 ScenariosAreAccepted = (scenario : Scenario) → IsScenario scenario
     → (place : ℕ) (writer : WriterSpec) → slice_get scenario.writers.items place ≡ Some writer

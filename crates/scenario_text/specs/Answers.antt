@@ -17,6 +17,7 @@ fault_reason before (faults.Reserved field) = reasons.ReservedField field
 fault_reason before faults.TooDeep = reasons.TooDeep
 fault_reason before faults.PacketTooLong = reasons.PacketTooLong
 
+-- the reason that a fault of FIELDS gives
 unfoldable pub reason_given : ℕ → Result (List Shown) FieldFault → Option Reason
 reason_given before (Ok nodes) = None
 reason_given before (Err fault) = Some (fault_reason before fault)

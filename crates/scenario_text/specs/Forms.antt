@@ -43,6 +43,7 @@ short_form word n =
     else if is word (codes "f") then Some (OfWriter n Flush)
     else service_form word n
 
+-- the form of a line of two words
 unfoldable pub two_words : List ℕ → List ℕ → Option Form
 two_words word second = with_number (short_form word) second
 
@@ -73,9 +74,11 @@ policy_form policy p b =
     else if is policy (codes "stall") then Some (Writer p b Stalls)
     else None
 
+-- the form of a writer's set-up line
 unfoldable pub writer_form : List ℕ → List ℕ → List ℕ → Option Form
 writer_form second third fourth = with_number (λ p. with_number (λ b. policy_form fourth p b) third) second
 
+-- the form of a line of four words
 unfoldable pub four_words : List ℕ → List ℕ → List ℕ → List ℕ → Option Form
 four_words word second third fourth =
     if is word (codes "producer") then producer_form second third fourth
@@ -96,6 +99,7 @@ long_form word second others =
     else if is word (codes "a") then with_number (λ w. Some (OfWriter w Add)) second
     else more_words word second others
 
+-- the form of a line, by its words
 unfoldable pub form_of_words : List (List ℕ) → Option Form
 form_of_words [] = None
 form_of_words (word ∷ []) = one_word word

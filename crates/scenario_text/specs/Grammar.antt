@@ -52,6 +52,7 @@ first_left state line number [] = line
 first_left state line number (writer ∷ writers) =
     first_left state (earlier line (line_left state writer (packet_of state (Fits number)))) (number + 1) writers
 
+-- the scenario, unless a packet is left begun
 unfoldable pub unless_left : Option ℕ → State → Result State (ℕ × Reason)
 unless_left None state = Ok state
 unless_left (Some line) state = Err (line, PacketLeft)

@@ -31,6 +31,7 @@ pub record IsWriter (buffers : List BufferLine) (producers : List ProducerLine) 
   pub buffer_is : slice_get buffers (writer.buffer - 1) ≡ Some into_buffer
   pub fits : record_size (payload_size of_producer.page_size of_producer.chunks) ≤ into_buffer.kb * BYTES_PER_KB
 
+-- the set-up lines are within their limits, and their references are there
 pub record IsSetUp (buffers : List BufferLine) (producers : List ProducerLine) (writers : List WriterSpec) : Type 0 where
   pub few_buffers : length buffers ≤ MAX_BUFFERS
   pub few_producers : length producers ≤ MAX_PRODUCERS

@@ -19,6 +19,7 @@ number_of (first ∷ second ∷ digits) = if first == 48 then None else value_fr
 unfoldable pub sized : ℕ → Numeral
 sized value = if nat_lt value (2 ^ 64) then Fits value else TooLarge
 
+-- a numeral by its value, where it has one
 unfoldable pub sized_value : Option ℕ → Option Numeral
 sized_value None = None
 sized_value (Some value) = Some (sized value)

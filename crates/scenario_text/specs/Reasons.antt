@@ -31,10 +31,12 @@ unfoldable pub is_producer_in_range : Numeral → Numeral → Numeral → Bool
 is_producer_in_range pages (Fits page_size) (Fits chunks) = is_within 1 MAX_PAGES pages && is_page_size page_size && is_chunk_count chunks
 is_producer_in_range pages page_size chunks = false
 
+-- a read's limit is in its range, or there is none
 unfoldable pub is_limit : Option Numeral → Bool
 is_limit None = true
 is_limit (Some limit) = is_within 1 18446744073709551615 limit
 
+-- a number of the line, other than a reference, is outside its range, or any number before FIELDS doesn't fit
 unfoldable pub is_out_of_range : Form → Bool
 is_out_of_range (Buffer kb policy) = not (is_within MIN_BUFFER_KB MAX_BUFFER_KB kb)
 is_out_of_range (Producer pages page_size chunks) = not (is_producer_in_range pages page_size chunks)
@@ -52,6 +54,7 @@ is_set_up (Producer pages page_size chunks) = true
 is_set_up (Writer producer buffer policy) = true
 is_set_up form = false
 
+-- a set-up line behind a line of another kind
 unfoldable pub is_late : State → Form → Bool
 is_late state form = is_played state && is_set_up form
 
@@ -70,11 +73,13 @@ lacks_producer state (Writer producer buffer policy) = is_none (item state.produ
 lacks_producer state (OfProducer producer step) = is_none (item state.producers producer)
 lacks_producer state form = false
 
+-- the line names a buffer that there isn't
 unfoldable pub lacks_buffer : State → Form → Bool
 lacks_buffer state (Writer producer buffer policy) = is_none (item state.buffers buffer)
 lacks_buffer state (Read buffer limit) = is_none (item state.buffers buffer)
 lacks_buffer state form = false
 
+-- the line names a writer that there isn't
 unfoldable pub lacks_writer : State → Form → Bool
 lacks_writer state (OfWriter writer step) = is_none (item state.writers writer)
 lacks_writer state form = false
@@ -86,6 +91,7 @@ is_larger (Some producer) (Some buffer) =
     nat_lt (buffer.kb * BYTES_PER_KB) (record_size (payload_size producer.page_size producer.chunks))
 is_larger producer buffer = false
 
+-- a record of the writer's chunks is more than its buffer
 unfoldable pub has_larger_chunks : State → Form → Bool
 has_larger_chunks state (Writer producer buffer policy) = is_larger (item state.producers producer) (item state.buffers buffer)
 has_larger_chunks state form = false
@@ -96,6 +102,7 @@ unfoldable pub is_closed_for : State → Option WriterSpec → Bool
 is_closed_for state None = false
 is_closed_for state (Some writer) = is_closed state (Fits writer.producer)
 
+-- the line is of a producer that is closed, or of one of its writers
 unfoldable pub has_closed_producer : State → Form → Bool
 has_closed_producer state (OfWriter writer step) = is_closed_for state (item state.writers writer)
 has_closed_producer state (OfProducer producer step) = is_closed state producer
@@ -110,6 +117,7 @@ wants_none Begin = true
 wants_none Flush = true
 wants_none step = false
 
+-- the line wants no packet begun, and the writer has one
 unfoldable pub meets_packet : State → Form → Bool
 meets_packet state (OfWriter writer step) = wants_none step && is_some (packet_of state writer)
 meets_packet state form = false
@@ -119,10 +127,12 @@ unfoldable pub lacks_packet : State → Form → Bool
 lacks_packet state (OfWriter writer step) = not (wants_none step) && is_none (packet_of state writer)
 lacks_packet state form = false
 
+-- the line ends a nested message, and none is open
 unfoldable pub lacks_nesting : State → Form → Bool
 lacks_nesting state (OfWriter writer Unnest) = depth_of (packet_of state writer) == 0
 lacks_nesting state form = false
 
+-- the line ends a packet with a nested message open
 unfoldable pub leaves_nesting : State → Form → Bool
 leaves_nesting state (OfWriter writer End) = nat_lt 0 (depth_of (packet_of state writer))
 leaves_nesting state form = false
@@ -132,6 +142,7 @@ leaves_nesting state form = false
 abbrev pub when : Bool → Reason → Option Reason
 when test reason = if test then Some reason else None
 
+-- the first reason that holds
 abbrev pub first : List (Option Reason) → Option Reason
 first [] = None
 first (None ∷ more) = first more
@@ -165,12 +176,14 @@ nested depth field =
     else if nat_le MAX_NESTING depth then Err faults.TooDeep
     else Ok []
 
+-- the nodes that a line of a writer adds to its packet, or the fault of its FIELDS
 unfoldable pub given_by : ℕ → List ℕ → WriterStep → Result (List Shown) FieldFault
 given_by depth line (Packet true) = outcome depth (fields_part line)
 given_by depth line Add = outcome depth (fields_part line)
 given_by depth line (Nest field) = nested depth field
 given_by depth line step = Ok []
 
+-- the nodes that a line adds to a packet, or the fault of its FIELDS
 unfoldable pub given : State → List ℕ → Form → Result (List Shown) FieldFault
 given state line (OfWriter writer step) = given_by (depth_of (packet_of state writer)) line step
 given state line form = Ok []
@@ -201,6 +214,7 @@ abbrev pub reserved_field : Result (List Shown) FieldFault → Option Reason
 reserved_field (Err (faults.Reserved field)) = Some (reasons.ReservedField field)
 reserved_field other = None
 
+-- the nesting passes its limit
 abbrev pub too_deep : Result (List Shown) FieldFault → Option Reason
 too_deep (Err faults.TooDeep) = Some reasons.TooDeep
 too_deep other = None
@@ -216,6 +230,7 @@ abbrev pub too_many_bytes : ℕ → Form → Result (List Shown) FieldFault → 
 too_many_bytes bytes (OfWriter writer step) (Ok nodes) = when (nat_lt MAX_SCENARIO_PACKET_BYTES (bytes + step_len step nodes)) reasons.TooManyBytes
 too_many_bytes bytes form other = None
 
+-- the reasons that FIELDS give, in their order
 unfoldable pub back_reasons : State → List ℕ → Form → List (Option Reason)
 back_reasons state line form =
     let nodes = given state line form in

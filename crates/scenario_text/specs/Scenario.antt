@@ -19,6 +19,7 @@ pub record Parts : Type 0 where
   pub writers : List WriterSpec
   pub lines : List NumberedLine
 
+-- a scenario's lists
 abbrev pub parts_of : Scenario → Parts
 parts_of scenario = record {
   buffers = scenario.buffers.items;
@@ -27,9 +28,11 @@ parts_of scenario = record {
   lines = scenario.lines.items;
 }
 
+-- the lists of what was read
 abbrev pub parts_said : State → Parts
 parts_said state = record { buffers = state.buffers; producers = state.producers; writers = state.writers; lines = state.lines }
 
+-- the lists of a scenario, or its first fault
 unfoldable pub said : Result State (ℕ × Reason) → Result Parts (ℕ × Reason)
 said (Ok state) = Ok (parts_said state)
 said (Err fault) = Err fault

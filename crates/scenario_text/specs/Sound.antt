@@ -17,6 +17,7 @@ unfoldable pub is_shallow : Option OpenPacket → Bool
 is_shallow None = true
 is_shallow (Some packet) = nat_le packet.depth MAX_NESTING
 
+-- what was read so far is within its limits
 pub record IsSound (buffers : List BufferLine) (producers : List ProducerLine) (writers : List WriterSpec)
     (packets : List (Option OpenPacket)) : Type 0 where
   pub few_buffers : length buffers ≤ MAX_BUFFERS

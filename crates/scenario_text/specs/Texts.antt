@@ -32,6 +32,7 @@ reason_number (BadField column) = Some column
 reason_number (ReservedField field) = Some field
 reason_number reason = None
 
+-- the number behind a reason's words
 unfoldable pub number_text : Option ℕ → List ℕ
 number_text None = []
 number_text (Some n) = decimal n

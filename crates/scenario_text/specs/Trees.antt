@@ -14,6 +14,7 @@ GivesTree (Packet writer nodes) = IsTree nodes
 GivesTree (Add writer nodes) = IsTree nodes
 GivesTree other = Unit {0}
 
+-- the fields of each line are a tree
 abbrev pub GiveTrees : List NumberedLine → Type 0
 GiveTrees lines = AllByRecursion (λ line. GivesTree line.what) lines
 

@@ -2,6 +2,7 @@
 use Rattle.scenario_text.specs.declared.reader.Reader.{Reader}
 use Rattle.scenario_text.specs.State.{State}
 
+-- what a reader has read so far
 abbrev pub state_of : Reader → State
 state_of reader = record {
   buffers = reader.scenario.buffers.items;

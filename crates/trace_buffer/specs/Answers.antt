@@ -20,6 +20,7 @@ use Rattle.trace_buffer.specs.declared.answers.Passed.TheVariants.{Delivered, Dr
 use Rattle.trace_buffer.specs.declared.answers.SequenceState.{SequenceState}
 use Rattle.trace_buffer.specs.declared.answers.BufferCounts.{BufferCounts}
 
+-- an arrival's outcome as one of the model
 abbrev pub arrived_value : Arrived → model.Arrived
 arrived_value Kept = model.Kept
 arrived_value Rewritten = model.Rewritten
@@ -28,6 +29,7 @@ arrived_value Discarded = model.Discarded
 arrived_value TooFar = model.TooFar
 arrived_value (BadChunk fragment) = model.BadChunk fragment
 
+-- the refusal of a patch as one of the model
 abbrev pub fault_value : PatchFault → patches.PatchAnswer
 fault_value NoChunk = patches.NoChunk
 fault_value BadOffset = patches.BadOffset
@@ -37,6 +39,7 @@ abbrev pub patch_told : Result Unit PatchFault → patches.PatchAnswer
 patch_told (Ok done) = patches.Applied
 patch_told (Err fault) = fault_value fault
 
+-- a cursor as one of the model
 abbrev pub cursor_value : Cursor → sequences.Cursor
 cursor_value cursor = record { chunk_id = cursor.chunk_id; passed = cursor.passed }
 
@@ -54,10 +57,12 @@ abbrev pub overwritten_of : FullPolicy → Sequence → ℕ
 overwritten_of Ring state = state.lost
 overwritten_of Discard state = 0
 
+-- in a discard buffer what is lost was discarded
 abbrev pub discarded_of : FullPolicy → Sequence → ℕ
 discarded_of Ring state = 0
 discarded_of Discard state = state.lost
 
+-- what the buffer says of a sequence
 abbrev pub state_of : FullPolicy → Sequence → SequenceState
 state_of policy state = record {
   cursor = record { chunk_id = state.cursor.chunk_id; passed = state.cursor.passed };
@@ -71,6 +76,7 @@ state_of policy state = record {
   cut = state.cut;
 }
 
+-- what the buffer says of its counts
 abbrev pub counts_of : Buffer → BufferCounts
 counts_of buffer = record {
   policy = buffer.policy;

@@ -14,6 +14,7 @@ use Rattle.trace_model.specs.Sequences.{Sequence, is_known, sequence_in, has_arr
 use Rattle.trace_buffer.specs.Records.{record_of, is_readable, is_at_key}
 use Rattle.trace_buffer.specs.declared.buffer.TraceBuffer.TheInside.{Inside}
 
+-- a buffer as one of the model
 abbrev pub buffer_view : Inside → Buffer
 buffer_view a = record {
   room = a.ring.room;
@@ -37,10 +38,12 @@ NoneOf sequence chunk_id [] = Unit {0}
 NoneOf sequence chunk_id (stored ∷ records) =
     (is_at_key sequence chunk_id stored ≡ false) × NoneOf sequence chunk_id records
 
+-- no chunk has two live records
 abbrev pub KeysOnce : List Stored → Type 0
 KeysOnce [] = Unit {0}
 KeysOnce (stored ∷ records) = NoneOf stored.key.sequence stored.key.chunk_id records × KeysOnce records
 
+-- no two live records lie at one place
 abbrev pub PlacesOnce : List Stored → Type 0
 PlacesOnce [] = Unit {0}
 PlacesOnce (stored ∷ records) = NoneAt stored.at records × PlacesOnce records
@@ -77,10 +80,12 @@ abbrev pub NoPart : Buffer → ℕ → ℕ → Type 0
 NoPart buffer sequence chunk_id =
     find (λ (r : BufferRecord). is_of sequence chunk_id r && r.chunk.partial) buffer.live ≡ None
 
+-- each live record is one that the buffer keeps
 abbrev pub AllKept : List Sequence → List Stored → Type 0
 AllKept rows [] = Unit {0}
 AllKept rows (stored ∷ records) = IsKept rows stored × AllKept rows records
 
+-- no sequence stands twice
 abbrev pub NumbersOnce : List Sequence → Type 0
 NumbersOnce [] = Unit {0}
 NumbersOnce (state ∷ rows) = (is_known rows state.number ≡ false) × NumbersOnce rows
@@ -91,11 +96,13 @@ AllFit room capacity [] = Unit {0}
 AllFit room capacity (state ∷ rows) =
     (state.size ≤ room) × (room < state.size * (capacity + 1)) × AllFit room capacity rows
 
+-- ring, index and rows belong together
 pub record AreParts (ring : RingValue) (index : IndexValue) (rows : List Sequence) : Type 0 where
   pub indexed : IsIndexed index.places ring.live
   pub kept : AllKept rows ring.live
   pub once : NumbersOnce rows
   pub fit : AllFit ring.room index.capacity rows
 
+-- the fields of a buffer hold together
 abbrev pub IsBuffer : Inside → Type 0
 IsBuffer a = AreParts a.ring a.index a.rows.items

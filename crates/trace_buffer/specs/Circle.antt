@@ -2,9 +2,11 @@
 use Rattle.std.specs.Prelude.{ℕ, zero, suc, ◌%◌, Bool, false, List, [], ◌∷◌, ◌++◌, slice_index_or, slice_set, if◌then◌else◌}
 use Rattle.trace_base.specs.declared.limits.TheConstants.{IDS_AHEAD}
 
+-- the bit of an id, in a circle of as many as may come ahead
 abbrev pub bit : List Bool → ℕ → Bool
 bit bits id = slice_index_or bits (id % IDS_AHEAD) false
 
+-- the circle with the bit of an id set or cleared
 abbrev pub with_bit : List Bool → ℕ → Bool → List Bool
 with_bit bits id b = slice_set bits (id % IDS_AHEAD) b
 

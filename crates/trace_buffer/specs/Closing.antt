@@ -13,6 +13,7 @@ parts_of number live =
     (λ (stored : BufferRecord). stored.chunk_id)
     (filter (λ (stored : BufferRecord). (stored.sequence == number) && stored.chunk.partial) live)
 
+-- the chunks of which a part is there as the sequence is closed
 abbrev pub finals_of : ℕ → List BufferRecord → List ℕ
 finals_of number live = rising (parts_of number live)
 
@@ -26,6 +27,7 @@ IsStillNear state key =
     key.sequence ≡ state.number → key.partial ≡ true
     → (has_arrived state key.chunk_id ≡ false) × (is_too_far state key.chunk_id ≡ false)
 
+-- each live part is of a chunk that may still come
 abbrev pub PartsAreNear : Sequence → List Stored → Type 0
 PartsAreNear state [] = Unit {0}
 PartsAreNear state (stored ∷ records) = IsStillNear state stored.key × PartsAreNear state records

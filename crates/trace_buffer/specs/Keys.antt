@@ -13,6 +13,7 @@ use Rattle.trace_buffer.specs.Records.{record_of, is_readable, unread_losses}
 abbrev pub starts_in : RecordKey → ℕ → ℕ
 starts_in key unread = unread - one_if (has_flag_1 key.flags && (unread == key.count))
 
+-- how many unread packets begin in a record with this key
 abbrev pub unread_starts : Sequence → RecordKey → ℕ
 unread_starts state key = starts_in key (unread_of state key.chunk_id key.count)
 
@@ -20,9 +21,11 @@ unread_starts state key = starts_in key (unread_of state key.chunk_id key.count)
 abbrev pub is_loss : Sequence → RecordKey → Bool
 is_loss state key = not (key.partial && not state.closed)
 
+-- how many packets are lost with a record with this key
 abbrev pub packets_lost : Sequence → RecordKey → ℕ
 packets_lost state key = if is_loss state key then unread_starts state key else 0
 
+-- with a record with this key a fragment is lost that wasn't read
 abbrev pub is_unread_loss : Sequence → RecordKey → Bool
 is_unread_loss state key = is_loss state key && nat_lt 0 (unread_of state key.chunk_id key.count)
 

@@ -5,6 +5,7 @@ use Rattle.page_geometry.specs.Sizes.{record_size}
 use Rattle.trace_model.specs.Sequences.{Sequence, fresh}
 use Rattle.trace_buffer.specs.declared.answers.SequenceSpec.{SequenceSpec}
 
+-- a sequence of which nothing has arrived
 abbrev pub sequence_of : SequenceSpec → Sequence
 sequence_of spec = fresh spec.sequence (record_size spec.payload)
 

@@ -14,6 +14,7 @@ abbrev pub fragments_of : Reading → List Fragment
 fragments_of (Fragments fragments) = fragments
 fragments_of (Unreadable number) = []
 
+-- the payload reads as fragments
 abbrev pub is_readable : Reading → Bool
 is_readable (Fragments fragments) = true
 is_readable (Unreadable number) = false
@@ -28,6 +29,7 @@ chunk_of key payload = record {
   fragments = fragments_of (reading_of key.count payload);
 }
 
+-- a record of the ring as one of the model
 abbrev pub record_of : Stored → BufferRecord
 record_of stored = record {
   sequence = stored.key.sequence;
@@ -45,6 +47,7 @@ is_at_key sequence chunk_id stored = is_of sequence chunk_id (record_of stored)
 abbrev pub meets_record : RingValue → ℕ → BufferRecord → Bool
 meets_record ring size r = is_met ring.room ring.next size r.at r.size
 
+-- what the next record of this size meets
 abbrev pub met_records : RingValue → ℕ → List BufferRecord
 met_records ring size = filter (meets_record ring size) (map record_of ring.live)
 

@@ -5,6 +5,7 @@ use Rattle.trace_model.specs.Sequences.{Sequence, is_among}
 use Rattle.trace_buffer.specs.Circle.{bit, marked, arrived_of}
 use Rattle.trace_buffer.specs.declared.row.SequenceRow.TheInside.{Inside}
 
+-- the row of a sequence as one of the model
 abbrev pub row_view : Inside → Sequence
 row_view row = record {
   number = row.number;
@@ -20,6 +21,7 @@ row_view row = record {
   cut = row.cut;
 }
 
+-- the fields of a row hold together
 pub record IsSequence (row : Inside) : Type 0 where
   pub ahead : length row.ahead.items ≡ IDS_AHEAD
   pub finals : length row.finals.items ≡ IDS_AHEAD

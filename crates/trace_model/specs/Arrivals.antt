@@ -39,6 +39,7 @@ is_refused buffer size =
     discards buffer.policy
     && (buffer.shut || list_any (λ stored. meets buffer size stored && is_unread buffer.sequences stored) buffer.live)
 
+-- what became of a chunk that arrived: the first case of the buffers document's rules, and of this profile's, that holds
 pub data Arrived : Type 0 where
   Kept : Arrived
   Rewritten : Arrived
@@ -94,6 +95,8 @@ with_arrived chunk_id count state = record state {
 abbrev pub with_discarded : ℕ → Chunk → Sequence → Sequence
 with_discarded chunk_id chunk state = record state { lost = raised state.lost (unread_starts state chunk_id chunk) }
 
+-- the buffer that has refused a chunk, as a full one of the discard policy does: it takes no new record from then on, and the
+-- chunk counts as discarded
 abbrev pub discarded_buffer : Buffer → ℕ → ℕ → Chunk → Buffer
 discarded_buffer buffer sequence chunk_id chunk = record buffer {
   shut = true;
@@ -120,6 +123,7 @@ makes_arrive Rewritten = true
 makes_arrive Discarded = true
 makes_arrive other = false
 
+-- the chunk's sequence has noted the arrival, where its outcome makes the chunk arrive
 abbrev pub arrival_noted : Arrived → ℕ → ℕ → ℕ → Buffer → Buffer
 arrival_noted outcome sequence chunk_id count buffer = record buffer {
   sequences = if makes_arrive outcome
@@ -133,6 +137,7 @@ with_arrival buffer sequence chunk_id chunk =
     arrival_noted (arrival_of buffer sequence chunk_id) sequence chunk_id (length chunk.fragments)
     (settled (arrival_of buffer sequence chunk_id) buffer sequence chunk_id (complete_chunk chunk))
 
+-- the buffer after the first fragments of a chunk arrived, which its writer still holds
 abbrev pub with_partial_arrival : Buffer → ℕ → ℕ → Chunk → Buffer
 with_partial_arrival buffer sequence chunk_id chunk =
     settled (partial_arrival_of buffer sequence chunk_id (length chunk.fragments)) buffer sequence chunk_id
@@ -144,23 +149,28 @@ abbrev pub outcome_of : Arrived → Reading → Arrived
 outcome_of outcome (Fragments fragments) = outcome
 outcome_of outcome (Unreadable number) = BadChunk number
 
+-- the outcome of an image's arrival: that its payload can't be read comes before all else
 abbrev pub image_arrival_of : Buffer → Image → Arrived
 image_arrival_of buffer image =
     outcome_of (arrival_of buffer image.sequence image.chunk_id) (reading_of image.count image.payload)
 
+-- the same of a part of an image, with so many fragments as its count says
 abbrev pub partial_image_arrival_of : Buffer → Image → Arrived
 partial_image_arrival_of buffer image =
     outcome_of (partial_arrival_of buffer image.sequence image.chunk_id image.count) (reading_of image.count image.payload)
 
+-- what is done with the fragments that a payload reads as; nothing, where it can't be read
 abbrev pub once_read : Buffer → (Chunk → Buffer) → ℕ → Reading → Buffer
 once_read buffer arrive flags (Fragments fragments) = arrive (whole_chunk flags fragments)
 once_read buffer arrive flags (Unreadable number) = buffer
 
+-- the buffer after an image arrived
 abbrev pub with_image : Buffer → Image → Buffer
 with_image buffer image =
     once_read buffer (with_arrival buffer image.sequence image.chunk_id) image.flags
     (reading_of image.count image.payload)
 
+-- the buffer after a part of an image arrived
 abbrev pub with_partial_image : Buffer → Image → Buffer
 with_partial_image buffer image =
     once_read buffer (with_partial_arrival buffer image.sequence image.chunk_id) image.flags

@@ -21,6 +21,7 @@ pub record PacketCounts : Type 0 where
   pub discarded : ℕ
   pub cut : ℕ
 
+-- every packet that was begun is delivered, or absent under one of the four causes
 pub record IsBalanced (counts : PacketCounts) : Type 0 where
   pub sum : counts.begun ≡ counts.delivered + counts.dropped + counts.overwritten + counts.discarded + counts.cut
 
@@ -54,10 +55,12 @@ outcomes_of fixed (packet ∷ packets) (chain ∷ chains) =
     then unwrap_or (outcome_at chain.at fixed) (Absent Cut) ∷ outcomes_of fixed packets chains
     else Absent Dropped ∷ outcomes_of fixed packets (chain ∷ chains)
 
+-- the packet is in a record
 abbrev pub is_delivered : Outcome → Bool
 is_delivered Delivered = true
 is_delivered (Absent cause) = false
 
+-- the packet is in no record, by this cause
 abbrev pub is_absent_under : Cause → Outcome → Bool
 is_absent_under cause Delivered = false
 is_absent_under cause (Absent other) = is_same_cause cause other

@@ -21,6 +21,8 @@ abbrev pub discards : FullPolicy → Bool
 discards Ring = false
 discards Discard = true
 
+-- a buffer of the service, after the buffers document: its size and policy, its live records, what it has counted, and its
+-- sequences
 pub record Buffer : Type 0 where
   -- its size in bytes
   pub room : ℕ
@@ -41,6 +43,7 @@ pub record Buffer : Type 0 where
   pub padding : ℕ
   pub sequences : List Sequence
 
+-- a buffer as it is made
 abbrev pub empty_buffer : ℕ → FullPolicy → List Sequence → Buffer
 empty_buffer room policy sequences = record {
   room = room;
@@ -61,6 +64,7 @@ empty_buffer room policy sequences = record {
 abbrev pub is_of : ℕ → ℕ → BufferRecord → Bool
 is_of sequence chunk_id stored = (stored.sequence == sequence) && (stored.chunk_id == chunk_id)
 
+-- the live record of a chunk
 abbrev pub live_at : Buffer → ℕ → ℕ → Option BufferRecord
 live_at buffer sequence chunk_id = find (is_of sequence chunk_id) buffer.live
 
@@ -74,6 +78,7 @@ meets buffer size stored = is_met buffer.room buffer.next size stored.at stored.
 abbrev pub unread_in : Sequence → BufferRecord → ℕ
 unread_in state stored = unread_of state stored.chunk_id (length stored.chunk.fragments)
 
+-- the record has a fragment that its sequence's cursor hasn't passed
 abbrev pub is_unread : List Sequence → BufferRecord → Bool
 is_unread sequences stored = nat_lt 0 (unread_in (sequence_in sequences stored.sequence) stored)
 
@@ -82,6 +87,7 @@ is_unread sequences stored = nat_lt 0 (unread_in (sequence_in sequences stored.s
 abbrev pub is_loss_of : Sequence → BufferRecord → Bool
 is_loss_of state stored = (stored.sequence == state.number) && not (stored.chunk.partial && not state.closed)
 
+-- with the record a fragment of this sequence is lost that wasn't read; a part of a chunk whose sequence is open loses nothing
 abbrev pub is_unread_loss : Sequence → BufferRecord → Bool
 is_unread_loss state stored = is_loss_of state stored && nat_lt 0 (unread_in state stored)
 

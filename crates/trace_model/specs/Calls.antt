@@ -2,6 +2,7 @@
 -- stands there too, as the writer notes it.
 use Rattle.std.specs.Prelude.{ℕ, Bool, List}
 
+-- a call of a writer, as it notes it
 pub data Call : Type 0 where
   -- a packet is begun; one that isn't kept was dropped as a whole, since no chunk was free
   Begun : (kept : Bool) → Call

@@ -11,12 +11,14 @@ use Rattle.trace_model.specs.Reads.{Dropped, Lost, Cut}
 use Rattle.trace_model.specs.Balance.{is_delivered, is_absent_under}
 use Rattle.trace_model.specs.Causes.{Fixed, fixed_after, is_same_place}
 
+-- the event brings a chunk of the sequence, whole or in part
 abbrev pub is_arrival_of : ℕ → Event → Bool
 is_arrival_of sequence (Arrives other chunk_id chunk) = other == sequence
 is_arrival_of sequence (ArrivesInPart other chunk_id chunk) = other == sequence
 is_arrival_of sequence (Committed image patches) = image.sequence == sequence
 is_arrival_of sequence event = false
 
+-- the event closes the sequence
 abbrev pub is_close_of : ℕ → Event → Bool
 is_close_of sequence (Closed other) = other == sequence
 is_close_of sequence event = false
@@ -34,6 +36,7 @@ AreDistinct [] = ⊤
 AreDistinct (fixed ∷ others) =
     IsTrue (not (list_any (λ other. is_same_place other.at fixed.at) others)) × AreDistinct others
 
+-- No packet has two outcomes: the places at which outcomes are fixed are distinct.
 abbrev pub PacketsHaveOneOutcome : Type 0
 PacketsHaveOneOutcome = (room : ℕ) (policy : FullPolicy) (sequences : List Sequence) (sequence size : ℕ) (events : List Event)
     → is_known sequences sequence ≡ true → sequence_in sequences sequence ≡ fresh sequence size
@@ -47,6 +50,7 @@ pub record AreCounted (fixed : List Fixed) (state : Sequence) : Type 0 where
   pub lost : state.lost ≡ raised 0 (count_by (λ one. is_absent_under Lost one.outcome) fixed)
   pub cut : state.cut ≡ raised 0 (count_by (λ one. is_absent_under Cut one.outcome) fixed)
 
+-- What a sequence has counted are the outcomes that were fixed.
 abbrev pub CountsAreOutcomes : Type 0
 CountsAreOutcomes = (room : ℕ) (policy : FullPolicy) (sequences : List Sequence) (sequence size : ℕ) (events : List Event)
     → is_known sequences sequence ≡ true → sequence_in sequences sequence ≡ fresh sequence size

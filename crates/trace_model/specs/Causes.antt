@@ -28,6 +28,7 @@ fixed_by_turn at (Counts cause) = record { at = at; outcome = Absent cause } ∷
 fixed_by_turn at Skips = []
 fixed_by_turn at Ends = []
 
+-- what a read fixes as it goes over one link of a row
 abbrev pub fixed_by_link : Link → List Fixed
 fixed_by_link (Joined chain) = fixed_by_turn chain.at (turn_of (Joined chain))
 fixed_by_link (Gap at next lost) = []
@@ -51,6 +52,7 @@ unread_start_places state chunk_id chunk =
     let unread = unread_of state chunk_id count in
     starts_among chunk (places_from chunk_id (count - unread) unread)
 
+-- the packet that begins at this place is lost
 abbrev pub lost_at : Cursor → Fixed
 lost_at at = record { at = at; outcome = Absent Lost }
 
@@ -74,6 +76,7 @@ fixed_by_arrival buffer state owner Discarded partial chunk_id chunk =
     else []
 fixed_by_arrival buffer state owner other partial chunk_id chunk = []
 
+-- what the arrival of an image fixes, once its payload is read; nothing, where it can't be
 abbrev pub fixed_once_read : Buffer → Sequence → ℕ → ℕ → ℕ → Reading → List Fixed
 fixed_once_read buffer state owner chunk_id flags (Fragments fragments) =
     fixed_by_arrival buffer state (sequence_in buffer.sequences owner) (arrival_of buffer owner chunk_id) false chunk_id
@@ -106,6 +109,7 @@ fixed_after sequence buffer (event ∷ events) =
 abbrev pub is_same_place : Cursor → Cursor → Bool
 is_same_place a b = (a.chunk_id == b.chunk_id) && (a.passed == b.passed)
 
+-- the outcome of the packet that begins at this place, where one is fixed
 abbrev pub outcome_at : Cursor → List Fixed → Option Outcome
 outcome_at at [] = None
 outcome_at at (fixed ∷ others) = if is_same_place fixed.at at then Some fixed.outcome else outcome_at at others

@@ -29,6 +29,7 @@ abbrev pub FlagsAgree : Bool → List Page → Type 0
 FlagsAgree runs_on [] = ⊤
 FlagsAgree runs_on (page ∷ pages) = (page.continues ≡ runs_on) × FlagsAgree page.runs_on pages
 
+-- the last page's last packet goes on in the next page; without pages, what is said of the one before
 abbrev pub last_runs_on : Bool → List Page → Bool
 last_runs_on runs_on [] = runs_on
 last_runs_on runs_on (page ∷ pages) = last_runs_on page.runs_on pages
@@ -76,6 +77,7 @@ ends_well size lengths end piece =
     not piece.runs_on
     || ((left_behind size piece == 0) || (nat_lt (left_behind size piece) 4 && is_among end lengths))
 
+-- each piece of a chain ends where it may, the first of which begins at this place of the packet's text
 abbrev pub all_end_well : ℕ → List ℕ → ℕ → List Piece → Bool
 all_end_well size lengths at [] = true
 all_end_well size lengths at (piece ∷ pieces) =
@@ -86,10 +88,12 @@ all_end_well size lengths at (piece ∷ pieces) =
 abbrev pub has_byte : Piece → Bool
 has_byte piece = nat_lt 0 (length piece.fragment.bytes)
 
+-- every piece of a chain but the first has a byte
 abbrev pub all_go_on : List Piece → Bool
 all_go_on [] = true
 all_go_on (piece ∷ pieces) = list_all has_byte pieces
 
+-- the chain ends in a drop mark
 abbrev pub is_marked_fate : Fate → Bool
 is_marked_fate Marked = true
 is_marked_fate other = false
@@ -119,6 +123,7 @@ abbrev pub is_end : ℕ → Option Piece → Bool
 is_end size None = true
 is_end size (Some piece) = nat_lt (left_behind size piece) room_to_begin || (piece.at.passed + 1 == MAX_FRAGMENTS)
 
+-- the last piece of the newest chain
 abbrev pub newest_piece : List Chain → Option Piece
 newest_piece [] = None
 newest_piece (chain ∷ older) = last_piece chain.pieces
@@ -132,10 +137,12 @@ is_fresh size flushed (packet ∷ older) chains = is_lost packet || (flushed || 
 abbrev pub begins_chunk : Chain → Bool
 begins_chunk chain = chain.at.passed == 0
 
+-- all chains but the newest
 abbrev pub older_chains : List Chain → List Chain
 older_chains [] = []
 older_chains (chain ∷ older) = older
 
+-- two truth values are the same
 abbrev pub is_same : Bool → Bool → Bool
 is_same a b = if a then b else not b
 

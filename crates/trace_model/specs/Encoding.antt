@@ -22,6 +22,7 @@ number_field field value = tag field 0 ++ varint value
 unfoldable pub bytes_head : ℕ → ℕ → List ℕ
 bytes_head field count = tag field 2 ++ varint count
 
+-- the field of a text so many times over: its tag, its length, its bytes
 unfoldable pub bytes_field : ℕ → List ℕ → ℕ → List ℕ
 bytes_field field text times = bytes_head field (times * length text) ++ repeat times text
 

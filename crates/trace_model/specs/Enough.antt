@@ -21,6 +21,7 @@ pub record WriterLoad : Type 0 where
 abbrev pub most_chunks : ℕ → List (List ℕ) → ℕ
 most_chunks payload emitted = sum_by (λ packet. 1 + length packet / (payload - 7)) emitted
 
+-- the payload size of a producer's chunks, 0 where there is no such producer
 abbrev pub payload_in : Option ChunkRoom → ℕ
 payload_in None = 0
 payload_in (Some room) = room.payload
@@ -29,6 +30,7 @@ payload_in (Some room) = room.payload
 abbrev pub payload_of : List ChunkRoom → WriterLoad → ℕ
 payload_of producers load = payload_in (slice_get producers (load.spec.producer - 1))
 
+-- the policy has a writer wait for a chunk, and not drop
 abbrev pub stalls : WriterPolicy → Bool
 stalls Stalls = true
 stalls other = false
@@ -39,6 +41,7 @@ is_enough_for loads room =
     list_all (λ load. stalls load.spec.policy) loads
     || nat_le (sum_by (λ load. most_chunks room.payload load.emitted) loads) room.chunks
 
+-- each producer has chunks enough for its writers, whose numbers of producers count from 1
 abbrev pub has_chunks_enough : List ChunkRoom → List WriterLoad → Bool
 has_chunks_enough producers loads =
     list_all

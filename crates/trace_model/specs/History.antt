@@ -10,6 +10,7 @@ use Rattle.trace_model.specs.Reads.{Delivery, delivered_by, with_read}
 use Rattle.trace_model.specs.Record.{record_of}
 use Rattle.trace_model.specs.Delivery.{Delivered}
 
+-- an event of the service
 pub data Event : Type 0 where
   -- a complete chunk of the sequence's writer arrives
   Arrives : (sequence chunk_id : ℕ) → Chunk → Event
@@ -22,6 +23,7 @@ pub data Event : Type 0 where
   Closed : (sequence : ℕ) → Event
   Read : (sequence limit : ℕ) → Event
 
+-- the sequence that an event is about
 abbrev pub event_sequence : Event → ℕ
 event_sequence (Arrives sequence chunk_id chunk) = sequence
 event_sequence (ArrivesInPart sequence chunk_id chunk) = sequence

@@ -38,12 +38,15 @@ pub record Chunk : Type 0 where
   pub partial : Bool
   pub fragments : List Fragment
 
+-- the first fragment continues a packet of the chunk before (the ABI)
 abbrev pub has_flag_1 : ℕ → Bool
 has_flag_1 flags = flags % 2 == 1
 
+-- the last fragment continues in the next chunk (the ABI)
 abbrev pub has_flag_2 : ℕ → Bool
 has_flag_2 flags = flags / 2 % 2 == 1
 
+-- the chunk needs patching (the ABI)
 abbrev pub has_flag_4 : ℕ → Bool
 has_flag_4 flags = flags / 4 % 2 == 1
 
@@ -61,9 +64,11 @@ whole_chunk flags fragments = record {
 abbrev pub partial_chunk : Chunk → Chunk
 partial_chunk chunk = record chunk { runs_on = false; awaits = false; partial = true }
 
+-- a chunk with its first fragments alone
 abbrev pub first_fragments : ℕ → Chunk → Chunk
 first_fragments count chunk = record chunk { fragments = take count chunk.fragments }
 
+-- the chunk as one that came whole
 abbrev pub complete_chunk : Chunk → Chunk
 complete_chunk chunk = record chunk { partial = false }
 
@@ -78,6 +83,7 @@ abbrev pub holds_patch : Fragment → Patch → Bool
 holds_patch fragment patch =
     nat_le fragment.offset patch.offset && nat_le (patch.offset + 4) (fragment.offset + length fragment.bytes)
 
+-- the fragment with the patch's four bytes put in
 abbrev pub patched_fragment : Patch → Fragment → Fragment
 patched_fragment patch fragment =
     record fragment { bytes = with_bytes fragment.bytes (patch.offset - fragment.offset) patch.bytes }

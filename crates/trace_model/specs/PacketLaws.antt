@@ -15,6 +15,7 @@ AreFronted (packet ∷ older) =
     (packet.follows_loss ≡ newest_is_lost older) × (body_of packet ≡ front_of packet ++ packet_encoding packet)
     × AreFronted older
 
+-- A packet has the mark in front exactly where the packet before it is lost.
 abbrev pub PacketsAreFronted : Type 0
 PacketsAreFronted = (calls : List Call) → AreFronted (packets_of calls)
 
@@ -23,6 +24,7 @@ pub record WholePacket : Type 0 where
   pub kept : Bool
   pub fields : Fields
 
+-- the calls that write one whole packet
 abbrev pub packet_calls : WholePacket → List Call
 packet_calls packet = Begun packet.kept ∷ calls_of packet.fields ++ Finished ∷ []
 
@@ -34,6 +36,8 @@ whole_bodies lost (packet ∷ packets) =
     then (mark_where lost ++ encoding_of packet.fields) ∷ whole_bodies false packets
     else whole_bodies true packets
 
+-- The packets that such calls write are the encodings of their fields, and their bodies have a mark in front exactly behind
+-- one that was dropped.
 abbrev pub CallsGiveEncodings : Type 0
 CallsGiveEncodings = (packets : List WholePacket)
     → (emissions_of (flat_map packet_calls packets) ≡ map (λ (packet : WholePacket). encoding_of packet.fields) packets)

@@ -46,6 +46,7 @@ closed_levels (level ∷ outer ∷ others) closed = record {
   closed = closed ++ record { at = length (flat open_length (outer ∷ others)); size = length level } ∷ [];
 }
 
+-- a packet that a writer began
 pub record Packet : Type 0 where
   -- it wasn't dropped at its begin
   pub kept : Bool
@@ -80,9 +81,11 @@ pub record Account : Type 0 where
   pub packets : List Packet
   pub flushed : Bool
 
+-- no packet was begun, and nothing was flushed
 abbrev pub nothing_yet : Account
 nothing_yet = record { packets = []; flushed = false }
 
+-- the newest packet was dropped, at its begin or later
 abbrev pub newest_is_lost : List Packet → Bool
 newest_is_lost [] = false
 newest_is_lost (packet ∷ older) = is_lost packet
@@ -110,16 +113,20 @@ on_newest change account = record account { packets = newest_changed change acco
 abbrev pub with_more : List ℕ → Packet → Packet
 with_more bytes packet = record packet { text = record packet.text { levels = written bytes packet.text.levels } }
 
+-- the packet with one more nested message begun
 abbrev pub with_nested : ℕ → Packet → Packet
 with_nested field packet =
     record packet { text = record packet.text { levels = [] ∷ written (nested_tag field) packet.text.levels } }
 
+-- the packet with its innermost nested message ended
 abbrev pub with_nested_ended : Packet → Packet
 with_nested_ended packet = record packet { text = closed_levels packet.text.levels packet.text.closed }
 
+-- the packet that its writer gave up, with its text as it stood then
 abbrev pub given_up_packet : Packet → Packet
 given_up_packet packet = record packet { given_up = Some packet.text }
 
+-- the packet that its writer finished
 abbrev pub finished_packet : Packet → Packet
 finished_packet packet = record packet { finished = true }
 
@@ -134,6 +141,7 @@ noted account GivenUp = on_newest given_up_packet account
 noted account Finished = on_newest finished_packet account
 noted account Flushed = record account { flushed = true }
 
+-- what the calls of a writer come to
 abbrev pub account_of : List Call → Account
 account_of calls = fold noted nothing_yet calls
 
@@ -157,6 +165,7 @@ emissions_of calls = map packet_encoding (filter (λ packet. packet.finished) (r
 abbrev pub begun_count : List Call → ℕ
 begun_count calls = length (packets_of calls)
 
+-- how many packets were dropped as a whole
 abbrev pub dropped_at_begin : List Call → ℕ
 dropped_at_begin calls = length (filter (λ packet. not packet.kept) (packets_of calls))
 
@@ -172,9 +181,11 @@ abbrev pub open_count : List Packet → ℕ
 open_count [] = 0
 open_count (packet ∷ older) = length packet.text.levels
 
+-- a packet is being written, and isn't lost
 abbrev pub newest_is_kept : List Packet → Bool
 newest_is_kept packets = is_writing packets && not (newest_is_lost packets)
 
+-- the call may come where these packets were begun
 abbrev pub is_possible : List Packet → Call → Bool
 is_possible packets (Begun kept) = not (is_writing packets)
 is_possible packets (Number field value) = is_writing packets
@@ -185,6 +196,7 @@ is_possible packets GivenUp = newest_is_kept packets
 is_possible packets Finished = is_writing packets && (open_count packets == 1)
 is_possible packets Flushed = not (is_writing packets)
 
+-- each of the calls may come where it stands
 abbrev pub are_possible_after : Account → List Call → Bool
 are_possible_after account [] = true
 are_possible_after account (call ∷ calls) =

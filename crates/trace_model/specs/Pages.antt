@@ -27,9 +27,11 @@ laid true (bytes ∷ []) rest = drop_mark ++ bytes ++ rest
 laid false (bytes ∷ []) rest = framed bytes ++ rest
 laid dropped (bytes ∷ next ∷ others) rest = framed bytes ++ laid dropped (next ∷ others) rest
 
+-- the flag, where it is set
 abbrev pub flag_where : Bool → ℕ → ℕ
 flag_where set flag = if set then flag else 0
 
+-- the flags of the page's chunk header (the ABI)
 abbrev pub flags_of : Page → ℕ
 flags_of page = flag_where page.continues 1 + flag_where page.runs_on 2 + flag_where page.awaits 4
 

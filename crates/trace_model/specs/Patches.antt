@@ -5,6 +5,7 @@ use Rattle.trace_model.specs.Images.{Chunk, Patch, patched_last, last_holds}
 use Rattle.trace_model.specs.Sequences.{Sequence, sequence_in, changed_at, rising}
 use Rattle.trace_model.specs.Buffers.{Buffer, BufferRecord, is_of}
 
+-- what became of a patch
 pub data PatchAnswer : Type 0 where
   Applied : PatchAnswer
   -- no live complete record of the chunk awaits a patch
@@ -12,16 +13,20 @@ pub data PatchAnswer : Type 0 where
   -- the four bytes don't lie inside the last fragment
   BadOffset : PatchAnswer
 
+-- the record is of this chunk and awaits a patch
 abbrev pub awaits_at : ℕ → ℕ → BufferRecord → Bool
 awaits_at sequence chunk_id stored = is_of sequence chunk_id stored && stored.chunk.awaits
 
+-- what becomes of a patch, by the record that awaits it
 abbrev pub answer_to : Patch → Option BufferRecord → PatchAnswer
 answer_to patch None = NoChunk
 answer_to patch (Some stored) = if last_holds stored.chunk.fragments patch then Applied else BadOffset
 
+-- what becomes of a patch in a buffer
 abbrev pub patch_answer : Buffer → ℕ → Patch → PatchAnswer
 patch_answer buffer sequence patch = answer_to patch (find (awaits_at sequence patch.chunk_id) buffer.live)
 
+-- the chunk with the patch put into its last fragment; the last patch of a chunk ends its waiting
 abbrev pub patched_chunk : Patch → Chunk → Chunk
 patched_chunk patch chunk =
     record chunk { awaits = not patch.last; fragments = patched_last patch chunk.fragments }
@@ -53,6 +58,7 @@ closed_sequence live state = record state {
       (filter (λ stored. (stored.sequence == state.number) && stored.chunk.partial) live));
 }
 
+-- the buffer with the sequence closed: its records that await a patch are counted
 abbrev pub closed_buffer : Buffer → ℕ → Buffer
 closed_buffer buffer sequence = record buffer {
   unpatched =

@@ -13,9 +13,11 @@ pub record Interval : Type 0 where
   pub at : ℕ
   pub size : ℕ
 
+-- where the record lies
 abbrev pub interval_of : BufferRecord → Interval
 interval_of stored = record { at = stored.at; size = stored.size }
 
+-- where a record of the written row lies
 abbrev pub placed_interval : Placement → Interval
 placed_interval placement = record { at = placement.at; size = placement.size }
 
@@ -41,6 +43,7 @@ placed_sizes buffer (event ∷ events) =
     (if is_known buffer.sequences (event_sequence event) then placed_by buffer event else [])
     ++ placed_sizes (buffer_after buffer event) events
 
+-- The live records lie exactly where the intervals of all that got a place are met by no later record or padding.
 abbrev pub LiveAreUnmet : Type 0
 LiveAreUnmet = (room : ℕ) (policy : FullPolicy) (sequences : List Sequence) (events : List Event)
     → map interval_of (state_after (empty_buffer room policy sequences) events).live

@@ -16,6 +16,7 @@ fits room next size = nat_le (next + size) room
 abbrev pub place_after : ℕ → ℕ → ℕ → ℕ
 place_after room next size = if fits room next size then next else 0
 
+-- how many bytes of padding the next record makes
 abbrev pub padding_before : ℕ → ℕ → ℕ → ℕ
 padding_before room next size = if fits room next size then 0 else room - next
 
@@ -33,6 +34,7 @@ pub record Placement : Type 0 where
   pub padding_at : ℕ
   pub padding : ℕ
 
+-- where the next record comes to lie, with its padding
 abbrev pub placement_after : ℕ → ℕ → ℕ → Placement
 placement_after room next size = record {
   at = place_after room next size;

@@ -9,6 +9,7 @@ pub record Size : Type 0 where
   pub value : ℕ
   pub width : ℕ
 
+-- a size with one more byte in front (a varint's)
 abbrev pub longer_size : ℕ → Option Size → Option Size
 longer_size byte None = None
 longer_size byte (Some size) = Some (record { value = byte % 128 + 128 * size.value; width = size.width + 1 })
@@ -38,6 +39,7 @@ pub data Reading : Type 0 where
   -- the number of the first fragment that can't be read, counted from 0
   Unreadable : ℕ → Reading
 
+-- a fragment in front of what the rest of the payload reads as
 abbrev pub behind : Fragment → Reading → Reading
 behind fragment (Fragments fragments) = Fragments (fragment ∷ fragments)
 behind fragment (Unreadable number) = Unreadable number

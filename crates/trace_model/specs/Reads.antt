@@ -19,6 +19,7 @@ pub data Turn : Type 0 where
   Skips : Turn
   Ends : Turn
 
+-- what a read does with a chain of this fate: it is delivered only where it has its start and awaits no patch
 abbrev pub turn_by : Fate → (headless awaits : Bool) → Turn
 turn_by Open headless awaits = Ends
 turn_by Whole true awaits = Skips
@@ -27,25 +28,30 @@ turn_by Marked headless awaits = if headless then Skips else Counts Dropped
 turn_by IntoLost headless awaits = if headless then Skips else Counts Lost
 turn_by CutOff headless awaits = if headless then Skips else Counts Cut
 
+-- what a read does with a link of the row
 abbrev pub turn_of : Link → Turn
 turn_of (Joined chain) = turn_by chain.fate chain.headless chain.awaits
 turn_of (Gap at next lost) = Skips
 turn_of (Stop at why may) = Ends
 
+-- the link is delivered
 abbrev pub delivers : Turn → Bool
 delivers Delivers = true
 delivers other = false
 
+-- the read ends before the link
 abbrev pub ends : Turn → Bool
 ends Ends = true
 ends other = false
 
+-- the causes are the same
 abbrev pub is_same_cause : Cause → Cause → Bool
 is_same_cause Dropped Dropped = true
 is_same_cause Lost Lost = true
 is_same_cause Cut Cut = true
 is_same_cause cause other = false
 
+-- the link is counted under this cause
 abbrev pub counts_under : Cause → Turn → Bool
 counts_under cause (Counts other) = is_same_cause cause other
 counts_under cause turn = false
@@ -57,6 +63,7 @@ passed_by limit (link ∷ links) =
     if ends (turn_of link) || (delivers (turn_of link) && (limit == 0)) then []
     else link ∷ passed_by (limit - one_if (delivers (turn_of link))) links
 
+-- the links that a read with this limit leaves
 abbrev pub left_by : ℕ → List Link → List Link
 left_by limit [] = []
 left_by limit (link ∷ links) =
@@ -68,6 +75,7 @@ pub record Delivery : Type 0 where
   pub body : List ℕ
   pub marked : Bool
 
+-- the packet that a link has
 abbrev pub link_bytes : Link → List ℕ
 link_bytes (Joined chain) = bytes_of chain.pieces
 link_bytes (Gap at next lost) = []
@@ -86,6 +94,7 @@ abbrev pub missing_after : Bool → List Link → Bool
 missing_after missing [] = missing
 missing_after missing (link ∷ links) = missing_after (not (delivers (turn_of link))) links
 
+-- where the cursor stands behind a link
 abbrev pub next_of : Cursor → Link → Cursor
 next_of cursor (Joined chain) = chain.next
 next_of cursor (Gap at next lost) = next
@@ -96,6 +105,7 @@ abbrev pub cursor_after : Cursor → List Link → Cursor
 cursor_after cursor [] = cursor
 cursor_after cursor (link ∷ links) = cursor_after (next_of cursor link) links
 
+-- how many links have such a turn
 abbrev pub count_of : (Turn → Bool) → List Link → ℕ
 count_of test links = count_by (λ link. test (turn_of link)) links
 
@@ -120,6 +130,7 @@ delivered_by buffer sequence limit =
     let state = sequence_in buffer.sequences sequence in
     delivered_of (is_marked state) (passed_by limit (row_from_cursor buffer state))
 
+-- the buffer after a read of one of its sequences
 abbrev pub with_read : Buffer → ℕ → ℕ → Buffer
 with_read buffer sequence limit = record buffer {
   sequences =
@@ -142,16 +153,19 @@ stop_place (Joined chain ∷ links) = stop_place links
 stop_place (Gap at next lost ∷ links) = stop_place links
 stop_place (Stop at why may ∷ links) = record { at = at; why = why }
 
+-- why a read ended
 pub data ReadEnd : Type 0 where
   -- as many packets as the limit were delivered, and one more is due
   AtLimit : ReadEnd
   -- the read met the stop place, or a chain that reaches it
   Stopped : StopPlace → ReadEnd
 
+-- why a read ends before these links
 abbrev pub end_before : List Link → ReadEnd
 end_before [] = Stopped (stop_place [])
 end_before (link ∷ links) = if delivers (turn_of link) then AtLimit else Stopped (stop_place (link ∷ links))
 
+-- why a read with this limit ends
 abbrev pub read_end : ℕ → List Link → ReadEnd
 read_end limit links = end_before (left_by limit links)
 

@@ -49,6 +49,7 @@ pub data Why : Type 0 where
   Unpatched : Why
   End : Why
 
+-- a link of a row: a chain of fragments, a gap, or the stop place
 pub data Link : Type 0 where
   Joined : Chain → Link
   -- a chunk that isn't there, the place behind it, and whether it was lost
@@ -56,6 +57,7 @@ pub data Link : Type 0 where
   -- the stop place, and whether a chain may run on into it
   Stop : (at : Cursor) → Why → (may : Bool) → Link
 
+-- the bytes of a chain's pieces, joined
 abbrev pub bytes_of : List Piece → List ℕ
 bytes_of pieces = flat_map (λ (piece : Piece). piece.fragment.bytes) pieces
 
@@ -101,6 +103,7 @@ with_piece piece next headless awaits links =
 abbrev pub place : ℕ → ℕ → Cursor
 place chunk_id passed = record { chunk_id = chunk_id; passed = passed }
 
+-- no fragment follows
 abbrev pub is_last : List Fragment → Bool
 is_last [] = true
 is_last (fragment ∷ others) = false

@@ -8,6 +8,7 @@ use Rattle.trace_model.specs.Row.{Slot, Here, Gone, Never, Fate, Open, Link, Joi
 abbrev pub Before : Cursor → Cursor → Type 0
 Before a b = (a.chunk_id < b.chunk_id) ⊎ ((a.chunk_id ≡ b.chunk_id) × (a.passed < b.passed))
 
+-- the one place isn't behind the other
 abbrev pub UpTo : Cursor → Cursor → Type 0
 UpTo a b = (a.chunk_id < b.chunk_id) ⊎ ((a.chunk_id ≡ b.chunk_id) × (a.passed ≤ b.passed))
 
@@ -23,6 +24,7 @@ abbrev pub RowsRise : Type 0
 RowsRise = (closed : Bool) (slots : List Slot) (chunk_id passed : ℕ)
     → Rises (place chunk_id passed) (row_of closed chunk_id passed slots)
 
+-- the chain's rest is still to come
 abbrev pub is_open : Fate → Bool
 is_open Open = true
 is_open other = false
@@ -42,6 +44,7 @@ AreWhole (Here chunk ∷ slots) = (chunk.partial ≡ false) × (chunk.awaits ≡
 AreWhole (Gone ∷ slots) = ⊥
 AreWhole (Never ∷ slots) = ⊥
 
+-- The row of more slots is that of the first ones, continued.
 abbrev pub RowsContinue : Type 0
 RowsContinue = (slots more : List Slot) (chunk_id : ℕ) → AreWhole slots
     → row_of false chunk_id 0 (slots ++ more)

@@ -13,6 +13,7 @@ chunk_at [] at = 0
 chunk_at (piece ∷ pieces) at =
     if nat_lt at (length piece.fragment.bytes) then piece.at.chunk_id else chunk_at pieces (at - length piece.fragment.bytes)
 
+-- where in its payload the byte of a chain stands
 abbrev pub offset_at : List Piece → ℕ → ℕ
 offset_at [] at = 0
 offset_at (piece ∷ pieces) at =
@@ -20,6 +21,7 @@ offset_at (piece ∷ pieces) at =
     then piece.fragment.offset + at
     else offset_at pieces (at - length piece.fragment.bytes)
 
+-- the chunk of a chain's last piece
 abbrev pub last_chunk : List Piece → ℕ
 last_chunk [] = 0
 last_chunk (piece ∷ []) = piece.at.chunk_id
@@ -93,6 +95,7 @@ abbrev pub as_sent : ℕ → Patch → SentPatch
 as_sent chunk_id patch =
     record { by = chunk_id; chunk_id = patch.chunk_id; offset = patch.offset; bytes = patch.bytes }
 
+-- each page brings the patches that were sent with it, in their order
 abbrev pub PatchesAre : List SentPatch → ℕ → List Page → Type 0
 PatchesAre sent chunk_id [] = ⊤
 PatchesAre sent chunk_id (page ∷ pages) =
@@ -103,6 +106,7 @@ abbrev pub AllChunksBelow : ℕ → List Patch → Type 0
 AllChunksBelow bound [] = ⊤
 AllChunksBelow bound (patch ∷ patches) = (patch.chunk_id < bound) × AllChunksBelow bound patches
 
+-- each page brings patches for earlier chunks alone
 abbrev pub Behind : ℕ → List Page → Type 0
 Behind chunk_id [] = ⊤
 Behind chunk_id (page ∷ pages) = AllChunksBelow chunk_id page.patches × Behind (suc chunk_id) pages
@@ -111,9 +115,11 @@ Behind chunk_id (page ∷ pages) = AllChunksBelow chunk_id page.patches × Behin
 abbrev pub chunks_of : List Patch → List ℕ
 chunks_of patches = map (λ (patch : Patch). patch.chunk_id) patches
 
+-- no later patch of the page is for the chunk, and no hole of the chunk is open
 abbrev pub is_last_patch : List ℕ → Patch → List Patch → Bool
 is_last_patch open_ones patch later = not (is_among patch.chunk_id (chunks_of later) || is_among patch.chunk_id open_ones)
 
+-- the patches say of themselves whether they are the last ones of their chunks
 abbrev pub LastsAre : List ℕ → List Patch → Type 0
 LastsAre open_ones [] = ⊤
 LastsAre open_ones (patch ∷ later) = (patch.last ≡ is_last_patch open_ones patch later) × LastsAre open_ones later
@@ -129,5 +135,6 @@ abbrev pub is_placed_in : Option Page → Patch → Bool
 is_placed_in None patch = false
 is_placed_in (Some page) patch = page.awaits && last_holds (chunk_of page).fragments patch && (length patch.bytes == 4)
 
+-- the patch's four bytes lie in the last fragment of its chunk, which waits for them
 abbrev pub is_placed : List Page → Patch → Bool
 is_placed pages patch = is_placed_in (slice_get pages patch.chunk_id) patch

@@ -9,6 +9,7 @@ pub record Cursor : Type 0 where
   pub chunk_id : ℕ
   pub passed : ℕ
 
+-- what a buffer knows of one sequence
 pub record Sequence : Type 0 where
   -- its sequence id
   pub number : ℕ
@@ -30,6 +31,7 @@ pub record Sequence : Type 0 where
   pub lost : ℕ
   pub cut : ℕ
 
+-- where a cursor stands at first
 abbrev pub first_place : Cursor
 first_place = record { chunk_id = 0; passed = 0 }
 
@@ -49,6 +51,7 @@ fresh number size = record {
   cut = 0;
 }
 
+-- the number is in the list
 abbrev pub is_among : ℕ → List ℕ → Bool
 is_among n numbers = list_any (λ m. m == n) numbers
 
@@ -63,6 +66,7 @@ abbrev pub rising : List ℕ → List ℕ
 rising [] = []
 rising (n ∷ numbers) = with_number n (rising numbers)
 
+-- the chunk arrived complete
 abbrev pub has_arrived : Sequence → ℕ → Bool
 has_arrived state chunk_id = is_among chunk_id state.arrived
 
@@ -102,6 +106,7 @@ abbrev pub sequence_in : List Sequence → ℕ → Sequence
 sequence_in [] number = fresh number 0
 sequence_in (state ∷ others) number = if state.number == number then state else sequence_in others number
 
+-- the buffer has the sequence
 abbrev pub is_known : List Sequence → ℕ → Bool
 is_known sequences number = list_any (λ state. state.number == number) sequences
 

@@ -31,6 +31,7 @@ pub record AreRecordsAt (emitted : List (List ℕ)) (sequence : ℕ) (first : Op
   pub each : (number place : ℕ) (bytes : List ℕ) → slice_get places number ≡ Some place
       → slice_get records number ≡ Some bytes → IsRecordAt emitted sequence (place_before first places number) place bytes
 
+-- Records tell of packets exactly where there are rising places of the packets that they are records of.
 abbrev pub TellsByPlaces : Type 0
 TellsByPlaces = (emitted : List (List ℕ)) (sequence : ℕ) (records : List (List ℕ))
     → Tells emitted sequence records ↔ ((places : List ℕ) × AreRecordsAt emitted sequence None records places)

@@ -22,6 +22,7 @@ use Rattle.trace_model.specs.WorkedRows.{IsPlayed, IsReported, ring_of, taken, e
 abbrev pub last_calls : ℕ → List Call
 last_calls value = whole (NumberField 8 value NoFields)
 
+-- the calls of a packet that was dropped at its begin
 abbrev pub lost_calls : ℕ → List Call
 lost_calls value = Begun false ∷ Number 8 value ∷ Finished ∷ []
 
@@ -29,6 +30,7 @@ lost_calls value = Begun false ∷ Number 8 value ∷ Finished ∷ []
 abbrev pub handed_events : List Event
 handed_events = taken 2 0 (number_page 1 4074 ∷ []) ++ taken 3 0 (number_page 2 4074 ∷ []) ++ ended
 
+-- two writers share one chunk, one behind the other
 pub record HandsOver : Type 0 where
   pub first_cut : CutsInto 4080 (packets_of (number_calls 1)) (number_page 1 4074 ∷ [])
   pub second_cut : CutsInto 4080 (packets_of (last_calls 2)) (number_page 2 4074 ∷ [])
@@ -42,6 +44,7 @@ abbrev pub flushed_events : List Event
 flushed_events =
     taken 2 0 (number_page 1 278 ∷ []) ++ (Read 2 no_limit ∷ Read 3 no_limit ∷ []) ++ taken 3 0 (number_page 3 278 ∷ []) ++ ended
 
+-- a flush has a packet delivered before its writer goes on
 pub record AnswersFlush : Type 0 where
   pub played : IsPlayed (ring_of 64 284) flushed_events (marked_record 2 1 ++ marked_record 3 3) (only_placed 2)
   pub first_reported : IsReported (ring_of 64 284) flushed_events 2 (number_calls 1) (all_delivered 1)
@@ -55,6 +58,7 @@ lost_alone = record { begun = 1; delivered = 0; dropped = 1; overwritten = 0; di
 abbrev pub race_events : ℕ → ℕ → List Event
 race_events sequence value = taken sequence 0 (number_page value 4074 ∷ []) ++ ended
 
+-- of two writers and one chunk either may win; the other's packet is dropped
 pub record Races : Type 0 where
   pub kept_cut : CutsInto 4080 (packets_of (last_calls 1)) (number_page 1 4074 ∷ [])
   pub lost_cut : CutsInto 4080 (packets_of (lost_calls 2)) []
@@ -69,15 +73,19 @@ pub record Races : Type 0 where
 abbrev pub crowded_calls : List Call
 crowded_calls = repeat 1024 (whole NoFields)
 
+-- a chunk with as many fragments as one can have, and the next one
 abbrev pub crowded_pages : List Page
 crowded_pages = plain_page (replicate MAX_FRAGMENTS []) 61428 ∷ plain_page ([] ∷ []) 65516 ∷ []
 
+-- a buffer with room for two such chunks
 abbrev pub crowded_buffer : Buffer
 crowded_buffer = empty_buffer (128 * 1024) Ring (fresh 2 65536 ∷ fresh 3 65536 ∷ [])
 
+-- both chunks are taken, and then the end
 abbrev pub crowded_events : List Event
 crowded_events = taken 2 0 crowded_pages ++ ended
 
+-- the 1,024th packet begins a new chunk, since 1,023 are the most that one has
 pub record Crowds : Type 0 where
   -- each packet begins where it has to, and its chain is its body
   pub begins : IsTrue (all_begin_well 65520 (packets_of crowded_calls) (chains_of crowded_pages))

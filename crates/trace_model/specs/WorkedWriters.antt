@@ -9,6 +9,7 @@ use Rattle.trace_model.specs.Pages.{Page}
 abbrev pub letters : ℕ → List ℕ
 letters count = replicate count 0x78
 
+-- a field with a letter so many times over
 abbrev pub letter_field : ℕ → Fields
 letter_field count = BytesField 1 (0x78 ∷ []) count NoFields
 
@@ -32,6 +33,7 @@ plain_page fragments unused = record {
 abbrev pub number_calls : ℕ → List Call
 number_calls value = whole (NumberField 8 value NoFields) ++ Flushed ∷ []
 
+-- a page with one small packet and unused bytes behind it
 abbrev pub number_page : ℕ → ℕ → Page
 number_page value unused = plain_page ((0x40 ∷ value ∷ []) ∷ []) unused
 
@@ -39,6 +41,7 @@ number_page value unused = plain_page ((0x40 ∷ value ∷ []) ∷ []) unused
 abbrev pub small_calls : List Call
 small_calls = whole (NestedField 900 (BytesField 1 (0x68 ∷ 0x69 ∷ []) 1 (NumberField 2 7 NoFields)) NoFields)
 
+-- the page of the packet with a nested message
 abbrev pub small_pages : List Page
 small_pages =
     plain_page ((0xA2 ∷ 0x38 ∷ 0x86 ∷ 0x80 ∷ 0x80 ∷ 0x00 ∷ 0x0A ∷ 0x02 ∷ 0x68 ∷ 0x69 ∷ 0x10 ∷ 0x07 ∷ []) ∷ []) 268 ∷ []
@@ -47,6 +50,7 @@ small_pages =
 abbrev pub empty_calls : List Call
 empty_calls = whole NoFields
 
+-- the page of the packet without fields
 abbrev pub empty_pages : List Page
 empty_pages = plain_page ([] ∷ []) 280 ∷ []
 
@@ -54,6 +58,7 @@ empty_pages = plain_page ([] ∷ []) 280 ∷ []
 abbrev pub long_calls : List Call
 long_calls = whole (letter_field 297)
 
+-- the two pages of the packet of 300 bytes
 abbrev pub long_pages : List Page
 long_pages =
     record (plain_page ((0x0A ∷ 0xA9 ∷ 0x02 ∷ letters 277) ∷ []) 0) { runs_on = true }
@@ -63,6 +68,7 @@ long_pages =
 abbrev pub patched_calls : List Call
 patched_calls = whole (NestedField 900 (letter_field 300) NoFields)
 
+-- the two pages of the packet with a late length, the second with its patch
 abbrev pub patched_pages : List Page
 patched_pages =
     record (plain_page ((0xA2 ∷ 0x38 ∷ 0x80 ∷ 0x80 ∷ 0x80 ∷ 0x00 ∷ 0x0A ∷ 0xAC ∷ 0x02 ∷ letters 271) ∷ []) 0) {
@@ -78,6 +84,7 @@ patched_pages =
 abbrev pub moved_calls : List Call
 moved_calls = whole (BytesField 1 (0x78 ∷ []) 273 (NestedField 900 (NumberField 2 7 NoFields) NoFields))
 
+-- the two pages of the packet whose nested length moved on
 abbrev pub moved_pages : List Page
 moved_pages =
     record (plain_page ((0x0A ∷ 0x91 ∷ 0x02 ∷ letters 273 ++ 0xA2 ∷ 0x38 ∷ []) ∷ []) 2) { runs_on = true }
@@ -91,6 +98,7 @@ given_up_calls =
     ++ (Begun true ∷ Nested 900 ∷ Bytes 1 (0x78 ∷ []) 5000 ∷ GivenUp ∷ Ended ∷ Finished ∷ [])
     ++ whole (NumberField 8 2 NoFields)
 
+-- the pages of the packet that is given up, and of the one behind it
 abbrev pub given_up_pages : List Page
 given_up_pages =
     record (plain_page ((0x40 ∷ 0x01 ∷ []) ∷ (0xA2 ∷ 0x38 ∷ 0x80 ∷ 0x80 ∷ 0x80 ∷ 0x00 ∷ 0x0A ∷ 0x88 ∷ 0x27 ∷ letters 2017) ∷ []) 0) {

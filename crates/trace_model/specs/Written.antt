@@ -25,6 +25,7 @@ written_slots patches chunk_id (page ∷ pages) =
 abbrev pub written_row : List Page → List Link
 written_row pages = row_of false 0 0 (written_slots (patches_of pages) 0 pages)
 
+-- the chains of a row
 abbrev pub chains_in : List Link → List Chain
 chains_in [] = []
 chains_in (Joined chain ∷ links) = chain ∷ chains_in links

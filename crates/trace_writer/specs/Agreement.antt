@@ -39,6 +39,7 @@ pub record IsThrownAway (site : Site) (account : Account) (view : WriterView) (p
   pub lost : is_lost packet ≡ true
   pub idle : IsIdle site account view pending
 
+-- the state of a writer is the one that its account, its view and its patches say
 abbrev pub StateAgrees : Site → Account → WriterView → Pending → State → Type 0
 StateAgrees site account view pending (Idle next_id) = (next_id ≡ length view.begun) × IsIdle site account view pending
 StateAgrees site account view pending (Between chunk) = IsBehind site account view pending chunk
@@ -52,6 +53,7 @@ IsInPacketOf packets None = is_writing packets ≡ false
 IsInPacketOf [] (Some open_one) = ⊥
 IsInPacketOf (packet ∷ older) (Some open_one) = (packet.finished ≡ false) × IsMeasured open_one packet
 
+-- a packet is begun
 abbrev pub is_begun : Option OpenPacket → Bool
 is_begun None = false
 is_begun (Some open_one) = true
@@ -77,6 +79,7 @@ abbrev pub len_of : Option OpenPacket → ℕ
 len_of None = 0
 len_of (Some open_one) = open_one.len
 
+-- how many nested messages are open
 abbrev pub depth_of : Option OpenPacket → ℕ
 depth_of None = 0
 depth_of (Some open_one) = length open_one.starts.items
@@ -85,6 +88,7 @@ depth_of (Some open_one) = length open_one.starts.items
 abbrev pub counted : ℕ → ℕ
 counted n = min n 18446744073709551615
 
+-- a writer is as the calls in its seat's view say
 pub record Agrees (setup : Setup) (place : ℕ) (view : WriterView) (writer : Writer) : Type 0 where
   pub route : IsRoute setup place writer.route
   pub state : StateAgrees (site_of setup place writer.route) (account_of view.calls) view writer.pending writer.state

@@ -24,6 +24,7 @@ abbrev pub newest_depth : List Packet → ℕ
 newest_depth [] = 0
 newest_depth (packet ∷ older) = length (open_places packet.text.levels)
 
+-- how many bytes the newest packet has so far
 abbrev pub newest_len : List Packet → ℕ
 newest_len [] = 0
 newest_len (packet ∷ older) = length (packet_encoding packet)

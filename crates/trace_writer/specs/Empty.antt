@@ -3,9 +3,11 @@ use Rattle.std.specs.Prelude.{Bool, true, false}
 use Rattle.trace_writer.specs.declared.state.State.{State}
 use Rattle.trace_writer.specs.declared.state.State.TheVariants.{Idle, Between, Writing, Dropping, Stalled}
 
+-- a state that stands in while the real one is worked on
 abbrev pub empty : State
 empty = Idle 0
 
+-- no chunk is held
 abbrev pub is_empty : State → Bool
 is_empty (Idle next_id) = true
 is_empty (Between chunk) = false
@@ -13,6 +15,7 @@ is_empty (Writing fragment) = false
 is_empty (Dropping next_id) = true
 is_empty (Stalled next_id) = true
 
+-- the writer has stalled
 abbrev pub is_stalled : State → Bool
 is_stalled (Idle next_id) = false
 is_stalled (Between chunk) = false

@@ -31,6 +31,7 @@ abbrev pub StopsAs : WriterPolicy → Site → Packet → List Packet → Writer
 StopsAs Drops site packet older view pending = IsIdle site (with_loss packet older) view pending
 StopsAs Stalls site packet older view pending = IsStuck site (packet ∷ older) view
 
+-- a packet stopped where no chunk was free: it is given up, or its writer stalled, as the policy says
 abbrev pub IsStopped : Site → Packet → List Packet → WriterView → Pending → Type 0
 IsStopped site packet older view pending = StopsAs site.policy site packet older view pending
 
@@ -53,10 +54,12 @@ pub record StopsIn (site : Site) (old new : WriterView) (before after : Pending)
   pub stopped_nested : (packet : Packet) (older : List Packet) (more : List ℕ) → InFragment site packet older old before fragment []
       → IsStopped site (with_open (with_more (bytes ++ more) packet)) older new after
 
+-- the packet doesn't go on
 abbrev pub is_stopped : Flow → Bool
 is_stopped (Going next) = false
 is_stopped (Stopped next_id) = true
 
+-- the bytes were written, or the packet stopped among them
 abbrev pub Flows : Setup → ℕ → Route → WriterView → WriterView → Pending → Pending → OpenFragment → List ℕ → Flow → Type 0
 Flows setup place route old new before after fragment bytes (Going next) =
     PutsOn (site_of setup place route) old new before after fragment next bytes
@@ -89,6 +92,7 @@ pub record StopsHere (site : Site) (old new : WriterView) (before after : Pendin
   pub length_next : (packet : Packet) (older : List Packet) → InFragment site packet older old before fragment []
       → IsStopped site (with_open packet) older new after
 
+-- the packet runs on in a new chunk, or stops
 abbrev pub Continues : Setup → ℕ → Route → WriterView → WriterView → Pending → Pending → OpenFragment → Flow → Type 0
 Continues setup place route old new before after fragment (Going next) =
     RunsOn (site_of setup place route) old new before after fragment next
@@ -112,6 +116,7 @@ pub record CannotSetAside (site : Site) (old new : WriterView) (before after : P
   pub stopped : (packet : Packet) (older : List Packet) → InFragment site packet older old before fragment []
       → IsStopped site (with_open packet) older new after
 
+-- four bytes were set aside for a nested length, or the packet stopped
 abbrev pub SetsLength : Setup → ℕ → Route → WriterView → WriterView → Pending → Pending → OpenFragment → Flow → Type 0
 SetsLength setup place route old new before after fragment (Going next) =
     SetsAside (site_of setup place route) old new before after fragment next
@@ -134,6 +139,7 @@ pub record CannotWrite (site : Site) (old new : WriterView) (before after : Pend
   pub stopped : (packet : Packet) (older : List Packet) → InFragment site packet older old before fragment []
       → IsStopped site (change packet) older new after
 
+-- the field was written, or the packet stopped in it
 abbrev pub Writes : Setup → ℕ → Route → WriterView → WriterView → Pending → Pending → OpenFragment → ℕ → (Packet → Packet) → Flow → Type 0
 Writes setup place route old new before after fragment count change (Going next) =
     WritesOn (site_of setup place route) old new before after fragment next count change

@@ -27,6 +27,7 @@ abbrev pub Closes : OpenFragment → OpenFragment → Closed → Type 0
 Closes old new (Here offset bytes) = IsPutInto old new offset bytes
 Closes old new Later = new ≡ old
 
+-- a hole was closed: in place, or by a patch later
 pub record AnswersClose (old new : OpenFragment) (before after : Pending) (value : ℕ) : Type 0 where
   pub answer : Closed
   pub closes : ClosesHole before after old.held.id value answer

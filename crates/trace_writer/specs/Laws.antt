@@ -42,6 +42,7 @@ pub record IsHeldImage (view : WriterView) (image : Image) : Type 0 where
   pub payload : image.payload ≡ frames before ++ rest
   pub bytes : (j : ℕ) → j < length (frames before) → byte_at draft.words j ≡ byte_in (frames before) j
 
+-- What a writer holds as an image is published, but for its last fragment.
 abbrev pub HeldIsPublished : Type 0
 HeldIsPublished = (setup : Setup) (place : ℕ) (view : WriterView) (writer : Writer) → WriterAgrees setup place view writer
     → (image : Image) → held_images place writer.state ≡ image ∷ [] → IsHeldImage view image

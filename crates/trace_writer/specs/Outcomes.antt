@@ -26,6 +26,7 @@ StopsBehind Drops old new before after call next_id =
     (new ≡ record old { state = Dropping next_id }) × (after ≡ notes_call (notes_call before call) GivenUp)
 StopsBehind Stalls old new before after call next_id = (new ≡ record old { state = Stalled next_id }) × (after ≡ notes_call before call)
 
+-- a packet begins behind the last one, or stops at its begin
 abbrev pub GoesBehind : Writer → Writer → WriterView → WriterView → Call → Flow → Type 0
 GoesBehind old new before after call (flow.Going fragment) = (new ≡ record old { state = Writing fragment }) × (after ≡ notes_call before call)
 GoesBehind old new before after call (flow.Stopped next_id) = StopsBehind old.route.spec.policy old new before after call next_id
@@ -37,9 +38,11 @@ abbrev pub held_image : ℕ → ℕ → ℕ → Bool → List ℕ → Image
 held_image place id count continues payload =
     record { sequence = place + 2; chunk_id = id; count = count; flags = flags_value continues false false; payload = payload }
 
+-- the held payload with the size of its last fragment put in
 abbrev pub fragment_payload : OpenFragment → List ℕ
 fragment_payload fragment = with_bytes fragment.held.body.payload.items fragment.start (redundant (fragment.at - fragment.start - 4))
 
+-- what a writer holds, as an image
 abbrev pub held_images : ℕ → State → List Image
 held_images place (Idle next_id) = []
 held_images place (Between chunk) = held_image place chunk.held.id chunk.count chunk.continues chunk.held.body.payload.items ∷ []
@@ -55,9 +58,11 @@ held_patches pending (Writing fragment) = with_lasts (hole_chunks pending.holes)
 held_patches pending (Dropping next_id) = []
 held_patches pending (Stalled next_id) = []
 
+-- what a writer completed, and what it holds as an image
 abbrev pub images_so_far : ℕ → WriterView → Writer → List Image
 images_so_far place view writer = completed_images view.begun ++ held_images place writer.state
 
+-- the patches that a writer sent, and those that it has still to send
 abbrev pub patches_so_far : WriterView → Writer → List (List Patch)
 patches_so_far view writer = completed_patches view.begun ++ held_patches writer.pending writer.state
 

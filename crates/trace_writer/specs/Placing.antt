@@ -68,6 +68,7 @@ abbrev pub IsPlace : Site → Account → WriterView → Pending → Place → T
 IsPlace site account view pending (Behind chunk) = IsRoomy site account view pending chunk
 IsPlace site account view pending (Nowhere next_id) = (next_id ≡ length view.begun) × IsIdle site account view pending
 
+-- there is a chunk to begin a packet in
 abbrev pub is_behind : Place → Bool
 is_behind (Behind chunk) = true
 is_behind (Nowhere next_id) = false

@@ -8,6 +8,7 @@ use Rattle.chunk_plain.specs.Setup.{Setup, spot, range_of, producer_of, HasProdu
 use Rattle.claim_arbiter.specs.Claiming.{range_in}
 use Rattle.trace_writer.specs.declared.route.Route.{Route}
 
+-- where a writer writes
 pub record Site : Type 0 where
   pub setup : Setup
   pub place : ℕ
@@ -15,6 +16,7 @@ pub record Site : Type 0 where
   pub size : ℕ
   pub policy : WriterPolicy
 
+-- the site of a writer's route
 abbrev pub site_of : Setup → ℕ → Route → Site
 site_of setup place route = record { setup = setup; place = place; buffer = route.spec.buffer; size = route.payload_size; policy = route.spec.policy }
 

@@ -33,14 +33,18 @@ Says old new old_faults new_faults line =
 unfoldable pub usage_line : List ℕ
 usage_line = codes "usage: tracesmb replay|run|read|check|gen NUMBER WRITERS PACKETS\n"
 
+-- what is said where memory ran out
 unfoldable pub memory_line : List ℕ
 memory_line = codes "out of memory\n"
 
+-- what is said where the input failed
 unfoldable pub read_line : List ℕ
 read_line = codes "read fault\n"
 
+-- what is said where the trace failed
 unfoldable pub write_line : List ℕ
 write_line = codes "write fault\n"
 
+-- what is said where the input is too long
 unfoldable pub long_line : List ℕ
 long_line = codes "input too long\n"

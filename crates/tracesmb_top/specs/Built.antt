@@ -28,10 +28,12 @@ unfoldable pub buffer_step : Seen → FullPolicy → SetUpStep
 buffer_step seen Ring = if seen.buffer then steps.Unbuilt else steps.Built (record seen { buffer = true })
 buffer_step seen Discard = steps.Unbuilt
 
+-- whether a producer's line is built
 unfoldable pub producer_step : Seen → Numeral → SetUpStep
 producer_step seen (Fits size) = if size == 4096 && not seen.producer then steps.Built (record seen { producer = true }) else steps.Unbuilt
 producer_step seen TooLarge = steps.Unbuilt
 
+-- whether a writer's line is built
 unfoldable pub writer_step : Seen → WriterPolicy → SetUpStep
 writer_step seen Drops = if seen.writer then steps.Unbuilt else steps.Built (record seen { writer = true })
 writer_step seen Stalls = steps.Unbuilt
@@ -47,6 +49,7 @@ setup_step seen other = steps.Over
 unfoldable pub setup_at : Seen → List ℕ → SetUpStep
 setup_at seen line = if says_nothing line then steps.Built seen else setup_step seen (form_of line)
 
+-- the first line that isn't built, from this one on
 unfoldable pub behind_step : ℕ → SetUpStep → (Seen → Option ℕ) → Option ℕ
 behind_step number (steps.Built seen) others = others seen
 behind_step number steps.Unbuilt others = Some number

@@ -44,9 +44,11 @@ innermost (level ∷ outer) = level
 unfoldable pub packet_of : List Shown → List ℕ
 packet_of nodes = innermost (levels_after ([] ∷ []) nodes)
 
+-- the packet that a line has its writer emit
 unfoldable pub packet_by : LineKind → List ℕ
 packet_by (Packet writer nodes) = packet_of nodes
 packet_by other = []
 
+-- the packets that the lines have their writer emit
 abbrev pub packets_of : List NumberedLine → List (List ℕ)
 packets_of lines = map (λ line. packet_by line.what) lines

@@ -13,6 +13,7 @@ use Rattle.tracesmb_top.specs.Built.{first_unbuilt}
 unfoldable pub not_built_line : ℕ → List ℕ
 not_built_line line = codes "line " ++ decimal line ++ codes ": not built\n"
 
+-- the line that says why a text isn't played, by what its grammar says of it
 unfoldable pub refusal_by : List ℕ → Result Parts (ℕ × Reason) → Option (List ℕ)
 refusal_by text (Ok parts) = option_map not_built_line (first_unbuilt text parts.lines)
 refusal_by text (Err fault) = Some (refusal_line fault.0 fault.1)
