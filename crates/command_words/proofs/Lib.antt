@@ -1,0 +1,4 @@
+pub mod FoundLemmas
+pub mod GenLemmas
+pub mod OnceLemmas
+pub mod SpellLemmas

@@ -1,0 +1,36 @@
+-- Words spell one command at most.
+use Rattle.std.proofs.Common.{◌≡◌, ℕ, ◌==◌, false, List, [], length, slice_index_or, refl, sym, ◌∙◌, ap, arith}
+use Rattle.command_words.specs.declared.command.Command.{Command}
+use Rattle.command_words.specs.declared.command.Command.TheVariants.{Replay, Read, Check, Gen}
+use Rattle.command_words.specs.Commands.{Spells, WordsSpellOneCommand}
+use Rattle.command_words.proofs.SpellLemmas.{same_number, other_length}
+
+-- the first words of two lists are as long
+heads : (one other : List (List ℕ)) → (length (slice_index_or one 0 []) == length (slice_index_or other 0 [])) ≡ false → one ≡ other → ⊥
+heads one other long same = other_length (slice_index_or one 0 []) (slice_index_or other 0 []) long (ap (λ ws. slice_index_or ws 0 []) same)
+
+once : (words : List (List ℕ)) (one other : Command) → Spells words one → Spells words other → one ≡ other
+once words Replay Replay (a, _) (b, _) = refl
+once words Read Read (a, _) (b, _) = refl
+once words Check Check (a, _) (b, _) = refl
+once words Replay Read (a, _) (b, _) = absurd (heads _ _ refl (sym a ∙ b))
+once words Replay Check (a, _) (b, _) = absurd (heads _ _ refl (sym a ∙ b))
+once words Read Replay (a, _) (b, _) = absurd (heads _ _ refl (sym a ∙ b))
+once words Read Check (a, _) (b, _) = absurd (heads _ _ refl (sym a ∙ b))
+once words Check Replay (a, _) (b, _) = absurd (heads _ _ refl (sym a ∙ b))
+once words Check Read (a, _) (b, _) = absurd (heads _ _ refl (sym a ∙ b))
+once words Replay (Gen n w p) (a, _) (b, _) = absurd (heads _ _ refl (sym a ∙ b))
+once words Read (Gen n w p) (a, _) (b, _) = absurd (heads _ _ refl (sym a ∙ b))
+once words Check (Gen n w p) (a, _) (b, _) = absurd (heads _ _ refl (sym a ∙ b))
+once words (Gen n w p) Replay (a, _) (b, _) = absurd (heads _ _ refl (sym a ∙ b))
+once words (Gen n w p) Read (a, _) (b, _) = absurd (heads _ _ refl (sym a ∙ b))
+once words (Gen n w p) Check (a, _) (b, _) = absurd (heads _ _ refl (sym a ∙ b))
+once words (Gen n w p) (Gen m v q) (a, (n_small, w_some, w_few, p_some, p_few)) (b, (m_small, v_some, v_few, q_some, q_few)) =
+    let same = sym a ∙ b in
+    let one : n ≡ m = same_number n m n_small m_small (ap (λ ws. slice_index_or ws 1 []) same) in
+    let two : w ≡ v = same_number w v (omega arith) (omega arith) (ap (λ ws. slice_index_or ws 2 []) same) in
+    let three : p ≡ q = same_number p q (omega arith) (omega arith) (ap (λ ws. slice_index_or ws 3 []) same) in
+    ap (λ x. Gen x w p) one ∙ ap (λ x. Gen m x p) two ∙ ap (λ x. Gen m v x) three
+
+pub words_spell_one_command : WordsSpellOneCommand
+words_spell_one_command = once

@@ -1,0 +1,66 @@
+-- What words that spell a command are.
+use Rattle.std.proofs.Common.{◌≡◌, ℕ, ◌<◌, ◌≤◌, ◌^◌, ◌==◌, false, List, [], ◌∷◌, length, slice_index_or, codes, decimal, refl, sym, ◌∙◌, ap}
+use Rattle.std.proofs.lemmas.Bool.{eq-eqb, true≢false}
+use Rattle.std.specs.Str.{bytes_eq}
+use Rattle.std.specs.Result.{result_ok}
+use Rattle.std.proofs.lemmas.Slice.Eq.{bytes_eq-Decides}
+use Rattle.std.proofs.Common.{Result, Ok, true, unwrap_or}
+use Rattle.std.proofs.lemmas.Fmt.{decimal_is_IsNumeral}
+use Rattle.std.specs.Str.Parse.{digits_value}
+use Rattle.trace_base.specs.declared.limits.TheConstants.{MAX_GENERATED_WRITERS, MAX_GENERATED_PACKETS}
+use Rattle.command_words.specs.declared.command.Command.{Command}
+use Rattle.command_words.specs.declared.command.Command.TheVariants.{Replay, Read, Check, Gen}
+use Rattle.command_words.specs.Commands.{Spells}
+
+-- no two numbers are written alike
+pub same_number : (one other : ℕ) → one < 2 ^ 64 → other < 2 ^ 64 → decimal one ≡ decimal other → one ≡ other
+same_number one other small low same =
+    sym (decimal_is_IsNumeral one small).1 ∙ ap (digits_value 10) same ∙ (decimal_is_IsNumeral other low).1
+
+-- these three texts are the numbers of a workload
+pub record AreNumbers (number writers packets : List ℕ) : Type 0 where
+  pub first : ℕ
+  pub number_is : number ≡ decimal first
+  pub small : first < 2 ^ 64
+  pub second : ℕ
+  pub writers_are : writers ≡ decimal second
+  pub some_writer : 1 ≤ second
+  pub few_writers : second ≤ MAX_GENERATED_WRITERS
+  pub third : ℕ
+  pub packets_are : packets ≡ decimal third
+  pub some_packet : 1 ≤ third
+  pub few_packets : third ≤ MAX_GENERATED_PACKETS
+
+pub other_length : {A : Type 0} (xs ys : List A) → (length xs == length ys) ≡ false → xs ≡ ys → ⊥
+other_length xs ys other same = true≢false (sym (eq-eqb (length xs) (length ys) (ap length same)) ∙ other)
+
+-- four words spell a workload alone
+pub four_words : (name number writers packets : List ℕ) (command : Command) → Spells (name ∷ number ∷ writers ∷ packets ∷ []) command
+    → (name ≡ codes "gen") × AreNumbers number writers packets
+four_words name number writers packets Replay (words, within) = absurd (other_length _ _ refl words)
+four_words name number writers packets Read (words, within) = absurd (other_length _ _ refl words)
+four_words name number writers packets Check (words, within) = absurd (other_length _ _ refl words)
+four_words name number writers packets (Gen first second third) (words, (small, some_writer, few_writers, some_packet, few_packets)) = (
+  ap (λ (ws : List (List ℕ)). slice_index_or ws 0 []) words,
+  record {
+    first = first;
+    number_is = ap (λ (ws : List (List ℕ)). slice_index_or ws 1 []) words;
+    small = small;
+    second = second;
+    writers_are = ap (λ (ws : List (List ℕ)). slice_index_or ws 2 []) words;
+    some_writer = some_writer;
+    few_writers = few_writers;
+    third = third;
+    packets_are = ap (λ (ws : List (List ℕ)). slice_index_or ws 3 []) words;
+    some_packet = some_packet;
+    few_packets = few_packets;
+  },
+)
+
+-- a text is the same as itself
+pub same_text : (one other : List ℕ) → one ≡ other → bytes_eq one other ≡ true
+same_text one other same = (bytes_eq-Decides one other).1 same
+
+-- an answer is one answer
+pub ok_same : {T E : Type 0} (one other : T) (answer : Result T E) → answer ≡ Ok one → answer ≡ Ok other → one ≡ other
+ok_same {T} {E} one other answer first second = ap (λ (a : Result T E). unwrap_or (result_ok a) one) (sym first ∙ second)

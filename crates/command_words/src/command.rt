@@ -1,0 +1,18 @@
+//! The commands.
+
+/// What the program is to do.
+#[derive(Clone, Copy, Debug, PartialEq, Eq)]
+pub enum Command {
+    /// Plays a scenario, and writes its trace.
+    Replay,
+    /// Says what a trace has.
+    Read,
+    /// Says whether a trace tells of a scenario.
+    Check,
+    /// Writes the scenario of a number, with so many writers from 1 to 64, and so many packets of each from 1 to 100,000.
+    Gen {
+        number: u64,
+        writers: u8,
+        packets: u32,
+    },
+}
