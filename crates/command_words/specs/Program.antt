@@ -17,6 +17,7 @@ gen_app =
     with_rule (with_rule (with_rule (plain_app (codes "gen")) (number_rule (codes "NUMBER"))) (number_rule (codes "WRITERS")))
     (number_rule (codes "PACKETS"))
 
+-- the program without its commands: all words are its own, and there is no help
 abbrev pub bare_program : App
 bare_program = record (new_app (codes "tracesmb")) {
   top = record (new_app (codes "tracesmb")).top {
