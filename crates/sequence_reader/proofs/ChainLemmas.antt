@@ -1,5 +1,6 @@
 -- Following a chain from fragment to fragment.
 use Rattle.std.proofs.Common.{◌≡◌, ℕ, ◌+◌, ◌<◌, ◌≤◌, ◌^◌, ◌&&◌, ◌||◌, not, Bool, true, false, cond, List, [], ◌∷◌, ◌++◌, length, refl, sym, ap, ap₂, ◌∙◌, subst, arith, length-append, true≢false}
+use Rattle.std.proofs.lemmas.List.Concat.{flat_map-append}
 use Rattle.trace_model.specs.Buffers.{Buffer}
 use Rattle.trace_model.specs.Images.{Fragment}
 use Rattle.trace_model.specs.Row as row
@@ -15,7 +16,7 @@ use Rattle.sequence_reader.specs.declared.step.Piece.{Piece}
 use Rattle.sequence_reader.specs.Links.{fate_value, TellsStop, IsEnded, IsWalked}
 use Rattle.sequence_reader.specs.Spots.{rows_of, cursor_of, IsSpot, reach_of}
 use Rattle.sequence_reader.specs.Steps.{IsPieceAt, IsGapAt, IsStopAt}
-use Rattle.sequence_reader.proofs.JoinLemmas.{merged, before_start, before_more, before_last, bytes-append}
+use Rattle.sequence_reader.proofs.JoinLemmas.{merged, before_start, before_more, before_last}
 
 abbrev pub last_fate : Bool → Fate
 last_fate dropped = cond dropped Marked Whole
@@ -95,7 +96,7 @@ module _ (b : Buffer) (bounds : Bounds) where
       let more : length (bytes_of (walked.seen.pieces ++ one ∷ [])) ≡ chain.len + length piece.bytes.now =
       omega (
         arith,
-        ap length (bytes-append walked.seen.pieces (one ∷ [])),
+        ap length (flat_map-append (λ (p : row.Piece). p.fragment.bytes) walked.seen.pieces (one ∷ [])),
         length-append (bytes_of walked.seen.pieces) (bytes_of (one ∷ [])),
         one_long piece is.fragment is.bytes,
         walked.len,

@@ -68,9 +68,3 @@ module _ (chain : Chain) (piece : Piece) (next : Cursor) (awaits : Bool) (links 
   before_last headless goes h =
       ap (λ b. joined_to chain (cond b (joined_to (other headless) links) (Joined (other headless) ∷ links))) goes
       ∙ ap (before_chain chain (other headless) links) h
-
-pub bytes-append : (pieces others : List Piece) → bytes_of (pieces ++ others) ≡ bytes_of pieces ++ bytes_of others
-bytes-append [] others = refl
-bytes-append (piece ∷ pieces) others =
-    ap (λ bytes. piece.fragment.bytes ++ bytes) (bytes-append pieces others)
-    ∙ sym (append_assoc piece.fragment.bytes (bytes_of pieces) (bytes_of others))

@@ -130,8 +130,6 @@ pub record IsPutting (start now : List Link) (before after : Intake) (left : ℕ
   pub taken : after ≡ after_told before done
   pub whole : IsWholeAt now left
 
-pub putting_none : (start : List Link) (before : Intake) (left : ℕ) → IsWholeAt start left → IsPutting start start before before left
-putting_none start before left whole = record { done = []; bytes = refl; taken = sym (after_told_nothing before); whole = whole }
 
 module _ (start now behind : List Link) (before mid : Intake) (left : ℕ) (bytes : List ℕ) (putting : IsPutting start now before mid left) where
   whole_bytes : (runs_on : Bool) (puts : PutsMore now bytes runs_on behind left) → first_bytes start ≡ putting.done ++ (bytes ++ puts.rest)
@@ -148,15 +146,6 @@ module _ (start now behind : List Link) (before mid : Intake) (left : ℕ) (byte
     whole = (puts.more refl).1;
   }
 
-  pub putting_end : (after : Intake) → PutsMore now bytes false behind left → after ≡ after_told mid bytes → after ≡ after_told before (first_bytes start)
-  putting_end after puts took =
-      took ∙ ap (λ intake. after_told intake bytes) putting.taken ∙ after_told_again before putting.done bytes
-      ∙ ap (after_told before)
-      (sym (whole_bytes false puts ∙ ap (λ xs. putting.done ++ (bytes ++ xs)) (puts.last refl).0 ∙ ap (λ xs. putting.done ++ xs) (append_none bytes)))
-    where
-      append_none : (xs : List ℕ) → xs ++ [] ≡ xs
-      append_none [] = refl
-      append_none (x ∷ xs) = ap (λ ys. x ∷ ys) (append_none xs)
 
   pub putting_part : (after : Intake) (runs_on : Bool) → PutsMore now bytes runs_on behind left → TakesPart mid after bytes → TakesPart before after (first_bytes start)
   putting_part after runs_on puts part =

@@ -183,11 +183,10 @@ pub record IsReadWhole (start new : Buffer) (before after : Intake) (q limit cou
   pub records : after ≡ after_told before (record_bytes q (delivered_by start q limit))
   pub after_is : new ≡ with_read start q limit
   pub whole : count ≡ length (delivered_by start q limit)
-  pub why_is : why ≡ why_told (read_end limit (row_met start q))
 
-pub read_whole : (start old new : Buffer) (before mid after : Intake) (q limit count : ℕ) (why : Why) → count ≤ limit → IsReadTo start old before mid q count → IsDone old new mid after q (limit - count) why
+whole_at : (start old new : Buffer) (before mid after : Intake) (q limit count : ℕ) (why : Why) → count ≤ limit → IsReadTo start old before mid q count → IsDone old new mid after q (limit - count) why
     → IsReadWhole start new before after q limit count why
-read_whole start old new before mid after q limit count why most read done =
+whole_at start old new before mid after q limit count why most read done =
     let sum : limit ≡ count + (limit - count) = omega (arith, most) in
     let all : delivered_by start q limit ≡ delivered_by start q count =
     read.told (limit - count) limit sum ∙ ap (λ ds. delivered_by start q count ++ ds) done.none ∙ append-nil (delivered_by start q count) in
@@ -195,23 +194,12 @@ read_whole start old new before mid after q limit count why most read done =
       records = done.untouched ∙ read.taken ∙ ap (λ ds. after_told before (record_bytes q ds)) (sym all);
       after_is = done.same ∙ sym (read.state (limit - count) limit sum ∙ done.read);
       whole = sym (ap length all ∙ read.many);
-      why_is = sym (ap why_told (read.end (limit - count) limit sum) ∙ done.told);
     }
 
-pub read_failed : (start old new : Buffer) (before mid after : Intake) (q limit count : ℕ) → count ≤ limit → IsReadTo start old before mid q count → Fails old new mid after q (limit - count)
-    → EndsInRecordAt start new before after q limit count
-read_failed start old new before mid after q limit count most read fails =
-    let sum : limit ≡ count + (limit - count) = omega (arith, most) in
-    record {
-      delivered = delivered_by start q count;
-      failed = fails.failed;
-      others = fails.others;
-      cut = read.told (limit - count) limit sum ∙ ap (λ ds. delivered_by start q count ++ ds) fails.due;
-      number = read.many;
-      fewer = refl;
-      buffer = fails.same ∙ sym (read.state 0 count (omega arith) ∙ fails.read);
-      part = subst (λ intake. TakesPart intake after (record_of fails.failed.body q fails.failed.marked)) read.taken fails.part;
-    }
+pub read_whole : (start old new : Buffer) (before mid after : Intake) (q same limit count : ℕ) (why : Why) → same ≡ q → count ≤ limit → IsReadTo start old before mid same count
+    → IsDone old new mid after same (limit - count) why → IsReadWhole start new before after q limit count why
+read_whole start old new before mid after q same limit count why is most read done =
+    subst (λ n. IsReadWhole start new before after n limit count why) is (whole_at start old new before mid after same limit count why most read done)
 
 -- As the steps have it
 

@@ -9,10 +9,6 @@ use Rattle.trace_buffer.specs.Calls.{is_lost}
 use Rattle.sequence_reader.specs.Spots.{row_at, rows_of}
 
 module _ (b : Buffer) (s : Sequence) (i k : ℕ) where
-  pub row_none : horizon s ≤ i → row_at b s (place i k) ≡ Stop (place i k) (cond s.closed End Missing) (not s.closed) ∷ []
-  row_none past =
-      let none : horizon s - i ≡ 0 = omega (arith, past) in
-      ap (λ n. row_of s.closed i k (slots_of b s i n)) none
 
   row_more : i < horizon s → row_at b s (place i k) ≡ row_of s.closed i k (slot_of b s i ∷ slots_of b s (suc i) (horizon s - suc i))
   row_more before =

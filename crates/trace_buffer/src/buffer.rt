@@ -23,7 +23,7 @@ use crate::closing::mark_parts;
 use crate::patching::last_holds;
 use crate::room::{find_place, make_room, meets_unread};
 use crate::row::SequenceRow;
-use crate::rows::{advance, find_row, make_rows, note_arrived, note_discarded};
+use crate::rows::{advance, find_row, has_row, make_rows, note_arrived, note_discarded};
 use chunk_image::{Image, ImageFault};
 use chunk_index::Index;
 use commit_body::Patch;
@@ -190,6 +190,21 @@ impl TraceBuffer {
         let row = &mut self.rows[i];
         row.close();
         self.unpatched = mark_parts(&self.ring, row, self.unpatched);
+    }
+
+    /// Whether the sequence is one of the buffer's.
+    pub fn knows(&self, sequence: u32) -> bool
+        ensures { result ≡ is_known self.now.sequences sequence }
+    {
+        has_row(&self.rows, sequence)
+    }
+
+    /// The size of each record of the sequence.
+    pub fn record_size(&self, sequence: u32) -> u32
+        requires { is_known self.now.sequences sequence ≡ true }
+        ensures { result ≡ (sequence_in self.now.sequences sequence).size }
+    {
+        self.rows[find_row(&self.rows, sequence)].size()
     }
 
     pub fn state(&self, sequence: u32) -> SequenceState

@@ -1,5 +1,6 @@
 -- A record is its head, the packet's bytes and its tail, and so is what a sink has taken that took these one behind another.
 use Rattle.std.proofs.Common.{◌≡◌, ℕ, Bool, List, [], ◌∷◌, ◌++◌, length, refl, sym, ap, ◌∙◌, subst, length-append, append_assoc}
+use Rattle.std.proofs.lemmas.List.Concat.{flat_map-append}
 use Rattle.byte_io.specs.Bytes.{Intake, after_told, TakesPart}
 use Rattle.byte_io.proofs.Told.{after_told_again, after_told_nothing, part_first, part_second}
 use Rattle.wire_varint.specs.Varint.{varint}
@@ -61,12 +62,6 @@ pieces_are before [] = sym (after_told_nothing before)
 pieces_are before (piece ∷ pieces) =
     pieces_are (after_told before piece) pieces ∙ after_told_again before piece (joined_pieces pieces)
 
-joined-append : (pieces others : List (List ℕ)) → joined_pieces (pieces ++ others) ≡ joined_pieces pieces ++ joined_pieces others
-joined-append [] others = refl
-joined-append (piece ∷ pieces) others =
-    ap (λ bytes. piece ++ bytes) (joined-append pieces others)
-    ∙ sym (append_assoc piece (joined_pieces pieces) (joined_pieces others))
-
 pub records_are_cut : RecordsAreCut
 records_are_cut = record {
   whole = λ before pieces sequence marked.
@@ -78,7 +73,7 @@ records_are_cut = record {
       let body : List ℕ = joined_pieces (pieces ++ piece ∷ others) in
       let mid : Intake = after_told before (record_head (length body) sequence marked) in
       part_of_body before mid after body sequence marked refl
-      (subst (TakesPart mid after) (sym (joined-append pieces (piece ∷ others)))
+      (subst (TakesPart mid after) (sym (flat_map-append (λ (bytes : List ℕ). bytes) pieces (piece ∷ others)))
       (part_second mid (after_pieces mid pieces) after (joined_pieces pieces) (piece ++ joined_pieces others) (pieces_are mid pieces)
       (part_first (after_pieces mid pieces) after piece (joined_pieces others) part)));
   tail = λ before after pieces sequence marked part.
