@@ -1,5 +1,5 @@
 -- Following a chain from fragment to fragment.
-use Rattle.std.proofs.Common.{◌≡◌, ℕ, ◌+◌, ◌<◌, ◌≤◌, ◌^◌, ◌&&◌, ◌||◌, not, Bool, true, false, cond, List, [], ◌∷◌, ◌++◌, length, refl, sym, ap, ap₂, ◌∙◌, subst, arith, length-append, true≢false}
+use Rattle.std.proofs.Common.{◌≡◌, ◌+◌, ◌&&◌, ◌||◌, not, Bool, true, false, cond, List, [], ◌∷◌, ◌++◌, length, refl, sym, ap, ◌∙◌, arith, length-append, true≢false}
 use Rattle.std.proofs.lemmas.List.Concat.{flat_map-append}
 use Rattle.trace_model.specs.Buffers.{Buffer}
 use Rattle.trace_model.specs.Images.{Fragment}
@@ -13,8 +13,8 @@ use Rattle.sequence_reader.specs.declared.link.Fate.TheVariants.{Whole, Marked, 
 use Rattle.sequence_reader.specs.declared.spot.Bounds.{Bounds}
 use Rattle.sequence_reader.specs.declared.spot.Spot.{Spot}
 use Rattle.sequence_reader.specs.declared.step.Piece.{Piece}
-use Rattle.sequence_reader.specs.Links.{fate_value, TellsStop, IsEnded, IsWalked}
-use Rattle.sequence_reader.specs.Spots.{rows_of, cursor_of, IsSpot, reach_of}
+use Rattle.sequence_reader.specs.Links.{fate_value, TellsStop, IsWalked}
+use Rattle.sequence_reader.specs.Spots.{rows_of, cursor_of}
 use Rattle.sequence_reader.specs.Steps.{IsPieceAt, IsGapAt, IsStopAt}
 use Rattle.sequence_reader.proofs.JoinLemmas.{merged, before_start, before_more, before_last}
 

@@ -1,24 +1,13 @@
 -- What a read does at a link, as the reader finds it.
-use Rattle.std.proofs.Common.{◌≡◌, ℕ, suc, ◌+◌, ◌<◌, ◌≤◌, ◌&&◌, not, Bool, true, false, cond, List, [], ◌∷◌, length, refl, sym, ap, ◌∙◌, subst, arith, true≢false}
+use Rattle.std.proofs.Common.{◌≡◌, not, Bool, true, false, refl, sym, ap, ◌∙◌, arith, true≢false}
 use Rattle.trace_model.specs.Buffers.{Buffer}
-use Rattle.trace_model.specs.Reads.{Turn, Delivers, Counts, Skips, Ends, turn_by, turn_of, delivers, stop_place}
-use Rattle.trace_model.specs.Reads as reads
+use Rattle.trace_model.specs.Reads.{turn_by}
 use Rattle.trace_model.specs.Row as row
 use Rattle.trace_model.specs.Row.{Link, Joined, Gap, place}
-use Rattle.trace_model.specs.Sequences.{Cursor}
-use Rattle.trace_buffer.specs.Answers.{turn_value}
-use Rattle.trace_buffer.specs.declared.answers.Passed.TheVariants.{Nothing}
-use Rattle.sequence_reader.specs.declared.ends.Why.{Why}
 use Rattle.sequence_reader.specs.declared.link.Chain.{Chain}
-use Rattle.sequence_reader.specs.declared.link.Fate.{Fate}
-use Rattle.sequence_reader.specs.declared.link.Fate.TheVariants.{Whole, Marked, IntoLost, CutOff, Open}
+use Rattle.sequence_reader.specs.declared.link.Fate.TheVariants.{Whole}
 use Rattle.sequence_reader.specs.declared.spot.Bounds.{Bounds}
-use Rattle.sequence_reader.specs.declared.spot.Spot.{Spot}
-use Rattle.sequence_reader.specs.Ends.{stop_told}
-use Rattle.sequence_reader.specs.Links.{fate_value, TellsStop, IsEnded, IsWalked, passed_by, IsLink, EndsAt, IsPassedLink, IsPacket}
-use Rattle.sequence_reader.specs.Spots.{rows_of, cursor_of, IsSpot}
-use Rattle.sequence_reader.specs.Steps.{IsGapAt, IsStopAt}
-use Rattle.sequence_reader.proofs.StepLemmas.{start_fits}
+use Rattle.sequence_reader.specs.Links.{fate_value, IsWalked, IsPacket}
 
 -- a packet
 pub found_packet : (b : Buffer) (bounds : Bounds) (chain : Chain) → IsWalked b bounds chain → chain.goes_on ≡ false → chain.fate ≡ Whole → chain.headless ≡ false → chain.awaits ≡ false

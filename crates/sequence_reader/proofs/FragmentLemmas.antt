@@ -1,5 +1,5 @@
 -- Reading the fragments of a payload from any of them on.
-use Rattle.std.proofs.Common.{◌≡◌, ℕ, zero, suc, ◌+◌, ◌-◌, ◌<◌, ◌≤◌, ◌^◌, ◌==◌, Bool, true, false, cond, List, [], ◌∷◌, ◌++◌, length, take, drop, nat_le, Option, Some, None, is_some, refl, sym, ap, ◌∙◌, subst, arith, length-append, leb-true, ne_eqb, true≢false}
+use Rattle.std.proofs.Common.{◌≡◌, ℕ, zero, suc, ◌+◌, ◌-◌, ◌<◌, ◌≤◌, ◌^◌, ◌==◌, Bool, true, false, cond, List, [], ◌∷◌, length, take, drop, nat_le, Option, Some, None, is_some, refl, sym, ap, ◌∙◌, subst, arith, length-append, leb-true, ne_eqb, true≢false}
 use Rattle.std.proofs.lemmas.Bool.Decides.{nat_tests}
 use Rattle.std.proofs.lemmas.List.{drop-drop, length-drop, length-take, take_rest}
 use Rattle.wire_varint.specs.Reading.{IsWhole}

@@ -1,8 +1,8 @@
 -- Chains before the rest of a row.
-use Rattle.std.proofs.Common.{◌≡◌, ◌∙◌, ℕ, Bool, true, false, cond, not, ◌&&◌, ◌||◌, List, [], ◌∷◌, ◌++◌, length, refl, sym, ap, append_assoc}
+use Rattle.std.proofs.Common.{◌≡◌, ◌∙◌, Bool, true, false, cond, not, ◌&&◌, ◌||◌, List, [], ◌∷◌, ◌++◌, sym, ap, append_assoc}
 use Rattle.std.proofs.Math.Bool.{or_assoc}
 use Rattle.trace_model.specs.Sequences.{Cursor}
-use Rattle.trace_model.specs.Row.{Piece, Chain, Fate, Whole, Marked, IntoLost, CutOff, Open, Link, Joined, Gap, Stop, bytes_of, joined_to, with_piece, chain_of}
+use Rattle.trace_model.specs.Row.{Piece, Chain, IntoLost, CutOff, Open, Link, Joined, Gap, Stop, joined_to, with_piece, chain_of}
 
 -- two chains joined
 abbrev pub merged : Chain → Chain → Chain

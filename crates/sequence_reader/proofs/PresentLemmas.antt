@@ -1,8 +1,8 @@
 -- The fragment at a spot of a chunk that has a record.
-use Rattle.std.proofs.Common.{◌≡◌, ℕ, zero, suc, ◌+◌, ◌-◌, ◌^◌, ◌<◌, ◌≤◌, ◌==◌, ◌&&◌, not, Bool, true, false, List, ◌∷◌, length, drop, refl, sym, ap, ◌∙◌, subst, arith, true≢false}
+use Rattle.std.proofs.Common.{◌≡◌, ℕ, zero, suc, ◌+◌, ◌-◌, ◌^◌, ◌<◌, ◌≤◌, ◌==◌, Bool, true, false, List, length, drop, sym, subst, arith, true≢false}
 use Rattle.ring_bytes.specs.declared.key.RecordKey.{RecordKey}
 use Rattle.trace_model.specs.Images.{Fragment}
-use Rattle.trace_model.specs.Reading.{reading_of, place_behind}
+use Rattle.trace_model.specs.Reading.{reading_of}
 use Rattle.trace_model.specs.Row.{is_last}
 use Rattle.trace_buffer.specs.Records.{is_readable, fragments_of, chunk_of}
 use Rattle.trace_buffer.proofs.LossLemmas.{reading_length}

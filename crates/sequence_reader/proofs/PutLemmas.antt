@@ -1,10 +1,8 @@
 -- The bytes of a packet, written fragment by fragment.
-use Rattle.std.proofs.Common.{◌≡◌, ℕ, ◌+◌, ◌-◌, ◌<◌, ◌≤◌, ◌&&◌, ◌||◌, not, Bool, true, false, cond, List, [], ◌∷◌, ◌++◌, length, refl, sym, ap, ◌∙◌, subst, arith, append_assoc, length-append, OnOk, OnErr, Result, Ok, Err, true≢false}
+use Rattle.std.proofs.Common.{◌≡◌, ℕ, ◌+◌, ◌-◌, ◌≤◌, ◌&&◌, ◌||◌, not, Bool, true, false, cond, List, [], ◌∷◌, ◌++◌, length, refl, sym, ap, ◌∙◌, subst, arith, append_assoc, length-append, OnOk, OnErr, Result, Ok, Err, true≢false}
 use Rattle.byte_io.specs.Bytes.{Intake, after_told, TakesPart}
-use Rattle.byte_io.proofs.Told.{after_told_again, after_told_nothing, part_first, part_second}
+use Rattle.byte_io.proofs.Told.{after_told_again, part_first, part_second}
 use Rattle.trace_model.specs.Buffers.{Buffer}
-use Rattle.trace_model.specs.Reads.{link_bytes}
-use Rattle.trace_model.specs.Row as row
 use Rattle.trace_model.specs.Row.{Piece, Chain, Whole, Marked, IntoLost, CutOff, Open, Link, Joined, Gap, Stop, bytes_of, joined_to, with_piece, chain_of}
 use Rattle.trace_model.specs.Sequences.{Cursor}
 use Rattle.sequence_reader.specs.declared.spot.Bounds.{Bounds}
@@ -75,13 +73,16 @@ module _ (one : Piece) (next : Cursor) (headless awaits : Bool) (left : ℕ) whe
             begins = refl;
             short = omega (arith, long, parts);
             last = λ is. absurd (true≢false is);
-            more = λ is. (refl, record {
-              chain = third;
-              rest = links;
-              links_are = refl;
-              fate = whole_fate joined whole.chain links whole.rest whole.links_are whole.fate;
-              long = omega (arith, long, parts);
-            });
+            more = λ is. (
+              refl,
+              record {
+                chain = third;
+                rest = links;
+                links_are = refl;
+                fate = whole_fate joined whole.chain links whole.rest whole.links_are whole.fate;
+                long = omega (arith, long, parts);
+              },
+            );
           }
       of false whole = absurd (no_cut (whole_fate (record alone { fate = CutOff }) whole.chain (Joined third ∷ links) whole.rest whole.links_are whole.fate))
 
@@ -89,15 +90,16 @@ module _ (one : Piece) (next : Cursor) (headless awaits : Bool) (left : ℕ) whe
   ends : (behind : List Link) → IsWholeAt (Joined alone ∷ behind) left → (one.fragment.dropped ≡ false) × PutsMore (Joined alone ∷ behind) one.fragment.bytes false behind left
   ends behind whole =
       let long : length (one.fragment.bytes ++ []) ≡ left = whole_long alone whole.chain behind whole.rest left whole.links_are whole.long in
-      let same : length (one.fragment.bytes ++ []) ≡ length one.fragment.bytes + 0 = length-append one.fragment.bytes [] in
-      (undropped one.fragment.dropped (whole_fate alone whole.chain behind whole.rest whole.links_are whole.fate),
+      let same : length (one.fragment.bytes ++ []) ≡ length one.fragment.bytes + 0 = length-append one.fragment.bytes [] in (
+        undropped one.fragment.dropped (whole_fate alone whole.chain behind whole.rest whole.links_are whole.fate),
         record {
           rest = [];
           begins = refl;
           short = omega (arith, long, same);
           last = λ is. (refl, omega (arith, long, same));
           more = λ is. absurd (true≢false (sym is));
-        })
+        },
+      )
     where
       undropped : (d : Bool) → cond d Marked Whole ≡ Whole → d ≡ false
       undropped true is = absurd (no_mark is)
@@ -130,7 +132,6 @@ pub record IsPutting (start now : List Link) (before after : Intake) (left : ℕ
   pub taken : after ≡ after_told before done
   pub whole : IsWholeAt now left
 
-
 module _ (start now behind : List Link) (before mid : Intake) (left : ℕ) (bytes : List ℕ) (putting : IsPutting start now before mid left) where
   whole_bytes : (runs_on : Bool) (puts : PutsMore now bytes runs_on behind left) → first_bytes start ≡ putting.done ++ (bytes ++ puts.rest)
   whole_bytes runs_on puts = putting.bytes ∙ ap (λ xs. putting.done ++ xs) puts.begins
@@ -145,7 +146,6 @@ module _ (start now behind : List Link) (before mid : Intake) (left : ℕ) (byte
     taken = took ∙ ap (λ intake. after_told intake bytes) putting.taken ∙ after_told_again before putting.done bytes;
     whole = (puts.more refl).1;
   }
-
 
   pub putting_part : (after : Intake) (runs_on : Bool) → PutsMore now bytes runs_on behind left → TakesPart mid after bytes → TakesPart before after (first_bytes start)
   putting_part after runs_on puts part =

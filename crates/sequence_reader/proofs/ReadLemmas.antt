@@ -1,13 +1,11 @@
 -- A whole read, from its steps.
-use Rattle.std.proofs.Common.{◌≡◌, ℕ, zero, suc, ◌+◌, ◌-◌, ◌<◌, ◌≤◌, ◌==◌, ◌&&◌, ◌||◌, not, Bool, true, false, cond, List, [], ◌∷◌, ◌++◌, length, map, refl, sym, ap, ap₂, ◌∙◌, subst, arith, append_assoc, length-append, eq-eqb, true≢false}
+use Rattle.std.proofs.Common.{◌≡◌, ℕ, ◌+◌, ◌-◌, ◌<◌, ◌≤◌, ◌==◌, ◌&&◌, ◌||◌, not, Bool, true, false, cond, List, [], ◌∷◌, ◌++◌, length, refl, sym, ap, ap₂, ◌∙◌, subst, arith, append_assoc, length-append, eq-eqb, true≢false}
 use Rattle.std.proofs.lemmas.List.{append-nil}
 use Rattle.byte_io.specs.Bytes.{Intake, after_told, TakesPart}
 use Rattle.byte_io.proofs.Told.{after_told_again, after_told_nothing}
 use Rattle.trace_model.specs.Buffers.{Buffer}
 use Rattle.trace_model.specs.Counts.{one_if}
-use Rattle.trace_model.specs.Delivery.{trace_of}
-use Rattle.trace_model.specs.History.{record_in}
-use Rattle.trace_model.specs.Reads.{Turn, Delivers, Ends, delivers, ends, turn_of, next_of, Delivery, link_bytes, is_marked, delivered_by, with_read, read_end, stop_place, AtLimit, Stopped}
+use Rattle.trace_model.specs.Reads.{Turn, Delivers, delivers, ends, turn_of, Delivery, link_bytes, is_marked, delivered_by, with_read, read_end, stop_place, AtLimit, Stopped}
 use Rattle.trace_model.specs.Record.{record_of}
 use Rattle.trace_model.specs.Row.{Link}
 use Rattle.trace_model.specs.Sequences.{Cursor, sequence_in, is_known}
@@ -19,8 +17,7 @@ use Rattle.sequence_reader.specs.declared.ends.Why.{Why}
 use Rattle.sequence_reader.specs.declared.ends.Why.TheVariants.{Limit}
 use Rattle.sequence_reader.specs.declared.read.Progress.{Progress}
 use Rattle.sequence_reader.specs.declared.spot.Bounds.{Bounds}
-use Rattle.sequence_reader.specs.declared.spot.Spot.{Spot}
-use Rattle.sequence_reader.specs.Ends.{record_bytes, row_met, why_told, stop_told, EndsInRecordAt}
+use Rattle.sequence_reader.specs.Ends.{record_bytes, row_met, why_told, stop_told}
 use Rattle.sequence_reader.specs.Links.{IsLink, EndsAt}
 use Rattle.sequence_reader.specs.Spots.{AreBounds, IsSpot, rows_of, cursor_of}
 use Rattle.sequence_reader.specs.Turns.{IsAt, IsReadTo, GoesOn, IsDone, Fails}

@@ -1,15 +1,14 @@
 -- The row of a sequence at a place, by what there is of the chunk there.
-use Rattle.std.proofs.Common.{◌≡◌, ℕ, zero, suc, ◌+◌, ◌-◌, ◌<◌, ◌≤◌, ◌==◌, ◌&&◌, ◌||◌, not, max, Bool, true, false, cond, List, [], ◌∷◌, length, drop, Option, Some, None, is_some, refl, sym, ap, ◌∙◌, subst, arith, add-one}
+use Rattle.std.proofs.Common.{◌≡◌, ℕ, zero, suc, ◌-◌, ◌<◌, ◌≤◌, ◌==◌, ◌&&◌, ◌||◌, not, max, Bool, true, false, cond, List, [], ◌∷◌, length, drop, Option, Some, None, is_some, refl, sym, ap, ◌∙◌, arith}
 use Rattle.trace_model.specs.Buffers.{Buffer, BufferRecord, live_at}
 use Rattle.trace_model.specs.Images.{Chunk, Fragment}
-use Rattle.trace_model.specs.Row.{Slot, Here, Gone, Never, Link, Joined, Gap, Stop, Missing, Partial, Unpatched, End, place, place_behind, is_last, is_part, with_piece, chunk_links, row_of, slot_from, slot_of, slots_of, horizon}
-use Rattle.trace_model.specs.Sequences.{Sequence, Cursor, sequence_in, is_known, has_arrived, is_among}
+use Rattle.trace_model.specs.Row.{Slot, Here, Gone, Never, Link, Gap, Stop, Missing, Partial, Unpatched, place, place_behind, is_last, is_part, with_piece, chunk_links, row_of, slot_from, slot_of, slots_of, horizon}
+use Rattle.trace_model.specs.Sequences.{Sequence, sequence_in, is_known, has_arrived, is_among}
 use Rattle.trace_model.proofs.SequenceLemmas.{number_of}
 use Rattle.trace_buffer.specs.Calls.{is_lost}
-use Rattle.sequence_reader.specs.Spots.{row_at, rows_of}
+use Rattle.sequence_reader.specs.Spots.{row_at}
 
 module _ (b : Buffer) (s : Sequence) (i k : ℕ) where
-
   row_more : i < horizon s → row_at b s (place i k) ≡ row_of s.closed i k (slot_of b s i ∷ slots_of b s (suc i) (horizon s - suc i))
   row_more before =
       let more : horizon s - i ≡ suc (horizon s - suc i) = omega (arith, before) in

@@ -1,17 +1,17 @@
 -- Where a reader's cursor stands in a chunk that has a record.
-use Rattle.std.proofs.Common.{◌≡◌, ℕ, suc, ◌+◌, ◌<◌, ◌≤◌, ◌&&◌, not, Bool, true, false, List, length, Option, Some, refl, sym, ap, ◌∙◌, subst, arith}
+use Rattle.std.proofs.Common.{◌≡◌, ℕ, suc, ◌<◌, ◌≤◌, ◌&&◌, not, Bool, true, false, List, length, Option, Some, sym, ap, ◌∙◌, subst, arith}
 use Rattle.ring_bytes.specs.declared.key.RecordKey.{RecordKey}
 use Rattle.trace_model.specs.Buffers.{Buffer, BufferRecord, live_at}
-use Rattle.trace_model.specs.Images.{Chunk, Fragment}
+use Rattle.trace_model.specs.Images.{Chunk}
 use Rattle.trace_model.specs.Reading.{reading_of}
-use Rattle.trace_model.specs.Row.{is_part, place, horizon}
+use Rattle.trace_model.specs.Row.{is_part, place}
 use Rattle.trace_model.specs.Sequences.{sequence_in}
 use Rattle.trace_buffer.specs.Calls.{TellsRecord}
-use Rattle.trace_buffer.specs.Records.{is_readable, fragments_of, chunk_of}
+use Rattle.trace_buffer.specs.Records.{is_readable, fragments_of}
 use Rattle.trace_buffer.proofs.LossLemmas.{reading_length}
 use Rattle.sequence_reader.specs.declared.spot.Bounds.{Bounds}
 use Rattle.sequence_reader.specs.declared.spot.Spot.{Spot}
-use Rattle.sequence_reader.specs.Spots.{AreBounds, FitsChunk, rows_of, row_at, start_from}
+use Rattle.sequence_reader.specs.Spots.{AreBounds, FitsChunk, rows_of, start_from}
 use Rattle.sequence_reader.proofs.RowLemmas.{row_next, slot_here}
 
 fragments_are : (key : RecordKey) (payload : List ℕ) (stored : BufferRecord) → TellsRecord key payload stored → fragments_of (reading_of key.count payload) ≡ stored.chunk.fragments

@@ -1,5 +1,5 @@
 -- What a chunk's record shows at a spot is what the row has there.
-use Rattle.std.proofs.Common.{◌≡◌, ℕ, zero, suc, ◌+◌, ◌<◌, ◌≤◌, ◌==◌, ◌&&◌, ◌⊎◌, inl, inr, not, max, Bool, true, false, cond, List, [], ◌∷◌, length, drop, Option, Some, None, refl, sym, ap, ◌∙◌, subst, arith, add-one, true≢false}
+use Rattle.std.proofs.Common.{◌≡◌, ℕ, suc, ◌+◌, ◌<◌, ◌&&◌, inl, inr, not, max, Bool, true, false, cond, List, [], ◌∷◌, length, Option, Some, None, refl, sym, ap, ◌∙◌, subst, arith, true≢false}
 use Rattle.std.proofs.lemmas.List.{length-drop}
 use Rattle.ring_bytes.specs.declared.key.RecordKey.{RecordKey}
 use Rattle.trace_model.specs.Buffers.{Buffer, BufferRecord, live_at}
@@ -7,7 +7,7 @@ use Rattle.trace_model.specs.Images.{Chunk, Fragment}
 use Rattle.trace_model.specs.Reading as reading
 use Rattle.trace_model.specs.Row as row
 use Rattle.trace_model.specs.Row.{Here, place, place_behind, is_last, is_part, with_piece, slot_of, horizon}
-use Rattle.trace_model.specs.Sequences.{Cursor, Sequence, sequence_in}
+use Rattle.trace_model.specs.Sequences.{Sequence, sequence_in}
 use Rattle.trace_buffer.specs.Calls.{TellsRecord, IsImageOf}
 use Rattle.sequence_reader.specs.declared.ends.Why.{Why}
 use Rattle.sequence_reader.specs.declared.spot.Bounds.{Bounds}

@@ -1,17 +1,14 @@
 -- One link of a row at a time: what a read does at it, and what is left of the read behind it.
-use Rattle.std.proofs.Common.{◌≡◌, ℕ, zero, suc, ◌+◌, ◌-◌, ◌<◌, ◌≤◌, ◌==◌, ◌&&◌, ◌||◌, not, max, min, Bool, true, false, cond, List, [], ◌∷◌, ◌++◌, length, map, sum_by, refl, sym, ap, ap₂, ◌∙◌, subst, arith, eq-eqb, ne_eqb, true≢false}
-use Rattle.std.specs.List.{count_by}
-use Rattle.std.proofs.lemmas.List.{append-nil}
+use Rattle.std.proofs.Common.{◌≡◌, ℕ, zero, suc, ◌+◌, ◌-◌, ◌<◌, ◌==◌, ◌&&◌, ◌||◌, not, Bool, true, false, cond, List, [], ◌∷◌, ◌++◌, length, refl, sym, ap, ap₂, ◌∙◌, arith, ne_eqb}
 use Rattle.std.proofs.lemmas.List.Sums.{sum_by-cons}
 use Rattle.trace_model.specs.Counts.{raised, one_if}
 use Rattle.trace_model.specs.Buffers.{Buffer}
-use Rattle.trace_model.specs.Reads.{Turn, Delivers, Counts, Skips, Ends, Cause, Dropped, Lost, Cut, turn_of, delivers, ends, counts_under, passed_by, left_by, Delivery, link_bytes, delivered_of, missing_after, next_of, cursor_after, count_of, sequence_after, is_marked, delivered_by, with_read, advanced, read_end, end_before, AtLimit, Stopped, stop_place}
-use Rattle.trace_model.specs.Row.{Link, place, horizon, row_of, slot_of, slots_of, row_from_cursor}
+use Rattle.trace_model.specs.Reads.{Turn, Dropped, Lost, Cut, turn_of, delivers, ends, counts_under, passed_by, left_by, Delivery, link_bytes, delivered_of, missing_after, next_of, cursor_after, count_of, sequence_after, is_marked, delivered_by, with_read, advanced, read_end, end_before, AtLimit, Stopped, stop_place}
+use Rattle.trace_model.specs.Row.{Link, horizon, row_of, slot_of, slots_of}
 use Rattle.trace_model.specs.Sequences.{Sequence, Cursor, sequence_in, is_known, changed_at}
 use Rattle.trace_model.proofs.SequenceLemmas.{changed_here, known_changed}
 use Rattle.trace_buffer.specs.Calls.{with_advance}
-use Rattle.sequence_reader.specs.Ends.{row_met, why_told, stop_told}
-use Rattle.sequence_reader.specs.Links.{EndsAt}
+use Rattle.sequence_reader.specs.Ends.{row_met}
 use Rattle.sequence_reader.specs.Spots.{row_at, rows_of}
 
 -- Counts

@@ -1,7 +1,7 @@
 -- The next link of a row, as a reader finds it.
-use Rattle.std.specs.Prelude.{◌≡◌, ℕ, ◌+◌, ◌^◌, ◌≤◌, Bool, true, false, List, [], ◌∷◌, length, if◌then◌else◌}
+use Rattle.std.specs.Prelude.{◌≡◌, ℕ, ◌+◌, ◌^◌, ◌≤◌, Bool, true, false, List, ◌∷◌, length, if◌then◌else◌}
 use Rattle.trace_model.specs.Buffers.{Buffer}
-use Rattle.trace_model.specs.Reads.{Turn, Delivers, Ends, turn_of, next_of, link_bytes, stop_place, delivers, ends}
+use Rattle.trace_model.specs.Reads.{Turn, Delivers, Ends, turn_of, next_of, link_bytes, stop_place, delivers}
 use Rattle.trace_model.specs.Row as row
 use Rattle.trace_model.specs.Row.{Link, Joined, bytes_of, joined_to}
 use Rattle.trace_model.specs.Sequences.{Cursor}

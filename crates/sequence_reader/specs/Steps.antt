@@ -14,7 +14,7 @@ use Rattle.sequence_reader.specs.declared.step.Piece.{Piece}
 use Rattle.sequence_reader.specs.declared.step.Step.{Step}
 use Rattle.sequence_reader.specs.declared.step.Step.TheVariants as step
 use Rattle.sequence_reader.specs.Ends.{why_of}
-use Rattle.sequence_reader.specs.Spots.{rows_of, cursor_of, IsSpot, start_from, reach_of}
+use Rattle.sequence_reader.specs.Spots.{rows_of, cursor_of, IsSpot, reach_of}
 
 abbrev pub spot_behind : Spot → ℕ → Bool → Spot
 spot_behind spot end ended =

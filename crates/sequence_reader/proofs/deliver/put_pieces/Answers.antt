@@ -1,4 +1,4 @@
-use Rattle.std.proofs.Common.{◌≡◌, ◌-◌, List, true, sym, ap, ◌∙◌, subst, OnErr, Result, Ok, Err, arith, length}
+use Rattle.std.proofs.Common.{◌≡◌, ◌-◌, List, true, sym, ap, ◌∙◌, subst, length}
 use Rattle.trace_model.specs.Row.{Link}
 use Rattle.trace_file.specs.Parts.{Writing}
 use Rattle.sequence_reader.specs.Spots.{rows_of, cursor_of}

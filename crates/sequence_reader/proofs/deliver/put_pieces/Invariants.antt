@@ -1,4 +1,4 @@
-use Rattle.std.proofs.Common.{◌≡◌, ◌-◌, ◌^◌, ◌≤◌}
+use Rattle.std.proofs.Common.{◌≡◌, ◌-◌, ◌^◌}
 use Rattle.sequence_reader.specs.Spots.{IsSpot, rows_of, cursor_of, reach_of}
 use Rattle.sequence_reader.proofs.PutLemmas.{IsPutting}
 use Rattle.sequence_reader.proofs.deliver.put_pieces.Given as goal

@@ -1,5 +1,4 @@
-use Rattle.std.proofs.Common.{◌≡◌, sym, subst}
-use Rattle.sequence_reader.specs.declared.link.Chain.{Chain}
+use Rattle.std.proofs.Common.{sym, subst}
 use Rattle.sequence_reader.specs.Links.{IsWalked}
 use Rattle.sequence_reader.proofs.ChainLemmas.{begun_chain, walked_begun}
 use Rattle.sequence_reader.proofs.link.begun.Goals as goal

@@ -1,4 +1,4 @@
-use Rattle.std.proofs.Common.{◌≡◌, ◌-◌, ◌+◌, ◌^◌, true, cond}
+use Rattle.std.proofs.Common.{◌≡◌, ◌-◌, ◌+◌, ◌^◌, cond}
 use Rattle.sequence_reader.specs.Links.{IsWalked}
 use Rattle.sequence_reader.specs.Spots.{reach_of}
 use Rattle.sequence_reader.proofs.link.follow.Given as goal

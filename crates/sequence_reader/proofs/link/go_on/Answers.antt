@@ -1,7 +1,4 @@
-use Rattle.std.proofs.Common.{◌≡◌, sym, ap, ◌∙◌, subst, not, true, false, cond}
-use Rattle.sequence_reader.specs.declared.link.Chain.{Chain}
-use Rattle.sequence_reader.specs.declared.link.Fate.{Fate}
-use Rattle.sequence_reader.specs.declared.link.Fate.TheVariants.{IntoLost, CutOff, Open}
+use Rattle.std.proofs.Common.{sym, ap, ◌∙◌, subst}
 use Rattle.sequence_reader.specs.Links.{IsWalked}
 use Rattle.sequence_reader.proofs.ChainLemmas.{longer_chain, ended_chain, walked_longer, walked_to_start, walked_to_gap, walked_to_stop}
 use Rattle.sequence_reader.proofs.link.go_on.Goals as goal

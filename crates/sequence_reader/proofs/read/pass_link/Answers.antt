@@ -1,6 +1,5 @@
-use Rattle.std.proofs.Common.{◌≡◌, ◌+◌, ◌-◌, ◌≤◌, true, false, not, [], cond, refl, sym, ap, ◌∙◌, subst, arith}
+use Rattle.std.proofs.Common.{◌≡◌, ◌-◌, true, not, sym, ap, ◌∙◌, subst, arith}
 use Rattle.trace_model.specs.Buffers.{Buffer}
-use Rattle.trace_model.specs.Counts.{one_if}
 use Rattle.trace_model.specs.Reads.{delivers, is_marked, link_bytes}
 use Rattle.trace_model.specs.Sequences as model
 use Rattle.trace_buffer.specs.Answers.{turn_value}

@@ -1,5 +1,4 @@
-use Rattle.std.proofs.Common.{◌≡◌, ◌≤◌, refl, sym, ap, ◌∙◌, subst, arith}
-use Rattle.sequence_reader.specs.Ends.{EndsInRecordAt}
+use Rattle.std.proofs.Common.{refl, sym, ◌∙◌, subst, arith}
 use Rattle.sequence_reader.specs.Turns.{IsReadTo}
 use Rattle.sequence_reader.proofs.ReadLemmas.{read_none, read_further, read_whole}
 use Rattle.sequence_reader.proofs.read.read_counted.Goals as goal
@@ -29,20 +28,20 @@ loop-next-preserved g c =
 pub returns-in-Ended-clause-records : goal.returns-in-Ended-clause-records
 returns-in-Ended-clause-records g c =
     let whole = read_whole c.args.buffer.now c.loop-next.buffer c.pass_link.new.buffer (g.O.Sink.taken c.args.out.now) (g.O.Sink.taken c.loop-next.out) (g.O.Sink.taken c.pass_link.new.out)
-        c.args.sequence c.bounds_of-bounds.result.sequence c.args.limit c.loop-next.progress.delivered c.in-Ended.why c.loop-next.invariant.sequence c.loop-next.invariant.most
-        c.loop-next.invariant.read c.in-Ended.ensures.turns in
+    c.args.sequence c.bounds_of-bounds.result.sequence c.args.limit c.loop-next.progress.delivered c.in-Ended.why c.loop-next.invariant.sequence c.loop-next.invariant.most
+    c.loop-next.invariant.read c.in-Ended.ensures.turns in
     whole.records
 
 pub returns-in-Ended-clause-after : goal.returns-in-Ended-clause-after
 returns-in-Ended-clause-after g c =
     let whole = read_whole c.args.buffer.now c.loop-next.buffer c.pass_link.new.buffer (g.O.Sink.taken c.args.out.now) (g.O.Sink.taken c.loop-next.out) (g.O.Sink.taken c.pass_link.new.out)
-        c.args.sequence c.bounds_of-bounds.result.sequence c.args.limit c.loop-next.progress.delivered c.in-Ended.why c.loop-next.invariant.sequence c.loop-next.invariant.most
-        c.loop-next.invariant.read c.in-Ended.ensures.turns in
+    c.args.sequence c.bounds_of-bounds.result.sequence c.args.limit c.loop-next.progress.delivered c.in-Ended.why c.loop-next.invariant.sequence c.loop-next.invariant.most
+    c.loop-next.invariant.read c.in-Ended.ensures.turns in
     whole.after_is
 
 pub returns-in-Ended-clause-whole : goal.returns-in-Ended-clause-whole
 returns-in-Ended-clause-whole g c =
     let whole = read_whole c.args.buffer.now c.loop-next.buffer c.pass_link.new.buffer (g.O.Sink.taken c.args.out.now) (g.O.Sink.taken c.loop-next.out) (g.O.Sink.taken c.pass_link.new.out)
-        c.args.sequence c.bounds_of-bounds.result.sequence c.args.limit c.loop-next.progress.delivered c.in-Ended.why c.loop-next.invariant.sequence c.loop-next.invariant.most
-        c.loop-next.invariant.read c.in-Ended.ensures.turns in
+    c.args.sequence c.bounds_of-bounds.result.sequence c.args.limit c.loop-next.progress.delivered c.in-Ended.why c.loop-next.invariant.sequence c.loop-next.invariant.most
+    c.loop-next.invariant.read c.in-Ended.ensures.turns in
     whole.whole

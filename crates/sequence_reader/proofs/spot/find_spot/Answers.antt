@@ -1,4 +1,4 @@
-use Rattle.std.proofs.Common.{◌≡◌, ℕ, suc, ◌+◌, false, sym, ap, ◌∙◌, arith}
+use Rattle.std.proofs.Common.{◌≡◌, suc, ◌+◌, sym, ap, ◌∙◌, arith}
 use Rattle.trace_model.specs.Buffers.{live_at}
 use Rattle.trace_model.specs.Row.{place}
 use Rattle.sequence_reader.specs.declared.spot.Spot.{Spot}

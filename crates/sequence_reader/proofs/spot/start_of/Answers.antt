@@ -1,11 +1,8 @@
-use Rattle.std.proofs.Common.{◌≡◌, ◌+◌, ◌-◌, ◌≤◌, false, suc, List, length, drop, Some, sym, ap, ◌∙◌, subst, arith}
-use Rattle.std.specs.Option.{option_map}
-use Rattle.trace_model.specs.Images.{Fragment}
+use Rattle.std.proofs.Common.{◌≡◌, ◌+◌, ◌-◌, ◌≤◌, false, suc, length, drop, sym, ap, ◌∙◌, subst, arith}
 use Rattle.trace_model.specs.Reading.{reading_of, place_behind}
-use Rattle.chunk_image.specs.Values.{fragment_value}
 use Rattle.trace_buffer.specs.Records.{fragments_of}
 use Rattle.sequence_reader.specs.Spots.{start_from}
-use Rattle.sequence_reader.proofs.FragmentLemmas.{reads_at, found_as, not_last, rest_fits, start_next, none_read, some_read}
+use Rattle.sequence_reader.proofs.FragmentLemmas.{reads_at, not_last, rest_fits, start_next, none_read, some_read}
 use Rattle.sequence_reader.proofs.spot.start_of.Goals as goal
 
 pub slice_bounds-read_fragment-count : goal.slice_bounds-read_fragment-count

@@ -1,4 +1,4 @@
-use Rattle.std.proofs.Common.{◌≡◌, ◌<◌, ◌∷◌, [], suc, true, false, refl, cond, sym, ap, ◌∙◌, subst}
+use Rattle.std.proofs.Common.{◌<◌, ◌∷◌, [], suc, true, false, refl, cond, sym, ap, ◌∙◌, subst}
 use Rattle.trace_model.specs.Row.{Gap, Stop, place, horizon}
 use Rattle.trace_model.specs.Row as row
 use Rattle.trace_model.specs.Sequences.{sequence_in}

@@ -1,7 +1,6 @@
-use Rattle.std.proofs.Common.{◌≡◌, sym, ap, ◌∙◌, subst, true}
+use Rattle.std.proofs.Common.{sym, ap, subst}
 use Rattle.trace_model.specs.Buffers.{live_at}
 use Rattle.trace_model.specs.Images.{Chunk}
-use Rattle.trace_model.specs.Reading.{reading_of}
 use Rattle.trace_buffer.specs.Records.{is_readable}
 use Rattle.sequence_reader.specs.Spots.{FitsChunk}
 use Rattle.sequence_reader.specs.Steps.{ShowsIn}

@@ -1,4 +1,4 @@
-use Rattle.std.proofs.Common.{◌≡◌, ℕ, suc, ◌+◌, ◌-◌, ◌<◌, ◌≤◌, ◌==◌, ◌^◌, ◌/◌, ◌%◌, ◌&&◌, not, Bool, true, false, List, length, drop, inl, inr, refl, sym, ap, ap₂, ◌∙◌, subst, arith}
+use Rattle.std.proofs.Common.{◌≡◌, ℕ, suc, ◌+◌, ◌-◌, ◌<◌, ◌≤◌, ◌==◌, ◌^◌, ◌/◌, ◌%◌, ◌&&◌, not, Bool, List, length, drop, inl, inr, refl, sym, ap, ap₂, ◌∙◌, subst, arith}
 use Rattle.trace_model.specs.Images.{Fragment}
 use Rattle.trace_model.specs.Reading.{place_behind}
 use Rattle.trace_model.specs.Row.{is_last}
