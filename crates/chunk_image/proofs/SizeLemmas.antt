@@ -1,10 +1,9 @@
 -- Sizes: the steps that read one find just the varint of one to four bytes that stands in front.
-use Rattle.std.proofs.Common.{◌≡◌, ℕ, zero, suc, ◌+◌, ◌*◌, ◌%◌, ◌^◌, ◌<◌, ◌≤◌, List, [], ◌∷◌, ◌++◌, length, take, drop, Option, Some, None, refl, ap, sym, subst, ◌∙◌, add-one, arith, inl, inr}
-use Rattle.std.proofs.lemmas.Bool.{cases_lt, lt-ltb, le-ltb}
+use Rattle.std.proofs.Common.{◌≡◌, ℕ, ◌^◌, ◌<◌, ◌≤◌, List, length, take, drop, Option, Some, None, refl, ap, sym, subst, ◌∙◌, arith}
 use Rattle.std.proofs.lemmas.List.{take-append-drop, length-take-le}
 use Rattle.std.proofs.Math.Seq.{take-append_seam}
 use Rattle.std.proofs.Math.Nat.{pow-le-pow_right}
-use Rattle.wire_varint.specs.Reading.{joined, IsWhole, IsVarint, NoVarintInFront}
+use Rattle.wire_varint.specs.Reading.{joined, IsVarint, NoVarintInFront}
 use Rattle.wire_varint.proofs.Joined.{joined-lt}
 use Rattle.wire_varint.proofs.Whole.{whole_once}
 use Rattle.trace_model.specs.Reading.{Size, size_of}

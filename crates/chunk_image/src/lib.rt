@@ -12,4 +12,4 @@ mod tests;
 
 pub use image::{Image, ImageFault};
 pub use iterate::FragmentIter;
-pub use read::{DROP_SIZE, Fragment, MAX_SIZE_WIDTH};
+pub use read::{DROP_SIZE, Fragment, MAX_SIZE_WIDTH, read_fragment};

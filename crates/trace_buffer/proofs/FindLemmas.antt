@@ -1,7 +1,8 @@
 -- The record of a chunk, and the one at its place.
-use Rattle.std.proofs.Common.{◌≡◌, ◌≢◌, ℕ, ◌<◌, ◌^◌, ◌==◌, ◌&&◌, Bool, true, false, cond, List, [], ◌∷◌, map, Option, Some, None, IfSome, is_some, refl, sym, ap, ap₂, ◌∙◌, subst, eq-eqb, eqb-true, ne_eqb, true≢false}
+use Rattle.std.proofs.Common.{◌≡◌, ◌≢◌, ℕ, ◌<◌, ◌≤◌, arith, ◌^◌, ◌==◌, ◌&&◌, Bool, true, false, cond, List, [], ◌∷◌, map, Option, Some, None, IfSome, is_some, refl, sym, ap, ap₂, ◌∙◌, subst, eq-eqb, eqb-true, ne_eqb, true≢false}
 use Rattle.std.specs.List.{find}
 use Rattle.std.specs.Option.{option_map}
+use Rattle.page_geometry.specs.Sizes.{record_size}
 use Rattle.ring_bytes.specs.Value.{Stored, RingValue, is_at, stored_at, NoneAt}
 use Rattle.ring_bytes.specs.declared.key.RecordKey.{RecordKey}
 use Rattle.trace_model.specs.Buffers.{BufferRecord, is_of}
@@ -137,3 +138,7 @@ tells_record stored key payload reads key_is payload_is = record {
   chunk = ap₂ chunk_of key_is payload_is;
   reads = ap₂ (λ (k : RecordKey) p. reading_of k.count p) key_is payload_is ∙ readable_is (reading_of stored.key.count stored.payload) reads;
 }
+
+-- a payload takes less than its record
+pub payload_small : (len size room : ℕ) → record_size len ≡ size → size ≤ room → room ≤ 67108864 → len ≤ 67108864
+payload_small len size room is fits most = omega (arith, is, fits, most)

@@ -1,5 +1,5 @@
 //! The buffer.
-ghost use Rattle.std.specs.Prelude.{◌≡◌, ℕ, ◌+◌, ◌*◌, ◌%◌, ◌<◌, ◌≤◌, ◌&&◌, true, false, List, length, map, find, is_some, IfOk, IfSome, IfNone, None};
+ghost use Rattle.std.specs.Prelude.{◌≡◌, ℕ, ◌+◌, ◌*◌, ◌%◌, ◌^◌, ◌<◌, ◌≤◌, ◌&&◌, true, false, List, length, map, find, is_some, IfOk, IfSome, IfNone, None};
 ghost use Rattle.page_geometry.specs.Sizes.{record_size};
 ghost use Rattle.trace_model.specs.Buffers.{empty_buffer, live_at, made_room, meets};
 ghost use Rattle.trace_model.specs.Sequences.{is_known, sequence_in, changed_at, has_arrived, is_among, base_of};
@@ -7,6 +7,7 @@ ghost use Rattle.trace_model.specs.Arrivals as model;
 ghost use Rattle.trace_model.specs.Arrivals.{arrival_noted, makes_arrive, with_record, with_rewritten, settled, placing_of, arrival_of, partial_arrival_of, is_refused, is_too_far, image_arrival_of, partial_image_arrival_of, with_image, with_partial_image, with_arrived};
 ghost use Rattle.trace_model.specs.Patches.{patch_answer, with_patch, with_close};
 ghost use Rattle.trace_model.specs.Reading.{reading_of};
+ghost use Rattle.trace_model.specs.Row.{horizon};
 ghost use Rattle.chunk_image.specs.Values.{image_value};
 ghost use Rattle.commit_body.specs.Patches.{patch_value};
 ghost use Rattle.trace_buffer.specs.Answers.{arrived_value, patch_told, counts_of, state_of, cursor_value, turn_value};
@@ -22,7 +23,7 @@ use crate::closing::mark_parts;
 use crate::patching::last_holds;
 use crate::room::{find_place, make_room, meets_unread};
 use crate::row::SequenceRow;
-use crate::rows::{advance, find_row, make_rows, note_arrived, note_discarded};
+use crate::rows::{advance, find_row, has_row, make_rows, note_arrived, note_discarded};
 use chunk_image::{Image, ImageFault};
 use chunk_index::Index;
 use commit_body::Patch;
@@ -191,6 +192,21 @@ impl TraceBuffer {
         self.unpatched = mark_parts(&self.ring, row, self.unpatched);
     }
 
+    /// Whether the sequence is one of the buffer's.
+    pub fn knows(&self, sequence: u32) -> bool
+        ensures { result ≡ is_known self.now.sequences sequence }
+    {
+        has_row(&self.rows, sequence)
+    }
+
+    /// The size of each record of the sequence.
+    pub fn record_size(&self, sequence: u32) -> u32
+        requires { is_known self.now.sequences sequence ≡ true }
+        ensures { result ≡ (sequence_in self.now.sequences sequence).size }
+    {
+        self.rows[find_row(&self.rows, sequence)].size()
+    }
+
     pub fn state(&self, sequence: u32) -> SequenceState
         requires { is_known self.now.sequences sequence ≡ true }
         ensures { result ≡ state_of self.now.policy (sequence_in self.now.sequences sequence) }
@@ -224,10 +240,20 @@ impl TraceBuffer {
             && (row.has_arrived(chunk_id) || row.is_final(chunk_id))
     }
 
+    /// One above the last chunk that a reader of the sequence can meet.
+    pub fn horizon(&self, sequence: u32) -> u64
+        requires { is_known self.now.sequences sequence ≡ true }
+        ensures is { result ≡ horizon (sequence_in self.now.sequences sequence) }
+        ensures low { result ≤ 2 ^ 33 }
+    {
+        self.rows[find_row(&self.rows, sequence)].horizon()
+    }
+
     /// What the record of a chunk has, with its payload as it stands in the ring.
     pub fn image_of(&self, sequence: u32, chunk_id: u64) -> Option<(RecordKey, &[u8])>
         ensures some { IfSome result (λ image. IsImageOf image.0 image.1.now (live_at self.now sequence chunk_id)) }
         ensures none { IfNone result (live_at self.now sequence chunk_id ≡ None) }
+        ensures small { IfSome result (λ image. length image.1.now ≤ MAX_RING_SIZE) }
     {
         let _room = self.ring.size();
         let Ok(id) = u32::try_from(chunk_id) else {

@@ -1,8 +1,8 @@
 //! Bits for as many ids from a base on as may be ahead, as a circle: the bit of an id stands at its
 //! remainder, so that nothing is moved when the base rises.
-ghost use Rattle.std.specs.Prelude.{◌≡◌, ℕ, ◌%◌, ◌<◌, ◌≤◌, ◌^◌, true, false, length};
-ghost use Rattle.trace_model.specs.Sequences.{is_among};
-ghost use Rattle.trace_buffer.specs.Circle.{bit, arrived_of};
+ghost use Rattle.std.specs.Prelude.{◌≡◌, ℕ, ◌+◌, ◌%◌, ◌<◌, ◌≤◌, ◌^◌, max, true, false, length};
+ghost use Rattle.trace_model.specs.Sequences.{above_all, is_among};
+ghost use Rattle.trace_buffer.specs.Circle.{bit, marked, arrived_of};
 
 use trace_base::limits::IDS_AHEAD;
 
@@ -22,6 +22,28 @@ pub fn settle(bits: &mut [bool], base: u64) -> u64
         base += 1;
     }
     base
+}
+
+/// One above the last id of either circle, and the base where all bits are clear.
+pub fn end_of_bits(ahead: &[bool], finals: &[bool], base: u64) -> u64
+    requires ahead { length ahead.now ≡ IDS_AHEAD }
+    requires finals { length finals.now ≡ IDS_AHEAD }
+    requires low { base ≤ 2 ^ 32 }
+    ensures is { result ≡ max (above_all (arrived_of base ahead.now)) (above_all (marked finals.now IDS_AHEAD base)) }
+    ensures low { result ≤ base + IDS_AHEAD }
+{
+    let mut end = base + u64::from(IDS_AHEAD);
+    while base < end {
+        let place = place_of(end - 1);
+        if ahead[place] {
+            return end;
+        }
+        if finals[place] {
+            return end;
+        }
+        end -= 1;
+    }
+    end
 }
 
 /// Where the bit of an id stands.

@@ -1,15 +1,16 @@
 //! What a buffer keeps of one sequence.
-ghost use Rattle.std.specs.Prelude.{◌≡◌, [], true, false, IfOk};
+ghost use Rattle.std.specs.Prelude.{◌≡◌, ◌^◌, ◌≤◌, [], true, false, IfOk};
 ghost use Rattle.trace_model.specs.Counts.{raised};
 ghost use Rattle.trace_model.specs.Sequences.{fresh, has_arrived, is_among, unread_of, with_number};
 ghost use Rattle.trace_model.specs.Arrivals.{is_too_far, with_arrived};
 ghost use Rattle.trace_model.specs.Reads.{advanced};
+ghost use Rattle.trace_model.specs.Row.{horizon};
 ghost use Rattle.trace_buffer.specs.Answers.{cursor_value, turn_value, state_of};
 ghost use Rattle.trace_buffer.specs.Keys as keys;
 ghost use Rattle.trace_buffer.specs.Keys.{cursor_behind};
 
 use crate::answers::{Cursor, Passed, SequenceState};
-use crate::circle::{place_of, settle};
+use crate::circle::{end_of_bits, place_of, settle};
 use page_geometry::FIRST_CONTINUES;
 use ring_bytes::RecordKey;
 use std::alloc::{AllocError, Global};
@@ -110,6 +111,19 @@ impl SequenceRow {
             return false;
         }
         self.finals[place_of(id)]
+    }
+
+    /// One above the last id that a reader can meet: the least one that hasn't arrived, and of a closed
+    /// sequence the last one of which anything ever was there.
+    #[tactic(auto, using(crate::proofs::CircleLemmas::base_is))]
+    pub fn horizon(&self) -> u64
+        ensures is { result ≡ horizon self.now }
+        ensures low { result ≤ 2 ^ 33 }
+    {
+        if self.closed {
+            return end_of_bits(&self.ahead, &self.finals, self.base);
+        }
+        self.base + 1
     }
 
     /// Of so many fragments of an id, those that the cursor hasn't passed.

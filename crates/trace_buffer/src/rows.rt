@@ -37,6 +37,18 @@ pub fn find_row(rows: &[SequenceRow], number: u32) -> usize
     i
 }
 
+/// Whether a sequence has this number.
+pub fn has_row(rows: &[SequenceRow], number: u32) -> bool
+    ensures { result ≡ is_known rows.now number }
+{
+    for row in rows {
+        if row.number() == number {
+            return true;
+        }
+    }
+    false
+}
+
 /// The record is lost. Answers how many sequences lose something unread with it, at most one.
 pub fn note_loss(rows: &mut [SequenceRow], key: RecordKey) -> u64
     requires known { is_known rows.old key.sequence ≡ true }

@@ -1,0 +1,11 @@
+pub mod FragmentLemmas
+pub mod PresentLemmas
+pub mod RowLemmas
+pub mod StepLemmas
+pub mod SpotLemmas
+pub mod JoinLemmas
+pub mod ChainLemmas
+pub mod FoundLemmas
+pub mod PutLemmas
+pub mod TurnLemmas
+pub mod ReadLemmas

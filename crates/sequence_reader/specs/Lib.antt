@@ -1,0 +1,5 @@
+pub mod Ends
+pub mod Spots
+pub mod Steps
+pub mod Links
+pub mod Turns

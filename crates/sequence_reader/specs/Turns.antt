@@ -1,0 +1,82 @@
+-- How a read goes on from link to link, and how its steps make up the whole read.
+use Rattle.std.specs.Prelude.{◌≡◌, ℕ, ◌+◌, ◌-◌, ◌<◌, ◌≤◌, List, [], ◌∷◌, ◌++◌, length}
+use Rattle.byte_io.specs.Bytes.{Intake, after_told, TakesPart, Faulted}
+use Rattle.trace_model.specs.Buffers.{Buffer}
+use Rattle.trace_model.specs.Reads.{Delivery, delivered_by, with_read, read_end, is_marked, link_bytes}
+use Rattle.trace_model.specs.Record.{record_of}
+use Rattle.trace_model.specs.Row.{Link, Joined, Chain, Whole, bytes_of}
+use Rattle.trace_model.specs.Sequences.{sequence_in}
+use Rattle.sequence_reader.specs.declared.ends.Why.{Why}
+use Rattle.sequence_reader.specs.declared.read.Progress.{Progress}
+use Rattle.sequence_reader.specs.declared.read.Turned.{Turned}
+use Rattle.sequence_reader.specs.declared.read.Turned.TheVariants.{On, Ended, Failed}
+use Rattle.sequence_reader.specs.declared.spot.Bounds.{Bounds}
+use Rattle.sequence_reader.specs.Ends.{record_bytes, row_met, why_told}
+use Rattle.sequence_reader.specs.Spots.{AreBounds, IsSpot, rows_of, cursor_of}
+
+abbrev pub first_bytes : List Link → List ℕ
+first_bytes [] = []
+first_bytes (link ∷ links) = link_bytes link
+
+-- the row begins with a packet of so many bytes, of which nothing is missing
+pub record IsWholeAt (links : List Link) (len : ℕ) : Type 0 where
+  pub chain : Chain
+  pub rest : List Link
+  pub links_are : links ≡ Joined chain ∷ rest
+  pub fate : chain.fate ≡ Whole
+  pub long : length (bytes_of chain.pieces) ≡ len
+
+-- a read has come to its spot
+pub record IsAt (buffer : Buffer) (bounds : Bounds) (progress : Progress) : Type 0 where
+  pub bounds_are : AreBounds buffer bounds
+  pub spot : IsSpot buffer bounds progress.at
+  pub links : row_met buffer bounds.sequence ≡ rows_of buffer bounds.sequence (cursor_of progress.at)
+  pub marked : is_marked (sequence_in buffer.sequences bounds.sequence) ≡ progress.marked
+
+-- A read has delivered so many packets: what it still does is all that a read with the rest of its limit does.
+pub record IsReadTo (start now : Buffer) (before after : Intake) (sequence count : ℕ) : Type 0 where
+  pub state : (more limit : ℕ) → limit ≡ count + more → with_read start sequence limit ≡ with_read now sequence more
+  pub told : (more limit : ℕ) → limit ≡ count + more
+      → delivered_by start sequence limit ≡ delivered_by start sequence count ++ delivered_by now sequence more
+  pub end : (more limit : ℕ) → limit ≡ count + more
+      → read_end limit (row_met start sequence) ≡ read_end more (row_met now sequence)
+  pub many : length (delivered_by start sequence count) ≡ count
+  pub taken : after ≡ after_told before (record_bytes sequence (delivered_by start sequence count))
+
+-- one link was passed
+pub record GoesOn (old new : Buffer) (before after : Intake) (bounds : Bounds) (limit : ℕ) (progress next : Progress) : Type 0 where
+  pub at : IsAt new bounds next
+  pub most : next.delivered ≤ limit
+  pub later : progress.delivered ≤ next.delivered
+  pub read : IsReadTo old new before after bounds.sequence (next.delivered - progress.delivered)
+  pub shorter : length (row_met new bounds.sequence) < length (row_met old bounds.sequence)
+
+-- the read is done, and with the rest of its limit nothing more is
+pub record IsDone (old new : Buffer) (before after : Intake) (sequence rest : ℕ) (why : Why) : Type 0 where
+  pub same : new ≡ old
+  pub untouched : after ≡ before
+  pub none : delivered_by old sequence rest ≡ []
+  pub read : with_read old sequence rest ≡ old
+  pub told : why_told (read_end rest (row_met old sequence)) ≡ why
+
+-- a write failed in the next record
+pub record Fails (old new : Buffer) (before after : Intake) (sequence rest : ℕ) : Type 0 where
+  pub failed : Delivery
+  pub others : List Delivery
+  pub same : new ≡ old
+  pub due : delivered_by old sequence rest ≡ failed ∷ others
+  pub read : with_read old sequence 0 ≡ old
+  pub part : TakesPart before after (record_of failed.body sequence failed.marked)
+
+abbrev pub Turns : (old new : Buffer) (before after : Intake) → Bounds → ℕ → Progress → Turned → Type 0
+Turns old new before after bounds limit progress (On next) = GoesOn old new before after bounds limit progress next
+Turns old new before after bounds limit progress (Ended why) =
+    IsDone old new before after bounds.sequence (limit - progress.delivered) why
+Turns old new before after bounds limit progress Failed =
+    Fails old new before after bounds.sequence (limit - progress.delivered)
+
+-- the sink's count of faults rose only where a write failed
+abbrev pub CountsTurn : (old new : ℕ) → Turned → Type 0
+CountsTurn old new (On next) = new ≡ old
+CountsTurn old new (Ended why) = new ≡ old
+CountsTurn old new Failed = (old ≤ new) × Faulted old new

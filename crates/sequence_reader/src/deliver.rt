@@ -1,0 +1,66 @@
+//! The record of a packet, from the fragments as they lie in the buffer.
+ghost use Rattle.std.specs.Prelude.{◌≡◌, ◌≤◌, ◌^◌, OnOk, OnErr};
+ghost use Rattle.byte_io.specs.Bytes.{after_told, CountsFaults, TakesPart};
+ghost use Rattle.trace_model.specs.Record.{record_of};
+ghost use Rattle.sequence_reader.specs.Spots.{AreBounds, IsSpot, rows_of, cursor_of};
+ghost use Rattle.sequence_reader.specs.Turns.{first_bytes, IsWholeAt};
+
+use crate::spot::{Bounds, Spot};
+use crate::step::{Step, look_at};
+use byte_io::put::WriteFault;
+use byte_io::traits::Sink;
+use trace_buffer::TraceBuffer;
+use trace_file::RecordWriter;
+
+/// Writes the record of the packet that begins at a spot.
+pub fn put_packet_at<O: Sink>(
+    buffer: &TraceBuffer,
+    bounds: Bounds,
+    spot: Spot,
+    len: u64,
+    marked: bool,
+    out: &mut O,
+) -> Result<(), WriteFault>
+    requires bounds { AreBounds buffer.now bounds }
+    requires spot { IsSpot buffer.now bounds spot }
+    requires packet { IsWholeAt (rows_of buffer.now bounds.sequence (cursor_of spot)) len }
+    requires few { len ≤ 2 ^ 59 }
+    ensures all { OnOk result (O.taken out.new ≡ after_told (O.taken out.old)
+        (record_of (first_bytes (rows_of buffer.now bounds.sequence (cursor_of spot))) bounds.sequence marked)) }
+    ensures part { OnErr result (TakesPart (O.taken out.old) (O.taken out.new)
+        (record_of (first_bytes (rows_of buffer.now bounds.sequence (cursor_of spot))) bounds.sequence marked)) }
+    ensures count { CountsFaults (O.faults out.old) (O.faults out.new) result }
+{
+    let mut writer = RecordWriter::start_long(out, len, bounds.sequence, marked)?;
+    put_pieces(buffer, bounds, spot, &mut writer, out)?;
+    writer.end(out)
+}
+
+/// Writes the bytes of the packet that begins at a spot.
+fn put_pieces<O: Sink>(
+    buffer: &TraceBuffer,
+    bounds: Bounds,
+    spot: Spot,
+    writer: &mut RecordWriter,
+    out: &mut O,
+) -> Result<(), WriteFault>
+    requires bounds { AreBounds buffer.now bounds }
+    requires spot { IsSpot buffer.now bounds spot }
+    requires packet { IsWholeAt (rows_of buffer.now bounds.sequence (cursor_of spot)) writer.old.left }
+    ensures ended { OnOk result (writer.new ≡ record writer.old { left = 0 }) }
+    ensures all { OnOk result (O.taken out.new ≡ after_told (O.taken out.old) (first_bytes (rows_of buffer.now bounds.sequence (cursor_of spot)))) }
+    ensures part { OnErr result (TakesPart (O.taken out.old) (O.taken out.new) (first_bytes (rows_of buffer.now bounds.sequence (cursor_of spot)))) }
+    ensures count { CountsFaults (O.faults out.old) (O.faults out.new) result }
+{
+    let mut at = spot;
+    loop {
+        let Step::Fragment { piece } = look_at(buffer, bounds, at) else {
+            unreachable!()
+        };
+        writer.part(out, piece.bytes)?;
+        if !piece.runs_on {
+            return Ok(());
+        }
+        at = piece.behind;
+    }
+}

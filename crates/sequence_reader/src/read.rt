@@ -1,0 +1,183 @@
+//! Reading a sequence, one link of its row at a time.
+ghost use Rattle.std.specs.Prelude.{◌≡◌, ◌≤◌, ◌<◌, true, length, OnOk, OnErr, IfOk};
+ghost use Rattle.byte_io.specs.Bytes.{after_told, CountsFaults};
+ghost use Rattle.trace_model.specs.Reads.{delivered_by, with_read, read_end};
+ghost use Rattle.trace_model.specs.Sequences.{is_known};
+ghost use Rattle.sequence_reader.specs.Ends.{record_bytes, row_met, why_told, end_told, EndsInRecord, EndsInRecordAt};
+ghost use Rattle.sequence_reader.specs.Links.{IsPacket};
+ghost use Rattle.sequence_reader.specs.Spots.{AreBounds};
+ghost use Rattle.sequence_reader.specs.Turns.{IsAt, Turns, CountsTurn};
+
+use crate::deliver::put_packet_at;
+use crate::ends::{ReadCount, ReadEnd, Why};
+use crate::link::{Found, next_link};
+use crate::spot::{Bounds, Spot, find_spot};
+use byte_io::put::WriteFault;
+use byte_io::traits::Sink;
+use trace_buffer::{Passed, TraceBuffer};
+
+/// How far a read has come.
+#[derive(Clone, Copy, Debug, PartialEq, Eq)]
+struct Progress {
+    at: Spot,
+    /// The next packet that is delivered is marked.
+    marked: bool,
+    delivered: u64,
+}
+
+/// What became of a read at one link.
+#[derive(Clone, Copy, Debug, PartialEq, Eq)]
+enum Turned {
+    On { progress: Progress },
+    Ended { why: Why },
+    Failed,
+}
+
+/// Reads a sequence: writes the records of the packets that are due, at most `limit`, and moves its
+/// cursor. A write that fails ends the read before the packet whose record was being written.
+pub fn read_sequence<O: Sink>(
+    buffer: &mut TraceBuffer,
+    sequence: u32,
+    limit: u64,
+    out: &mut O,
+) -> Result<ReadEnd, WriteFault>
+    requires { is_known buffer.old.sequences sequence ≡ true }
+    ensures records { OnOk result (O.taken out.new ≡ after_told (O.taken out.old) (record_bytes sequence (delivered_by buffer.old sequence limit))) }
+    ensures after { OnOk result (buffer.new ≡ with_read buffer.old sequence limit) }
+    ensures end { IfOk result (λ end. end ≡ end_told buffer.old sequence limit) }
+    ensures part { OnErr result (EndsInRecord buffer.old buffer.new (O.taken out.old) (O.taken out.new) sequence limit) }
+    ensures count { CountsFaults (O.faults out.old) (O.faults out.new) result }
+{
+    let ReadCount { delivered, end } = read_counted(buffer, sequence, limit, out);
+    match end {
+        Ok(why) => Ok(ReadEnd { delivered, why }),
+        Err(WriteFault) => Err(WriteFault),
+    }
+}
+
+/// The same, which also tells how many packets were delivered where a write failed.
+pub fn read_counted<O: Sink>(
+    buffer: &mut TraceBuffer,
+    sequence: u32,
+    limit: u64,
+    out: &mut O,
+) -> ReadCount
+    requires { is_known buffer.old.sequences sequence ≡ true }
+    ensures records { OnOk result.end (O.taken out.new ≡ after_told (O.taken out.old) (record_bytes sequence (delivered_by buffer.old sequence limit))) }
+    ensures after { OnOk result.end (buffer.new ≡ with_read buffer.old sequence limit) }
+    ensures whole { OnOk result.end (result.delivered ≡ length (delivered_by buffer.old sequence limit)) }
+    ensures why { IfOk result.end (λ why. why ≡ why_told (read_end limit (row_met buffer.old sequence))) }
+    ensures part { OnErr result.end (EndsInRecordAt buffer.old buffer.new (O.taken out.old) (O.taken out.new) sequence limit result.delivered) }
+    ensures count { CountsFaults (O.faults out.old) (O.faults out.new) result.end }
+{
+    let bounds = bounds_of(buffer, sequence);
+    let mut progress = begun(buffer, bounds);
+    loop {
+        match pass_link(buffer, bounds, limit, progress, out) {
+            Turned::On { progress: next } => progress = next,
+            Turned::Ended { why } => {
+                return ReadCount {
+                    delivered: progress.delivered,
+                    end: Ok(why),
+                };
+            }
+            Turned::Failed => {
+                return ReadCount {
+                    delivered: progress.delivered,
+                    end: Err(WriteFault),
+                };
+            }
+        }
+    }
+}
+
+fn bounds_of(buffer: &TraceBuffer, sequence: u32) -> Bounds
+    requires { is_known buffer.now.sequences sequence ≡ true }
+    ensures bounds { AreBounds buffer.now result }
+    ensures sequence { result.sequence ≡ sequence }
+{
+    Bounds {
+        sequence,
+        closed: buffer.state(sequence).closed,
+        end: buffer.horizon(sequence),
+    }
+}
+
+/// Where a read begins.
+fn begun(buffer: &TraceBuffer, bounds: Bounds) -> Progress
+    requires { AreBounds buffer.now bounds }
+    ensures at { IsAt buffer.now bounds result }
+    ensures none { result.delivered ≡ 0 }
+{
+    let state = buffer.state(bounds.sequence);
+    Progress {
+        at: find_spot(buffer, bounds, state.cursor),
+        marked: state.missing || state.delivered == 0,
+        delivered: 0,
+    }
+}
+
+/// Goes on by one link.
+fn pass_link<O: Sink>(
+    buffer: &mut TraceBuffer,
+    bounds: Bounds,
+    limit: u64,
+    progress: Progress,
+    out: &mut O,
+) -> Turned
+    requires at { IsAt buffer.old bounds progress }
+    requires most { progress.delivered ≤ limit }
+    ensures turns { Turns buffer.old buffer.new (O.taken out.old) (O.taken out.new) bounds limit progress result }
+    ensures count { CountsTurn (O.faults out.old) (O.faults out.new) result }
+{
+    match next_link(buffer, bounds, progress.at) {
+        Found::Ends { why } => Turned::Ended { why },
+        Found::Passes { passed, next } => {
+            buffer.advance(bounds.sequence, next.cursor(), passed);
+            Turned::On {
+                progress: Progress {
+                    at: next,
+                    marked: true,
+                    delivered: progress.delivered,
+                },
+            }
+        }
+        Found::Delivers { len, next } => {
+            if progress.delivered == limit {
+                return Turned::Ended { why: Why::Limit };
+            }
+            deliver(buffer, bounds, limit, progress, len, next, out)
+        }
+    }
+}
+
+/// Delivers the packet that the read has come to.
+fn deliver<O: Sink>(
+    buffer: &mut TraceBuffer,
+    bounds: Bounds,
+    limit: u64,
+    progress: Progress,
+    len: u64,
+    next: Spot,
+    out: &mut O,
+) -> Turned
+    requires at { IsAt buffer.old bounds progress }
+    requires less { progress.delivered < limit }
+    requires packet { IsPacket buffer.old bounds progress.at next len }
+    ensures turns { Turns buffer.old buffer.new (O.taken out.old) (O.taken out.new) bounds limit progress result }
+    ensures count { CountsTurn (O.faults out.old) (O.faults out.new) result }
+{
+    match put_packet_at(buffer, bounds, progress.at, len, progress.marked, out) {
+        Ok(()) => {
+            buffer.advance(bounds.sequence, next.cursor(), Passed::Delivered);
+            Turned::On {
+                progress: Progress {
+                    at: next,
+                    marked: false,
+                    delivered: progress.delivered + 1,
+                },
+            }
+        }
+        Err(WriteFault) => Turned::Failed,
+    }
+}

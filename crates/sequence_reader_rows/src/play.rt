@@ -1,0 +1,185 @@
+//! Playing a list of arrivals and reads.
+use byte_io::memory::MemSink;
+use chunk_image::Image;
+use commit_body::Patch;
+use ring_bytes::size_of_record;
+use sequence_reader::{ReadEnd, Why, read_sequence};
+use std::alloc::Global;
+use std::process::Abort;
+use std::test::Fail;
+use trace_base::policy::FullPolicy;
+use trace_buffer::{BufferSpec, SequenceSpec, TraceBuffer};
+
+pub const SEQUENCE: u32 = 2;
+
+/// The payload of a page's smallest chunks.
+const PAYLOAD: usize = 284;
+
+/// What happens to the buffer.
+#[derive(Clone, Copy)]
+pub enum Play {
+    /// A complete chunk arrives, with so many fragments in the front of its payload.
+    Chunk {
+        id: u32,
+        flags: u8,
+        count: u16,
+        front: &'static [u8],
+    },
+    /// The first fragments of a chunk arrive.
+    Part {
+        id: u32,
+        flags: u8,
+        count: u16,
+        front: &'static [u8],
+    },
+    /// The last patch of a chunk comes.
+    Patched {
+        id: u32,
+        offset: u32,
+        bytes: [u8; 4],
+    },
+    Close,
+    /// A read writes these records and answers this.
+    Read {
+        limit: u64,
+        records: &'static [u8],
+        delivered: u64,
+        why: Why,
+    },
+}
+
+/// A buffer of one sequence, with room for 13 records.
+pub fn small_buffer(alloc: Global) -> Result<TraceBuffer, Fail> {
+    let spec = BufferSpec {
+        size: 4096,
+        policy: FullPolicy::Ring,
+    };
+    let sequences = [SequenceSpec {
+        sequence: 2,
+        payload: 284,
+    }];
+    Ok(TraceBuffer::make(alloc, spec, &sequences)?)
+}
+
+/// A complete chunk arrives, or its first fragments.
+pub fn arrive(
+    rt: &impl Abort,
+    buffer: &mut TraceBuffer,
+    id: u32,
+    flags: u8,
+    count: u16,
+    front: &[u8],
+    whole: bool,
+) {
+    let mut payload = [0u8; PAYLOAD];
+    assert!(rt; front.len() <= PAYLOAD);
+    payload[..front.len()].copy_from_slice(front);
+    let image = Image {
+        sequence: SEQUENCE,
+        chunk_id: id,
+        count,
+        flags,
+        payload: &payload,
+    };
+    assert!(rt; buffer.knows(SEQUENCE));
+    assert!(rt; !buffer.state(SEQUENCE).closed);
+    assert!(rt; buffer.record_size(SEQUENCE) == size_of_record(284));
+    assert!(rt; count <= 1023);
+    if whole {
+        assert!(rt; flags <= 63);
+        buffer.arrive(&image);
+    } else {
+        assert!(rt; flags <= 1);
+        buffer.arrive_partial(&image);
+    }
+}
+
+fn read(
+    rt: &impl Abort,
+    alloc: Global,
+    buffer: &mut TraceBuffer,
+    limit: u64,
+    records: &[u8],
+    wanted: ReadEnd,
+    name: &str,
+) -> Result<(), Fail> {
+    assert!(rt; buffer.knows(SEQUENCE));
+    let mut sink = MemSink::with_room(alloc, 4096)?;
+    let end = read_sequence(buffer, SEQUENCE, limit, &mut sink)?;
+    assert_eq!(rt; end, wanted, "{name}");
+    assert_eq!(rt; sink.taken(), records, "{name}");
+    Ok(())
+}
+
+/// Plays it on a new buffer.
+pub fn play_all(rt: &impl Abort, alloc: Global, name: &str, list: &[Play]) -> Result<(), Fail> {
+    let mut buffer = small_buffer(alloc)?;
+    for one in list {
+        play_one(rt, alloc, &mut buffer, name, *one)?;
+    }
+    Ok(())
+}
+
+fn play_one(
+    rt: &impl Abort,
+    alloc: Global,
+    buffer: &mut TraceBuffer,
+    name: &str,
+    one: Play,
+) -> Result<(), Fail> {
+    match one {
+        Play::Chunk {
+            id,
+            flags,
+            count,
+            front,
+        } => arrive(rt, buffer, id, flags, count, front, true),
+        Play::Part {
+            id,
+            flags,
+            count,
+            front,
+        } => arrive(rt, buffer, id, flags, count, front, false),
+        Play::Patched { id, offset, bytes } => patch(rt, buffer, id, offset, bytes)?,
+        Play::Close => close(rt, buffer),
+        Play::Read {
+            limit,
+            records,
+            delivered,
+            why,
+        } => read(
+            rt,
+            alloc,
+            buffer,
+            limit,
+            records,
+            ReadEnd { delivered, why },
+            name,
+        )?,
+    }
+    Ok(())
+}
+
+fn patch(
+    rt: &impl Abort,
+    buffer: &mut TraceBuffer,
+    chunk_id: u32,
+    offset: u32,
+    bytes: [u8; 4],
+) -> Result<(), Fail> {
+    assert!(rt; buffer.knows(SEQUENCE));
+    let patch = Patch {
+        chunk_id,
+        offset,
+        bytes,
+        last: true,
+    };
+    buffer.patch(SEQUENCE, &patch)?;
+    Ok(())
+}
+
+fn close(rt: &impl Abort, buffer: &mut TraceBuffer) {
+    assert!(rt; buffer.knows(SEQUENCE));
+    assert!(rt; !buffer.state(SEQUENCE).closed);
+    buffer.close_sequence(SEQUENCE);
+}

@@ -1,0 +1,13 @@
+use Rattle.std.proofs.Common.{ap, ◌∙◌}
+use Rattle.trace_model.specs.Buffers.{Buffer}
+use Rattle.trace_model.specs.Sequences.{Sequence, sequence_in}
+use Rattle.trace_buffer.proofs.RowLemmas.{row_of}
+use Rattle.trace_buffer.proofs.buffer.TraceBuffer.record_size.Goals as goal
+
+pub returns : goal.returns
+returns c =
+    c.size.ensures
+    ∙ ap (λ (s : Sequence). s.size)
+    (row_of c.self.inside.rows.items c.deref.result.now c.find_row.result c.args.sequence _ _ c.index.result.now c.self.invariant.once
+    c.deref.ensures.value c.find_row.ensures.within c.find_row.ensures.number c.index.ensures)
+    ∙ ap (λ (b : Buffer). (sequence_in b.sequences c.args.sequence).size) c.self.view_is

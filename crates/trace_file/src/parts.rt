@@ -1,0 +1,133 @@
+//! One record, of a packet that comes in pieces.
+ghost use Rattle.std.specs.Prelude.{◌≡◌, ◌+◌, ◌-◌, ◌≤◌, ◌∷◌, length, OnOk, OnErr, IfOk};
+ghost use Rattle.byte_io.specs.Bytes.{after_told, CountsFaults, TakesPart};
+ghost use Rattle.wire_varint.specs.Varint.{varint};
+ghost use Rattle.trace_file.specs.Parts.{record_head, record_tail, RecordsAreCut};
+
+use arrayvec::ArrayVec;
+use byte_io::put::{WriteFault, put_all};
+use byte_io::traits::Sink;
+use std::marker::Model;
+use wire_varint::put_varint;
+
+/// The tag of field 1 of a trace, a packet, and the tag of field 10 of a packet, its sequence.
+const PACKET_TAG: u8 = 0x0A;
+
+const SEQUENCE_TAG: u8 = 0x50;
+
+/// Field 42 of a packet with the value 1: the packet before it is missing.
+const DROPPED_MARK: [u8; 3] = [0xD0, 0x02, 0x01];
+
+/// The longest packet of which the length of a record can be written, in bytes.
+pub const MAX_BODY: u64 = 1 << 63;
+
+/// A record of which the head is written. It is to be given the packet's bytes, and then ended.
+#[derive(Drop)]
+pub struct RecordWriter {
+    /// How many bytes of the packet are still to be given.
+    left: u64,
+    sequence: u32,
+    marked: bool,
+}
+
+impl Model for RecordWriter {
+    ghost use Rattle.trace_file.specs.Parts.{Writing};
+
+    ghost Value = { Writing };
+
+    ghost view = { λ writer. record { left = writer.left; sequence = writer.sequence; marked = writer.marked } };
+}
+
+/// The record's tag, and the length of its content.
+fn head(len: u64) -> ArrayVec<u8, 11>
+    ensures { result.items ≡ 0x0A ∷ varint len }
+{
+    let mut bytes = [0u8; 10];
+    let count = put_varint(len, &mut bytes);
+    let mut head = ArrayVec::new();
+    head.push(PACKET_TAG);
+    let _ = head.try_extend_from_slice(&bytes[..count]);
+    head
+}
+
+/// What stands behind the packet's bytes.
+fn tail(sequence: u32, marked: bool) -> ArrayVec<u8, 14>
+    ensures { result.items ≡ record_tail sequence marked }
+{
+    let mut bytes = [0u8; 10];
+    let count = put_varint(u64::from(sequence), &mut bytes);
+    let mut tail = ArrayVec::new();
+    tail.push(SEQUENCE_TAG);
+    let _ = tail.try_extend_from_slice(&bytes[..count]);
+    if marked {
+        let _ = tail.try_extend_from_slice(&DROPPED_MARK);
+    }
+    tail
+}
+
+impl RecordWriter {
+    /// Begins the record of a packet of `len` bytes. `sequence` is the number of its writer's
+    /// sequence, and `marked` says that the service marks it, since the packet before it is missing.
+    pub fn start<O: Sink>(
+        out: &mut O,
+        len: u32,
+        sequence: u32,
+        marked: bool,
+    ) -> Result<RecordWriter, WriteFault>
+        ensures writer { IfOk result (λ writer. writer ≡ record { left = len; sequence = sequence; marked = marked }) }
+        ensures all { OnOk result (O.taken out.new ≡ after_told (O.taken out.old) (record_head len sequence marked)) }
+        ensures part { OnErr result (TakesPart (O.taken out.old) (O.taken out.new) (record_head len sequence marked)) }
+        ensures count { CountsFaults (O.faults out.old) (O.faults out.new) result }
+    {
+        RecordWriter::start_long(out, u64::from(len), sequence, marked)
+    }
+
+    /// The same of a packet of any length that a record can have.
+    pub fn start_long<O: Sink>(
+        out: &mut O,
+        len: u64,
+        sequence: u32,
+        marked: bool,
+    ) -> Result<RecordWriter, WriteFault>
+        requires { len ≤ MAX_BODY }
+        ensures writer { IfOk result (λ writer. writer ≡ record { left = len; sequence = sequence; marked = marked }) }
+        ensures all { OnOk result (O.taken out.new ≡ after_told (O.taken out.old) (record_head len sequence marked)) }
+        ensures part { OnErr result (TakesPart (O.taken out.old) (O.taken out.new) (record_head len sequence marked)) }
+        ensures count { CountsFaults (O.faults out.old) (O.faults out.new) result }
+    {
+        let tail = tail(sequence, marked);
+        put_all(out, &head(len + tail.len() as u64))?;
+        Ok(RecordWriter {
+            left: len,
+            sequence,
+            marked,
+        })
+    }
+
+    /// Writes the next bytes of the packet.
+    pub fn part<O: Sink>(&mut self, out: &mut O, piece: &[u8]) -> Result<(), WriteFault>
+        requires { length piece.now ≤ self.old.left }
+        ensures left { self.new ≡ record self.old { left = self.old.left - length piece.now } }
+        ensures all { OnOk result (O.taken out.new ≡ after_told (O.taken out.old) piece.now) }
+        ensures part { OnErr result (TakesPart (O.taken out.old) (O.taken out.new) piece.now) }
+        ensures count { CountsFaults (O.faults out.old) (O.faults out.new) result }
+    {
+        self.left -= piece.len() as u64;
+        put_all(out, piece)
+    }
+
+    /// Ends the record, once all bytes of the packet were given.
+    pub fn end<O: Sink>(self, out: &mut O) -> Result<(), WriteFault>
+        requires { self.left ≡ 0 }
+        ensures all { OnOk result (O.taken out.new ≡ after_told (O.taken out.old) (record_tail self.sequence self.marked)) }
+        ensures part { OnErr result (TakesPart (O.taken out.old) (O.taken out.new) (record_tail self.sequence self.marked)) }
+        ensures count { CountsFaults (O.faults out.old) (O.faults out.new) result }
+    {
+        put_all(out, &tail(self.sequence, self.marked))
+    }
+}
+
+/// The three calls write the definition's record, however the packet is cut into pieces.
+pub fn records_are_cut()
+    ensures { RecordsAreCut }
+{}
