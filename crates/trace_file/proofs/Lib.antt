@@ -1,1 +1,5 @@
+pub mod FieldLemmas
+pub mod OnceLemmas
+pub mod ReadLemmas
 pub mod RecordLemmas
+pub mod WholeLemmas

@@ -1,5 +1,5 @@
 -- A record is its head, the packet's bytes and its tail.
-use Rattle.std.proofs.Common.{◌≡◌, ℕ, ◌+◌, Bool, List, ◌∷◌, ◌++◌, length, refl, sym, ap, ◌∙◌, length-append, append_assoc}
+use Rattle.std.proofs.Common.{◌≡◌, ℕ, ◌+◌, Bool, List, ◌∷◌, ◌++◌, length, ap, ◌∙◌, length-append, append_assoc}
 use Rattle.wire_varint.specs.Varint.{varint}
 use Rattle.trace_model.specs.Record.{content_of, mark_where, record_of}
 

@@ -1,9 +1,21 @@
 //! Trace files: the records that a trace is made of.
 //! A layer above may rely on this: `put_packet` appends one record to its sink, whole where it
 //! answers Ok and a front part of it where the sink failed, and answers a fault only where the
-//! sink's count of faults rose.
+//! sink's count of faults rose. `TraceReader` reads the packets of any trace in their order, and
+//! answers the first fault exactly where the trace isn't in its grammar.
 #![tactic(auto)]
 
+mod fault;
+mod field;
+mod laws;
+mod packet;
+mod reader;
 mod record;
+#[cfg(test)]
+mod tests;
 
+pub use fault::TraceFault;
+pub use laws::traces_read_once;
+pub use packet::Packet;
+pub use reader::TraceReader;
 pub use record::put_packet;
