@@ -1,7 +1,7 @@
 -- A trace reads in one way: no two fields stand in front of the same bytes, none stands where a fault is, and no two faults are at one field.
-use Rattle.std.proofs.Common.{◌≡◌, ℕ, ◌+◌, ◌*◌, ◌%◌, ◌^◌, ◌<◌, ◌≤◌, ◌⊎◌, List, [], ◌∷◌, ◌++◌, length, take, drop, refl, sym, ap, ◌∙◌, subst, arith, append_assoc, inl, inr, length-append}
+use Rattle.std.proofs.Common.{◌≡◌, ℕ, ◌+◌, ◌*◌, ◌%◌, ◌^◌, ◌<◌, ◌≤◌, ◌⊎◌, List, ◌++◌, length, take, drop, refl, sym, ap, ◌∙◌, subst, arith, append_assoc, inl, inr, length-append}
 use Rattle.std.proofs.lemmas.List.{take_at, drop_at, length-take-le}
-use Rattle.wire_varint.specs.Reading.{IsVarint, IsWhole, IsShort, IsOver64, NoVarintInFront, joined}
+use Rattle.wire_varint.specs.Reading.{IsVarint, IsShort, IsOver64, NoVarintInFront, joined}
 use Rattle.wire_varint.proofs.Varints.{one_varint}
 use Rattle.wire_varint.proofs.Joined.{joined-lt}
 use Rattle.trace_file.proofs.ReadLemmas.{whole_some}
@@ -40,7 +40,7 @@ over_not_short bytes over short = omega (arith, over.0, short.0)
 
 -- ---- fields
 
-same_length : (a b x y : List ℕ) → length a ≡ length b → a ++ x ≡ b ++ y → (a ≡ b) × (x ≡ y)
+pub same_length : (a b x y : List ℕ) → length a ≡ length b → a ++ x ≡ b ++ y → (a ≡ b) × (x ≡ y)
 same_length a b x y long e =
     let fronts : a ≡ b = sym (take_at a x (length a) refl) ∙ ap (take (length a)) e ∙ take_at b y (length a) (sym long) in
     let rests : x ≡ y = sym (drop_at a x (length a) refl) ∙ ap (drop (length a)) e ∙ drop_at b y (length a) (sym long) in

@@ -109,8 +109,15 @@ inner_is at bytes content behind reason place spells stops = record {
 -- a record is longer than its content, by a tag and a length
 pub content_within : (bytes content : List ℕ) → Spells (record_field content) bytes → length content + 2 ≤ length bytes
 content_within bytes content h =
-    omega (arith, ap length h.cut, length-append h.tag h.behind, ap length h.is_value.2, length-append h.is_value.0 content,
-    whole_some h.tag h.is_tag.whole, whole_some h.is_value.0 h.is_value.1.whole)
+    omega (
+      arith,
+      ap length h.cut,
+      length-append h.tag h.behind,
+      ap length h.is_value.2,
+      length-append h.is_value.0 content,
+      whole_some h.tag h.is_tag.whole,
+      whole_some h.is_value.0 h.is_value.1.whole,
+    )
 
 -- the fields from one place to another were passed
 pub record HasPassed (bytes : List ℕ) (from at : ℕ) : Type 0 where

@@ -9,6 +9,7 @@ mod fault;
 mod field;
 mod laws;
 mod packet;
+mod parts;
 mod reader;
 mod record;
 #[cfg(test)]
@@ -17,5 +18,6 @@ mod tests;
 pub use fault::TraceFault;
 pub use laws::traces_read_once;
 pub use packet::Packet;
+pub use parts::take_apart;
 pub use reader::TraceReader;
 pub use record::put_packet;

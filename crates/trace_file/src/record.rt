@@ -15,10 +15,10 @@ const PACKET_TAG: u8 = 0x0A;
 const SEQUENCE_TAG: u8 = 0x50;
 
 /// Field 42 of a packet with the value 1: the packet before it is missing.
-const DROPPED_MARK: [u8; 3] = [0xD0, 0x02, 0x01];
+pub(crate) const DROPPED_MARK: [u8; 3] = [0xD0, 0x02, 0x01];
 
 /// The record's tag, and the length of its content.
-fn head(len: u64) -> ArrayVec<u8, 11>
+pub(crate) fn head(len: u64) -> ArrayVec<u8, 11>
     ensures { result.items ≡ 0x0A ∷ varint len }
 {
     let mut bytes = [0u8; 10];
@@ -30,7 +30,7 @@ fn head(len: u64) -> ArrayVec<u8, 11>
 }
 
 /// What stands behind the packet's bytes.
-fn tail(sequence: u32, marked: bool) -> ArrayVec<u8, 14>
+pub(crate) fn tail(sequence: u32, marked: bool) -> ArrayVec<u8, 14>
     ensures { result.items ≡ 0x50 ∷ varint sequence ++ mark_where marked }
 {
     let mut bytes = [0u8; 10];
