@@ -9,7 +9,7 @@ mod fault;
 mod field;
 mod laws;
 mod packet;
-mod parts;
+mod apart;
 mod reader;
 mod record;
 #[cfg(test)]
@@ -18,6 +18,6 @@ mod tests;
 pub use fault::TraceFault;
 pub use laws::traces_read_once;
 pub use packet::Packet;
-pub use parts::take_apart;
+pub use apart::take_apart;
 pub use reader::TraceReader;
 pub use record::put_packet;

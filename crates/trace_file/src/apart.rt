@@ -3,7 +3,7 @@ ghost use Rattle.std.specs.Prelude.{◌≡◌, ◌≢◌, ◌↔◌, ℕ, ◌<�
 ghost use Rattle.wire_varint.specs.Varint.{varint};
 ghost use Rattle.trace_model.specs.Record.{dropped_mark, mark_where};
 ghost use Rattle.trace_file.specs.Fields.{Spells};
-ghost use Rattle.trace_file.specs.Parts.{SaysNone, SaysOnly, SaysPacket};
+ghost use Rattle.trace_file.specs.Apart.{SaysNone, SaysOnly, SaysPacket};
 ghost use Rattle.trace_file.specs.Traces.{record_field};
 
 use crate::record::{DROPPED_MARK, head, tail};

@@ -1,6 +1,6 @@
 use Rattle.std.proofs.Common.{refl, arith}
 use Rattle.trace_file.proofs.PartLemmas.{says_plain, says_marked, only_plain, only_marked, none_long, none_tail}
-use Rattle.trace_file.proofs.parts.take_apart.Goals as goal
+use Rattle.trace_file.proofs.apart.take_apart.Goals as goal
 
 pub returns-then-not-has_short_head-clause-none : goal.returns-then-not-has_short_head-clause-none
 returns-then-not-has_short_head-clause-none c =
