@@ -1,1 +1,6 @@
+pub mod FieldLemmas
+pub mod OnceLemmas
+pub mod PartLemmas
+pub mod ReadLemmas
 pub mod RecordLemmas
+pub mod WholeLemmas

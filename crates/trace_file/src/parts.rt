@@ -16,7 +16,7 @@ const PACKET_TAG: u8 = 0x0A;
 const SEQUENCE_TAG: u8 = 0x50;
 
 /// Field 42 of a packet with the value 1: the packet before it is missing.
-const DROPPED_MARK: [u8; 3] = [0xD0, 0x02, 0x01];
+pub(crate) const DROPPED_MARK: [u8; 3] = [0xD0, 0x02, 0x01];
 
 /// The longest packet of which the length of a record can be written, in bytes.
 pub const MAX_BODY: u64 = 1 << 63;
@@ -39,7 +39,7 @@ impl Model for RecordWriter {
 }
 
 /// The record's tag, and the length of its content.
-fn head(len: u64) -> ArrayVec<u8, 11>
+pub(crate) fn head(len: u64) -> ArrayVec<u8, 11>
     ensures { result.items ≡ 0x0A ∷ varint len }
 {
     let mut bytes = [0u8; 10];
@@ -51,7 +51,7 @@ fn head(len: u64) -> ArrayVec<u8, 11>
 }
 
 /// What stands behind the packet's bytes.
-fn tail(sequence: u32, marked: bool) -> ArrayVec<u8, 14>
+pub(crate) fn tail(sequence: u32, marked: bool) -> ArrayVec<u8, 14>
     ensures { result.items ≡ record_tail sequence marked }
 {
     let mut bytes = [0u8; 10];

@@ -1,0 +1,4 @@
+pub mod BorderLemmas
+pub mod PieceLemmas
+pub mod RunLemmas
+pub mod SearchLemmas

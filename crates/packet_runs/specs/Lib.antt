@@ -1,0 +1,4 @@
+pub mod Borders
+pub mod Pieces
+pub mod Runs
+pub mod Tellers
