@@ -91,7 +91,7 @@ pub record IsOnce (q size : ℕ) (bs : List Buffer) : Type 0 where
   pub once : Once q (empty_buffer room policy sequences) bs
 
 module _ (setup : Setup) (place : ℕ) (spec : WriterSpec) (get : slice_get setup.writers place ≡ Some spec) where
-  set_at : (n : ℕ) → IsSet setup n (place + 2) (record_size (size_of setup spec.producer)) (sequences_from setup n 0 setup.writers) (spec.buffer == n)
+  pub set_at : (n : ℕ) → IsSet setup n (place + 2) (record_size (size_of setup spec.producer)) (sequences_from setup n 0 setup.writers) (spec.buffer == n)
   set_at n =
       let at : 0 + place + 2 ≡ place + 2 = omega arith in
       subst (λ (q : ℕ). IsSet setup n q (record_size (size_of setup spec.producer)) (sequences_from setup n 0 setup.writers) (spec.buffer == n)) at

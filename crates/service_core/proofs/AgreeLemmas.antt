@@ -1,0 +1,138 @@
+-- The service agrees with its seat's view again once it has done what was noted.
+use Rattle.std.proofs.Common.{◌≡◌, ◌∙◌, ℕ, zero, suc, ◌+◌, ◌-◌, ◌<◌, ◌≤◌, Bool, true, false, List, [], ◌∷◌, ◌++◌, length, map, Option, Some, None, get_or, set, refl, sym, ap, subst, arith, append-nil, append_assoc, length-set}
+use Rattle.std.specs.Prelude.{cond}
+use Rattle.std.specs.List.{flat_map}
+use Rattle.std.proofs.lemmas.Grind.{flat_map-append}
+use Rattle.std.proofs.lemmas.List.{map-set}
+use Rattle.trace_model.specs.Images.{Image, Patch}
+use Rattle.trace_model.specs.Reading.{reading_of}
+use Rattle.trace_model.specs.Sequences.{is_known}
+use Rattle.trace_model.specs.Buffers.{Buffer}
+use Rattle.trace_model.specs.History as model
+use Rattle.trace_model.specs.History.{buffers_after}
+use Rattle.chunk_plain.specs.Setup.{Setup}
+use Rattle.chunk_plain.specs.Steps.{taken_counts}
+use Rattle.chunk_plain.specs.Views.{Content, Look, Taken, Noted, Arrive, Patched, ServiceView, taken_of}
+use Rattle.chunk_plain.specs.Histories.{content_at, once_read, arrival_of, patches_of, happened, history_of}
+use Rattle.trace_buffer.specs.declared.answers.BufferSpec.{BufferSpec}
+use Rattle.world_model.specs.FirstBuffers as first
+use Rattle.session_core.specs.Sessions.{SessionValue}
+use Rattle.service_core.specs.declared.service.ServiceCore.{ServiceCore}
+use Rattle.service_core.specs.Routing.{arrivals_of}
+use Rattle.service_core.specs.Agreement.{IsRouted, AreKnownNotes, ServiceAgrees, KeepsFields, KeepsRest, is_closed, first_of, spec_value}
+use Rattle.service_core.specs.Taking.{patched_where, takings, looked, taken_more, took}
+use Rattle.service_core.proofs.HistoryLemmas.{Grows, all_known_grow, known_append, history_stays}
+use Rattle.service_core.proofs.TakingLemmas.{taken_here, took_grows, looked_grows, last_content}
+use Rattle.service_core.proofs.RouteLemmas.{buffers_append, buffers_none}
+
+-- patches that are none change nothing
+no_patches : (bs : List Buffer) (q : ℕ) → buffers_after bs (model.Patched q [] ∷ []) ≡ bs
+no_patches [] q = refl
+no_patches (b ∷ bs) q = ap (λ (x : Buffer). x ∷ buffers_after bs (model.Patched q [] ∷ [])) (step (is_known b.sequences q)) ∙ ap (λ (rest : List Buffer). b ∷ rest) (no_patches bs q)
+  where
+    step : (x : Bool) → cond x b b ≡ b
+    step true = refl
+    step false = refl
+
+-- the patches behind an arrival, noted where there are any
+patches_noted : (view : ServiceView) (q id : ℕ) (content : Content) (patches : List Patch) (bs : List Buffer) → content_at view q id ≡ Some content
+    → content.patches ≡ patches → buffers_after bs (flat_map (happened view) (patched_where patches q id)) ≡ buffers_after bs (model.Patched q patches ∷ [])
+patches_noted view q id content [] bs there is = buffers_none bs ∙ sym (no_patches bs q)
+patches_noted view q id content (patch ∷ patches) bs there is =
+    ap (λ (es : List model.Event). buffers_after bs (es ++ [])) (ap (patches_of q) there ∙ ap (λ (ps : List Patch). model.Patched q ps ∷ []) is)
+
+-- the events of the notes of one chunk that was taken
+one_taken : (view : ServiceView) (q id : ℕ) (content : Content) (bs : List Buffer) → content_at view q id ≡ Some content
+    → content.image.sequence ≡ q → content.image.chunk_id ≡ id
+    → buffers_after bs (flat_map (happened view) (takings q id (content ∷ [])))
+    ≡ buffers_after (buffers_after bs (arrivals_of content.image)) (model.Patched q content.patches ∷ [])
+one_taken view q id content bs there sequence_is id_is =
+    let behind : List Noted = patched_where content.patches q id in
+    let arrives : happened view (Arrive q id) ≡ arrivals_of content.image =
+    ap (arrival_of q id) there
+    ∙ ap (λ (s : ℕ). once_read (λ chunk. model.Arrives s id chunk) content.image.flags (reading_of content.image.count content.image.payload)) (sym sequence_is)
+    ∙ ap (λ (i : ℕ). once_read (λ chunk. model.Arrives content.image.sequence i chunk) content.image.flags (reading_of content.image.count content.image.payload)) (sym id_is) in
+    ap (λ (ns : List Noted). buffers_after bs (happened view (Arrive q id) ++ flat_map (happened view) ns)) (append-nil behind)
+    ∙ ap (λ (es : List model.Event). buffers_after bs (es ++ flat_map (happened view) behind)) arrives
+    ∙ buffers_append bs (arrivals_of content.image) (flat_map (happened view) behind)
+    ∙ patches_noted view q id content content.patches (buffers_after bs (arrivals_of content.image)) there refl
+
+-- the notes of one chunk that was taken are known
+one_known : (view : ServiceView) (q id : ℕ) (content : Content) → content_at view q id ≡ Some content → AreKnownNotes view (takings q id (content ∷ []))
+one_known view q id content there = ((content, there), known_append view (patched_where content.patches q id) [] (by_patches content.patches) tt)
+  where
+    by_patches : (patches : List Patch) → AreKnownNotes view (patched_where patches q id)
+    by_patches [] = tt
+    by_patches (patch ∷ patches) = ((content, there), tt)
+
+-- the buffers were made from the same
+pub first_stays : {S : Type 0} → (setup : Setup) (core done : ServiceCore S) → KeepsFields core done → first_of setup done ≡ first_of setup core
+first_stays setup core done keeps = ap (λ (specs : List BufferSpec). first.first_buffers setup 1 (map spec_value specs)) keeps.specs
+
+pub agrees_took : {S : Type 0} → (setup : Setup) (old : ServiceView) (core done : ServiceCore S) (place : ℕ) (looks : List Look) (content : Content)
+    → ServiceAgrees setup old core → KeepsFields core done → place < length old.taken
+    → length (taken_of old place).contents ≡ (taken_of old place).count
+    → content.image.sequence ≡ place + 2 → content.image.chunk_id ≡ (taken_of old place).count
+    → done.buffers.items ≡ buffers_after (buffers_after core.buffers.items (arrivals_of content.image)) (model.Patched (place + 2) content.patches ∷ [])
+    → done.taken.items ≡ set core.taken.items place ((taken_of old place).count + 1)
+    → ServiceAgrees setup (took old place looks (content ∷ [])) done
+agrees_took setup old core done place looks content agrees keeps inside level sequence_is id_is buffers_are taken_is =
+    let new : ServiceView = took old place looks (content ∷ []) in
+    let grows = took_grows old place looks (content ∷ []) inside in
+    let id : ℕ = (taken_of old place).count in
+    let there = last_content old place looks content inside level in
+    let first : List Buffer = first_of setup core in
+    let notes : List Noted = takings (place + 2) id (content ∷ []) in
+    record {
+      layout = keeps.layout ∙ agrees.layout;
+      writers = keeps.writers ∙ agrees.writers;
+      routed = subst (λ (specs : List BufferSpec). IsRouted setup (length specs)) (sym keeps.specs) agrees.routed;
+      many = length-set old.taken place (taken_more (taken_of old place) (content ∷ [])) ∙ agrees.many;
+      taken = taken_is ∙ ap (λ (counts : List ℕ). set counts place (id + 1)) agrees.taken
+          ∙ sym (map-set (λ (t : Taken). t.count) old.taken place (taken_more (taken_of old place) (content ∷ [])));
+      buffers = buffers_are
+          ∙ ap (λ (bs : List Buffer). buffers_after (buffers_after bs (arrivals_of content.image)) (model.Patched (place + 2) content.patches ∷ [])) agrees.buffers
+          ∙ sym (one_taken new (place + 2) id content (buffers_after first (history_of old)) there sequence_is id_is)
+          ∙ ap (λ (es : List model.Event). buffers_after (buffers_after first es) (flat_map (happened new) notes)) (sym (history_stays old new old.events grows agrees.known))
+          ∙ sym (buffers_append first (flat_map (happened new) old.events) (flat_map (happened new) notes))
+          ∙ ap (buffers_after first) (sym (flat_map-append (happened new) old.events notes))
+          ∙ ap (λ (bs : List Buffer). buffers_after bs (history_of new)) (sym (first_stays setup core done keeps));
+      session = ap (λ (s : SessionValue). s.writers) keeps.session ∙ agrees.session;
+      none_read = agrees.none_read;
+      known = known_append new old.events notes (all_known_grow old new old.events grows agrees.known) (one_known new (place + 2) id content there);
+    }
+
+-- looks alone change nothing
+pub agrees_looked : {S : Type 0} → (setup : Setup) (old : ServiceView) (core done : ServiceCore S) (looks : List Look)
+    → ServiceAgrees setup old core → KeepsFields core done → done.buffers.items ≡ core.buffers.items → done.taken.items ≡ core.taken.items
+    → ServiceAgrees setup (looked old looks) done
+agrees_looked setup old core done looks agrees keeps buffers_are taken_is =
+    let new : ServiceView = looked old looks in
+    let grows = looked_grows old looks in
+    record {
+      layout = keeps.layout ∙ agrees.layout;
+      writers = keeps.writers ∙ agrees.writers;
+      routed = subst (λ (specs : List BufferSpec). IsRouted setup (length specs)) (sym keeps.specs) agrees.routed;
+      many = agrees.many;
+      taken = taken_is ∙ agrees.taken;
+      buffers = buffers_are ∙ agrees.buffers
+          ∙ ap (buffers_after (first_of setup core)) (sym (history_stays old new old.events grows agrees.known))
+          ∙ ap (λ (bs : List Buffer). buffers_after bs (history_of new)) (sym (first_stays setup core done keeps));
+      session = ap (λ (s : SessionValue). s.writers) keeps.session ∙ agrees.session;
+      none_read = agrees.none_read;
+      known = all_known_grow old new old.events grows agrees.known;
+    }
+
+pub keeps_same : {S : Type 0} → (setup : Setup) (core : ServiceCore S) → KeepsRest setup core core
+keeps_same setup core = record { fields = record { layout = refl; specs = refl; writers = refl; session = refl }; closed = λ place inside. refl }
+
+pub keeps_both : {S : Type 0} → (setup : Setup) (old mid new : ServiceCore S) → KeepsRest setup old mid → KeepsRest setup mid new → KeepsRest setup old new
+keeps_both setup old mid new one two = record {
+  fields = record {
+    layout = two.fields.layout ∙ one.fields.layout;
+    specs = two.fields.specs ∙ one.fields.specs;
+    writers = two.fields.writers ∙ one.fields.writers;
+    session = two.fields.session ∙ one.fields.session;
+  };
+  closed = λ place inside. two.closed place inside ∙ one.closed place inside;
+}

@@ -1,0 +1,136 @@
+-- What the close of a sequence leaves of the others.
+use Rattle.std.proofs.Common.{◌≡◌, ◌≢◌, ◌∙◌, ℕ, suc, ◌+◌, ◌-◌, ◌<◌, ◌≤◌, ◌⊎◌, Bool, true, false, List, [], ◌∷◌, ◌++◌, length, refl, sym, ap, subst, arith, inl, inr, append_assoc}
+use Rattle.std.specs.Prelude.{cond}
+use Rattle.std.specs.List.{flat_map}
+use Rattle.std.proofs.lemmas.Grind.{flat_map-append}
+use Rattle.std.proofs.lemmas.Bool.{cases_eq}
+use Rattle.std.proofs.lemmas.List.{map-append}
+use Rattle.trace_model.specs.Sequences.{Sequence, sequence_in, is_known}
+use Rattle.trace_model.specs.Buffers.{Buffer}
+use Rattle.trace_model.specs.Patches.{closed_sequence, closed_buffer}
+use Rattle.trace_model.specs.History as model
+use Rattle.trace_model.specs.History.{buffer_after, buffers_after}
+use Rattle.trace_model.proofs.SequenceLemmas.{changed_here, changed_other}
+use Rattle.chunk_plain.specs.Setup.{Setup, producer_of}
+use Rattle.chunk_plain.specs.Views.{Noted, Closed, ServiceView}
+use Rattle.chunk_plain.specs.Histories.{happened, history_of}
+use Rattle.trace_buffer.specs.declared.answers.BufferSpec.{BufferSpec}
+use Rattle.session_core.specs.Sessions.{SessionValue}
+use Rattle.service_core.specs.declared.service.ServiceCore.{ServiceCore}
+use Rattle.service_core.specs.Routing.{buffer_at, is_closed_at}
+use Rattle.service_core.specs.Agreement.{IsRouted, AreKnownNotes, ServiceAgrees, KeepsFields, first_of, buffer_of, is_closed}
+use Rattle.service_core.specs.Taking.{noted_more}
+use Rattle.service_core.specs.Closing.{ClosesOne, ClosesSome, closes_of}
+use Rattle.service_core.proofs.HistoryLemmas.{Grows, all_known_grow, known_append, history_stays}
+use Rattle.service_core.proofs.RouteLemmas.{at_after, buffers_append}
+use Rattle.service_core.proofs.RoutedLemmas.{stands}
+use Rattle.service_core.proofs.AgreeLemmas.{first_stays}
+
+noted_grows : (view : ServiceView) (notes : List Noted) → Grows view (noted_more view notes)
+noted_grows view notes = record { contents = λ s i content is. is; looks = λ p i n found is. is; commits = λ k committed is. is }
+
+-- Notes are made of what the buffers did.
+pub agrees_noted : {S : Type 0} → (setup : Setup) (old : ServiceView) (core done : ServiceCore S) (notes : List Noted) → ServiceAgrees setup old core → KeepsFields core done
+    → done.buffers.items ≡ buffers_after core.buffers.items (flat_map (happened (noted_more old notes)) notes) → done.taken.items ≡ core.taken.items
+    → AreKnownNotes (noted_more old notes) notes → ServiceAgrees setup (noted_more old notes) done
+agrees_noted setup old core done notes agrees keeps buffers_are taken_is known =
+    let new : ServiceView = noted_more old notes in
+    let grows = noted_grows old notes in
+    let first : List Buffer = first_of setup core in
+    record {
+      layout = keeps.layout ∙ agrees.layout;
+      writers = keeps.writers ∙ agrees.writers;
+      routed = subst (λ (specs : List BufferSpec). IsRouted setup (length specs)) (sym keeps.specs) agrees.routed;
+      many = agrees.many;
+      taken = taken_is ∙ agrees.taken;
+      buffers = buffers_are
+          ∙ ap (λ (bs : List Buffer). buffers_after bs (flat_map (happened new) notes)) agrees.buffers
+          ∙ ap (λ (es : List model.Event). buffers_after (buffers_after first es) (flat_map (happened new) notes)) (sym (history_stays old new old.events grows agrees.known))
+          ∙ sym (buffers_append first (flat_map (happened new) old.events) (flat_map (happened new) notes))
+          ∙ ap (buffers_after first) (sym (flat_map-append (happened new) old.events notes))
+          ∙ ap (λ (bs : List Buffer). buffers_after bs (history_of new)) (sym (first_stays setup core done keeps));
+      session = ap (λ (s : SessionValue). s.writers) keeps.session ∙ agrees.session;
+      none_read = agrees.none_read;
+      known = known_append new old.events notes (all_known_grow old new old.events grows agrees.known) known;
+    }
+
+-- the sequence itself is closed, and each other one is as it was
+closed_here : (b : Buffer) (q : ℕ) → is_known b.sequences q ≡ true → (sequence_in (buffer_after b (model.Closed q)).sequences q).closed ≡ true
+closed_here b q known =
+    ap (λ (x : Bool). (sequence_in (cond x (cond (sequence_in b.sequences q).closed b (closed_buffer b q)) b).sequences q).closed) known ∙ step (sequence_in b.sequences q).closed refl
+  where
+    step : (x : Bool) → (sequence_in b.sequences q).closed ≡ x → (sequence_in (cond x b (closed_buffer b q)).sequences q).closed ≡ true
+    step true is = is
+    step false is = ap (λ (s : Sequence). s.closed) (changed_here q (closed_sequence b.live) (λ s. refl) b.sequences known)
+
+closed_there : (b : Buffer) (q other : ℕ) → is_known b.sequences other ≡ true → q ≢ other
+    → (sequence_in (buffer_after b (model.Closed q)).sequences other).closed ≡ (sequence_in b.sequences other).closed
+closed_there b q other known differs = by_known (is_known b.sequences q)
+  where
+    step : (x : Bool) → (sequence_in (cond x b (closed_buffer b q)).sequences other).closed ≡ (sequence_in b.sequences other).closed
+    step true = refl
+    step false = ap (λ (s : Sequence). s.closed) (changed_other q other (closed_sequence b.live) (λ s. refl) b.sequences known differs)
+
+    by_known : (x : Bool) → (sequence_in (cond x (cond (sequence_in b.sequences q).closed b (closed_buffer b q)) b).sequences other).closed ≡ (sequence_in b.sequences other).closed
+    by_known true = step (sequence_in b.sequences q).closed
+    by_known false = refl
+
+pub closes_here : {S : Type 0} → (setup : Setup) (view : ServiceView) (core done : ServiceCore S) (place : ℕ) → ServiceAgrees setup view core → place < length setup.writers
+    → done.buffers.items ≡ buffers_after core.buffers.items (model.Closed (place + 2) ∷ []) → is_closed setup done place ≡ true
+closes_here setup view core done place agrees inside buffers_are =
+    let index : ℕ = buffer_of setup place - 1 in
+    let at = stands setup view core place agrees inside in
+    ap (λ (bs : List Buffer). is_closed_at bs index (place + 2)) buffers_are
+    ∙ ap (λ (b : Buffer). (sequence_in b.sequences (place + 2)).closed) (at_after core.buffers.items index (model.Closed (place + 2) ∷ []) at.inside)
+    ∙ closed_here (buffer_at core.buffers.items index) (place + 2) at.known
+
+pub closes_there : {S : Type 0} → (setup : Setup) (view : ServiceView) (core done : ServiceCore S) (place other : ℕ) → ServiceAgrees setup view core
+    → other < length setup.writers → other ≢ place
+    → done.buffers.items ≡ buffers_after core.buffers.items (model.Closed (place + 2) ∷ []) → is_closed setup done other ≡ is_closed setup core other
+closes_there setup view core done place other agrees inside differs buffers_are =
+    let index : ℕ = buffer_of setup other - 1 in
+    let at = stands setup view core other agrees inside in
+    ap (λ (bs : List Buffer). is_closed_at bs index (other + 2)) buffers_are
+    ∙ ap (λ (b : Buffer). (sequence_in b.sequences (other + 2)).closed) (at_after core.buffers.items index (model.Closed (place + 2) ∷ []) at.inside)
+    ∙ closed_there (buffer_at core.buffers.items index) (place + 2) (other + 2) at.known (λ e. differs (let same : other ≡ place = omega (arith, e) in same))
+
+-- Writer by writer
+
+pub closes_skip : {S : Type 0} → (setup : Setup) (producer i : ℕ) (old new : ServiceCore S) → ClosesSome setup producer i old new → producer_of setup i ≢ producer
+    → ClosesSome setup producer (i + 1) old new
+closes_skip setup producer i old new some differs = record {
+  fields = some.fields;
+  closed = λ place low inside same. some.closed place (below place low same (cases_eq place i)) inside same;
+  open_still = λ place low inside. some.open_still place (omega (arith, low)) inside;
+  others = some.others;
+}
+  where
+    below : (place : ℕ) → place < i + 1 → producer_of setup place ≡ producer → (place ≡ i) ⊎ (place ≡ i → ⊥) → place < i
+    below place low same (inl is) = absurd (differs (ap (producer_of setup) (sym is) ∙ same))
+    below place low same (inr other) = omega (arith, low, other)
+
+pub closes_add : {S : Type 0} → (setup : Setup) (producer i : ℕ) (old mid new : ServiceCore S) → ClosesSome setup producer i old mid → ClosesOne setup i mid new
+    → producer_of setup i ≡ producer → ClosesSome setup producer (i + 1) old new
+closes_add setup producer i old mid new some one same = record {
+  fields = record {
+    layout = one.fields.layout ∙ some.fields.layout;
+    specs = one.fields.specs ∙ some.fields.specs;
+    writers = one.fields.writers ∙ some.fields.writers;
+    session = one.fields.session ∙ some.fields.session;
+  };
+  closed = λ place low inside named. by_place place low inside named (cases_eq place i);
+  open_still = λ place low inside. one.others place inside (λ e. absurd (omega (arith, low, e))) ∙ some.open_still place (omega (arith, low)) inside;
+  others = λ place inside differs. one.others place inside (λ e. differs (ap (producer_of setup) e ∙ same)) ∙ some.others place inside differs;
+}
+  where
+    by_place : (place : ℕ) → place < i + 1 → place < length setup.writers → producer_of setup place ≡ producer → (place ≡ i) ⊎ (place ≡ i → ⊥) → is_closed setup new place ≡ true
+    by_place place low inside named (inl is) = ap (is_closed setup new) is ∙ one.closed
+    by_place place low inside named (inr differs) = one.others place inside differs ∙ some.closed place (omega (arith, low, differs)) inside named
+
+-- one close more was noted
+pub noted_close : (between old new : ServiceView) (places : List ℕ) (place : ℕ) → old ≡ noted_more between (closes_of places) → new ≡ noted_more old (Closed (place + 2) ∷ [])
+    → new ≡ noted_more between (closes_of (places ++ place ∷ []))
+noted_close between old new places place before one =
+    one ∙ ap (λ (v : ServiceView). noted_more v (Closed (place + 2) ∷ [])) before
+    ∙ ap (λ (ns : List Noted). record between { events = ns }) (append_assoc between.events (closes_of places) (Closed (place + 2) ∷ []))
+    ∙ ap (λ (ns : List Noted). noted_more between ns) (sym (map-append (λ (p : ℕ). Closed (p + 2)) places (place ∷ [])))

@@ -1,0 +1,9 @@
+pub mod AgreeLemmas
+pub mod ChainLemmas
+pub mod CloseLemmas
+pub mod HistoryLemmas
+pub mod MakeLemmas
+pub mod RouteLemmas
+pub mod RoutedLemmas
+pub mod ShapeLemmas
+pub mod TakingLemmas

@@ -1,0 +1,63 @@
+use Rattle.std.proofs.Common.{◌≡◌, ◌+◌, ◌-◌, ◌∙◌, ◌<◌, ℕ, List, [], ◌∷◌, ◌++◌, length, take, subst, sym, refl, ap, arith}
+use Rattle.std.proofs.lemmas.List.{get_or_read}
+use Rattle.trace_base.specs.declared.policy.WriterSpec.{WriterSpec}
+use Rattle.chunk_plain.specs.Setup.{Setup, producer_of}
+use Rattle.chunk_plain.specs.Views.{Closed, ServiceView}
+use Rattle.chunk_plain.proofs.SeatSteps.{services_follow}
+use Rattle.service_core.specs.Agreement.{ServiceAgrees, spec_at, no_writer}
+use Rattle.service_core.specs.Taking.{places_of, noted_more}
+use Rattle.service_core.specs.Closing.{ClosesOne, closes_of}
+use Rattle.service_core.proofs.ChainLemmas.{places_add, places_skip}
+use Rattle.service_core.proofs.CloseLemmas.{closes_skip, closes_add, noted_close}
+use Rattle.service_core.proofs.service.ServiceCore.close_producer.Goals as goal
+
+pub loop-place-preserved-then-index-producer : goal.loop-place-preserved-then-index-producer
+loop-place-preserved-then-index-producer g c =
+    let means = g.W.Words.means in
+    let i = c.loop-place.invariant in
+    let setup = means.setup c.args.table.now in
+    let place = c.loop-place.place in
+    let end = c.len-place-end.ensures in
+    let joined = c.collect-count.new.self.writers.ok.0 in
+    let test = c.loop-place-test.true in
+    let low : place < length setup.writers = subst (λ (ws : List WriterSpec). place < length ws) c.collect-count.ensures.agrees.writers (omega (arith, end, joined, test)) in
+    let low_items = subst (λ (ws : List WriterSpec). place < length ws) (sym i.agrees.writers) low in
+    let read = get_or_read c.loop-place.self.writers.items place c.index.result.now low_items c.index.ensures no_writer ∙ ap (λ (ws : List WriterSpec). spec_at ws place) i.agrees.writers in
+    let differs = λ (same : producer_of setup place ≡ c.args.producer). c.if-index-producer.true (ap (λ (w : WriterSpec). w.producer) read ∙ same) in
+    let places = places_skip c.args.producer setup.writers place low differs in
+    record {
+      agrees = i.agrees;
+      closes = closes_skip setup c.args.producer place c.args.self.now c.loop-place.self i.closes differs;
+      step = i.step;
+      takes = record { between = i.takes.between; takes = i.takes.takes; view = i.takes.view ∙ ap (λ (ps : List ℕ). noted_more i.takes.between (closes_of ps)) (sym places) };
+    }
+
+pub loop-place-preserved : goal.loop-place-preserved
+loop-place-preserved g c =
+    let means = g.W.Words.means in
+    let i = c.loop-place.invariant in
+    let setup = means.setup c.args.table.now in
+    let place = c.loop-place.place in
+    let mid = means.service_view c.loop-place.table c.loop-place.self.seat in
+    let new = means.service_view c.close_writer.new.table c.close_writer.new.self.seat in
+    let end = c.len-place-end.ensures in
+    let joined = c.collect-count.new.self.writers.ok.0 in
+    let test = c.loop-place-test.true in
+    let low : place < length setup.writers = subst (λ (ws : List WriterSpec). place < length ws) c.collect-count.ensures.agrees.writers (omega (arith, end, joined, test)) in
+    let low_items = subst (λ (ws : List WriterSpec). place < length ws) (sym i.agrees.writers) low in
+    let read = get_or_read c.loop-place.self.writers.items place c.index.result.now low_items c.index.ensures no_writer ∙ ap (λ (ws : List WriterSpec). spec_at ws place) i.agrees.writers in
+    let same = sym (ap (λ (w : WriterSpec). w.producer) read) ∙ c.if-index-producer.false in
+    let places = places_add c.args.producer setup.writers place low same in
+    let stays = i.step.setup_stays in
+    let before = places_of c.args.producer 0 (take place setup.writers) in
+    record {
+      agrees = subst (λ (s : Setup). ServiceAgrees s new c.close_writer.new.self) stays c.close_writer.ensures.agrees;
+      closes = closes_add setup c.args.producer place c.args.self.now c.loop-place.self c.close_writer.new.self i.closes
+          (subst (λ (s : Setup). ClosesOne s place c.loop-place.self c.close_writer.new.self) stays c.close_writer.ensures.closes) same;
+      step = services_follow means c.args.table.now c.args.self.now.seat c.loop-place.table c.loop-place.self.seat c.close_writer.new.table c.close_writer.new.self.seat i.step c.close_writer.ensures.step;
+      takes = record {
+        between = i.takes.between;
+        takes = i.takes.takes;
+        view = noted_close i.takes.between mid new before place i.takes.view c.close_writer.ensures.view ∙ ap (λ (ps : List ℕ). noted_more i.takes.between (closes_of ps)) (sym places);
+      };
+    }

@@ -1,0 +1,15 @@
+use Rattle.std.proofs.Common.{◌≡◌, ◌≢◌, ◌<◌, ◌≤◌, ◌⊎◌, ℕ, length, take, true}
+use Rattle.chunk_plain.specs.Meaning.{IsServiceStep}
+use Rattle.chunk_plain.specs.Setup.{producer_of}
+use Rattle.service_core.specs.Agreement.{ServiceAgrees}
+use Rattle.service_core.specs.Closing.{TakesAndClosesSome, ClosesSome}
+use Rattle.service_core.proofs.service.ServiceCore.close_producer.Given as goal
+
+abbrev pub invariant-loop-place : goal.invariant-loop-place
+invariant-loop-place g l = record {
+  agrees : ServiceAgrees (g.W.Words.means.setup l.fn.table) (g.W.Words.means.service_view l.table l.self.seat) l.self;
+  closes : ClosesSome (g.W.Words.means.setup l.fn.table) l.producer l.place l.fn.self l.self;
+  step : IsServiceStep g.W.Words.means l.fn.table l.fn.self.seat l.table l.self.seat;
+  takes : TakesAndClosesSome (g.W.Words.means.setup l.fn.table) l.producer l.count (take l.place (g.W.Words.means.setup l.fn.table).writers)
+      (g.W.Words.means.service_view l.fn.table l.fn.self.seat) (g.W.Words.means.service_view l.table l.self.seat);
+}

@@ -1,0 +1,33 @@
+use Rattle.std.proofs.Common.{◌≡◌, ◌+◌, ◌-◌, ◌∙◌, ◌<◌, ◌≤◌, ℕ, List, [], ◌∷◌, ◌++◌, length, map, take, get_or, subst, sym, refl, ap, arith, rules}
+use Rattle.std.specs.List.{flat_map}
+use Rattle.trace_model.specs.Buffers.{Buffer}
+use Rattle.trace_model.specs.History.{buffers_after}
+use Rattle.chunk_plain.specs.Laying.{setup_of}
+use Rattle.chunk_plain.specs.Views.{Noted}
+use Rattle.chunk_plain.specs.Histories.{happened}
+use Rattle.world_model.specs.FirstBuffers.{first_buffers}
+use Rattle.trace_buffer.specs.declared.answers.BufferSpec.{BufferSpec}
+use Rattle.service_core.specs.Agreement.{IsRouted, AreKnownNotes, spec_value}
+use Rattle.service_core.proofs.RouteLemmas.{buffers_none}
+use Rattle.service_core.proofs.MakeLemmas.{none_counted}
+use Rattle.service_core.proofs.service.ServiceCore.make.Goals as goal
+
+pub returns-clause-agrees : goal.returns-clause-agrees
+returns-clause-agrees g c view unused =
+    let setup = setup_of c.args.producers.now c.args.writers.now in
+    let specs : c.in_ok-to_vec.field-0.items ≡ c.args.buffers.now = search rules in
+    let none : buffers_after (first_buffers setup 1 (map spec_value c.args.buffers.now)) (flat_map (happened view) view.events) ≡ first_buffers setup 1 (map spec_value c.args.buffers.now) =
+    ap (λ (notes : List Noted). buffers_after (first_buffers setup 1 (map spec_value c.args.buffers.now)) (flat_map (happened view) notes)) unused.none_noted
+    ∙ buffers_none (first_buffers setup 1 (map spec_value c.args.buffers.now)) in
+    let taken : c.in_ok-vec.field-0.items ≡ _ = c.in_ok-vec.ensures.items_if_clones_equal (λ y e. e) in
+    record {
+      layout = search rules;
+      writers = search rules;
+      routed = subst (λ (xs : List BufferSpec). IsRouted setup (length xs)) (sym specs) c.requires.routed;
+      many = unused.taken;
+      taken = taken ∙ none_counted view.taken (length c.args.writers.now) unused.taken unused.none_taken;
+      buffers = c.in_ok-made.ensures ∙ sym none ∙ ap (λ (xs : List BufferSpec). buffers_after (first_buffers setup 1 (map spec_value xs)) (flat_map (happened view) view.events)) (sym specs);
+      session = search rules;
+      none_read = unused.none_read;
+      known = subst (AreKnownNotes view) (sym unused.none_noted) tt;
+    }

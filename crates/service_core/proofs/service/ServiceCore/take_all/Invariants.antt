@@ -1,0 +1,13 @@
+use Rattle.std.proofs.Common.{◌≡◌}
+use Rattle.chunk_plain.specs.Meaning.{IsServiceStep}
+use Rattle.service_core.specs.Agreement.{ServiceAgrees, KeepsRest}
+use Rattle.service_core.specs.Taking.{TakesSome}
+use Rattle.service_core.proofs.service.ServiceCore.take_all.Given as goal
+
+abbrev pub invariant-loop-taken : goal.invariant-loop-taken
+invariant-loop-taken g l = record {
+  agrees : ServiceAgrees (g.W.Words.means.setup l.fn.table) (g.W.Words.means.service_view l.table l.self.seat) l.self;
+  keeps : KeepsRest (g.W.Words.means.setup l.fn.table) l.fn.self l.self;
+  step : IsServiceStep g.W.Words.means l.fn.table l.fn.self.seat l.table l.self.seat;
+  some : TakesSome l.place l.taken (g.W.Words.means.service_view l.fn.table l.fn.self.seat) (g.W.Words.means.service_view l.table l.self.seat);
+}

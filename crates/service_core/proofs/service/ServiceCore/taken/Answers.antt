@@ -1,0 +1,27 @@
+use Rattle.std.proofs.Common.{◌≡◌, ◌+◌, ◌-◌, ◌∙◌, ◌<◌, ℕ, List, length, vec_len, get_or, subst, sym, ap, arith}
+use Rattle.chunk_plain.specs.Views.{ServiceView, taken_of}
+use Rattle.trace_base.specs.declared.policy.WriterSpec.{WriterSpec}
+use Rattle.service_core.proofs.RoutedLemmas.{taken_long}
+use Rattle.service_core.proofs.TakingLemmas.{read_count}
+use Rattle.service_core.proofs.service.ServiceCore.taken.Goals as goal
+
+pub index-requires : goal.index-requires
+index-requires g c =
+    let core = c.args.self.now in
+    let long = taken_long c.requires.agrees.setup c.requires.agrees.view core c.requires.agrees.agrees in
+    let least = c.requires.least in
+    let most = c.requires.most in
+    let is = c.from.ensures in
+    let joined = core.taken.ok.0 in
+    omega (arith, long, least, most, is, joined)
+
+pub returns : goal.returns
+returns g c setup view agrees =
+    let core = c.args.self.now in
+    let least = c.requires.least in
+    let most = c.requires.most in
+    let is = c.from.ensures in
+    let writers = ap (λ (ws : List WriterSpec). length ws) agrees.writers in
+    let many = agrees.many in
+    read_count view core.taken.items (c.args.writer - 1) c.index.result.now agrees.taken (omega (arith, least, most, writers, many))
+    (subst (λ (n : ℕ). c.index.result.now ≡ get_or core.taken.items (n - 1) c.index.result.now) is c.index.ensures)

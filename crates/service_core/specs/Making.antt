@@ -1,0 +1,36 @@
+-- What a service is made for.
+use Rattle.std.specs.Prelude.{◌≡◌, ℕ, ◌-◌, ◌%◌, ◌<◌, ◌≤◌, List, [], length, slice_index_or}
+use Rattle.trace_base.specs.declared.limits.TheConstants.{BYTES_PER_KB}
+use Rattle.trace_base.specs.declared.policy.FullPolicy.TheVariants.{Ring}
+use Rattle.page_geometry.specs.Sizes.{record_size}
+use Rattle.ring_bytes.specs.declared.ring.TheConstants.{MAX_RING_SIZE}
+use Rattle.chunk_plain.specs.Setup.{Setup, size_of, producer_of}
+use Rattle.chunk_plain.specs.Views.{ServiceView, taken_of}
+use Rattle.chunk_plain.specs.Steps.{taken_counts}
+use Rattle.trace_buffer.specs.declared.answers.BufferSpec.{BufferSpec}
+use Rattle.service_core.specs.Agreement.{buffer_of}
+
+abbrev pub buffer_spec_at : List BufferSpec → ℕ → BufferSpec
+buffer_spec_at buffers index = slice_index_or buffers index (record { size = 0; policy = Ring })
+
+-- a buffer can have this size
+pub record IsBufferSize (size : ℕ) : Type 0 where
+  pub least : BYTES_PER_KB ≤ size
+  pub units : size % BYTES_PER_KB ≡ 0
+  pub most : size ≤ MAX_RING_SIZE
+
+abbrev pub HaveSizes : List BufferSpec → Type 0
+HaveSizes buffers = (index : ℕ) → index < length buffers → IsBufferSize (buffer_spec_at buffers index).size
+
+-- a record of each writer's chunks fits into its buffer
+abbrev pub RecordsFit : Setup → List BufferSpec → Type 0
+RecordsFit setup buffers =
+    (place : ℕ) → place < length setup.writers
+    → record_size (size_of setup (producer_of setup place)) ≤ (buffer_spec_at buffers (buffer_of setup place - 1)).size
+
+-- a service with nothing taken or noted, of so many writers
+pub record IsUnused (writers : ℕ) (view : ServiceView) : Type 0 where
+  pub taken : length view.taken ≡ writers
+  pub none_taken : (place : ℕ) → (taken_of view place).count ≡ 0
+  pub none_read : view.reading ≡ []
+  pub none_noted : view.events ≡ []

@@ -1,0 +1,133 @@
+-- What the service's view has more once chunks were taken.
+use Rattle.std.specs.Prelude.{◌≡◌, ℕ, suc, ◌+◌, ◌<◌, ◌≤◌, ◌⊎◌, ◌==◌, List, [], ◌∷◌, ◌++◌, length, slice_get, slice_set, slice_index_or, Some, if◌then◌else◌}
+use Rattle.trace_base.specs.declared.policy.WriterSpec.{WriterSpec}
+use Rattle.page_geometry.specs.declared.chunk_header.ChunkHeader.{ChunkHeader}
+use Rattle.page_geometry.specs.declared.chunk_state.ChunkState.TheVariants.{Complete}
+use Rattle.page_geometry.specs.PageBits.{HasState}
+use Rattle.page_geometry.specs.Header.{packed}
+use Rattle.chunk_plain.specs.declared.tokens.TheConstants.{ID_LIMIT}
+use Rattle.trace_model.specs.Images.{Patch}
+use Rattle.chunk_plain.specs.declared.setup.ChunkRange.{ChunkRange}
+use Rattle.chunk_plain.specs.Setup.{Setup, spot, range_of, producer_of, IsChunkOf, id_at, sequence_of}
+use Rattle.chunk_plain.specs.Views.{Content, Look, Taken, Noted, Arrive, Patched, ServiceView, taken_of}
+
+-- the patches of a chunk are noted directly behind its arrival, where it brings any
+abbrev pub patched_where : List Patch → (sequence chunk_id : ℕ) → List Noted
+patched_where [] sequence chunk_id = []
+patched_where (patch ∷ patches) sequence chunk_id = Patched sequence chunk_id ∷ []
+
+-- the notes of chunks that are taken of a sequence, in rising id from this one on
+abbrev pub takings : (sequence chunk_id : ℕ) → List Content → List Noted
+takings sequence chunk_id [] = []
+takings sequence chunk_id (content ∷ contents) =
+    Arrive sequence chunk_id ∷ (patched_where content.patches sequence chunk_id ++ takings sequence (suc chunk_id) contents)
+
+-- so many looks more
+abbrev pub looked : ServiceView → List Look → ServiceView
+looked view looks = record view { looks = view.looks ++ looks }
+
+abbrev pub taken_more : Taken → List Content → Taken
+taken_more taken contents = record { count = taken.count + length contents; contents = taken.contents ++ contents }
+
+-- Chunks with these contents were taken of the writer at this place: they are in the view, and are noted.
+abbrev pub took : ServiceView → (place : ℕ) → List Look → List Content → ServiceView
+took view place looks contents = record view {
+  looks = view.looks ++ looks;
+  taken = slice_set view.taken place (taken_more (taken_of view place) contents);
+  events = view.events ++ takings (sequence_of place) (taken_of view place).count contents;
+}
+
+-- the look found the chunk in another state than complete, or with another writer, or with another id than this one
+pub record IsOther (setup : Setup) (place id : ℕ) (look : Look) : Type 0 where
+  pub header : ChunkHeader
+  pub header_is : look.header ≡ packed header
+  pub other : HasState look.word (spot setup look.chunk).place Complete → header.writer_id ≡ place + 1 → header.chunk_id ≡ id → ⊥
+
+-- One of these looks at the chunk shows that it isn't the next one to be taken of this writer, of which so many were taken then.
+pub record ShowsOther (setup : Setup) (place count chunk : ℕ) (looks : List Look) : Type 0 where
+  pub n : ℕ
+  pub look : Look
+  pub at : slice_get looks n ≡ Some look
+  pub chunk_is : look.chunk ≡ chunk
+  pub since : slice_index_or look.taken place 0 ≡ count
+  pub shows : IsOther setup place (id_at setup place count) look
+
+-- each chunk of the producer was looked at so
+abbrev pub ShowNone : Setup → (producer place count : ℕ) → List Look → Type 0
+ShowNone setup producer place count looks =
+    (chunk : ℕ) → IsChunkOf setup producer chunk → ShowsOther setup place count chunk looks
+
+-- Where the taking leaves the writer: as many chunks were taken as the producer has; or these looks, behind the last one that was taken, show none
+-- that is next; or the writer has no id left.
+abbrev pub Leaves : Setup → (place : ℕ) → (count taken : ℕ) → List Look → Type 0
+Leaves setup place count taken looks =
+    (taken ≡ (range_of setup (producer_of setup place)).count)
+    ⊎ (ShowNone setup (producer_of setup place) place count looks ⊎ (ID_LIMIT ≤ count))
+
+-- so many complete chunks of the writer at this place were taken
+pub record TakesOf (setup : Setup) (place taken : ℕ) (old new : ServiceView) : Type 0 where
+  pub looks : List Look
+  pub contents : List Content
+  pub many : length contents ≡ taken
+  pub view : new ≡ took old place looks contents
+  pub leaves : Leaves setup place (taken_of new place).count taken looks
+
+-- and those of the writers at these places, one after another
+abbrev pub Takes : Setup → List ℕ → (taken : ℕ) → ServiceView → ServiceView → Type 0
+Takes setup [] taken old new = (taken ≡ 0) × (new ≡ old)
+Takes setup (place ∷ places) taken old new =
+    (one : ℕ) × (others : ℕ) × (between : ServiceView) × (taken ≡ one + others) × TakesOf setup place one old between × Takes setup places others between new
+
+-- the places of the producer's writers, of which the first has this place
+abbrev pub places_of : (producer place : ℕ) → List WriterSpec → List ℕ
+places_of producer place [] = []
+places_of producer place (spec ∷ specs) =
+    if spec.producer == producer then place ∷ places_of producer (suc place) specs else places_of producer (suc place) specs
+
+-- so many notes more
+abbrev pub noted_more : ServiceView → List Noted → ServiceView
+noted_more view notes = record view { events = view.events ++ notes }
+
+-- one chunk was taken of the writer at this place
+pub record TakesOne (place : ℕ) (old new : ServiceView) : Type 0 where
+  pub look : Look
+  pub content : Content
+  pub view : new ≡ took old place (look ∷ []) (content ∷ [])
+
+-- the chunk was looked at, and isn't the next one to be taken of this writer
+pub record SeesOther (setup : Setup) (place chunk : ℕ) (old new : ServiceView) : Type 0 where
+  pub look : Look
+  pub view : new ≡ looked old (look ∷ [])
+  pub chunk_is : look.chunk ≡ chunk
+  pub since : slice_index_or look.taken place 0 ≡ (taken_of old place).count
+  pub shows : IsOther setup place (id_at setup place (taken_of old place).count) look
+
+-- the chunks of a producer, as two numbers
+pub record IsRange (range : ChunkRange) (first count : ℕ) : Type 0 where
+  pub first_is : first ≡ range.first
+  pub count_is : count ≡ range.count
+
+-- the next chunk of the writer at this place was taken, and no other
+pub record TakesNext (place : ℕ) (old new : ServiceView) : Type 0 where
+  pub looks : List Look
+  pub content : Content
+  pub view : new ≡ took old place looks (content ∷ [])
+
+-- each chunk of the producer was looked at, and none is the next one of the writer at this place
+pub record SeesNone (setup : Setup) (place : ℕ) (old new : ServiceView) : Type 0 where
+  pub looks : List Look
+  pub view : new ≡ looked old looks
+  pub none : ShowNone setup (producer_of setup place) place (taken_of old place).count looks
+
+-- the chunks from this one up to another were looked at, and none is the next one of the writer at this place
+pub record SeesNoneOf (setup : Setup) (place first last : ℕ) (old new : ServiceView) : Type 0 where
+  pub looks : List Look
+  pub view : new ≡ looked old looks
+  pub none : (chunk : ℕ) → first ≤ chunk → chunk < last → ShowsOther setup place (taken_of old place).count chunk looks
+
+-- so many chunks of the writer at this place were taken
+pub record TakesSome (place taken : ℕ) (old new : ServiceView) : Type 0 where
+  pub looks : List Look
+  pub contents : List Content
+  pub many : length contents ≡ taken
+  pub view : new ≡ took old place looks contents

@@ -1,0 +1,17 @@
+//! The service: it takes the chunks that writers completed into its buffers, scrapes those that are
+//! being written, reads the buffers, and asks for flushes.
+//! A layer above may rely on this: on any table of chunks the buffers are the fold of the history that
+//! the service noted in its seat's view; each call says what it noted, in which order, and what it
+//! left. No call but `make` takes memory.
+#![tactic(auto)]
+
+mod asking;
+mod closing;
+mod flushes;
+mod making;
+mod patching;
+mod routing;
+mod service;
+mod taking;
+
+pub use service::ServiceCore;

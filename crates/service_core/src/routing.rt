@@ -1,0 +1,51 @@
+//! Events on the buffer that has their sequence.
+ghost use Rattle.std.specs.Prelude.{◌≡◌, ℕ, ◌≤◌, false, [], ◌∷◌, length, map};
+ghost use Rattle.trace_base.specs.declared.limits.TheConstants.{MAX_FRAGMENTS};
+ghost use Rattle.page_geometry.specs.declared.chunk_header.TheConstants.{MAX_FLAGS};
+ghost use Rattle.page_geometry.specs.Sizes.{record_size};
+ghost use Rattle.chunk_image.specs.Values.{image_value};
+ghost use Rattle.commit_body.specs.Patches.{patch_value};
+ghost use Rattle.trace_model.specs.Arrivals.{image_arrival_of};
+ghost use Rattle.trace_model.specs.History as model;
+ghost use Rattle.trace_model.specs.History.{buffers_after};
+ghost use Rattle.trace_buffer.specs.Answers.{arrived_value};
+ghost use Rattle.service_core.specs.Routing.{buffer_at, IsAt, is_closed_at, arrivals_of};
+
+use crate::patching::patch_all;
+use chunk_image::Image;
+use commit_body::Patch;
+use trace_buffer::{Arrived, TraceBuffer};
+
+/// A complete chunk arrives in the buffer with this index.
+pub(crate) fn arrive_in(buffers: &mut Vec<TraceBuffer>, index: usize, image: &Image<'_>) -> Arrived
+    requires at { IsAt buffers.old.items index image.now.sequence (record_size (length image.now.payload.now)) }
+    requires open { is_closed_at buffers.old.items index image.now.sequence ≡ false }
+    requires count { image.now.count ≤ MAX_FRAGMENTS }
+    requires flags { image.now.flags ≤ MAX_FLAGS }
+    ensures outcome { arrived_value result ≡ image_arrival_of (buffer_at buffers.old.items index) (image_value image.now) }
+    ensures after { buffers.new.items ≡ buffers_after buffers.old.items (arrivals_of (image_value image.now)) }
+{
+    buffers[index].arrive(image)
+}
+
+/// The patches of a commit body are applied in the buffer with this index.
+pub(crate) fn patch_in(
+    buffers: &mut Vec<TraceBuffer>,
+    index: usize,
+    sequence: u32,
+    patches: &[Patch],
+)
+    requires { (size : ℕ) × IsAt buffers.old.items index sequence size }
+    ensures { buffers.new.items ≡ buffers_after buffers.old.items (model.Patched sequence (map patch_value patches.now) ∷ []) }
+{
+    patch_all(&mut buffers[index], sequence, patches);
+}
+
+/// No chunk of the sequence comes any more, of the buffer with this index.
+pub(crate) fn close_in(buffers: &mut Vec<TraceBuffer>, index: usize, sequence: u32)
+    requires at { (size : ℕ) × IsAt buffers.old.items index sequence size }
+    requires open { is_closed_at buffers.old.items index sequence ≡ false }
+    ensures { buffers.new.items ≡ buffers_after buffers.old.items (model.Closed sequence ∷ []) }
+{
+    buffers[index].close_sequence(sequence);
+}

@@ -1,0 +1,189 @@
+//! Taking complete chunks.
+ghost use Rattle.std.specs.Prelude.{◌≡◌, ℕ, ◌+◌, ◌-◌, ◌*◌, ◌<◌, ◌≤◌, true, false, List, [], ◌∷◌, length, vec_len, map, slice_set, slice_index_or};
+ghost use Rattle.trace_base.specs.declared.limits.TheConstants.{MAX_FRAGMENTS, MAX_WRITERS, FIRST_SEQUENCE};
+ghost use Rattle.chunk_plain.specs.declared.tokens.TheConstants.{ID_LIMIT};
+ghost use Rattle.page_geometry.specs.declared.chunk_header.TheConstants.{MAX_FLAGS};
+ghost use Rattle.page_geometry.specs.Sizes.{record_size};
+ghost use Rattle.commit_body.specs.Patches.{patch_value};
+ghost use Rattle.trace_model.specs.History as model;
+ghost use Rattle.trace_model.specs.History.{buffers_after};
+ghost use Rattle.chunk_plain.specs.Setup.{spot, range_of, producer_of, IsChunkOf, sequence_of};
+ghost use Rattle.chunk_plain.specs.Views.{taken_of};
+ghost use Rattle.chunk_plain.specs.Owned.{times};
+ghost use Rattle.chunk_plain.specs.Steps.{lets_go};
+ghost use Rattle.chunk_plain.specs.Words.{taken_content};
+ghost use Rattle.chunk_plain.specs.Meaning.{IsServiceStep};
+ghost use Rattle.service_core.specs.Routing.{IsAt, is_closed_at, arrivals_of};
+ghost use Rattle.service_core.specs.Agreement.{ServiceAgrees, KeepsFields, KeepsRest, IsOpen, is_closed, spec_at};
+ghost use Rattle.service_core.specs.Taking.{patched_where, takings, noted_more, TakesOne, SeesOther, IsRange, TakesNext, SeesNone, TakesOf, Takes, places_of};
+
+use crate::routing::{arrive_in, patch_in};
+use crate::service::ServiceCore;
+use chunk_image::Image;
+use chunk_plain::{ID_LIMIT, ServiceEvent, Taken, Words};
+use commit_body::Patch;
+use trace_base::limits::FIRST_SEQUENCE;
+
+/// Notes that the patches of a chunk were applied, where it brings any.
+fn note_patches<W: Words>(
+    table: &mut W,
+    seat: &mut W::Service,
+    sequence: u32,
+    chunk_id: u32,
+    patches: &[Patch],
+)
+    requires { W.means.serves table.old seat.old }
+    ensures view { W.means.service_view table.new seat.new ≡ noted_more (W.means.service_view table.old seat.old) (patched_where (map patch_value patches.now) sequence chunk_id) }
+    ensures step { IsServiceStep W.means table.old seat.old table.new seat.new }
+{
+    if !patches.is_empty() {
+        table.note(seat, ServiceEvent::Patched { sequence, chunk_id });
+    }
+}
+
+impl<S> ServiceCore<S> {
+    /// Puts a chunk that was taken into its writer's buffer, notes that, and gives the chunk back.
+    fn take_in<W: Words<Service = S>>(&mut self, table: &mut W, place: usize, taken: Taken)
+        requires serves { W.means.serves table.old self.old.seat }
+        requires reading { 0 < times taken.chunk (W.means.service_view table.old self.old.seat).reading }
+        requires whole { vec_len taken.body.payload ≡ (spot (W.means.setup table.old) taken.chunk).payload_size }
+        requires count { taken.header.count ≤ MAX_FRAGMENTS }
+        requires flags { taken.header.flags ≤ MAX_FLAGS }
+        requires id { taken.header.chunk_id < ID_LIMIT }
+        requires place { place < length self.old.taken.items }
+        requires writer { place < length self.old.writers.items }
+        requires few { place < MAX_WRITERS }
+        requires buffer { 1 ≤ (spec_at self.old.writers.items place).buffer }
+        requires at { IsAt self.old.buffers.items ((spec_at self.old.writers.items place).buffer - 1) (sequence_of place) (record_size (vec_len taken.body.payload)) }
+        requires open { is_closed_at self.old.buffers.items ((spec_at self.old.writers.items place).buffer - 1) (sequence_of place) ≡ false }
+        ensures view { W.means.service_view table.new self.new.seat
+            ≡ lets_go (noted_more (W.means.service_view table.old self.old.seat) (takings (sequence_of place) taken.header.chunk_id (taken_content place taken ∷ []))) taken.chunk }
+        ensures buffers { self.new.buffers.items ≡ buffers_after (buffers_after self.old.buffers.items (arrivals_of (taken_content place taken).image))
+            (model.Patched (sequence_of place) (taken_content place taken).patches ∷ []) }
+        ensures taken { self.new.taken.items ≡ slice_set self.old.taken.items place (taken.header.chunk_id + 1) }
+        ensures fields { KeepsFields self.old self.new }
+        ensures step { IsServiceStep W.means table.old self.old.seat table.new self.new.seat }
+    {
+        let sequence = place as u32 + FIRST_SEQUENCE;
+        let index = usize::from(self.writers[place].buffer) - 1;
+        let id = taken.header.chunk_id;
+        let image = Image {
+            sequence,
+            chunk_id: id,
+            count: taken.header.count,
+            flags: taken.header.flags,
+            payload: &taken.body.payload,
+        };
+        arrive_in(&mut self.buffers, index, &image);
+        let arrival = ServiceEvent::Arrive {
+            sequence,
+            chunk_id: id,
+        };
+        table.note(&mut self.seat, arrival);
+        let patches = taken.body.patches.as_slice();
+        patch_in(&mut self.buffers, index, sequence, patches);
+        note_patches(table, &mut self.seat, sequence, id, patches);
+        self.taken[place] = id + 1;
+        table.release(&mut self.seat, taken);
+    }
+}
+
+impl<S> ServiceCore<S> {
+    /// Takes a chunk where it is the next one of the writer at this place.
+    fn try_take<W: Words<Service = S>>(&mut self, table: &mut W, place: usize, chunk: u32) -> bool
+        requires serves { W.means.serves table.old self.old.seat }
+        requires agrees { ServiceAgrees (W.means.setup table.old) (W.means.service_view table.old self.old.seat) self.old }
+        requires place { place < length (W.means.setup table.old).writers }
+        requires chunk { IsChunkOf (W.means.setup table.old) (producer_of (W.means.setup table.old) place) chunk }
+        requires open { is_closed (W.means.setup table.old) self.old place ≡ false }
+        requires id { (taken_of (W.means.service_view table.old self.old.seat) place).count < ID_LIMIT }
+        ensures agrees { ServiceAgrees (W.means.setup table.old) (W.means.service_view table.new self.new.seat) self.new }
+        ensures keeps { KeepsRest (W.means.setup table.old) self.old self.new }
+        ensures step { IsServiceStep W.means table.old self.old.seat table.new self.new.seat }
+        ensures taken { result ≡ true → TakesOne place (W.means.service_view table.old self.old.seat) (W.means.service_view table.new self.new.seat) }
+        ensures other { result ≡ false → SeesOther (W.means.setup table.old) place chunk (W.means.service_view table.old self.old.seat) (W.means.service_view table.new self.new.seat) }
+    {
+        match table.take(&mut self.seat, chunk, place as u16 + 1, self.taken[place]) {
+            Ok(taken) => {
+                self.take_in(table, place, taken);
+                true
+            }
+            Err(_) => false,
+        }
+    }
+}
+
+impl<S> ServiceCore<S> {
+    /// Takes the next chunk of the writer at this place, where one is complete.
+    fn take_next<W: Words<Service = S>>(
+        &mut self,
+        table: &mut W,
+        place: usize,
+        first: u32,
+        count: u32,
+    ) -> bool
+        requires serves { W.means.serves table.old self.old.seat }
+        requires agrees { ServiceAgrees (W.means.setup table.old) (W.means.service_view table.old self.old.seat) self.old }
+        requires place { place < length (W.means.setup table.old).writers }
+        requires range { IsRange (range_of (W.means.setup table.old) (producer_of (W.means.setup table.old) place)) first count }
+        requires open { is_closed (W.means.setup table.old) self.old place ≡ false }
+        requires id { (taken_of (W.means.service_view table.old self.old.seat) place).count < ID_LIMIT }
+        ensures agrees { ServiceAgrees (W.means.setup table.old) (W.means.service_view table.new self.new.seat) self.new }
+        ensures keeps { KeepsRest (W.means.setup table.old) self.old self.new }
+        ensures step { IsServiceStep W.means table.old self.old.seat table.new self.new.seat }
+        ensures taken { result ≡ true → TakesNext place (W.means.service_view table.old self.old.seat) (W.means.service_view table.new self.new.seat) }
+        ensures none { result ≡ false → SeesNone (W.means.setup table.old) place (W.means.service_view table.old self.old.seat) (W.means.service_view table.new self.new.seat) }
+    {
+        for chunk in first..first + count {
+            if self.try_take(table, place, chunk) {
+                return true;
+            }
+        }
+        false
+    }
+
+    /// Takes the complete chunks of the writer at this place, at most as many as its producer has.
+    /// Answers how many.
+    fn take_all<W: Words<Service = S>>(&mut self, table: &mut W, place: usize) -> u32
+        requires serves { W.means.serves table.old self.old.seat }
+        requires agrees { ServiceAgrees (W.means.setup table.old) (W.means.service_view table.old self.old.seat) self.old }
+        requires place { place < length (W.means.setup table.old).writers }
+        requires open { is_closed (W.means.setup table.old) self.old place ≡ false }
+        ensures agrees { ServiceAgrees (W.means.setup table.old) (W.means.service_view table.new self.new.seat) self.new }
+        ensures keeps { KeepsRest (W.means.setup table.old) self.old self.new }
+        ensures step { IsServiceStep W.means table.old self.old.seat table.new self.new.seat }
+        ensures takes { TakesOf (W.means.setup table.old) place result (W.means.service_view table.old self.old.seat) (W.means.service_view table.new self.new.seat) }
+    {
+        let (first, count) = self.layout.chunks_of(self.writers[place].producer);
+        for taken in 0..count {
+            if self.taken[place] == ID_LIMIT {
+                return taken;
+            }
+            if !self.take_next(table, place, first, count) {
+                return taken;
+            }
+        }
+        count
+    }
+
+    /// Takes the complete chunks of the producer's writers, in rising number. Answers how many.
+    pub fn collect<W: Words<Service = S>>(&mut self, table: &mut W, producer: u16) -> u64
+        requires serves { W.means.serves table.old self.old.seat }
+        requires agrees { ServiceAgrees (W.means.setup table.old) (W.means.service_view table.old self.old.seat) self.old }
+        requires open { IsOpen (W.means.setup table.old) self.old producer }
+        ensures agrees { ServiceAgrees (W.means.setup table.old) (W.means.service_view table.new self.new.seat) self.new }
+        ensures keeps { KeepsRest (W.means.setup table.old) self.old self.new }
+        ensures step { IsServiceStep W.means table.old self.old.seat table.new self.new.seat }
+        ensures takes { Takes (W.means.setup table.old) (places_of producer 0 (W.means.setup table.old).writers) result
+            (W.means.service_view table.old self.old.seat) (W.means.service_view table.new self.new.seat) }
+    {
+        let mut count = 0u64;
+        for place in 0..self.writers.len() {
+            if self.writers[place].producer != producer {
+                continue;
+            }
+            count += u64::from(self.take_all(table, place));
+        }
+        count
+    }
+}

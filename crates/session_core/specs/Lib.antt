@@ -1,0 +1,3 @@
+pub mod SessionFields
+pub mod Sessions
+pub mod States
