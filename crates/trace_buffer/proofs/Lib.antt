@@ -22,3 +22,4 @@ pub mod SettledLemmas
 pub mod ClosingLemmas
 pub mod PutLemmas
 pub mod PatchedLemmas
+pub mod ReadyLemmas
