@@ -23,3 +23,4 @@ pub mod ClosingLemmas
 pub mod PutLemmas
 pub mod PatchedLemmas
 pub mod EndLemmas
+pub mod ReadyLemmas

@@ -8,3 +8,4 @@ pub mod Made
 pub mod Patching
 pub mod Records
 pub mod RowFields
+pub mod Ready

@@ -13,8 +13,6 @@ mod patching;
 mod room;
 mod row;
 mod rows;
-#[cfg(test)]
-mod tests;
 
 pub use answers::{
     Arrived, BufferCounts, BufferSpec, Cursor, Passed, PatchFault, SequenceSpec, SequenceState,
