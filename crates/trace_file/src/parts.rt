@@ -28,6 +28,7 @@ pub struct RecordWriter {
     left: u64,
     sequence: u32,
     marked: bool,
+    tail: ArrayVec<u8, 14>,
 }
 
 impl Model for RecordWriter {
@@ -36,6 +37,11 @@ impl Model for RecordWriter {
     ghost Value = { Writing };
 
     ghost view = { λ writer. record { left = writer.left; sequence = writer.sequence; marked = writer.marked } };
+
+    ghost use Rattle.std.specs.Prelude.{◌≡◌};
+    ghost use Rattle.trace_file.specs.Parts.{record_tail};
+
+    ghost invariant = { λ writer. writer.tail.items ≡ record_tail writer.sequence writer.marked };
 }
 
 /// The record's tag, and the length of its content.
@@ -101,6 +107,7 @@ impl RecordWriter {
             left: len,
             sequence,
             marked,
+            tail,
         })
     }
 
@@ -123,7 +130,7 @@ impl RecordWriter {
         ensures part { OnErr result (TakesPart (O.taken out.old) (O.taken out.new) (record_tail self.sequence self.marked)) }
         ensures count { CountsFaults (O.faults out.old) (O.faults out.new) result }
     {
-        put_all(out, &tail(self.sequence, self.marked))
+        put_all(out, &self.tail)
     }
 }
 
