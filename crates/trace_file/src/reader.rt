@@ -103,6 +103,7 @@ fn packet_at<'a>(at: usize, bytes: &'a [u8], content: &'a [u8]) -> Result<Packet
     ensures bytes { IfOk result (λ packet. packet.bytes.now ≡ bytes.now) }
     ensures at { IfOk result (λ packet. packet.at ≡ at) }
     ensures shorter { IfOk result (λ packet. length packet.content.now + 2 ≤ length bytes.now) }
+    ensures spells { IfOk result (λ packet. Spells (record_field packet.content.now) packet.bytes.now) }
     ensures fault { IfErr result (λ fault. (behind : List ℕ) → HasInnerFault at (bytes.now ++ behind) fault) }
 {
     match read_numbers(content) {
@@ -144,6 +145,7 @@ fn first_packet(bytes: &[u8], from: usize) -> Result<Option<Packet<'_>>, TraceFa
     ensures packet { IfOk result (λ found. IfSome found (λ packet. IsNext from (drop from bytes.now) (packet_of packet))) }
     ensures onward { IfOk result (λ found. IfSome found (λ packet. from + length packet.content.now + 2 ≤ packet.at + length packet.bytes.now)) }
     ensures within { IfOk result (λ found. IfSome found (λ packet. packet.at + length packet.bytes.now ≤ length bytes.now)) }
+    ensures spells { IfOk result (λ found. IfSome found (λ packet. Spells (record_field packet.content.now) packet.bytes.now)) }
     ensures none { IfOk result (λ found. IfNone found (EndsBehind from (drop from bytes.now) None)) }
     ensures fault { IfErr result (λ fault. EndsBehind from (drop from bytes.now) (Some fault)) }
 {
@@ -189,8 +191,9 @@ impl<'a> Model for TraceReader<'a> {
 impl<'a> TraceReader<'a> {
     ghost use Rattle.std.specs.Prelude.{◌≡◌, ℕ, ◌<◌, List, [], ◌∷◌, length, Option, Some, None, IfOk, IfErr, IfSome, IfNone};
     ghost use Rattle.trace_file.specs.declared.fault.TraceFault.{TraceFault};
+    ghost use Rattle.trace_file.specs.Fields.{Spells};
     ghost use Rattle.trace_file.specs.Readers.{StillReads};
-    ghost use Rattle.trace_file.specs.Traces.{TracePacket};
+    ghost use Rattle.trace_file.specs.Traces.{record_field, TracePacket};
     ghost use Rattle.trace_file.specs.Values.{packet_of};
 
     /// A reader at the beginning of a trace.
@@ -210,6 +213,7 @@ impl<'a> TraceReader<'a> {
         ensures packet { IfOk result (λ found. IfSome found (λ packet. (packets : List TracePacket) (ending : Option TraceFault)
             → StillReads self.new packets ending → StillReads self.old (packet_of packet ∷ packets) ending)) }
         ensures shorter { IfOk result (λ found. IfSome found (λ packet. length self.new.rest + length packet.content.now + 2 ≤ length self.old.rest)) }
+        ensures spells { IfOk result (λ found. IfSome found (λ packet. Spells (record_field packet.content.now) packet.bytes.now)) }
 
         // None comes where the trace ends, and nothing changes.
         ensures none { IfOk result (λ found. IfNone found (StillReads self.old [] None)) }
