@@ -7,14 +7,17 @@ use Rattle.trace_model.specs.Row.{Link, Joined, Gap, place}
 use Rattle.sequence_reader.specs.declared.link.Chain.{Chain}
 use Rattle.sequence_reader.specs.declared.link.Fate.TheVariants.{Whole}
 use Rattle.sequence_reader.specs.declared.spot.Bounds.{Bounds}
+use Rattle.sequence_reader.specs.declared.step.Piece.{Piece}
 use Rattle.sequence_reader.specs.Links.{fate_value, IsWalked, IsPacket}
+use Rattle.sequence_reader.specs.Steps.{IsPieceAt}
 
 -- a packet
 pub found_packet : (b : Buffer) (bounds : Bounds) (chain : Chain) → IsWalked b bounds chain → chain.goes_on ≡ false → chain.fate ≡ Whole → chain.headless ≡ false → chain.awaits ≡ false
-    → IsPacket b bounds chain.at chain.next chain.len
-found_packet b bounds chain walked stops is begins done =
+    → (first : Piece) → IsPieceAt b bounds chain.at first → IsPacket b bounds chain.at chain.next first chain.len
+found_packet b bounds chain walked stops is begins done first here =
     let ended = walked.ended stops in
     record {
+      begins = here;
       is = record {
         link = Joined walked.seen;
         links_are = ended.links_are;

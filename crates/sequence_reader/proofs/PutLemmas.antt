@@ -1,7 +1,7 @@
 -- The bytes of a packet, written fragment by fragment.
 use Rattle.std.proofs.Common.{◌≡◌, ℕ, ◌+◌, ◌-◌, ◌≤◌, ◌&&◌, ◌||◌, not, Bool, true, false, cond, List, [], ◌∷◌, ◌++◌, length, refl, sym, ap, ◌∙◌, subst, arith, append_assoc, length-append, OnOk, OnErr, Result, Ok, Err, true≢false}
 use Rattle.byte_io.specs.Bytes.{Intake, after_told, TakesPart}
-use Rattle.byte_io.proofs.Told.{after_told_again, part_first, part_second}
+use Rattle.byte_io.proofs.Told.{after_told_again, after_told_nothing, part_first, part_second}
 use Rattle.trace_model.specs.Buffers.{Buffer}
 use Rattle.trace_model.specs.Row.{Piece, Chain, Whole, Marked, IntoLost, CutOff, Open, Link, Joined, Gap, Stop, bytes_of, joined_to, with_piece, chain_of}
 use Rattle.trace_model.specs.Sequences.{Cursor}
@@ -174,3 +174,17 @@ on_ok (Err fault) P Q then holds = tt
 pub on_err : {T E : Type 0} (r : Result T E) (P : Type 0) → P → OnErr r P
 on_err (Ok value) P holds = tt
 on_err (Err fault) P holds = holds
+
+-- a packet is written up to this fragment
+pub record IsPuttingAt (b : Buffer) (bounds : Bounds) (spot : Spot) (piece : code.Piece) (before after : Intake) (left : ℕ) : Type 0 where
+  pub at : Spot
+  pub here : IsPieceAt b bounds at piece
+  pub putting : IsPutting (rows_of b bounds.sequence (cursor_of spot)) (rows_of b bounds.sequence (cursor_of at)) before after left
+
+pub putting_at : (b : Buffer) (bounds : Bounds) (spot : Spot) (piece : code.Piece) (before : Intake) (left : ℕ) → IsPieceAt b bounds spot piece
+    → IsWholeAt (rows_of b bounds.sequence (cursor_of spot)) left → IsPuttingAt b bounds spot piece before before left
+putting_at b bounds spot piece before left here whole = record {
+  at = spot;
+  here = here;
+  putting = record { done = []; bytes = refl; taken = sym (after_told_nothing before); whole = whole };
+}

@@ -18,7 +18,8 @@ use Rattle.sequence_reader.specs.declared.spot.Bounds.{Bounds}
 use Rattle.sequence_reader.specs.declared.spot.Spot.{Spot}
 use Rattle.sequence_reader.specs.Ends.{stop_told}
 use Rattle.sequence_reader.specs.Spots.{rows_of, cursor_of, IsSpot, reach_of}
-use Rattle.sequence_reader.specs.Steps.{IsStopAt}
+use Rattle.sequence_reader.specs.declared.step.Piece.{Piece}
+use Rattle.sequence_reader.specs.Steps.{IsPieceAt, IsStopAt}
 
 abbrev pub fate_value : Fate → row.Fate
 fate_value Whole = row.Whole
@@ -89,7 +90,8 @@ pub record IsPassedLink (buffer : Buffer) (bounds : Bounds) (spot next : Spot) (
   pub kept : delivers (turn_value passed) ≡ false
   pub behind : IsSpot buffer bounds next
 
-pub record IsPacket (buffer : Buffer) (bounds : Bounds) (spot next : Spot) (len : ℕ) : Type 0 where
+pub record IsPacket (buffer : Buffer) (bounds : Bounds) (spot next : Spot) (first : Piece) (len : ℕ) : Type 0 where
+  pub begins : IsPieceAt buffer bounds spot first
   pub is : IsLink (rows_of buffer bounds.sequence (cursor_of spot)) (rows_of buffer bounds.sequence (cursor_of next))
       Delivers (cursor_of next)
   pub long : length (link_bytes is.link) ≡ len
@@ -99,4 +101,4 @@ pub record IsPacket (buffer : Buffer) (bounds : Bounds) (spot next : Spot) (len 
 abbrev pub Finds : Buffer → Bounds → Spot → Found → Type 0
 Finds buffer bounds spot (found.Ends why) = EndsAt (rows_of buffer bounds.sequence (cursor_of spot)) why
 Finds buffer bounds spot (found.Passes passed next) = IsPassedLink buffer bounds spot next passed
-Finds buffer bounds spot (found.Delivers len next) = IsPacket buffer bounds spot next len
+Finds buffer bounds spot (found.Delivers first len next) = IsPacket buffer bounds spot next first len

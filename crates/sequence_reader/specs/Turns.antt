@@ -6,8 +6,12 @@ use Rattle.trace_model.specs.Reads.{Delivery, delivered_by, with_read, read_end,
 use Rattle.trace_model.specs.Record.{record_of}
 use Rattle.trace_model.specs.Row.{Link, Joined, Chain, Whole, bytes_of}
 use Rattle.trace_model.specs.Sequences.{sequence_in}
+use Rattle.trace_buffer.specs.Answers.{turn_value}
+use Rattle.trace_buffer.specs.Calls.{with_advance}
 use Rattle.sequence_reader.specs.declared.ends.Why.{Why}
 use Rattle.sequence_reader.specs.declared.read.Progress.{Progress}
+use Rattle.sequence_reader.specs.declared.read.Put.{Put}
+use Rattle.sequence_reader.specs.declared.read.Put.TheVariants as put
 use Rattle.sequence_reader.specs.declared.read.Turned.{Turned}
 use Rattle.sequence_reader.specs.declared.read.Turned.TheVariants.{On, Ended, Failed}
 use Rattle.sequence_reader.specs.declared.spot.Bounds.{Bounds}
@@ -80,3 +84,18 @@ abbrev pub CountsTurn : (old new : ℕ) → Turned → Type 0
 CountsTurn old new (On next) = new ≡ old
 CountsTurn old new (Ended why) = new ≡ old
 CountsTurn old new Failed = (old ≤ new) × Faulted old new
+
+-- the same before the buffer is told what was passed
+
+abbrev pub Puts : Buffer → (before after : Intake) → Bounds → ℕ → Progress → Put → Type 0
+Puts buffer before after bounds limit progress (put.Passed passed next) =
+    GoesOn buffer (with_advance buffer bounds.sequence (cursor_of next.at) (turn_value passed)) before after bounds limit progress next
+Puts buffer before after bounds limit progress (put.Ended why) =
+    IsDone buffer buffer before after bounds.sequence (limit - progress.delivered) why
+Puts buffer before after bounds limit progress put.Failed =
+    Fails buffer buffer before after bounds.sequence (limit - progress.delivered)
+
+abbrev pub CountsPut : (old new : ℕ) → Put → Type 0
+CountsPut old new (put.Passed passed next) = new ≡ old
+CountsPut old new (put.Ended why) = new ≡ old
+CountsPut old new put.Failed = (old ≤ new) × Faulted old new

@@ -2,27 +2,29 @@
 ghost use Rattle.std.specs.Prelude.{◌≡◌, ◌≤◌, ◌^◌, OnOk, OnErr};
 ghost use Rattle.byte_io.specs.Bytes.{after_told, CountsFaults, TakesPart};
 ghost use Rattle.trace_model.specs.Record.{record_of};
-ghost use Rattle.sequence_reader.specs.Spots.{AreBounds, IsSpot, rows_of, cursor_of};
+ghost use Rattle.sequence_reader.specs.Spots.{AreBounds, rows_of, cursor_of};
+ghost use Rattle.sequence_reader.specs.Steps.{IsPieceAt};
 ghost use Rattle.sequence_reader.specs.Turns.{first_bytes, IsWholeAt};
 
 use crate::spot::{Bounds, Spot};
-use crate::step::{Step, look_at};
+use crate::step::{Piece, Step, look_at};
 use byte_io::put::WriteFault;
 use byte_io::traits::Sink;
 use trace_buffer::TraceBuffer;
 use trace_file::RecordWriter;
 
-/// Writes the record of the packet that begins at a spot.
+/// Writes the record of the packet that begins at a spot, with this fragment.
 pub fn put_packet_at<O: Sink>(
     buffer: &TraceBuffer,
     bounds: Bounds,
     spot: Spot,
+    first: Piece<'_>,
     len: u64,
     marked: bool,
     out: &mut O,
 ) -> Result<(), WriteFault>
     requires bounds { AreBounds buffer.now bounds }
-    requires spot { IsSpot buffer.now bounds spot }
+    requires first { IsPieceAt buffer.now bounds spot first }
     requires packet { IsWholeAt (rows_of buffer.now bounds.sequence (cursor_of spot)) len }
     requires few { len ≤ 2 ^ 59 }
     ensures all { OnOk result (O.taken out.new ≡ after_told (O.taken out.old)
@@ -32,7 +34,7 @@ pub fn put_packet_at<O: Sink>(
     ensures count { CountsFaults (O.faults out.old) (O.faults out.new) result }
 {
     let mut writer = RecordWriter::start_long(out, len, bounds.sequence, marked)?;
-    put_pieces(buffer, bounds, spot, &mut writer, out)?;
+    put_pieces(buffer, bounds, spot, first, &mut writer, out)?;
     writer.end(out)
 }
 
@@ -41,26 +43,27 @@ fn put_pieces<O: Sink>(
     buffer: &TraceBuffer,
     bounds: Bounds,
     spot: Spot,
+    first: Piece<'_>,
     writer: &mut RecordWriter,
     out: &mut O,
 ) -> Result<(), WriteFault>
     requires bounds { AreBounds buffer.now bounds }
-    requires spot { IsSpot buffer.now bounds spot }
+    requires first { IsPieceAt buffer.now bounds spot first }
     requires packet { IsWholeAt (rows_of buffer.now bounds.sequence (cursor_of spot)) writer.old.left }
     ensures ended { OnOk result (writer.new ≡ record writer.old { left = 0 }) }
     ensures all { OnOk result (O.taken out.new ≡ after_told (O.taken out.old) (first_bytes (rows_of buffer.now bounds.sequence (cursor_of spot)))) }
     ensures part { OnErr result (TakesPart (O.taken out.old) (O.taken out.new) (first_bytes (rows_of buffer.now bounds.sequence (cursor_of spot)))) }
     ensures count { CountsFaults (O.faults out.old) (O.faults out.new) result }
 {
-    let mut at = spot;
+    let mut piece = first;
     loop {
-        let Step::Fragment { piece } = look_at(buffer, bounds, at) else {
-            unreachable!()
-        };
         writer.part(out, piece.bytes)?;
         if !piece.runs_on {
             return Ok(());
         }
-        at = piece.behind;
+        let Step::Fragment { piece: next } = look_at(buffer, bounds, piece.behind) else {
+            unreachable!()
+        };
+        piece = next;
     }
 }

@@ -43,22 +43,31 @@ pub struct Chain {
 
 /// What a read does next.
 #[derive(Clone, Copy, Debug, PartialEq, Eq)]
-pub enum Found {
-    Ends { why: Why },
+pub enum Found<'a> {
+    Ends {
+        why: Why,
+    },
     /// It passes something that isn't delivered.
-    Passes { passed: Passed, next: Spot },
+    Passes {
+        passed: Passed,
+        next: Spot,
+    },
     /// It delivers a packet of so many bytes, or ends at its limit.
-    Delivers { len: u64, next: Spot },
+    Delivers {
+        first: Piece<'a>,
+        len: u64,
+        next: Spot,
+    },
 }
 
 /// What a read does at a spot.
-pub fn next_link(buffer: &TraceBuffer, bounds: Bounds, spot: Spot) -> Found
+pub fn next_link(buffer: &TraceBuffer, bounds: Bounds, spot: Spot) -> Found<'_>
     requires bounds { AreBounds buffer.now bounds }
     requires spot { IsSpot buffer.now bounds spot }
     ensures finds { Finds buffer.now bounds spot result }
 {
     match look_at(buffer, bounds, spot) {
-        Step::Fragment { piece } => found_of(follow(buffer, bounds, spot, piece)),
+        Step::Fragment { piece } => found_of(follow(buffer, bounds, spot, piece), piece),
         Step::Gap { lost: _ } => Found::Passes {
             passed: Passed::Nothing,
             next: Spot::at_start(spot.chunk_id + 1),
@@ -166,15 +175,17 @@ fn ended(chain: Chain, fate: Fate) -> Chain
     }
 }
 
-/// What a read does at a chain.
-fn found_of(chain: Chain) -> Found
+/// What a read does at a chain, which begins with this fragment.
+fn found_of(chain: Chain, first: Piece<'_>) -> Found<'_>
     requires { chain.goes_on ≡ false }
-    ensures { (buffer : Buffer) (bounds : Bounds) → IsWalked buffer bounds chain → Finds buffer bounds chain.at result }
+    ensures { (buffer : Buffer) (bounds : Bounds) → IsWalked buffer bounds chain → IsPieceAt buffer bounds chain.at first.entry
+        → Finds buffer bounds chain.at result }
 {
     let next = chain.next;
     match chain.fate {
         Fate::Open { why } => Found::Ends { why },
         Fate::Whole if !chain.headless && !chain.awaits => Found::Delivers {
+            first,
             len: chain.len,
             next,
         },

@@ -4,9 +4,8 @@ ghost use Rattle.byte_io.specs.Bytes.{after_told, CountsFaults};
 ghost use Rattle.trace_model.specs.Reads.{delivered_by, with_read, read_end};
 ghost use Rattle.trace_model.specs.Sequences.{is_known};
 ghost use Rattle.sequence_reader.specs.Ends.{record_bytes, row_met, why_told, end_told, EndsInRecord, EndsInRecordAt};
-ghost use Rattle.sequence_reader.specs.Links.{IsPacket};
 ghost use Rattle.sequence_reader.specs.Spots.{AreBounds};
-ghost use Rattle.sequence_reader.specs.Turns.{IsAt, Turns, CountsTurn};
+ghost use Rattle.sequence_reader.specs.Turns.{IsAt, Turns, CountsTurn, Puts, CountsPut};
 
 use crate::deliver::put_packet_at;
 use crate::ends::{ReadCount, ReadEnd, Why};
@@ -29,6 +28,14 @@ struct Progress {
 #[derive(Clone, Copy, Debug, PartialEq, Eq)]
 enum Turned {
     On { progress: Progress },
+    Ended { why: Why },
+    Failed,
+}
+
+/// What became of it, before the buffer learns of it.
+#[derive(Clone, Copy, Debug, PartialEq, Eq)]
+enum Put {
+    Passed { passed: Passed, progress: Progress },
     Ended { why: Why },
     Failed,
 }
@@ -130,54 +137,65 @@ fn pass_link<O: Sink>(
     ensures turns { Turns buffer.old buffer.new (O.taken out.old) (O.taken out.new) bounds limit progress result }
     ensures count { CountsTurn (O.faults out.old) (O.faults out.new) result }
 {
-    match next_link(buffer, bounds, progress.at) {
-        Found::Ends { why } => Turned::Ended { why },
-        Found::Passes { passed, next } => {
-            buffer.advance(bounds.sequence, next.cursor(), passed);
-            Turned::On {
-                progress: Progress {
-                    at: next,
-                    marked: true,
-                    delivered: progress.delivered,
-                },
-            }
+    match put_next(buffer, bounds, limit, progress, out) {
+        Put::Passed {
+            passed,
+            progress: next,
+        } => {
+            buffer.advance(bounds.sequence, next.at.cursor(), passed);
+            Turned::On { progress: next }
         }
-        Found::Delivers { len, next } => {
-            if progress.delivered == limit {
-                return Turned::Ended { why: Why::Limit };
-            }
-            deliver(buffer, bounds, limit, progress, len, next, out)
-        }
+        Put::Ended { why } => Turned::Ended { why },
+        Put::Failed => Turned::Failed,
     }
 }
 
-/// Delivers the packet that the read has come to.
-fn deliver<O: Sink>(
-    buffer: &mut TraceBuffer,
+/// Writes the record of the packet that the read has come to, if it is due.
+fn put_next<O: Sink>(
+    buffer: &TraceBuffer,
     bounds: Bounds,
     limit: u64,
     progress: Progress,
-    len: u64,
-    next: Spot,
     out: &mut O,
-) -> Turned
-    requires at { IsAt buffer.old bounds progress }
-    requires less { progress.delivered < limit }
-    requires packet { IsPacket buffer.old bounds progress.at next len }
-    ensures turns { Turns buffer.old buffer.new (O.taken out.old) (O.taken out.new) bounds limit progress result }
-    ensures count { CountsTurn (O.faults out.old) (O.faults out.new) result }
+) -> Put
+    requires at { IsAt buffer.now bounds progress }
+    requires most { progress.delivered ≤ limit }
+    ensures puts { Puts buffer.now (O.taken out.old) (O.taken out.new) bounds limit progress result }
+    ensures count { CountsPut (O.faults out.old) (O.faults out.new) result }
 {
-    match put_packet_at(buffer, bounds, progress.at, len, progress.marked, out) {
-        Ok(()) => {
-            buffer.advance(bounds.sequence, next.cursor(), Passed::Delivered);
-            Turned::On {
-                progress: Progress {
-                    at: next,
-                    marked: false,
-                    delivered: progress.delivered + 1,
+    match next_link(buffer, bounds, progress.at) {
+        Found::Ends { why } => Put::Ended { why },
+        Found::Passes { passed, next } => Put::Passed {
+            passed,
+            progress: Progress {
+                at: next,
+                marked: true,
+                delivered: progress.delivered,
+            },
+        },
+        Found::Delivers { first, len, next } => {
+            if progress.delivered == limit {
+                return Put::Ended { why: Why::Limit };
+            }
+            match put_packet_at(
+                buffer,
+                bounds,
+                progress.at,
+                first,
+                len,
+                progress.marked,
+                out,
+            ) {
+                Ok(()) => Put::Passed {
+                    passed: Passed::Delivered,
+                    progress: Progress {
+                        at: next,
+                        marked: false,
+                        delivered: progress.delivered + 1,
+                    },
                 },
+                Err(WriteFault) => Put::Failed,
             }
         }
-        Err(WriteFault) => Turned::Failed,
     }
 }
