@@ -1,11 +1,13 @@
-//! How fast records are put into a ring and looked up by an index. The input says what is timed, and
-//! how often: `ring N`, `copy N` for N copies of as many bytes, or `index N`. `bench/buffer.py` times
-//! it.
+//! How fast chunks arrive in a buffer, records are put into its ring, and its index answers. The input
+//! says what is timed, and how often: `buffer N`, `ring N`, `copy N` for N copies of as many bytes as
+//! a record has, or `index N`. `bench/buffer.py` times it.
 #![tactic(auto)]
 
+mod arrivals;
 mod entries;
 mod records;
 
+use crate::arrivals::let_arrive;
 use crate::entries::look_up;
 use crate::records::{copy_records, write_records};
 use byte_io::fill::fill_all;
@@ -27,6 +29,7 @@ fn main(rt: HostRuntime) -> io::Result<()> {
         return println!(rt; "no number");
     };
     let answer = match kind {
+        "buffer" => let_arrive(rt.alloc(), count),
         "ring" => write_records(rt.alloc(), count),
         "copy" => copy_records(rt.alloc(), count),
         _ => look_up(rt.alloc(), count),

@@ -12,12 +12,7 @@ use Rattle.chunk_index.proofs.FoundLemmas.{found, found_none, found_first, get_i
 
 pub home_below : (capacity key : ℕ) → home capacity key ≤ 2 * capacity
 unfolding home
-home_below capacity key =
-    let mixed : key * 0x9e3779b97f4a7c15 % 2 ^ 64 < 2 ^ 64 = omega arith in
-    let product : key * 0x9e3779b97f4a7c15 % 2 ^ 64 * (2 * capacity + 1) < (2 * capacity + 1) * 2 ^ 64 = grind arith in
-    let below : key * 0x9e3779b97f4a7c15 % 2 ^ 64 * (2 * capacity + 1) / 2 ^ 64 < 2 * capacity + 1 =
-    div_below _ (2 ^ 64) (2 * capacity + 1) (omega arith) product in
-    omega arith
+home_below capacity key = omega arith
 
 -- where a search didn't end at the key, the key stands nowhere
 pub keyless : (capacity : ℕ) (slots : List (Option Entry)) (key at : ℕ) → IsTable capacity slots → EndsAt slots key (home capacity key) at → has_key key (slot slots at) ≡ false → (other : ℕ) → has_key key (slot slots other) ≡ false

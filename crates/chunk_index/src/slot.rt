@@ -20,16 +20,19 @@ pub fn key_number(sequence: u32, chunk_id: u32) -> u64
     (u64::from(sequence) << 32) + u64::from(chunk_id)
 }
 
-/// The slot from which a key is looked for: a share of the homes as large as the mixed key is of all
-/// words. The factor is 2^64 divided by the golden ratio, which spreads numbers in a row evenly.
+/// The slot from which a key is looked for. Eight keys in a row have their homes in a row, since
+/// chunks come and go in rising order: so most searches look where the one before looked. The first
+/// of them is a share of the homes as large as their mixed number is of all words; the factor is 2^64
+/// divided by the golden ratio, which spreads numbers in a row evenly.
 #[tactic(auto, unfolding(crate::specs::Slots::home))]
 pub fn home_of(key: u64, capacity: u32) -> usize
     ensures value { result ≡ home capacity key }
     ensures below { result ≤ 2 * capacity }
 {
-    let mixed = key.wrapping_mul(0x9e37_79b9_7f4a_7c15);
-    let homes = 2 * u128::from(capacity) + 1;
-    ((u128::from(mixed) * homes) >> 64) as usize
+    let mixed = (key / 8).wrapping_mul(0x9e37_79b9_7f4a_7c15);
+    let last = 2 * u64::from(capacity);
+    let share = ((u128::from(mixed) * u128::from(last + 1)) >> 64) as u64;
+    (share + key % 8).min(last) as usize
 }
 
 /// Whether a search for the key ends at the slot: it is free, or has the key.

@@ -1,0 +1,10 @@
+use Rattle.trace_buffer.proofs.ReadyLemmas.{after_image, open_after_image}
+use Rattle.buffer_speed.proofs.arrivals.keeps.Goals as goal
+
+pub returns-clause-takes : goal.returns-clause-takes
+returns-clause-takes c =
+    after_image c.args.buffer.now c.arrive.new.self 2 c.args.chunk_id 0 _ c.arrive.ensures.after 304 2 c.requires.takes
+
+pub returns-clause-open : goal.returns-clause-open
+returns-clause-open c =
+    open_after_image c.args.buffer.now c.arrive.new.self 2 c.args.chunk_id 0 _ 2 c.arrive.ensures.after c.requires.takes.known c.requires.open
