@@ -1,6 +1,8 @@
 -- What the close of a sequence leaves of the others.
-use Rattle.std.proofs.Common.{◌≡◌, ◌≢◌, ◌∙◌, ℕ, suc, ◌+◌, ◌-◌, ◌<◌, ◌≤◌, ◌⊎◌, Bool, true, false, List, [], ◌∷◌, ◌++◌, length, refl, sym, ap, subst, arith, inl, inr, append_assoc}
-use Rattle.std.specs.Prelude.{cond}
+use Rattle.std.proofs.Common.{◌≡◌, ◌≢◌, ◌∙◌, ℕ, suc, ◌+◌, ◌-◌, ◌<◌, ◌≤◌, ◌⊎◌, Bool, true, false, List, [], ◌∷◌, ◌++◌, length, refl, sym, ap, subst, arith, inl, inr, append_assoc, length-append}
+use Rattle.std.specs.Prelude.{cond, slice_get, Some}
+use Rattle.std.proofs.lemmas.Option.{slice_get-get_or}
+use Rattle.std.proofs.Math.Seq.{get_or-append_seam}
 use Rattle.std.specs.List.{flat_map}
 use Rattle.std.proofs.lemmas.Grind.{flat_map-append}
 use Rattle.std.proofs.lemmas.Bool.{cases_eq}
@@ -12,8 +14,9 @@ use Rattle.trace_model.specs.History as model
 use Rattle.trace_model.specs.History.{buffer_after, buffers_after}
 use Rattle.trace_model.proofs.SequenceLemmas.{changed_here, changed_other}
 use Rattle.chunk_plain.specs.Setup.{Setup, producer_of}
-use Rattle.chunk_plain.specs.Views.{Noted, Closed, ServiceView}
-use Rattle.chunk_plain.specs.Histories.{happened, history_of}
+use Rattle.chunk_plain.specs.Views.{Noted, Closed, Commit, Committed, ServiceView}
+use Rattle.chunk_plain.specs.Steps.{notes_commit}
+use Rattle.chunk_plain.specs.Histories.{commit_of, happened, history_of}
 use Rattle.trace_buffer.specs.declared.answers.BufferSpec.{BufferSpec}
 use Rattle.session_core.specs.Sessions.{SessionValue}
 use Rattle.service_core.specs.declared.service.ServiceCore.{ServiceCore}
@@ -21,7 +24,7 @@ use Rattle.service_core.specs.Routing.{buffer_at, is_closed_at}
 use Rattle.service_core.specs.Agreement.{IsRouted, AreKnownNotes, ServiceAgrees, KeepsFields, first_of, buffer_of, is_closed}
 use Rattle.service_core.specs.Taking.{noted_more}
 use Rattle.service_core.specs.Closing.{ClosesOne, ClosesSome, closes_of}
-use Rattle.service_core.proofs.HistoryLemmas.{Grows, all_known_grow, known_append, history_stays}
+use Rattle.service_core.proofs.HistoryLemmas.{Grows, all_known_grow, known_append, history_stays, get_more}
 use Rattle.service_core.proofs.RouteLemmas.{at_after, buffers_append}
 use Rattle.service_core.proofs.RoutedLemmas.{stands}
 use Rattle.service_core.proofs.AgreeLemmas.{first_stays}
@@ -134,3 +137,42 @@ noted_close between old new places place before one =
     one ∙ ap (λ (v : ServiceView). noted_more v (Closed (place + 2) ∷ [])) before
     ∙ ap (λ (ns : List Noted). record between { events = ns }) (append_assoc between.events (closes_of places) (Closed (place + 2) ∷ []))
     ∙ ap (λ (ns : List Noted). noted_more between ns) (sym (map-append (λ (p : ℕ). Closed (p + 2)) places (place ∷ [])))
+
+-- A commit is noted with what came by it.
+
+committed_grows : (view : ServiceView) (committed : Committed) → Grows view (notes_commit view committed)
+committed_grows view committed =
+    record { contents = λ s i content is. is; looks = λ p i n found is. is; commits = λ k one is. get_more view.commits (committed ∷ []) k one is }
+
+last_commit : (view : ServiceView) (committed : Committed) → slice_get (view.commits ++ committed ∷ []) (length view.commits) ≡ Some committed
+last_commit view committed =
+    let long = length-append view.commits (committed ∷ []) in
+    slice_get-get_or (view.commits ++ committed ∷ []) (length view.commits) committed (omega (arith, long))
+    ∙ ap (λ (c : Committed). Some c) (get_or-append_seam view.commits committed [] committed)
+
+pub agrees_committed : {S : Type 0} → (setup : Setup) (old : ServiceView) (core done : ServiceCore S) (committed : Committed) → ServiceAgrees setup old core → KeepsFields core done
+    → done.buffers.items ≡ buffers_after core.buffers.items (model.Committed committed.image committed.patches ∷ []) → done.taken.items ≡ core.taken.items
+    → ServiceAgrees setup (notes_commit old committed) done
+agrees_committed setup old core done committed agrees keeps buffers_are taken_is =
+    let new : ServiceView = notes_commit old committed in
+    let grows = committed_grows old committed in
+    let first : List Buffer = first_of setup core in
+    let notes : List Noted = Commit (length old.commits) ∷ [] in
+    let event : flat_map (happened new) notes ≡ model.Committed committed.image committed.patches ∷ [] = ap (λ o. commit_of o ++ []) (last_commit old committed) in
+    record {
+      layout = keeps.layout ∙ agrees.layout;
+      writers = keeps.writers ∙ agrees.writers;
+      routed = subst (λ (specs : List BufferSpec). IsRouted setup (length specs)) (sym keeps.specs) agrees.routed;
+      many = agrees.many;
+      taken = taken_is ∙ agrees.taken;
+      buffers = buffers_are
+          ∙ ap (λ (es : List model.Event). buffers_after core.buffers.items es) (sym event)
+          ∙ ap (λ (bs : List Buffer). buffers_after bs (flat_map (happened new) notes)) agrees.buffers
+          ∙ ap (λ (es : List model.Event). buffers_after (buffers_after first es) (flat_map (happened new) notes)) (sym (history_stays old new old.events grows agrees.known))
+          ∙ sym (buffers_append first (flat_map (happened new) old.events) (flat_map (happened new) notes))
+          ∙ ap (buffers_after first) (sym (flat_map-append (happened new) old.events notes))
+          ∙ ap (λ (bs : List Buffer). buffers_after bs (history_of new)) (sym (first_stays setup core done keeps));
+      session = ap (λ (s : SessionValue). s.writers) keeps.session ∙ agrees.session;
+      none_read = agrees.none_read;
+      known = known_append new old.events notes (all_known_grow old new old.events grows agrees.known) ((committed, last_commit old committed), tt);
+    }

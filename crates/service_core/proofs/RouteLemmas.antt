@@ -12,7 +12,7 @@ use Rattle.trace_model.specs.Sequences.{Sequence, fresh, sequence_in, is_known}
 use Rattle.trace_model.specs.Buffers.{Buffer, empty_buffer}
 use Rattle.trace_model.specs.Arrivals.{with_arrival, with_image, once_read}
 use Rattle.trace_model.specs.Patches.{with_patches}
-use Rattle.trace_model.specs.History.{Event, Arrives, Patched, event_sequence, after, buffer_after, state_after, buffers_after}
+use Rattle.trace_model.specs.History.{Event, Arrives, Patched, Committed, event_sequence, after, buffer_after, state_after, buffers_after}
 use Rattle.chunk_plain.specs.Histories as histories
 use Rattle.delivery_laws.proofs.AskLemmas.{known_after}
 use Rattle.service_core.specs.Routing.{buffer_at, IsAt, is_closed_at, arrivals_of}
@@ -123,3 +123,8 @@ image_at bs index size image at = by_reading (reading_of image.count image.paylo
         ≡ buffers_after bs (histories.once_read (λ chunk. Arrives image.sequence image.chunk_id chunk) image.flags reading)
     by_reading (Fragments fragments) = event_at bs index size (Arrives image.sequence image.chunk_id (whole_chunk image.flags fragments)) at
     by_reading (Unreadable number) = set-get_or bs index no_buffer ∙ sym (buffers_none bs)
+
+-- an image leaves which sequences the buffer has
+pub known_image : (b : Buffer) (image : Image) (q : ℕ) → is_known b.sequences image.sequence ≡ true → is_known (with_image b image).sequences q ≡ is_known b.sequences q
+known_image b image q known =
+    ap (λ (x : Bool). is_known (cond x (with_image b image) b).sequences q) (sym known) ∙ known_after b (Committed image []) q

@@ -110,3 +110,11 @@ stands_in core place is inside =
 pub taken_long : {S : Type 0} → (setup : Setup) (view : ServiceView) (core : ServiceCore S) → ServiceAgrees setup view core → length core.taken.items ≡ length core.writers.items
 taken_long setup view core agrees =
     ap (λ (xs : List ℕ). length xs) agrees.taken ∙ length-map view.taken (λ (t : Taken). t.count) ∙ agrees.many ∙ sym (ap (λ (ws : List WriterSpec). length ws) agrees.writers)
+
+-- events that close nothing
+pub closed_by_none : {S : Type 0} → (setup : Setup) (view : ServiceView) (core done : ServiceCore S) (place : ℕ) (events : List model.Event) → ServiceAgrees setup view core
+    → done.buffers.items ≡ buffers_after core.buffers.items events → NoCloses events → place < length setup.writers → is_closed setup done place ≡ is_closed setup core place
+closed_by_none setup view core done place events agrees buffers_are none inside =
+    let index : ℕ = buffer_of setup place - 1 in
+    let at = stands setup view core place agrees inside in
+    ap (λ (xs : List Buffer). is_closed_at xs index (place + 2)) buffers_are ∙ open_after core.buffers.items index (place + 2) events at.inside none

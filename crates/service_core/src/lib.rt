@@ -1,5 +1,5 @@
-//! The service: it takes the chunks that writers completed into its buffers, scrapes those that are
-//! being written, reads the buffers, and asks for flushes.
+//! The service: it takes the chunks that writers completed, and images that come by a commit, into
+//! its buffers, closes producers, and asks for flushes.
 //! A layer above may rely on this: on any table of chunks the buffers are the fold of the history that
 //! the service noted in its seat's view; each call says what it noted, in which order, and what it
 //! left. No call but `make` takes memory.
@@ -7,6 +7,7 @@
 
 mod asking;
 mod closing;
+mod committing;
 mod flushes;
 mod making;
 mod patching;
@@ -14,4 +15,5 @@ mod routing;
 mod service;
 mod taking;
 
+pub use committing::WrongTarget;
 pub use service::ServiceCore;

@@ -49,3 +49,23 @@ pub(crate) fn close_in(buffers: &mut Vec<TraceBuffer>, index: usize, sequence: u
 {
     buffers[index].close_sequence(sequence);
 }
+
+/// An image arrives in the buffer with this index, and then the patches given with it are applied.
+pub(crate) fn commit_in(
+    buffers: &mut Vec<TraceBuffer>,
+    index: usize,
+    image: &Image<'_>,
+    patches: &[Patch],
+) -> Arrived
+    requires at { IsAt buffers.old.items index image.now.sequence (record_size (length image.now.payload.now)) }
+    requires open { is_closed_at buffers.old.items index image.now.sequence ≡ false }
+    requires count { image.now.count ≤ MAX_FRAGMENTS }
+    requires flags { image.now.flags ≤ MAX_FLAGS }
+    ensures outcome { arrived_value result ≡ image_arrival_of (buffer_at buffers.old.items index) (image_value image.now) }
+    ensures after { buffers.new.items ≡ buffers_after buffers.old.items (model.Committed (image_value image.now) (map patch_value patches.now) ∷ []) }
+{
+    let buffer = &mut buffers[index];
+    let arrived = buffer.arrive(image);
+    patch_all(buffer, image.sequence, patches);
+    arrived
+}

@@ -1,0 +1,61 @@
+use Rattle.std.proofs.Common.{◌≡◌, ◌+◌, ◌-◌, ◌∙◌, ◌<◌, ℕ, List, [], ◌∷◌, length, map, subst, sym, refl, ap, arith}
+use Rattle.std.proofs.lemmas.List.{get_or_read}
+use Rattle.trace_base.specs.declared.policy.WriterSpec.{WriterSpec}
+use Rattle.page_geometry.specs.Sizes.{record_size}
+use Rattle.trace_model.specs.History as model
+use Rattle.chunk_image.specs.Values.{image_value}
+use Rattle.commit_body.specs.Patches.{patch_value}
+use Rattle.chunk_plain.specs.Setup.{size_of, producer_of}
+use Rattle.chunk_plain.specs.Steps.{notes_commit}
+use Rattle.chunk_plain.specs.Views.{Committed, ServiceView}
+use Rattle.service_core.specs.Routing.{IsAt}
+use Rattle.service_core.specs.Agreement.{ServiceAgrees, spec_at, no_writer}
+use Rattle.service_core.proofs.RoutedLemmas.{stands, closed_by_none}
+use Rattle.service_core.proofs.CloseLemmas.{agrees_committed}
+use Rattle.service_core.proofs.service.ServiceCore.commit.Goals as goal
+
+pub commit_in-arrived-requires-clause-at : goal.commit_in-arrived-requires-clause-at
+commit_in-arrived-requires-clause-at g c =
+    let setup = g.W.Words.means.setup c.args.table.now in
+    let view = g.W.Words.means.service_view c.args.table.now c.args.self.now.seat in
+    let core = c.args.self.now in
+    let sequence = c.args.image.now.sequence in
+    let place = sequence - 2 in
+    let least = c.requires.least in
+    let most = c.requires.most in
+    let inside : place < length setup.writers = omega (arith, least, most) in
+    let inside_items = subst (λ (ws : List WriterSpec). place < length ws) (sym c.requires.agrees.writers) inside in
+    let read = get_or_read core.writers.items place c.index.result.now inside_items c.index.ensures no_writer ∙ ap (λ (ws : List WriterSpec). spec_at ws place) c.requires.agrees.writers in
+    let number : (spec_at setup.writers place).buffer ≡ c.from.result = sym (ap (λ (w : WriterSpec). w.buffer) read) ∙ c.if-buffer-target.false ∙ sym c.from.ensures in
+    let back : place + 2 ≡ sequence = omega (arith, least) in
+    let stood = stands setup view core place c.requires.agrees inside in
+    let sized = subst (λ (n : ℕ). IsAt core.buffers.items ((spec_at setup.writers place).buffer - 1) (place + 2) (record_size n)) (sym c.requires.size) stood in
+    let named = subst (λ (q : ℕ). IsAt core.buffers.items ((spec_at setup.writers place).buffer - 1) q (record_size (length c.args.image.now.payload.now))) back sized in
+    subst (λ (n : ℕ). IsAt core.buffers.items (n - 1) sequence (record_size (length c.args.image.now.payload.now))) number named
+
+pub returns-clause-agrees : goal.returns-clause-agrees
+returns-clause-agrees g c =
+    let setup = g.W.Words.means.setup c.args.table.now in
+    let view = g.W.Words.means.service_view c.args.table.now c.args.self.now.seat in
+    let core = c.args.self.now in
+    let done = record core { seat = c.note_commit.new.seat; buffers = c.commit_in-arrived.new.buffers } in
+    let image = image_value c.args.image.now in
+    let patches = map patch_value c.args.patches.now in
+    let one : Committed = record { image = image; patches = patches } in
+    let least = c.requires.least in
+    let back : c.args.image.now.sequence - 2 + 1 + 1 ≡ c.args.image.now.sequence = omega (arith, least) in
+    let noted = c.note_commit.ensures.view ∙ ap (λ (q : ℕ). notes_commit view (record { image = record image { sequence = q }; patches = patches })) back in
+    subst (λ (v : ServiceView). ServiceAgrees setup v done) (sym noted)
+    (agrees_committed setup view core done one c.requires.agrees (record { layout = refl; specs = refl; writers = refl; session = refl }) c.commit_in-arrived.ensures.after refl)
+
+pub returns-clause-keeps : goal.returns-clause-keeps
+returns-clause-keeps g c =
+    let setup = g.W.Words.means.setup c.args.table.now in
+    let view = g.W.Words.means.service_view c.args.table.now c.args.self.now.seat in
+    let core = c.args.self.now in
+    let done = record core { seat = c.note_commit.new.seat; buffers = c.commit_in-arrived.new.buffers } in
+    let event = model.Committed (image_value c.args.image.now) (map patch_value c.args.patches.now) in
+    record {
+      fields = record { layout = refl; specs = refl; writers = refl; session = refl };
+      closed = λ place inside. closed_by_none setup view core done place (event ∷ []) c.requires.agrees c.commit_in-arrived.ensures.after (refl, tt) inside;
+    }
