@@ -4,8 +4,8 @@
     bench/reader.py            builds crates/reader_speed where that is needed, and times it
 
 A buffer of 64 MB is filled with packets of 30 bytes, 120 to a chunk, or of 100 KB, each over 25 chunks, and read; then it
-is filled again. The sink is memory that is taken anew for each read, and so is that of the plain copies beside it. The
-best of five runs counts, by processor time, so that other work on the machine matters little; the time of filling alone
+is filled again. The sink is memory of 64 MB that is written over, and so is that of the plain copies beside it. The best
+of five runs counts, by processor time, so that other work on the machine matters little; the time of filling alone
 is taken off.
 """
 import os

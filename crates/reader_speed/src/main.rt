@@ -5,6 +5,7 @@
 #![tactic(auto)]
 
 mod rounds;
+mod window;
 
 use crate::rounds::{Kind, copy_rounds, read_rounds};
 use byte_io::fill::fill_all;

@@ -1,5 +1,5 @@
 //! A buffer that is filled and read, round by round.
-use byte_io::memory::MemSink;
+use crate::window::Window;
 use byte_io::put::put_all;
 use chunk_image::Image;
 use ring_bytes::{MAX_RING_SIZE, size_of_record};
@@ -21,8 +21,8 @@ const SHORT_COUNT: u16 = 120;
 
 const LONG_CHUNKS: u32 = 25;
 
-/// More than the records of a round take.
-const ROOM: usize = 70_000_000;
+/// As many as the records of a round take, or so.
+const ROOM: usize = 64_000_000;
 
 #[derive(Clone, Copy, Debug, PartialEq, Eq)]
 pub enum Kind {
@@ -110,6 +110,9 @@ pub fn read_rounds(alloc: Global, rounds: u32, kind: Kind, reads: bool) -> Optio
     let Ok(mut buffer) = TraceBuffer::make(alloc, spec, &sequences) else {
         return None;
     };
+    let Ok(mut window) = Window::make(alloc, ROOM) else {
+        return None;
+    };
     let payload = match kind {
         Kind::Short => short_payload(),
         Kind::Long => long_payload(),
@@ -120,21 +123,18 @@ pub fn read_rounds(alloc: Global, rounds: u32, kind: Kind, reads: bool) -> Optio
             return None;
         }
         if reads {
-            count = count.saturating_add(read(alloc, &mut buffer)?);
+            count = count.saturating_add(read(&mut buffer, &mut window)?);
         }
     }
     Some(count)
 }
 
 /// How many packets the buffer had.
-fn read(alloc: Global, buffer: &mut TraceBuffer) -> Option<u64> {
-    let Ok(mut sink) = MemSink::with_room(alloc, ROOM) else {
-        return None;
-    };
+fn read(buffer: &mut TraceBuffer, window: &mut Window) -> Option<u64> {
     if !buffer.knows(SEQUENCE) {
         return None;
     }
-    match read_sequence(buffer, SEQUENCE, u64::MAX, &mut sink) {
+    match read_sequence(buffer, SEQUENCE, u64::MAX, window) {
         Ok(end) => Some(end.delivered),
         Err(_) => None,
     }
@@ -142,21 +142,21 @@ fn read(alloc: Global, buffer: &mut TraceBuffer) -> Option<u64> {
 
 /// The same of plain copies.
 pub fn copy_rounds(alloc: Global, rounds: u32) -> Option<u64> {
+    let Ok(mut window) = Window::make(alloc, ROOM) else {
+        return None;
+    };
     let payload = long_payload();
     let mut count: u64 = 0;
     for _ in 0..rounds {
-        count = count.saturating_add(copy(alloc, &payload)?);
+        count = count.saturating_add(copy(&mut window, &payload)?);
     }
     Some(count)
 }
 
 /// How many payloads were copied.
-fn copy(alloc: Global, payload: &[u8; PAYLOAD]) -> Option<u64> {
-    let Ok(mut sink) = MemSink::with_room(alloc, ROOM) else {
-        return None;
-    };
+fn copy(window: &mut Window, payload: &[u8; PAYLOAD]) -> Option<u64> {
     for _ in 0..CHUNKS {
-        if put_all(&mut sink, payload).is_err() {
+        if put_all(window, payload).is_err() {
             return None;
         }
     }

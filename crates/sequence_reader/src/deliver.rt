@@ -51,8 +51,10 @@ fn put_pieces<O: Sink>(
     requires first { IsPieceAt buffer.now bounds spot first }
     requires packet { IsWholeAt (rows_of buffer.now bounds.sequence (cursor_of spot)) writer.old.left }
     ensures ended { OnOk result (writer.new ≡ record writer.old { left = 0 }) }
-    ensures all { OnOk result (O.taken out.new ≡ after_told (O.taken out.old) (first_bytes (rows_of buffer.now bounds.sequence (cursor_of spot)))) }
-    ensures part { OnErr result (TakesPart (O.taken out.old) (O.taken out.new) (first_bytes (rows_of buffer.now bounds.sequence (cursor_of spot)))) }
+    ensures all { OnOk result (O.taken out.new
+        ≡ after_told (O.taken out.old) (first_bytes (rows_of buffer.now bounds.sequence (cursor_of spot)))) }
+    ensures part { OnErr result (TakesPart (O.taken out.old) (O.taken out.new)
+        (first_bytes (rows_of buffer.now bounds.sequence (cursor_of spot)))) }
     ensures count { CountsFaults (O.faults out.old) (O.faults out.new) result }
 {
     let mut piece = first;

@@ -49,7 +49,8 @@ pub fn read_sequence<O: Sink>(
     out: &mut O,
 ) -> Result<ReadEnd, WriteFault>
     requires { is_known buffer.old.sequences sequence ≡ true }
-    ensures records { OnOk result (O.taken out.new ≡ after_told (O.taken out.old) (record_bytes sequence (delivered_by buffer.old sequence limit))) }
+    ensures records { OnOk result (O.taken out.new
+        ≡ after_told (O.taken out.old) (record_bytes sequence (delivered_by buffer.old sequence limit))) }
     ensures after { OnOk result (buffer.new ≡ with_read buffer.old sequence limit) }
     ensures end { IfOk result (λ end. end ≡ end_told buffer.old sequence limit) }
     ensures part { OnErr result (EndsInRecord buffer.old buffer.new (O.taken out.old) (O.taken out.new) sequence limit) }
@@ -70,11 +71,13 @@ pub fn read_counted<O: Sink>(
     out: &mut O,
 ) -> ReadCount
     requires { is_known buffer.old.sequences sequence ≡ true }
-    ensures records { OnOk result.end (O.taken out.new ≡ after_told (O.taken out.old) (record_bytes sequence (delivered_by buffer.old sequence limit))) }
+    ensures records { OnOk result.end (O.taken out.new
+        ≡ after_told (O.taken out.old) (record_bytes sequence (delivered_by buffer.old sequence limit))) }
     ensures after { OnOk result.end (buffer.new ≡ with_read buffer.old sequence limit) }
     ensures whole { OnOk result.end (result.delivered ≡ length (delivered_by buffer.old sequence limit)) }
     ensures why { IfOk result.end (λ why. why ≡ why_told (read_end limit (row_met buffer.old sequence))) }
-    ensures part { OnErr result.end (EndsInRecordAt buffer.old buffer.new (O.taken out.old) (O.taken out.new) sequence limit result.delivered) }
+    ensures part { OnErr result.end
+        (EndsInRecordAt buffer.old buffer.new (O.taken out.old) (O.taken out.new) sequence limit result.delivered) }
     ensures count { CountsFaults (O.faults out.old) (O.faults out.new) result.end }
 {
     let bounds = bounds_of(buffer, sequence);

@@ -1,4 +1,4 @@
-use Rattle.std.proofs.Common.{◌≡◌, ◌+◌, ◌-◌, ◌<◌, ◌≤◌, true, false, not, List, [], length, refl, sym, ap, ◌∙◌, subst, arith}
+use Rattle.std.proofs.Common.{◌+◌, ◌-◌, true, false, not, refl, ap, subst, arith}
 use Rattle.byte_io.specs.Bytes.{TakesPart}
 use Rattle.trace_model.specs.Reads.{Delivers, delivers, is_marked, link_bytes}
 use Rattle.trace_model.specs.Record.{record_of}
