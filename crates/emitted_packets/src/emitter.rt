@@ -85,7 +85,8 @@ impl Emitter {
     #[tactic(auto, using(crate::proofs::EmitLemmas::number_on))]
     pub fn number(&mut self, field: u32, value: u64) -> Result<(), AllocError>
         requires field { (1 ≤ field) × (field ≤ MAX_FIELD) }
-        ensures { OnOk result ((account : Account) → IsEmitting account self.old.bytes.items self.old.ends.items self.old.opens.items → is_writing account.packets ≡ true
+        ensures { OnOk result ((account : Account)
+            → IsEmitting account self.old.bytes.items self.old.ends.items self.old.opens.items → is_writing account.packets ≡ true
             → IsEmitting (noted account (calls.Number field value)) self.new.bytes.items self.new.ends.items self.new.opens.items) }
     {
         self.bytes
@@ -97,8 +98,10 @@ impl Emitter {
     pub fn bytes(&mut self, field: u32, text: &[u8], times: u32) -> Result<(), AllocError>
         requires field { (1 ≤ field) × (field ≤ MAX_FIELD) }
         requires most { times * length text.now ≤ MAX_PACKET_LEN }
-        ensures { OnOk result ((account : Account) → IsEmitting account self.old.bytes.items self.old.ends.items self.old.opens.items → is_writing account.packets ≡ true
-            → IsEmitting (noted account (calls.Bytes field text.now times)) self.new.bytes.items self.new.ends.items self.new.opens.items) }
+        ensures { OnOk result ((account : Account)
+            → IsEmitting account self.old.bytes.items self.old.ends.items self.old.opens.items → is_writing account.packets ≡ true
+            → IsEmitting (noted account
+            (calls.Bytes field text.now times)) self.new.bytes.items self.new.ends.items self.new.opens.items) }
     {
         push_field(&mut self.bytes, field, text, times)
     }
@@ -109,7 +112,8 @@ impl Emitter {
         requires field { (1 ≤ field) × (field ≤ MAX_FIELD) }
         requires short { length self.old.bytes.items ≤ 2 ^ 28 }
         requires room { length self.old.opens.items < MAX_OPEN_HOLES }
-        ensures { OnOk result ((account : Account) → IsEmitting account self.old.bytes.items self.old.ends.items self.old.opens.items → is_writing account.packets ≡ true
+        ensures { OnOk result ((account : Account)
+            → IsEmitting account self.old.bytes.items self.old.ends.items self.old.opens.items → is_writing account.packets ≡ true
             → IsEmitting (noted account (calls.Nested field)) self.new.bytes.items self.new.ends.items self.new.opens.items) }
     {
         let place = push_nested(&mut self.bytes, field)?;
@@ -123,7 +127,8 @@ impl Emitter {
         requires short { length self.old.bytes.items ≤ 2 ^ 28 }
         requires nested { self.old.opens.items ≢ [] }
         requires writing { (account : Account) × IsEmitting account self.old.bytes.items self.old.ends.items self.old.opens.items × (is_writing account.packets ≡ true) }
-        ensures { (account : Account) → IsEmitting account self.old.bytes.items self.old.ends.items self.old.opens.items → is_writing account.packets ≡ true
+        ensures { (account : Account) → IsEmitting account self.old.bytes.items self.old.ends.items self.old.opens.items
+            → is_writing account.packets ≡ true
             → IsEmitting (noted account calls.Ended) self.new.bytes.items self.new.ends.items self.new.opens.items }
     {
         if let Some(offset) = self.opens.pop() {
@@ -137,8 +142,10 @@ impl Emitter {
     #[tactic(auto, using(crate::proofs::EmitLemmas::finished_on))]
     pub fn finished(&mut self) -> Result<(), AllocError>
         requires { length self.old.bytes.items ≤ 2 ^ 28 }
-        ensures { OnOk result ((account : Account) → IsEmitting account self.old.bytes.items self.old.ends.items self.old.opens.items → is_writing account.packets ≡ true
-            → open_count account.packets ≡ 1 → IsEmitting (noted account calls.Finished) self.new.bytes.items self.new.ends.items self.new.opens.items) }
+        ensures { OnOk result ((account : Account)
+            → IsEmitting account self.old.bytes.items self.old.ends.items self.old.opens.items → is_writing account.packets ≡ true
+            → open_count account.packets ≡ 1
+            → IsEmitting (noted account calls.Finished) self.new.bytes.items self.new.ends.items self.new.opens.items) }
     {
         let end = self.bytes.len() as u32;
         match self.ends.push(end) {
