@@ -43,10 +43,14 @@ pub(crate) fn next_place(
     requires fits { place + len ≤ length emitted.now }
     requires long { len < length borders.now }
     requires known { BordersBelow (run_at emitted.now place) borders.now (len + 1) }
-    ensures none { IfNone result ((k : ℕ) → place ≤ k → StandsAt (length emitted.now) (packet_at emitted.now) (with_next emitted.now place len packet.now) (len + 1) k → ⊥) }
+    ensures none { IfNone result ((k : ℕ) → place ≤ k
+        → StandsAt (length emitted.now) (packet_at emitted.now) (with_next emitted.now place len packet.now) (len + 1) k → ⊥) }
     ensures onward { IfSome result (λ at. place ≤ at) }
-    ensures stands { IfSome result (λ at. StandsAt (length emitted.now) (packet_at emitted.now) (with_next emitted.now place len packet.now) (len + 1) at) }
-    ensures first { IfSome result (λ at. Nowhere (StandsAt (length emitted.now) (packet_at emitted.now) (with_next emitted.now place len packet.now) (len + 1)) place at) }
+    ensures stands { IfSome result
+        (λ at. StandsAt (length emitted.now) (packet_at emitted.now) (with_next emitted.now place len packet.now) (len + 1) at) }
+    ensures first { IfSome result
+        (λ at. Nowhere (StandsAt (length emitted.now) (packet_at emitted.now) (with_next emitted.now place len packet.now)
+        (len + 1)) place at) }
 {
     let count = emitted.len();
     let mut at = place;

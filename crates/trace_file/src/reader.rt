@@ -143,7 +143,8 @@ fn record_content(number: u64, value: Value<'_>) -> Option<&[u8]>
 fn first_packet(bytes: &[u8], from: usize) -> Result<Option<Packet<'_>>, TraceFault>
     requires { from ≤ length bytes.now }
     ensures packet { IfOk result (λ found. IfSome found (λ packet. IsNext from (drop from bytes.now) (packet_of packet))) }
-    ensures onward { IfOk result (λ found. IfSome found (λ packet. from + length packet.content.now + 2 ≤ packet.at + length packet.bytes.now)) }
+    ensures onward { IfOk result (λ found. IfSome found
+        (λ packet. from + length packet.content.now + 2 ≤ packet.at + length packet.bytes.now)) }
     ensures within { IfOk result (λ found. IfSome found (λ packet. packet.at + length packet.bytes.now ≤ length bytes.now)) }
     ensures spells { IfOk result (λ found. IfSome found (λ packet. Spells (record_field packet.content.now) packet.bytes.now)) }
     ensures none { IfOk result (λ found. IfNone found (EndsBehind from (drop from bytes.now) None)) }
@@ -212,7 +213,8 @@ impl<'a> TraceReader<'a> {
         // What was left reads as the packet, and then as what is left now.
         ensures packet { IfOk result (λ found. IfSome found (λ packet. (packets : List TracePacket) (ending : Option TraceFault)
             → StillReads self.new packets ending → StillReads self.old (packet_of packet ∷ packets) ending)) }
-        ensures shorter { IfOk result (λ found. IfSome found (λ packet. length self.new.rest + length packet.content.now + 2 ≤ length self.old.rest)) }
+        ensures shorter { IfOk result (λ found. IfSome found
+            (λ packet. length self.new.rest + length packet.content.now + 2 ≤ length self.old.rest)) }
         ensures spells { IfOk result (λ found. IfSome found (λ packet. Spells (record_field packet.content.now) packet.bytes.now)) }
 
         // None comes where the trace ends, and nothing changes.

@@ -1,0 +1,181 @@
+//! One writer's packets, call by call.
+ghost use Rattle.std.specs.Prelude.{◌≡◌, ◌≤◌, ◌<◌, ◌+◌, ◌*◌, ◌^◌, ◌++◌, ◌∷◌, List, length, true, false, IfOk, OnOk};
+ghost use Rattle.std.specs.List.{repeat};
+ghost use Rattle.trace_model.specs.Encoding.{bytes_field, nested_tag};
+ghost use Rattle.trace_model.specs.Packets.{open_length};
+ghost use Rattle.trace_model.specs.Images.{with_bytes};
+
+use arrayvec::ArrayVec;
+use packet_runs::Packets;
+use proto_stream::{head_bytes, head_nested, head_number};
+use std::alloc::{AllocError, Global};
+use trace_base::limits::{MAX_FIELD, MAX_OPEN_HOLES, MAX_PACKET_LEN};
+use wire_varint::put_redundant;
+
+/// The packets that a writer has finished, and what it has written of the one that it writes.
+#[derive(Drop)]
+pub struct Emitter {
+    pub bytes: Vec<u8>,
+    pub ends: Vec<u32>,
+    pub opens: ArrayVec<u32, MAX_OPEN_HOLES>,
+}
+
+/// Puts four bytes into others at a place.
+fn set_four(bytes: &mut [u8], at: usize, four: [u8; 4])
+    requires { at + 4 ≤ length bytes.old }
+    ensures { bytes.new ≡ with_bytes bytes.old at four }
+{
+    bytes[at..at + 4].copy_from_slice(&four);
+}
+
+/// Appends a text so many times over.
+fn push_times(bytes: &mut Vec<u8>, text: &[u8], times: u32) -> Result<(), AllocError>
+    ensures { OnOk result (bytes.new.items ≡ bytes.old.items ++ repeat times text.now) }
+{
+    for _turn in 0..times {
+        bytes.extend_from_slice(text)?;
+    }
+    Ok(())
+}
+
+/// Appends the field of a text, whole.
+fn push_field(bytes: &mut Vec<u8>, field: u32, text: &[u8], times: u32) -> Result<(), AllocError>
+    requires field { (1 ≤ field) × (field ≤ MAX_FIELD) }
+    requires most { times * length text.now ≤ MAX_PACKET_LEN }
+    ensures { OnOk result (bytes.new.items ≡ bytes.old.items ++ bytes_field field text.now times) }
+{
+    let len = (times as usize * text.len()) as u32;
+    bytes.extend_from_slice(head_bytes(field, len).as_slice())?;
+    push_times(bytes, text, times)
+}
+
+/// Appends the tag of a nested message and its open length, and answers the length's place.
+fn push_nested(bytes: &mut Vec<u8>, field: u32) -> Result<u32, AllocError>
+    requires field { (1 ≤ field) × (field ≤ MAX_FIELD) }
+    requires short { length bytes.old.items ≤ 2 ^ 28 }
+    ensures bytes { OnOk result (bytes.new.items ≡ bytes.old.items ++ (nested_tag field ++ open_length)) }
+    ensures place { IfOk result (λ place. place ≡ length bytes.old.items + length (nested_tag field)) }
+{
+    bytes.extend_from_slice(head_nested(field).as_slice())?;
+    let place = bytes.len() as u32;
+    bytes.extend_from_slice(&[0x80, 0x80, 0x80, 0x00])?;
+    Ok(place)
+}
+
+impl Emitter {
+    ghost use Rattle.std.specs.Prelude.{◌≡◌, ◌≢◌, ◌≤◌, ◌<◌, ◌+◌, ◌*◌, ◌^◌, [], List, length, true, false, OnOk};
+    ghost use Rattle.trace_model.specs.Calls as calls;
+    ghost use Rattle.trace_base.specs.declared.limits.TheConstants.{MAX_FIELD, MAX_OPEN_HOLES, MAX_PACKET_LEN};
+    ghost use Rattle.trace_model.specs.Packets.{Account, is_writing, noted, nothing_yet, open_count};
+    ghost use Rattle.emitted_packets.specs.Emitting.{IsEmitting};
+
+    #[tactic(auto, using(crate::proofs::EmitLemmas::emitting_none))]
+    /// A writer before its first call.
+    pub fn new(alloc: Global) -> Self
+        ensures { IsEmitting nothing_yet result.bytes.items result.ends.items result.opens.items }
+    {
+        Emitter {
+            bytes: Vec::new(alloc),
+            ends: Vec::new(alloc),
+            opens: ArrayVec::new(),
+        }
+    }
+
+    /// A number is written.
+    #[tactic(auto, using(crate::proofs::EmitLemmas::number_on))]
+    pub fn number(&mut self, field: u32, value: u64) -> Result<(), AllocError>
+        requires field { (1 ≤ field) × (field ≤ MAX_FIELD) }
+        ensures { OnOk result ((account : Account)
+            → IsEmitting account self.old.bytes.items self.old.ends.items self.old.opens.items → is_writing account.packets ≡ true
+            → IsEmitting (noted account (calls.Number field value)) self.new.bytes.items self.new.ends.items self.new.opens.items) }
+    {
+        self.bytes
+            .extend_from_slice(head_number(field, value).as_slice())
+    }
+
+    /// A text is written, so many times over.
+    #[tactic(auto, using(crate::proofs::EmitLemmas::bytes_on))]
+    pub fn bytes(&mut self, field: u32, text: &[u8], times: u32) -> Result<(), AllocError>
+        requires field { (1 ≤ field) × (field ≤ MAX_FIELD) }
+        requires most { times * length text.now ≤ MAX_PACKET_LEN }
+        ensures { OnOk result ((account : Account)
+            → IsEmitting account self.old.bytes.items self.old.ends.items self.old.opens.items → is_writing account.packets ≡ true
+            → IsEmitting (noted account
+            (calls.Bytes field text.now times)) self.new.bytes.items self.new.ends.items self.new.opens.items) }
+    {
+        push_field(&mut self.bytes, field, text, times)
+    }
+
+    /// A nested message begins: its length is left open.
+    #[tactic(auto, using(crate::proofs::EmitLemmas::nested_on))]
+    pub fn nested(&mut self, field: u32) -> Result<(), AllocError>
+        requires field { (1 ≤ field) × (field ≤ MAX_FIELD) }
+        requires short { length self.old.bytes.items ≤ 2 ^ 28 }
+        requires room { length self.old.opens.items < MAX_OPEN_HOLES }
+        ensures { OnOk result ((account : Account)
+            → IsEmitting account self.old.bytes.items self.old.ends.items self.old.opens.items → is_writing account.packets ≡ true
+            → IsEmitting (noted account (calls.Nested field)) self.new.bytes.items self.new.ends.items self.new.opens.items) }
+    {
+        let place = push_nested(&mut self.bytes, field)?;
+        self.opens.push(place);
+        Ok(())
+    }
+
+    /// The innermost message ends: its length is put in.
+    #[tactic(auto, using(crate::proofs::EmitLemmas::ended_on))]
+    pub fn ended(&mut self)
+        requires short { length self.old.bytes.items ≤ 2 ^ 28 }
+        requires nested { self.old.opens.items ≢ [] }
+        requires writing { (account : Account) × IsEmitting account self.old.bytes.items self.old.ends.items self.old.opens.items × (is_writing account.packets ≡ true) }
+        ensures { (account : Account) → IsEmitting account self.old.bytes.items self.old.ends.items self.old.opens.items
+            → is_writing account.packets ≡ true
+            → IsEmitting (noted account calls.Ended) self.new.bytes.items self.new.ends.items self.new.opens.items }
+    {
+        if let Some(offset) = self.opens.pop() {
+            let place = offset as usize;
+            let size = self.bytes.len() - (place + 4);
+            set_four(&mut self.bytes, place, put_redundant(size as u32));
+        }
+    }
+
+    /// The packet is finished.
+    #[tactic(auto, using(crate::proofs::EmitLemmas::finished_on))]
+    pub fn finished(&mut self) -> Result<(), AllocError>
+        requires { length self.old.bytes.items ≤ 2 ^ 28 }
+        ensures { OnOk result ((account : Account)
+            → IsEmitting account self.old.bytes.items self.old.ends.items self.old.opens.items → is_writing account.packets ≡ true
+            → open_count account.packets ≡ 1
+            → IsEmitting (noted account calls.Finished) self.new.bytes.items self.new.ends.items self.new.opens.items) }
+    {
+        let end = self.bytes.len() as u32;
+        match self.ends.push(end) {
+            Ok(()) => Ok(()),
+            Err(_) => Err(AllocError),
+        }
+    }
+}
+
+#[cfg(test)]
+mod tests {
+    use super::*;
+    use std::test::Fail;
+
+    // A number, and a text that stands twice inside a message that is left open.
+    #[test]
+    fn writes_packets(rt: HostRuntime) -> Result<(), Fail> {
+        let mut emitter = Emitter::new(rt.alloc());
+        emitter.number(8, 300)?;
+        assert!(rt; emitter.bytes.len() < 100 && emitter.opens.len() < 16);
+        emitter.nested(900)?;
+        emitter.bytes(1, b"hi", 2)?;
+        assert_eq!(rt;
+            emitter.bytes.as_slice(),
+            b"\x40\xAC\x02\xA2\x38\x80\x80\x80\x00\x0A\x04hihi".as_slice()
+        );
+        assert_eq!(rt; emitter.opens.as_slice(), [5u32].as_slice());
+        assert!(rt; emitter.bytes.len() < 100);
+        emitter.finished()?;
+        assert_eq!(rt; emitter.ends.as_slice(), [15u32].as_slice());
+        Ok(())
+    }
+}
