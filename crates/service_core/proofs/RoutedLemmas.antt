@@ -63,6 +63,18 @@ at_first setup specs place inside least most =
     by_place other differs (inr past) =
         none_at (first_buffers setup 1 specs) other (place + 2) (let long = first_long setup 1 specs in omega (arith, past, long))
 
+-- no sequence is closed at first
+pub open_first : (setup : Setup) (specs : List first.BufferSpec) (place : ℕ) → place < length setup.writers → 1 ≤ buffer_of setup place → buffer_of setup place ≤ length specs
+    → is_closed_at (first_buffers setup 1 specs) (buffer_of setup place - 1) (place + 2) ≡ false
+open_first setup specs place inside least most =
+    let spec : WriterSpec = spec_at setup.writers place in
+    let get = slice_get-get_or setup.writers place no_writer inside in
+    let index : ℕ = buffer_of setup place - 1 in
+    let below : index < length specs = omega arith in
+    let number : spec.buffer ≡ 1 + index = omega arith in
+    ap (λ (ss : List Sequence). (sequence_in ss (place + 2)).closed) (first_sequences setup 1 specs index below)
+    ∙ ap (λ (s : Sequence). s.closed) ((set_at setup place spec get (1 + index)).start (eq-eqb spec.buffer (1 + index) number))
+
 -- the buffer of the writer at this place has its sequence
 pub stands : {S : Type 0} → (setup : Setup) (view : ServiceView) (core : ServiceCore S) (place : ℕ) → ServiceAgrees setup view core → place < length setup.writers
     → IsAt core.buffers.items (buffer_of setup place - 1) (place + 2) (record_size (size_of setup (producer_of setup place)))

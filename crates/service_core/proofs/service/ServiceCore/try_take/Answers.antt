@@ -45,7 +45,7 @@ returns-in-Ok-clause-agrees g c =
     subst (λ (v : ServiceView). ServiceAgrees setup v c.take_in.new.self) (sym one.1)
     (agrees_took setup old c.args.self.now c.take_in.new.self place (one.0 ∷ []) (taken_content place c.in-Ok.taken) c.requires.agrees
     (record { layout = c.take_in.ensures.fields.layout; specs = c.take_in.ensures.fields.specs; writers = c.take_in.ensures.fields.writers; session = c.take_in.ensures.fields.session })
-    inside (serving.level place) refl id_is c.take_in.ensures.buffers (c.take_in.ensures.taken ∙ ap (λ (n : ℕ). set c.args.self.now.taken.items place (n + 1)) id_is))
+    inside c.requires.open (serving.level place) refl id_is c.take_in.ensures.buffers (c.take_in.ensures.taken ∙ ap (λ (n : ℕ). set c.args.self.now.taken.items place (n + 1)) id_is))
 
 pub returns-in-Ok-clause-keeps : goal.returns-in-Ok-clause-keeps
 returns-in-Ok-clause-keeps g c =
