@@ -20,7 +20,7 @@ use Rattle.session_core.specs.Sessions.{SessionValue}
 use Rattle.service_core.specs.declared.service.ServiceCore.{ServiceCore}
 use Rattle.service_core.specs.Routing.{arrivals_of, is_closed_at}
 use Rattle.service_core.specs.Order.{Stage, LeadTo, beginning}
-use Rattle.service_core.specs.Agreement.{IsRouted, AreKnownNotes, NoneCommitted, buffer_of, ServiceAgrees, KeepsFields, KeepsRest, is_closed, first_of, spec_value}
+use Rattle.service_core.specs.Agreement.{IsRouted, AreKnownNotes, NoneCommitted, buffer_of, ServiceAgrees, KeepsFields, KeepsRest, KeepsTaking, is_closed, first_of, spec_value}
 use Rattle.service_core.specs.Taking.{patched_where, takings, looked, taken_more, took}
 use Rattle.service_core.proofs.HistoryLemmas.{Grows, all_known_grow, known_append, history_stays}
 use Rattle.service_core.proofs.TakingLemmas.{taken_here, taken_other, took_grows, looked_grows, last_content}
@@ -193,4 +193,22 @@ keeps_both setup old mid new one two = record {
     session = two.fields.session ∙ one.fields.session;
   };
   closed = λ place inside. two.closed place inside ∙ one.closed place inside;
+}
+
+-- the session's own calls leave the agreement
+pub agrees_kept : {S : Type 0} → (setup : Setup) (view : ServiceView) (core done : ServiceCore S) → KeepsTaking core done → ServiceAgrees setup view core → ServiceAgrees setup view done
+agrees_kept setup view core done keeps agrees = record {
+  layout = keeps.layout ∙ agrees.layout;
+  writers = keeps.writers ∙ agrees.writers;
+  routed = subst (λ (specs : List BufferSpec). IsRouted setup (length specs)) (sym keeps.specs) agrees.routed;
+  many = agrees.many;
+  taken = keeps.taken ∙ agrees.taken;
+  buffers = keeps.buffers ∙ agrees.buffers
+      ∙ ap (λ (specs : List BufferSpec). buffers_after (first.first_buffers setup 1 (map spec_value specs)) (history_of view)) (sym keeps.specs);
+  session = keeps.session ∙ agrees.session;
+  none_read = agrees.none_read;
+  known = agrees.known;
+  order = λ place inside none.
+      subst (λ (b : Bool). LeadTo view (place + 2) beginning view.events (record { come = (taken_of view place).count; closed = b; due = [] }))
+      (sym (ap (λ (bs : List Buffer). is_closed_at bs (buffer_of setup place - 1) (place + 2)) keeps.buffers)) (agrees.order place inside none);
 }

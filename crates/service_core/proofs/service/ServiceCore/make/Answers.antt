@@ -44,3 +44,11 @@ returns-clause-agrees g c view unused =
           (ap (λ (n : ℕ). record { come = n; closed = false; due = [] }) (sym (unused.none_taken place))
           ∙ ap (λ (b : Bool). record { come = (taken_of view place).count; closed = b; due = [] }) (sym open_here));
     }
+
+pub returns-clause-open : goal.returns-clause-open
+returns-clause-open g c place inside =
+    let setup = setup_of c.args.producers.now c.args.writers.now in
+    let long = length-map c.args.buffers.now spec_value in
+    let most = c.requires.routed.most place inside in
+    ap (λ (bs : List Buffer). is_closed_at bs (buffer_of setup place - 1) (place + 2)) c.in_ok-made.ensures
+    ∙ open_first setup (map spec_value c.args.buffers.now) place inside (c.requires.routed.least place inside) (omega (arith, most, long))
