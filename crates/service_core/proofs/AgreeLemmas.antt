@@ -1,18 +1,17 @@
 -- The service agrees with its seat's view again once it has done what was noted.
-use Rattle.std.proofs.Common.{◌≡◌, ◌∙◌, ℕ, zero, suc, ◌+◌, ◌-◌, ◌<◌, ◌≤◌, ◌⊎◌, Bool, true, false, List, [], ◌∷◌, ◌++◌, length, map, Option, Some, None, get_or, set, refl, sym, ap, subst, arith, append-nil, append_assoc, length-set, inl, inr}
+use Rattle.std.proofs.Common.{◌≡◌, ◌∙◌, ℕ, suc, ◌+◌, ◌-◌, ◌<◌, ◌⊎◌, Bool, true, false, List, [], ◌∷◌, ◌++◌, length, map, Some, set, refl, sym, ap, subst, arith, append-nil, length-set, inl, inr}
 use Rattle.std.specs.Prelude.{cond}
 use Rattle.std.specs.List.{flat_map}
 use Rattle.std.proofs.lemmas.Grind.{flat_map-append}
 use Rattle.std.proofs.lemmas.List.{map-set}
-use Rattle.trace_model.specs.Images.{Image, Patch}
+use Rattle.trace_model.specs.Images.{Patch}
 use Rattle.trace_model.specs.Reading.{reading_of}
 use Rattle.trace_model.specs.Sequences.{is_known}
 use Rattle.trace_model.specs.Buffers.{Buffer}
 use Rattle.trace_model.specs.History as model
 use Rattle.trace_model.specs.History.{buffers_after}
 use Rattle.chunk_plain.specs.Setup.{Setup}
-use Rattle.chunk_plain.specs.Steps.{taken_counts}
-use Rattle.chunk_plain.specs.Views.{Content, Look, Taken, Noted, Arrive, Patched, ServiceView, taken_of}
+use Rattle.chunk_plain.specs.Views.{Content, Look, Taken, Noted, Arrive, ServiceView, taken_of}
 use Rattle.chunk_plain.specs.Histories.{content_at, once_read, arrival_of, patches_of, happened, history_of}
 use Rattle.trace_buffer.specs.declared.answers.BufferSpec.{BufferSpec}
 use Rattle.world_model.specs.FirstBuffers as first

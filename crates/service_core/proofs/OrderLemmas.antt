@@ -1,14 +1,14 @@
 -- Notes that are in order stay so while the view grows, and go on at the end.
-use Rattle.std.proofs.Common.{◌≡◌, ◌≢◌, ◌∙◌, ℕ, zero, suc, ◌+◌, ◌-◌, ◌<◌, ◌≤◌, Bool, true, false, List, [], ◌∷◌, ◌++◌, length, refl, sym, ap, subst, arith}
+use Rattle.std.proofs.Common.{◌≡◌, ◌≢◌, ℕ, suc, ◌-◌, Bool, true, false, List, [], ◌∷◌, ◌++◌, refl, sym, subst}
 use Rattle.std.specs.Prelude.{◌==◌, slice_get, Some, MatchBool}
 use Rattle.std.proofs.lemmas.Bool.{eq-eqb, ne_eqb}
 use Rattle.trace_model.specs.Images.{Patch}
-use Rattle.chunk_plain.specs.Views.{Content, Noted, Arrive, Partial, Patched, Closed, Read, Commit, Committed, ServiceView, taken_of}
+use Rattle.chunk_plain.specs.Views.{Content, Noted, Arrive, Partial, Patched, Closed, Read, Commit, Committed, ServiceView}
 use Rattle.chunk_plain.specs.Histories.{content_at}
 use Rattle.world_model.specs.Accounts.{CommitsElsewhere}
 use Rattle.service_core.specs.Agreement.{AreKnownNotes}
 use Rattle.service_core.specs.Taking.{patched_where, takings}
-use Rattle.service_core.specs.Order.{Stage, IsFoundPart, LeadTo}
+use Rattle.service_core.specs.Order.{Stage, LeadTo}
 use Rattle.service_core.proofs.HistoryLemmas.{Grows}
 
 match_map : (b : Bool) (P Q R T : Type 0) → MatchBool b P Q → (P → R) → (Q → T) → MatchBool b R T

@@ -13,7 +13,7 @@ use Rattle.trace_buffer.specs.declared.answers.BufferSpec.{BufferSpec}
 use Rattle.session_core.specs.Sessions.{HasAnswered, answer_at}
 use Rattle.world_model.specs.Accounts.{CommitsElsewhere}
 use Rattle.world_model.specs.FirstBuffers as first
-use Rattle.service_core.specs.Routing.{buffer_at, is_closed_at}
+use Rattle.service_core.specs.Routing.{is_closed_at}
 use Rattle.service_core.specs.Order.{LeadTo, beginning}
 use Rattle.service_core.specs.declared.service.ServiceCore.{ServiceCore}
 

@@ -1,4 +1,4 @@
-use Rattle.std.proofs.Common.{◌≡◌, rules}
+use Rattle.std.proofs.Common.{rules}
 use Rattle.service_core.specs.Agreement.{KeepsTaking}
 use Rattle.service_core.proofs.AgreeLemmas.{agrees_kept}
 use Rattle.service_core.proofs.service.ServiceCore.acknowledge.Goals as goal
