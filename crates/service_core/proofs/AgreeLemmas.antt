@@ -1,28 +1,31 @@
 -- The service agrees with its seat's view again once it has done what was noted.
-use Rattle.std.proofs.Common.{◌≡◌, ◌∙◌, ℕ, zero, suc, ◌+◌, ◌-◌, ◌<◌, ◌≤◌, Bool, true, false, List, [], ◌∷◌, ◌++◌, length, map, Option, Some, None, get_or, set, refl, sym, ap, subst, arith, append-nil, append_assoc, length-set}
+use Rattle.std.proofs.Common.{◌≡◌, ◌∙◌, ℕ, suc, ◌+◌, ◌-◌, ◌<◌, ◌⊎◌, Bool, true, false, List, [], ◌∷◌, ◌++◌, length, map, Some, set, refl, sym, ap, subst, arith, append-nil, length-set, inl, inr}
 use Rattle.std.specs.Prelude.{cond}
 use Rattle.std.specs.List.{flat_map}
 use Rattle.std.proofs.lemmas.Grind.{flat_map-append}
 use Rattle.std.proofs.lemmas.List.{map-set}
-use Rattle.trace_model.specs.Images.{Image, Patch}
+use Rattle.trace_model.specs.Images.{Patch}
 use Rattle.trace_model.specs.Reading.{reading_of}
 use Rattle.trace_model.specs.Sequences.{is_known}
 use Rattle.trace_model.specs.Buffers.{Buffer}
 use Rattle.trace_model.specs.History as model
 use Rattle.trace_model.specs.History.{buffers_after}
 use Rattle.chunk_plain.specs.Setup.{Setup}
-use Rattle.chunk_plain.specs.Steps.{taken_counts}
-use Rattle.chunk_plain.specs.Views.{Content, Look, Taken, Noted, Arrive, Patched, ServiceView, taken_of}
+use Rattle.chunk_plain.specs.Views.{Content, Look, Taken, Noted, Arrive, ServiceView, taken_of}
 use Rattle.chunk_plain.specs.Histories.{content_at, once_read, arrival_of, patches_of, happened, history_of}
 use Rattle.trace_buffer.specs.declared.answers.BufferSpec.{BufferSpec}
 use Rattle.world_model.specs.FirstBuffers as first
 use Rattle.session_core.specs.Sessions.{SessionValue}
 use Rattle.service_core.specs.declared.service.ServiceCore.{ServiceCore}
-use Rattle.service_core.specs.Routing.{arrivals_of}
-use Rattle.service_core.specs.Agreement.{IsRouted, AreKnownNotes, ServiceAgrees, KeepsFields, KeepsRest, is_closed, first_of, spec_value}
+use Rattle.service_core.specs.Routing.{arrivals_of, is_closed_at}
+use Rattle.service_core.specs.Order.{Stage, LeadTo, beginning}
+use Rattle.service_core.specs.Agreement.{IsRouted, AreKnownNotes, NoneCommitted, buffer_of, ServiceAgrees, KeepsFields, KeepsRest, KeepsTaking, is_closed, first_of, spec_value}
 use Rattle.service_core.specs.Taking.{patched_where, takings, looked, taken_more, took}
 use Rattle.service_core.proofs.HistoryLemmas.{Grows, all_known_grow, known_append, history_stays}
-use Rattle.service_core.proofs.TakingLemmas.{taken_here, took_grows, looked_grows, last_content}
+use Rattle.service_core.proofs.TakingLemmas.{taken_here, taken_other, took_grows, looked_grows, last_content}
+use Rattle.std.proofs.lemmas.Bool.{cases_eq}
+use Rattle.service_core.proofs.OrderLemmas.{lead_both, lead_grows, lead_taken, lead_other}
+use Rattle.service_core.proofs.RoutedLemmas.{closed_stays}
 use Rattle.service_core.proofs.RouteLemmas.{buffers_append, buffers_none}
 
 -- patches that are none change nothing
@@ -69,14 +72,45 @@ one_known view q id content there = ((content, there), known_append view (patche
 pub first_stays : {S : Type 0} → (setup : Setup) (core done : ServiceCore S) → KeepsFields core done → first_of setup done ≡ first_of setup core
 first_stays setup core done keeps = ap (λ (specs : List BufferSpec). first.first_buffers setup 1 (map spec_value specs)) keeps.specs
 
+-- the order goes on with the notes of a chunk of this writer
+pub order_here : (old new : ServiceView) (place : ℕ) (content : Content) (was is : Bool) → Grows old new → AreKnownNotes old old.events
+    → content_at new (place + 2) (taken_of old place).count ≡ Some content → new.events ≡ old.events ++ takings (place + 2) (taken_of old place).count (content ∷ [])
+    → (taken_of new place).count ≡ (taken_of old place).count + 1 → was ≡ false → is ≡ false
+    → LeadTo old (place + 2) beginning old.events (record { come = (taken_of old place).count; closed = was; due = [] })
+    → LeadTo new (place + 2) beginning new.events (record { come = (taken_of new place).count; closed = is; due = [] })
+order_here old new place content was is grows known there events_are counted open_before open_after lead =
+    let id : ℕ = (taken_of old place).count in
+    let q : ℕ = place + 2 in
+    let before = subst (λ (b : Bool). LeadTo new q beginning old.events (record { come = id; closed = b; due = [] })) open_before
+    (lead_grows old new q beginning (record { come = id; closed = was; due = [] }) old.events grows known lead) in
+    let both = lead_both new q beginning (record { come = id; closed = false; due = [] }) (record { come = suc id; closed = false; due = [] }) old.events (takings q id (content ∷ [])) before (lead_taken new q id content there) in
+    let count : suc id ≡ (taken_of new place).count = omega (arith, counted) in
+    subst (λ (b : Bool). LeadTo new q beginning new.events (record { come = (taken_of new place).count; closed = b; due = [] })) (sym open_after)
+    (subst (λ (n : ℕ). LeadTo new q beginning new.events (record { come = n; closed = false; due = [] })) count
+    (subst (λ (es : List Noted). LeadTo new q beginning es (record { come = suc id; closed = false; due = [] })) (sym events_are) both))
+
+-- and with those of another writer, or of none
+pub order_there : (old new : ServiceView) (place : ℕ) (notes : List Noted) (was is : Bool) → Grows old new → AreKnownNotes old old.events
+    → new.events ≡ old.events ++ notes → (taken_of old place).count ≡ (taken_of new place).count → was ≡ is
+    → LeadTo new (place + 2) (record { come = (taken_of old place).count; closed = was; due = [] }) notes (record { come = (taken_of old place).count; closed = was; due = [] })
+    → LeadTo old (place + 2) beginning old.events (record { come = (taken_of old place).count; closed = was; due = [] })
+    → LeadTo new (place + 2) beginning new.events (record { come = (taken_of new place).count; closed = is; due = [] })
+order_there old new place notes was is grows known events_are counted closed more lead =
+    let stage : Stage = record { come = (taken_of old place).count; closed = was; due = [] } in
+    let q : ℕ = place + 2 in
+    let both = lead_both new q beginning stage stage old.events notes (lead_grows old new q beginning stage old.events grows known lead) more in
+    subst (λ (b : Bool). LeadTo new q beginning new.events (record { come = (taken_of new place).count; closed = b; due = [] })) closed
+    (subst (λ (n : ℕ). LeadTo new q beginning new.events (record { come = n; closed = was; due = [] })) counted
+    (subst (λ (es : List Noted). LeadTo new q beginning es stage) (sym events_are) both))
+
 pub agrees_took : {S : Type 0} → (setup : Setup) (old : ServiceView) (core done : ServiceCore S) (place : ℕ) (looks : List Look) (content : Content)
-    → ServiceAgrees setup old core → KeepsFields core done → place < length old.taken
+    → ServiceAgrees setup old core → KeepsFields core done → place < length old.taken → is_closed setup core place ≡ false
     → length (taken_of old place).contents ≡ (taken_of old place).count
     → content.image.sequence ≡ place + 2 → content.image.chunk_id ≡ (taken_of old place).count
     → done.buffers.items ≡ buffers_after (buffers_after core.buffers.items (arrivals_of content.image)) (model.Patched (place + 2) content.patches ∷ [])
     → done.taken.items ≡ set core.taken.items place ((taken_of old place).count + 1)
     → ServiceAgrees setup (took old place looks (content ∷ [])) done
-agrees_took setup old core done place looks content agrees keeps inside level sequence_is id_is buffers_are taken_is =
+agrees_took setup old core done place looks content agrees keeps inside open_here level sequence_is id_is buffers_are taken_is =
     let new : ServiceView = took old place looks (content ∷ []) in
     let grows = took_grows old place looks (content ∷ []) inside in
     let id : ℕ = (taken_of old place).count in
@@ -100,7 +134,27 @@ agrees_took setup old core done place looks content agrees keeps inside level se
       session = ap (λ (s : SessionValue). s.writers) keeps.session ∙ agrees.session;
       none_read = agrees.none_read;
       known = known_append new old.events notes (all_known_grow old new old.events grows agrees.known) (one_known new (place + 2) id content there);
+      order = λ p inside_p none. by_place p inside_p none (cases_eq p place);
     }
+  where
+    stays : (p : ℕ) → p < length setup.writers → is_closed setup done p ≡ is_closed setup core p
+    stays p inside_p = closed_stays setup old core done p content.image (place + 2) content.patches agrees buffers_are inside_p
+
+    by_place : (p : ℕ) → p < length setup.writers → NoneCommitted (took old place looks (content ∷ [])) (p + 2) → (p ≡ place) ⊎ (p ≡ place → ⊥)
+        → LeadTo (took old place looks (content ∷ [])) (p + 2) beginning (took old place looks (content ∷ [])).events (record { come = (taken_of (took old place looks (content ∷ [])) p).count; closed = is_closed setup done p; due = [] })
+    by_place p inside_p none (inl same) =
+        let new : ServiceView = took old place looks (content ∷ []) in
+        let low : place < length setup.writers = subst (λ (n : ℕ). n < length setup.writers) same inside_p in
+        subst (λ (n : ℕ). LeadTo new (n + 2) beginning new.events (record { come = (taken_of new n).count; closed = is_closed setup done n; due = [] })) (sym same)
+        (order_here old new place content (is_closed setup core place) (is_closed setup done place) (took_grows old place looks (content ∷ []) inside) agrees.known
+        (last_content old place looks content inside level) refl (ap (λ (t : Taken). t.count) (taken_here old place looks (content ∷ []) inside)) open_here (stays place low ∙ open_here)
+        (agrees.order place low (subst (λ (n : ℕ). NoneCommitted old (n + 2)) same none)))
+    by_place p inside_p none (inr differs) =
+        let new : ServiceView = took old place looks (content ∷ []) in
+        order_there old new p (takings (place + 2) (taken_of old place).count (content ∷ [])) (is_closed setup core p) (is_closed setup done p) (took_grows old place looks (content ∷ []) inside) agrees.known
+        refl (ap (λ (t : Taken). t.count) (sym (taken_other old place p looks (content ∷ []) differs))) (sym (stays p inside_p))
+        (lead_other new (p + 2) (place + 2) (taken_of old place).count (taken_of old p).count (is_closed setup core p) content (λ e. differs (let is : p ≡ place = omega (arith, e) in is)))
+        (agrees.order p inside_p none)
 
 -- looks alone change nothing
 pub agrees_looked : {S : Type 0} → (setup : Setup) (old : ServiceView) (core done : ServiceCore S) (looks : List Look)
@@ -121,6 +175,9 @@ agrees_looked setup old core done looks agrees keeps buffers_are taken_is =
       session = ap (λ (s : SessionValue). s.writers) keeps.session ∙ agrees.session;
       none_read = agrees.none_read;
       known = all_known_grow old new old.events grows agrees.known;
+      order = λ p inside_p none.
+          order_there old new p [] (is_closed setup core p) (is_closed setup done p) grows agrees.known (sym (append-nil old.events)) refl
+          (sym (ap (λ (bs : List Buffer). is_closed_at bs (buffer_of setup p - 1) (p + 2)) buffers_are)) refl (agrees.order p inside_p none);
     }
 
 pub keeps_same : {S : Type 0} → (setup : Setup) (core : ServiceCore S) → KeepsRest setup core core
@@ -135,4 +192,22 @@ keeps_both setup old mid new one two = record {
     session = two.fields.session ∙ one.fields.session;
   };
   closed = λ place inside. two.closed place inside ∙ one.closed place inside;
+}
+
+-- the session's own calls leave the agreement
+pub agrees_kept : {S : Type 0} → (setup : Setup) (view : ServiceView) (core done : ServiceCore S) → KeepsTaking core done → ServiceAgrees setup view core → ServiceAgrees setup view done
+agrees_kept setup view core done keeps agrees = record {
+  layout = keeps.layout ∙ agrees.layout;
+  writers = keeps.writers ∙ agrees.writers;
+  routed = subst (λ (specs : List BufferSpec). IsRouted setup (length specs)) (sym keeps.specs) agrees.routed;
+  many = agrees.many;
+  taken = keeps.taken ∙ agrees.taken;
+  buffers = keeps.buffers ∙ agrees.buffers
+      ∙ ap (λ (specs : List BufferSpec). buffers_after (first.first_buffers setup 1 (map spec_value specs)) (history_of view)) (sym keeps.specs);
+  session = keeps.session ∙ agrees.session;
+  none_read = agrees.none_read;
+  known = agrees.known;
+  order = λ place inside none.
+      subst (λ (b : Bool). LeadTo view (place + 2) beginning view.events (record { come = (taken_of view place).count; closed = b; due = [] }))
+      (sym (ap (λ (bs : List Buffer). is_closed_at bs (buffer_of setup place - 1) (place + 2)) keeps.buffers)) (agrees.order place inside none);
 }

@@ -1,12 +1,11 @@
 -- Looks and takings one after another.
-use Rattle.std.proofs.Common.{◌≡◌, ◌≢◌, ◌∙◌, ℕ, zero, suc, ◌+◌, ◌-◌, ◌<◌, ◌≤◌, ◌⊎◌, Bool, true, false, List, [], ◌∷◌, ◌++◌, length, get_or, set, take, refl, sym, ap, subst, arith, append-nil, append_assoc, length-append, length-take-le, inl, inr}
+use Rattle.std.proofs.Common.{◌≡◌, ◌≢◌, ◌∙◌, ℕ, suc, ◌+◌, ◌<◌, ◌≤◌, ◌⊎◌, Bool, true, false, List, [], ◌∷◌, ◌++◌, length, set, take, refl, sym, ap, subst, arith, append-nil, append_assoc, length-append, length-take-le, inl, inr}
 use Rattle.std.specs.Prelude.{slice_get, Some, cond, ◌==◌}
-use Rattle.std.proofs.lemmas.List.{get_or-set_same, set-set, set-get_or, get_or-append-add, take_more}
+use Rattle.std.proofs.lemmas.List.{set-set, set-get_or, get_or-append-add, take_more}
 use Rattle.std.proofs.lemmas.Option.{slice_get_within, slice_get-get_or, get_or_from_slice_get}
 use Rattle.std.proofs.lemmas.Bool.{cases_eq, eq-eqb, ne_eqb}
 use Rattle.trace_base.specs.declared.policy.WriterSpec.{WriterSpec}
-use Rattle.chunk_plain.specs.declared.setup.ChunkRange.{ChunkRange}
-use Rattle.chunk_plain.specs.Setup.{Setup, range_of, producer_of, IsChunkOf, id_at}
+use Rattle.chunk_plain.specs.Setup.{Setup, range_of, producer_of, id_at}
 use Rattle.chunk_plain.specs.Views.{Content, Look, Taken, none_taken, Noted, Arrive, ServiceView, taken_of}
 use Rattle.service_core.specs.Agreement.{spec_at, no_writer}
 use Rattle.service_core.specs.Taking.{patched_where, takings, looked, taken_more, took, IsOther, ShowsOther, Leaves, TakesOne, SeesOther, TakesOf, Takes, places_of, IsRange, TakesNext, SeesNone, SeesNoneOf, TakesSome}

@@ -1,5 +1,5 @@
 -- What the close of a sequence leaves of the others.
-use Rattle.std.proofs.Common.{◌≡◌, ◌≢◌, ◌∙◌, ℕ, suc, ◌+◌, ◌-◌, ◌<◌, ◌≤◌, ◌⊎◌, Bool, true, false, List, [], ◌∷◌, ◌++◌, length, refl, sym, ap, subst, arith, inl, inr, append_assoc, length-append}
+use Rattle.std.proofs.Common.{◌≡◌, ◌≢◌, ◌∙◌, ℕ, ◌+◌, ◌-◌, ◌<◌, ◌⊎◌, Bool, true, false, List, [], ◌∷◌, ◌++◌, length, refl, sym, ap, subst, arith, inl, inr, append_assoc, length-append}
 use Rattle.std.specs.Prelude.{cond, slice_get, Some}
 use Rattle.std.proofs.lemmas.Option.{slice_get-get_or}
 use Rattle.std.proofs.Math.Seq.{get_or-append_seam}
@@ -14,20 +14,22 @@ use Rattle.trace_model.specs.History as model
 use Rattle.trace_model.specs.History.{buffer_after, buffers_after}
 use Rattle.trace_model.proofs.SequenceLemmas.{changed_here, changed_other}
 use Rattle.chunk_plain.specs.Setup.{Setup, producer_of}
-use Rattle.chunk_plain.specs.Views.{Noted, Closed, Commit, Committed, ServiceView}
+use Rattle.chunk_plain.specs.Views.{Noted, Closed, Commit, Committed, ServiceView, taken_of}
 use Rattle.chunk_plain.specs.Steps.{notes_commit}
 use Rattle.chunk_plain.specs.Histories.{commit_of, happened, history_of}
 use Rattle.trace_buffer.specs.declared.answers.BufferSpec.{BufferSpec}
 use Rattle.session_core.specs.Sessions.{SessionValue}
 use Rattle.service_core.specs.declared.service.ServiceCore.{ServiceCore}
 use Rattle.service_core.specs.Routing.{buffer_at, is_closed_at}
-use Rattle.service_core.specs.Agreement.{IsRouted, AreKnownNotes, ServiceAgrees, KeepsFields, first_of, buffer_of, is_closed}
+use Rattle.service_core.specs.Agreement.{IsRouted, AreKnownNotes, NoneCommitted, ServiceAgrees, KeepsFields, first_of, buffer_of, is_closed}
+use Rattle.service_core.specs.Order.{LeadTo, beginning}
 use Rattle.service_core.specs.Taking.{noted_more}
 use Rattle.service_core.specs.Closing.{ClosesOne, ClosesSome, closes_of}
 use Rattle.service_core.proofs.HistoryLemmas.{Grows, all_known_grow, known_append, history_stays, get_more}
 use Rattle.service_core.proofs.RouteLemmas.{at_after, buffers_append}
-use Rattle.service_core.proofs.RoutedLemmas.{stands}
-use Rattle.service_core.proofs.AgreeLemmas.{first_stays}
+use Rattle.service_core.proofs.RoutedLemmas.{stands, closed_by_none}
+use Rattle.service_core.proofs.AgreeLemmas.{first_stays, order_there}
+use Rattle.service_core.proofs.OrderLemmas.{lead_both, lead_grows, lead_closed, lead_closed_other}
 
 noted_grows : (view : ServiceView) (notes : List Noted) → Grows view (noted_more view notes)
 noted_grows view notes = record { contents = λ s i content is. is; looks = λ p i n found is. is; commits = λ k committed is. is }
@@ -35,8 +37,12 @@ noted_grows view notes = record { contents = λ s i content is. is; looks = λ p
 -- Notes are made of what the buffers did.
 pub agrees_noted : {S : Type 0} → (setup : Setup) (old : ServiceView) (core done : ServiceCore S) (notes : List Noted) → ServiceAgrees setup old core → KeepsFields core done
     → done.buffers.items ≡ buffers_after core.buffers.items (flat_map (happened (noted_more old notes)) notes) → done.taken.items ≡ core.taken.items
-    → AreKnownNotes (noted_more old notes) notes → ServiceAgrees setup (noted_more old notes) done
-agrees_noted setup old core done notes agrees keeps buffers_are taken_is known =
+    → AreKnownNotes (noted_more old notes) notes
+    → ((place : ℕ) → place < length setup.writers → NoneCommitted old (place + 2)
+    → LeadTo (noted_more old notes) (place + 2) (record { come = (taken_of old place).count; closed = is_closed setup core place; due = [] }) notes
+    (record { come = (taken_of old place).count; closed = is_closed setup done place; due = [] }))
+    → ServiceAgrees setup (noted_more old notes) done
+agrees_noted setup old core done notes agrees keeps buffers_are taken_is known leads =
     let new : ServiceView = noted_more old notes in
     let grows = noted_grows old notes in
     let first : List Buffer = first_of setup core in
@@ -55,6 +61,11 @@ agrees_noted setup old core done notes agrees keeps buffers_are taken_is known =
       session = ap (λ (s : SessionValue). s.writers) keeps.session ∙ agrees.session;
       none_read = agrees.none_read;
       known = known_append new old.events notes (all_known_grow old new old.events grows agrees.known) known;
+      order = λ place inside none.
+          lead_both new (place + 2) beginning (record { come = (taken_of old place).count; closed = is_closed setup core place; due = [] })
+          (record { come = (taken_of old place).count; closed = is_closed setup done place; due = [] }) old.events notes
+          (lead_grows old new (place + 2) beginning (record { come = (taken_of old place).count; closed = is_closed setup core place; due = [] }) old.events grows agrees.known (agrees.order place inside none))
+          (leads place inside none);
     }
 
 -- the sequence itself is closed, and each other one is as it was
@@ -175,4 +186,36 @@ agrees_committed setup old core done committed agrees keeps buffers_are taken_is
       session = ap (λ (s : SessionValue). s.writers) keeps.session ∙ agrees.session;
       none_read = agrees.none_read;
       known = known_append new old.events notes (all_known_grow old new old.events grows agrees.known) ((committed, last_commit old committed), tt);
+      order = λ place inside none.
+          order_there old new place notes (is_closed setup core place) (is_closed setup done place) grows agrees.known refl refl
+          (sym (closed_by_none setup old core done place (model.Committed committed.image committed.patches ∷ []) agrees buffers_are (refl, tt) inside))
+          (refl, none (length old.commits), refl) (agrees.order place inside (λ k one is. none k one (grows.commits k one is)));
     }
+
+-- the order goes on with the close of a writer's sequence
+pub order_closed : {S : Type 0} → (setup : Setup) (view : ServiceView) (core done : ServiceCore S) (place : ℕ) → ServiceAgrees setup view core
+    → is_closed setup core place ≡ false → done.buffers.items ≡ buffers_after core.buffers.items (model.Closed (place + 2) ∷ [])
+    → (other : ℕ) → other < length setup.writers
+    → LeadTo (noted_more view (Closed (place + 2) ∷ [])) (other + 2) (record { come = (taken_of view other).count; closed = is_closed setup core other; due = [] }) (Closed (place + 2) ∷ [])
+    (record { come = (taken_of view other).count; closed = is_closed setup done other; due = [] })
+order_closed setup view core done place agrees open_here buffers_are other inside = by_place (cases_eq other place)
+  where
+    by_place : (other ≡ place) ⊎ (other ≡ place → ⊥)
+        → LeadTo (noted_more view (Closed (place + 2) ∷ [])) (other + 2) (record { come = (taken_of view other).count; closed = is_closed setup core other; due = [] }) (Closed (place + 2) ∷ [])
+        (record { come = (taken_of view other).count; closed = is_closed setup done other; due = [] })
+    by_place (inl same) =
+        let v : ServiceView = noted_more view (Closed (place + 2) ∷ []) in
+        let count : ℕ = (taken_of view other).count in
+        let was : is_closed setup core other ≡ false = ap (is_closed setup core) same ∙ open_here in
+        let low : place < length setup.writers = subst (λ (n : ℕ). n < length setup.writers) same inside in
+        let is : is_closed setup done other ≡ true = ap (is_closed setup done) same ∙ closes_here setup view core done place agrees low buffers_are in
+        subst (λ (b : Bool). LeadTo v (other + 2) (record { come = count; closed = is_closed setup core other; due = [] }) (Closed (place + 2) ∷ []) (record { come = count; closed = b; due = [] })) (sym is)
+        (subst (λ (b : Bool). LeadTo v (other + 2) (record { come = count; closed = b; due = [] }) (Closed (place + 2) ∷ []) (record { come = count; closed = true; due = [] })) (sym was)
+        (subst (λ (p : ℕ). LeadTo v (other + 2) (record { come = count; closed = false; due = [] }) (Closed (p + 2) ∷ []) (record { come = count; closed = true; due = [] })) same
+        (lead_closed v (other + 2) count)))
+    by_place (inr differs) =
+        let v : ServiceView = noted_more view (Closed (place + 2) ∷ []) in
+        let count : ℕ = (taken_of view other).count in
+        subst (λ (b : Bool). LeadTo v (other + 2) (record { come = count; closed = is_closed setup core other; due = [] }) (Closed (place + 2) ∷ []) (record { come = count; closed = b; due = [] }))
+        (sym (closes_there setup view core done place other agrees inside differs buffers_are))
+        (lead_closed_other v (other + 2) (place + 2) count (is_closed setup core other) (λ e. differs (let is : other ≡ place = omega (arith, e) in is)))

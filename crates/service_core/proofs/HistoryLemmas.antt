@@ -1,12 +1,12 @@
 -- A view that grows keeps what was noted: each note is the event that it was.
-use Rattle.std.proofs.Common.{◌≡◌, ◌∙◌, ℕ, zero, suc, ◌+◌, ◌-◌, ◌<◌, ◌≤◌, Bool, true, false, List, [], ◌∷◌, ◌++◌, length, Option, Some, None, get_or, set, refl, sym, ap, subst, arith, length-append}
-use Rattle.std.specs.Prelude.{cond, slice_get, ◌==◌}
+use Rattle.std.proofs.Common.{◌≡◌, ◌∙◌, ℕ, ◌-◌, Bool, true, false, List, [], ◌∷◌, ◌++◌, Some, refl, sym, ap, arith, length-append}
+use Rattle.std.specs.Prelude.{cond, slice_get}
 use Rattle.std.specs.List.{flat_map}
 use Rattle.std.proofs.lemmas.Option.{slice_get_within, slice_get-get_or, get_or_from_slice_get}
 use Rattle.std.proofs.lemmas.List.{get_or_append_left}
 use Rattle.trace_model.specs.History as model
-use Rattle.chunk_plain.specs.Views.{Content, Found, Look, Taken, none_taken, Noted, Arrive, Partial, Patched, Closed, Read, Commit, Committed, ServiceView, taken_of}
-use Rattle.chunk_plain.specs.Histories.{content_at, found_among, is_scraped, arrival_of, part_of, patches_of, commit_of, happened, history_of}
+use Rattle.chunk_plain.specs.Views.{Content, Found, Look, Noted, Arrive, Partial, Patched, Closed, Read, Commit, Committed, ServiceView}
+use Rattle.chunk_plain.specs.Histories.{content_at, found_among, is_scraped, arrival_of, part_of, patches_of, commit_of, happened}
 use Rattle.service_core.specs.Agreement.{IsKnownNote, AreKnownNotes}
 
 -- the view has what it had

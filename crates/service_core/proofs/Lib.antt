@@ -3,6 +3,7 @@ pub mod ChainLemmas
 pub mod CloseLemmas
 pub mod HistoryLemmas
 pub mod MakeLemmas
+pub mod OrderLemmas
 pub mod RouteLemmas
 pub mod RoutedLemmas
 pub mod ShapeLemmas

@@ -1,5 +1,5 @@
 -- The first buffers as they are made, writer by writer and buffer by buffer.
-use Rattle.std.proofs.Common.{◌≡◌, ◌≢◌, ◌∙◌, ℕ, zero, suc, ◌+◌, ◌-◌, ◌<◌, ◌≤◌, Bool, true, false, ◌||◌, List, [], ◌∷◌, ◌++◌, length, map, take, get_or, refl, sym, ap, subst, arith, append-nil, length-take-le}
+use Rattle.std.proofs.Common.{◌≡◌, ◌≢◌, ◌∙◌, ℕ, zero, suc, ◌+◌, ◌-◌, ◌<◌, ◌≤◌, Bool, true, false, ◌||◌, List, [], ◌∷◌, ◌++◌, length, map, take, get_or, refl, sym, ap, arith, append-nil, length-take-le}
 use Rattle.std.specs.Prelude.{cond, ◌==◌, replicate}
 use Rattle.chunk_plain.specs.Views.{Taken, none_taken}
 use Rattle.std.specs.List.{list_any}

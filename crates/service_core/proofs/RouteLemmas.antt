@@ -1,18 +1,15 @@
 -- The buffers of a service behind events: each is where it was, and one of them has the sequence.
-use Rattle.std.proofs.Common.{◌≡◌, ◌≢◌, ◌∙◌, ℕ, zero, suc, ◌+◌, ◌-◌, ◌<◌, ◌≤◌, Bool, true, false, List, [], ◌∷◌, ◌++◌, length, map, get_or, set, refl, sym, ap, subst, arith, inl, inr}
-use Rattle.std.specs.Prelude.{cond, ◌==◌}
-use Rattle.std.proofs.lemmas.Bool.{false≢true, ne_eqb, eqb-true, eq-eqb, cases_lt}
+use Rattle.std.proofs.Common.{◌≡◌, ◌≢◌, ◌∙◌, ℕ, zero, suc, ◌<◌, ◌≤◌, Bool, true, false, List, [], ◌∷◌, ◌++◌, length, set, refl, sym, ap, arith, inl, inr}
+use Rattle.std.specs.Prelude.{cond}
+use Rattle.std.proofs.lemmas.Bool.{cases_lt}
 use Rattle.std.proofs.lemmas.List.{set-get_or}
 use Rattle.trace_base.specs.declared.policy.FullPolicy.TheVariants.{Ring}
-use Rattle.trace_base.specs.declared.policy.WriterSpec.{WriterSpec}
-use Rattle.page_geometry.specs.Sizes.{record_size}
-use Rattle.trace_model.specs.Images.{Image, Patch, whole_chunk}
+use Rattle.trace_model.specs.Images.{Image, whole_chunk}
 use Rattle.trace_model.specs.Reading.{Reading, Fragments, Unreadable, reading_of}
-use Rattle.trace_model.specs.Sequences.{Sequence, fresh, sequence_in, is_known}
+use Rattle.trace_model.specs.Sequences.{sequence_in, is_known}
 use Rattle.trace_model.specs.Buffers.{Buffer, empty_buffer}
 use Rattle.trace_model.specs.Arrivals.{with_arrival, with_image, once_read}
-use Rattle.trace_model.specs.Patches.{with_patches}
-use Rattle.trace_model.specs.History.{Event, Arrives, Patched, Committed, event_sequence, after, buffer_after, state_after, buffers_after}
+use Rattle.trace_model.specs.History.{Event, Arrives, Committed, event_sequence, after, buffer_after, state_after, buffers_after}
 use Rattle.chunk_plain.specs.Histories as histories
 use Rattle.delivery_laws.proofs.AskLemmas.{known_after}
 use Rattle.service_core.specs.Routing.{buffer_at, IsAt, is_closed_at, arrivals_of}

@@ -1,6 +1,5 @@
 -- The buffer of each writer has its sequence, from the first buffers on.
-use Rattle.std.proofs.Common.{◌≡◌, ◌≢◌, ◌∙◌, ℕ, zero, suc, ◌+◌, ◌-◌, ◌<◌, ◌≤◌, ◌⊎◌, Bool, true, false, List, [], ◌∷◌, ◌++◌, length, map, refl, sym, ap, subst, arith, inl, inr}
-use Rattle.std.specs.Prelude.{slice_get, Some, ◌==◌}
+use Rattle.std.proofs.Common.{◌≡◌, ◌≢◌, ◌∙◌, ℕ, zero, suc, ◌+◌, ◌-◌, ◌<◌, ◌≤◌, ◌⊎◌, false, List, [], ◌∷◌, length, map, refl, sym, ap, subst, arith, inl, inr}
 use Rattle.std.proofs.lemmas.List.{length-map}
 use Rattle.std.proofs.lemmas.Bool.{eq-eqb, ne_eqb, cases_lt}
 use Rattle.std.proofs.lemmas.Option.{slice_get-get_or}
@@ -8,7 +7,7 @@ use Rattle.trace_base.specs.declared.policy.WriterSpec.{WriterSpec}
 use Rattle.page_geometry.specs.Sizes.{record_size}
 use Rattle.trace_model.specs.Images.{Image, Patch}
 use Rattle.trace_model.specs.Reading.{Reading, Fragments, Unreadable, reading_of}
-use Rattle.trace_model.specs.Sequences.{Sequence, fresh, sequence_in, is_known}
+use Rattle.trace_model.specs.Sequences.{Sequence, sequence_in, is_known}
 use Rattle.trace_model.specs.Buffers.{Buffer}
 use Rattle.trace_model.specs.History as model
 use Rattle.trace_model.specs.History.{buffers_after}
@@ -18,7 +17,6 @@ use Rattle.chunk_plain.specs.Histories.{once_read, history_of}
 use Rattle.world_model.specs.FirstBuffers as first
 use Rattle.world_model.specs.FirstBuffers.{sequences_from, first_buffers}
 use Rattle.world_model.proofs.MakingLemmas.{set_at}
-use Rattle.trace_buffer.specs.declared.answers.BufferSpec.{BufferSpec}
 use Rattle.service_core.specs.declared.service.ServiceCore.{ServiceCore}
 use Rattle.service_core.specs.Routing.{buffer_at, IsAt, is_closed_at, arrivals_of}
 use Rattle.service_core.specs.Agreement.{ServiceAgrees, spec_value, first_of, spec_at, no_writer, buffer_of, is_closed, IsAgreeing}
@@ -62,6 +60,18 @@ at_first setup specs place inside least most =
         ∙ ne_eqb (buffer_of setup place) (1 + other) (λ e. differs (let same : other ≡ buffer_of setup place - 1 = omega (arith, e) in same))
     by_place other differs (inr past) =
         none_at (first_buffers setup 1 specs) other (place + 2) (let long = first_long setup 1 specs in omega (arith, past, long))
+
+-- no sequence is closed at first
+pub open_first : (setup : Setup) (specs : List first.BufferSpec) (place : ℕ) → place < length setup.writers → 1 ≤ buffer_of setup place → buffer_of setup place ≤ length specs
+    → is_closed_at (first_buffers setup 1 specs) (buffer_of setup place - 1) (place + 2) ≡ false
+open_first setup specs place inside least most =
+    let spec : WriterSpec = spec_at setup.writers place in
+    let get = slice_get-get_or setup.writers place no_writer inside in
+    let index : ℕ = buffer_of setup place - 1 in
+    let below : index < length specs = omega arith in
+    let number : spec.buffer ≡ 1 + index = omega arith in
+    ap (λ (ss : List Sequence). (sequence_in ss (place + 2)).closed) (first_sequences setup 1 specs index below)
+    ∙ ap (λ (s : Sequence). s.closed) ((set_at setup place spec get (1 + index)).start (eq-eqb spec.buffer (1 + index) number))
 
 -- the buffer of the writer at this place has its sequence
 pub stands : {S : Type 0} → (setup : Setup) (view : ServiceView) (core : ServiceCore S) (place : ℕ) → ServiceAgrees setup view core → place < length setup.writers

@@ -1,21 +1,20 @@
 -- What a view has once chunks of a writer were taken.
-use Rattle.std.proofs.Common.{◌≡◌, ◌≢◌, ◌∙◌, ℕ, zero, suc, ◌+◌, ◌-◌, ◌<◌, ◌≤◌, ◌⊎◌, Bool, List, [], ◌∷◌, ◌++◌, length, map, Option, Some, get_or, set, refl, sym, ap, subst, arith, append-nil, append_assoc, length-append, inl, inr}
+use Rattle.std.proofs.Common.{◌≡◌, ◌≢◌, ◌∙◌, ℕ, ◌+◌, ◌-◌, ◌<◌, ◌⊎◌, Bool, List, [], ◌∷◌, ◌++◌, length, Some, get_or, set, refl, sym, ap, subst, arith, length-append, inl, inr}
 use Rattle.std.specs.Prelude.{slice_get, cond, None}
 use Rattle.std.proofs.Math.ListN.{get_or-map}
 use Rattle.std.proofs.lemmas.List.{get_or-set_same, get_or-set_other, set-set, get_or_read, length-map}
 use Rattle.std.proofs.Math.Seq.{get_or-append_seam}
 use Rattle.std.proofs.lemmas.Option.{slice_get-get_or}
 use Rattle.std.proofs.lemmas.Bool.{cases_eq, eq-eqb}
-use Rattle.trace_model.specs.Images.{Patch}
 use Rattle.page_geometry.specs.Header.{packed}
 use Rattle.chunk_plain.specs.declared.tokens.Taken.{Taken as TakenToken}
 use Rattle.chunk_plain.specs.declared.tokens.NotComplete.{NotComplete}
 use Rattle.chunk_plain.specs.Setup.{Setup}
 use Rattle.chunk_plain.specs.Words.{taken_content, TakesChunk, FindsOther}
-use Rattle.chunk_plain.specs.Views.{Content, Look, Taken, none_taken, Noted, Arrive, Patched, ServiceView, taken_of}
+use Rattle.chunk_plain.specs.Views.{Content, Look, Taken, none_taken, ServiceView, taken_of}
 use Rattle.chunk_plain.specs.Steps.{without, taken_counts, looks_at, takes_in, learns, lets_go}
 use Rattle.chunk_plain.specs.Histories.{content_at}
-use Rattle.service_core.specs.Taking.{patched_where, takings, looked, noted_more, taken_more, took, SeesOther}
+use Rattle.service_core.specs.Taking.{takings, looked, noted_more, taken_more, took, SeesOther}
 use Rattle.service_core.proofs.HistoryLemmas.{Grows, found_more, get_more}
 
 -- of this writer, and of each other one

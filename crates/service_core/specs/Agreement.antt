@@ -7,12 +7,14 @@ use Rattle.trace_model.specs.Buffers.{Buffer}
 use Rattle.trace_model.specs.History.{buffers_after}
 use Rattle.chunk_plain.specs.Setup.{Setup, HasProducer, producer_of, sequence_of}
 use Rattle.chunk_plain.specs.Steps.{taken_counts}
-use Rattle.chunk_plain.specs.Views.{Content, Found, Noted, Arrive, Partial, Patched, Closed, Read, Commit, Committed, ServiceView}
+use Rattle.chunk_plain.specs.Views.{Content, Found, Noted, Arrive, Partial, Patched, Closed, Read, Commit, Committed, ServiceView, taken_of}
 use Rattle.chunk_plain.specs.Histories.{history_of, content_at, found_among}
 use Rattle.trace_buffer.specs.declared.answers.BufferSpec.{BufferSpec}
 use Rattle.session_core.specs.Sessions.{HasAnswered, answer_at}
+use Rattle.world_model.specs.Accounts.{CommitsElsewhere}
 use Rattle.world_model.specs.FirstBuffers as first
-use Rattle.service_core.specs.Routing.{buffer_at, is_closed_at}
+use Rattle.service_core.specs.Routing.{is_closed_at}
+use Rattle.service_core.specs.Order.{LeadTo, beginning}
 use Rattle.service_core.specs.declared.service.ServiceCore.{ServiceCore}
 
 abbrev pub spec_value : BufferSpec → first.BufferSpec
@@ -53,6 +55,14 @@ abbrev pub AreKnownNotes : ServiceView → List Noted → Type 0
 AreKnownNotes view [] = Unit {0}
 AreKnownNotes view (note ∷ notes) = IsKnownNote view note × AreKnownNotes view notes
 
+-- the sequence of the writer at this place is closed
+abbrev pub is_closed : {S : Type 0} → Setup → ServiceCore S → ℕ → Bool
+is_closed setup core place = is_closed_at core.buffers.items (buffer_of setup place - 1) (sequence_of place)
+
+-- nothing of the sequence came by a commit
+abbrev pub NoneCommitted : ServiceView → ℕ → Type 0
+NoneCommitted view sequence = (place : ℕ) → CommitsElsewhere view sequence place
+
 -- Between two calls: the service has the table's set-up, has taken what its view says, and its buffers are the fold of the history.
 pub record ServiceAgrees {S : Type 0} (setup : Setup) (view : ServiceView) (core : ServiceCore S) : Type 0 where
   pub layout : core.layout ≡ setup
@@ -64,10 +74,9 @@ pub record ServiceAgrees {S : Type 0} (setup : Setup) (view : ServiceView) (core
   pub session : core.session.writers ≡ length setup.writers
   pub none_read : view.reading ≡ []
   pub known : AreKnownNotes view view.events
-
--- the sequence of the writer at this place is closed
-abbrev pub is_closed : {S : Type 0} → Setup → ServiceCore S → ℕ → Bool
-is_closed setup core place = is_closed_at core.buffers.items (buffer_of setup place - 1) (sequence_of place)
+  -- the notes on each sequence are in order, where nothing of it came by a commit
+  pub order : (place : ℕ) → place < length setup.writers → NoneCommitted view (sequence_of place)
+      → LeadTo view (sequence_of place) beginning view.events (record { come = (taken_of view place).count; closed = is_closed setup core place; due = [] })
 
 -- no sequence of the producer's writers is closed
 abbrev pub IsOpen : {S : Type 0} → Setup → ServiceCore S → (producer : ℕ) → Type 0

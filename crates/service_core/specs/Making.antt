@@ -6,7 +6,6 @@ use Rattle.page_geometry.specs.Sizes.{record_size}
 use Rattle.ring_bytes.specs.declared.ring.TheConstants.{MAX_RING_SIZE}
 use Rattle.chunk_plain.specs.Setup.{Setup, size_of, producer_of}
 use Rattle.chunk_plain.specs.Views.{ServiceView, taken_of}
-use Rattle.chunk_plain.specs.Steps.{taken_counts}
 use Rattle.trace_buffer.specs.declared.answers.BufferSpec.{BufferSpec}
 use Rattle.service_core.specs.Agreement.{buffer_of}
 

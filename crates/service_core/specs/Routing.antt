@@ -1,8 +1,8 @@
 -- Events on several buffers, of which one has the event's sequence.
-use Rattle.std.specs.Prelude.{◌≡◌, ◌≢◌, ℕ, ◌<◌, Bool, true, false, List, [], ◌∷◌, length, map, slice_index_or}
+use Rattle.std.specs.Prelude.{◌≡◌, ◌≢◌, ℕ, ◌<◌, Bool, true, false, List, [], length, slice_index_or}
 use Rattle.trace_base.specs.declared.policy.FullPolicy.TheVariants.{Ring}
-use Rattle.trace_model.specs.Images.{Image, Patch}
-use Rattle.trace_model.specs.Reading.{Reading, reading_of}
+use Rattle.trace_model.specs.Images.{Image}
+use Rattle.trace_model.specs.Reading.{reading_of}
 use Rattle.trace_model.specs.Sequences.{is_known, sequence_in}
 use Rattle.trace_model.specs.Buffers.{Buffer, empty_buffer}
 use Rattle.trace_model.specs.History.{Event, Arrives, ArrivesInPart}

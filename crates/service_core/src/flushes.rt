@@ -4,6 +4,8 @@ ghost use Rattle.trace_base.specs.declared.limits.TheConstants.{MAX_WRITERS};
 ghost use Rattle.session_core.specs.States.{Flush, Stop, refusal_in, answered_as};
 ghost use Rattle.session_core.specs.Sessions.{left_as, moved, requested, acknowledge_refusal, with_answer};
 ghost use Rattle.session_core.specs.declared.answers.SessionState.TheVariants.{Stopped};
+ghost use Rattle.chunk_plain.specs.Setup.{Setup};
+ghost use Rattle.chunk_plain.specs.Views.{ServiceView};
 ghost use Rattle.service_core.specs.Agreement.{IsAgreeing, KeepsTaking, IsAnsweredBy, is_closed_in, ServiceAgrees};
 
 use crate::service::ServiceCore;
@@ -37,6 +39,7 @@ impl<S> ServiceCore<S> {
         ensures after { self.new.session ≡ left_as (acknowledge_refusal self.old.session flush) self.old.session
             (with_answer self.old.session (writer - 1) (record { flush = flush; chunks = chunks })) }
         ensures keeps { KeepsTaking self.old self.new }
+        ensures agrees { (setup : Setup) (view : ServiceView) → ServiceAgrees setup view self.old → ServiceAgrees setup view self.new }
     {
         self.session.acknowledge(flush, writer, chunks)
     }
@@ -56,6 +59,7 @@ impl<S> ServiceCore<S> {
         ensures answer { result ≡ answered_as (refusal_in Stop self.old.session.state) tt }
         ensures after { self.new.session ≡ left_as (refusal_in Stop self.old.session.state) self.old.session (moved Stopped self.old.session) }
         ensures keeps { KeepsTaking self.old self.new }
+        ensures agrees { (setup : Setup) (view : ServiceView) → ServiceAgrees setup view self.old → ServiceAgrees setup view self.new }
     {
         self.session.stop()
     }

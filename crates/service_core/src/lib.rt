@@ -14,6 +14,8 @@ mod patching;
 mod routing;
 mod service;
 mod taking;
+#[cfg(test)]
+mod tests;
 
 pub use committing::WrongTarget;
 pub use service::ServiceCore;

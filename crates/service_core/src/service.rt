@@ -1,11 +1,12 @@
 //! The service over any table of chunks.
-ghost use Rattle.std.specs.Prelude.{◌≡◌, ℕ, ◌+◌, ◌-◌, ◌<◌, ◌≤◌, All, length, IfOk, slice_index_or};
+ghost use Rattle.std.specs.Prelude.{◌≡◌, false, ℕ, ◌+◌, ◌-◌, ◌<◌, ◌≤◌, All, length, IfOk, slice_index_or};
 ghost use Rattle.trace_base.specs.declared.limits.TheConstants.{MAX_BUFFERS, MAX_PRODUCERS, MAX_PAGES, FIRST_SEQUENCE};
 ghost use Rattle.chunk_plain.specs.Laying.{setup_of};
 ghost use Rattle.chunk_plain.specs.Setup.{Setup};
 ghost use Rattle.chunk_plain.specs.Views.{ServiceView, taken_of};
+ghost use Rattle.session_core.specs.Sessions.{new_session, moved, configured};
 ghost use Rattle.session_core.specs.declared.answers.SessionState.TheVariants.{Started};
-ghost use Rattle.service_core.specs.Agreement.{ServiceAgrees, IsRouted};
+ghost use Rattle.service_core.specs.Agreement.{ServiceAgrees, IsRouted, is_closed};
 ghost use Rattle.service_core.specs.Making.{HaveSizes, RecordsFit, IsUnused};
 
 use crate::making::make_buffers;
@@ -50,7 +51,9 @@ impl<S: Drop> ServiceCore<S> {
         ensures seat { IfOk result (λ core. core.seat ≡ seat) }
         ensures agrees { IfOk result (λ core. (view : ServiceView) → IsUnused (length writers.now) view
             → ServiceAgrees (setup_of producers.now writers.now) view core) }
-        ensures session { IfOk result (λ core. core.session.state ≡ Started) }
+        ensures open { IfOk result (λ core. (place : ℕ) → place < length writers.now
+            → is_closed (setup_of producers.now writers.now) core place ≡ false) }
+        ensures session { IfOk result (λ core. core.session ≡ moved Started (configured (length writers.now) new_session)) }
     {
         let layout = Layout::make(alloc, producers, writers)?;
         let made = make_buffers(alloc, buffers, producers, writers)?;

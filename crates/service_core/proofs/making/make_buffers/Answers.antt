@@ -1,8 +1,7 @@
-use Rattle.std.proofs.Common.{◌≡◌, ◌+◌, ◌-◌, ◌∙◌, ◌<◌, ◌≤◌, ℕ, List, [], ◌∷◌, ◌++◌, length, map, take, get_or, subst, sym, refl, ap, arith, rules, length-take-le}
+use Rattle.std.proofs.Common.{◌≡◌, ◌∙◌, ◌<◌, List, [], ◌∷◌, ◌++◌, length, map, take, sym, ap, arith, length-take-le}
 use Rattle.std.proofs.lemmas.List.{take_more, map-append, length-map}
 use Rattle.trace_base.specs.declared.policy.FullPolicy.TheVariants.{Ring}
 use Rattle.trace_model.specs.Buffers.{Buffer, empty_buffer}
-use Rattle.trace_model.specs.Sequences.{Sequence}
 use Rattle.chunk_plain.specs.Laying.{setup_of}
 use Rattle.world_model.specs.FirstBuffers as first
 use Rattle.world_model.specs.FirstBuffers.{first_buffers}

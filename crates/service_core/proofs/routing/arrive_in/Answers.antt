@@ -1,5 +1,4 @@
-use Rattle.std.proofs.Common.{◌≡◌, ◌∙◌, ap, [], set}
-use Rattle.page_geometry.specs.Sizes.{record_size}
+use Rattle.std.proofs.Common.{◌∙◌, ap, [], set}
 use Rattle.trace_model.specs.Buffers.{Buffer}
 use Rattle.trace_model.specs.Arrivals.{with_image}
 use Rattle.chunk_image.specs.Values.{image_value}

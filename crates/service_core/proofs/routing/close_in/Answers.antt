@@ -1,4 +1,4 @@
-use Rattle.std.proofs.Common.{◌≡◌, ◌∙◌, ap, [], set}
+use Rattle.std.proofs.Common.{◌∙◌, ap, [], set}
 use Rattle.std.proofs.lemmas.List.{get_or_read}
 use Rattle.trace_base.specs.declared.policy.FullPolicy.TheVariants.{Ring}
 use Rattle.trace_model.specs.Buffers.{Buffer, empty_buffer}

@@ -1,7 +1,6 @@
-use Rattle.std.proofs.Common.{◌≡◌, ◌∙◌, ap, sym, true, [], set, map}
-use Rattle.std.proofs.lemmas.List.{get_or_read, set-set}
+use Rattle.std.proofs.Common.{◌∙◌, ap, [], set, map}
+use Rattle.std.proofs.lemmas.List.{get_or_read}
 use Rattle.trace_base.specs.declared.policy.FullPolicy.TheVariants.{Ring}
-use Rattle.page_geometry.specs.Sizes.{record_size}
 use Rattle.trace_model.specs.Buffers.{Buffer, empty_buffer}
 use Rattle.trace_model.specs.Sequences.{is_known}
 use Rattle.trace_model.specs.Arrivals.{with_image}

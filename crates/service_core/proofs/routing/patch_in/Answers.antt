@@ -1,4 +1,4 @@
-use Rattle.std.proofs.Common.{◌≡◌, ◌∙◌, ap, [], set, map}
+use Rattle.std.proofs.Common.{◌∙◌, ap, [], set, map}
 use Rattle.commit_body.specs.Patches.{patch_value}
 use Rattle.trace_model.specs.Buffers.{Buffer}
 use Rattle.trace_model.specs.Patches.{with_patches}

@@ -1,4 +1,4 @@
-use Rattle.std.proofs.Common.{◌≡◌, ◌≤◌, ◌∙◌, ℕ, List, length, ap, sym, arith, rules}
+use Rattle.std.proofs.Common.{ℕ, List, length, ap, arith}
 use Rattle.trace_base.specs.declared.policy.WriterSpec.{WriterSpec}
 use Rattle.service_core.proofs.RoutedLemmas.{taken_long}
 use Rattle.service_core.proofs.service.ServiceCore.answered.Goals as goal

@@ -1,6 +1,5 @@
-use Rattle.std.proofs.Common.{◌≡◌, ◌≢◌, ◌<◌, ◌≤◌, ◌⊎◌, ℕ, length, take, true}
+use Rattle.std.proofs.Common.{take}
 use Rattle.chunk_plain.specs.Meaning.{IsServiceStep}
-use Rattle.chunk_plain.specs.Setup.{producer_of}
 use Rattle.service_core.specs.Agreement.{ServiceAgrees}
 use Rattle.service_core.specs.Closing.{TakesAndClosesSome, ClosesSome}
 use Rattle.service_core.proofs.service.ServiceCore.close_producer.Given as goal

@@ -1,4 +1,4 @@
-use Rattle.std.proofs.Common.{◌≡◌, ◌+◌, ◌-◌, ◌∙◌, ◌<◌, ℕ, List, [], ◌∷◌, length, subst, sym, refl, ap}
+use Rattle.std.proofs.Common.{◌+◌, ◌-◌, ◌∙◌, ◌<◌, ℕ, List, [], ◌∷◌, length, subst, sym, refl, ap}
 use Rattle.std.proofs.lemmas.List.{get_or_read}
 use Rattle.trace_base.specs.declared.policy.WriterSpec.{WriterSpec}
 use Rattle.page_geometry.specs.Sizes.{record_size}
@@ -7,7 +7,7 @@ use Rattle.chunk_plain.specs.Views.{Closed, ServiceView}
 use Rattle.service_core.specs.Routing.{IsAt}
 use Rattle.service_core.specs.Agreement.{ServiceAgrees, spec_at, no_writer}
 use Rattle.service_core.proofs.RoutedLemmas.{stands}
-use Rattle.service_core.proofs.CloseLemmas.{agrees_noted, closes_here, closes_there}
+use Rattle.service_core.proofs.CloseLemmas.{agrees_noted, closes_here, closes_there, order_closed}
 use Rattle.service_core.proofs.service.ServiceCore.close_writer.Goals as goal
 
 pub close_in-requires-clause-at : goal.close_in-requires-clause-at
@@ -29,7 +29,8 @@ returns-clause-agrees g c =
     let core = c.args.self.now in
     let done = record core { seat = c.note.new.seat; buffers = c.close_in.new.buffers } in
     subst (λ (v : ServiceView). ServiceAgrees setup v done) (sym c.note.ensures.view)
-    (agrees_noted setup view core done (Closed (c.args.place + 2) ∷ []) c.requires.agrees (record { layout = refl; specs = refl; writers = refl; session = refl }) c.close_in.ensures refl (tt, tt))
+    (agrees_noted setup view core done (Closed (c.args.place + 2) ∷ []) c.requires.agrees (record { layout = refl; specs = refl; writers = refl; session = refl }) c.close_in.ensures refl (tt, tt)
+    (λ other inside none. order_closed setup view core done c.args.place c.requires.agrees c.requires.open c.close_in.ensures other inside))
 
 pub returns-clause-closes : goal.returns-clause-closes
 returns-clause-closes g c =

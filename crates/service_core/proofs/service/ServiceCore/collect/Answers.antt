@@ -1,15 +1,13 @@
-use Rattle.std.proofs.Common.{◌≡◌, ◌+◌, ◌-◌, ◌*◌, ◌^◌, ◌∙◌, ◌<◌, ◌≤◌, ℕ, Bool, true, false, List, [], ◌∷◌, ◌++◌, length, set, get_or, subst, sym, refl, ap, arith, rules, inl, inr}
-use Rattle.chunk_plain.specs.Setup.{Setup, producer_of, range_of}
-use Rattle.chunk_plain.specs.Views.{ServiceView, taken_of}
-use Rattle.chunk_plain.proofs.SeatSteps.{services_follow, serves_on}
-use Rattle.service_core.specs.Agreement.{ServiceAgrees, KeepsRest, is_closed}
+use Rattle.std.proofs.Common.{◌+◌, ◌∙◌, ◌<◌, ℕ, List, length, subst, sym, ap, arith}
+use Rattle.chunk_plain.specs.Setup.{Setup}
+use Rattle.chunk_plain.proofs.SeatSteps.{services_follow}
+use Rattle.service_core.specs.Agreement.{ServiceAgrees, KeepsRest}
 use Rattle.std.proofs.Common.{take}
-use Rattle.std.proofs.lemmas.List.{take_more, get_or_read}
-use Rattle.std.specs.Prelude.{cond, ◌==◌}
+use Rattle.std.proofs.lemmas.List.{get_or_read}
 use Rattle.trace_base.specs.declared.policy.WriterSpec.{WriterSpec}
 use Rattle.service_core.specs.Agreement.{spec_at, no_writer}
 use Rattle.service_core.specs.Taking.{TakesOf, Takes, places_of}
-use Rattle.service_core.proofs.AgreeLemmas.{keeps_same, keeps_both}
+use Rattle.service_core.proofs.AgreeLemmas.{keeps_both}
 use Rattle.service_core.proofs.ChainLemmas.{takes_writer, places_add, places_skip}
 use Rattle.service_core.proofs.service.ServiceCore.collect.Goals as goal
 

@@ -1,4 +1,4 @@
-use Rattle.std.proofs.Common.{◌≡◌, ◌≤◌, ◌*◌, ◌^◌, take}
+use Rattle.std.proofs.Common.{◌≤◌, ◌*◌, ◌^◌, take}
 use Rattle.chunk_plain.specs.Meaning.{IsServiceStep}
 use Rattle.service_core.specs.Agreement.{ServiceAgrees, KeepsRest}
 use Rattle.service_core.specs.Taking.{Takes, places_of}

@@ -5,7 +5,6 @@ use Rattle.page_geometry.specs.Sizes.{record_size}
 use Rattle.trace_model.specs.History as model
 use Rattle.chunk_image.specs.Values.{image_value}
 use Rattle.commit_body.specs.Patches.{patch_value}
-use Rattle.chunk_plain.specs.Setup.{size_of, producer_of}
 use Rattle.chunk_plain.specs.Steps.{notes_commit}
 use Rattle.chunk_plain.specs.Views.{Committed, ServiceView}
 use Rattle.service_core.specs.Routing.{IsAt}

@@ -1,14 +1,18 @@
-use Rattle.std.proofs.Common.{◌≡◌, ◌+◌, ◌-◌, ◌∙◌, ◌<◌, ◌≤◌, ℕ, List, [], ◌∷◌, ◌++◌, length, map, take, get_or, subst, sym, refl, ap, arith, rules}
+use Rattle.std.proofs.Common.{◌≡◌, ◌+◌, ◌-◌, ◌∙◌, ℕ, Bool, false, List, [], length, map, subst, sym, ap, arith, rules}
 use Rattle.std.specs.List.{flat_map}
 use Rattle.trace_model.specs.Buffers.{Buffer}
 use Rattle.trace_model.specs.History.{buffers_after}
 use Rattle.chunk_plain.specs.Laying.{setup_of}
-use Rattle.chunk_plain.specs.Views.{Noted}
+use Rattle.std.proofs.lemmas.List.{length-map}
+use Rattle.chunk_plain.specs.Views.{Noted, taken_of}
 use Rattle.chunk_plain.specs.Histories.{happened}
 use Rattle.world_model.specs.FirstBuffers.{first_buffers}
 use Rattle.trace_buffer.specs.declared.answers.BufferSpec.{BufferSpec}
-use Rattle.service_core.specs.Agreement.{IsRouted, AreKnownNotes, spec_value}
+use Rattle.service_core.specs.Routing.{is_closed_at}
+use Rattle.service_core.specs.Order.{LeadTo, beginning}
+use Rattle.service_core.specs.Agreement.{IsRouted, buffer_of, AreKnownNotes, spec_value}
 use Rattle.service_core.proofs.RouteLemmas.{buffers_none}
+use Rattle.service_core.proofs.RoutedLemmas.{open_first}
 use Rattle.service_core.proofs.MakeLemmas.{none_counted}
 use Rattle.service_core.proofs.service.ServiceCore.make.Goals as goal
 
@@ -30,4 +34,21 @@ returns-clause-agrees g c view unused =
       session = search rules;
       none_read = unused.none_read;
       known = subst (AreKnownNotes view) (sym unused.none_noted) tt;
+      order = λ place inside none_of.
+          let long = length-map c.args.buffers.now spec_value in
+          let most = c.requires.routed.most place inside in
+          let open_here : is_closed_at c.in_ok-made.made.items (buffer_of setup place - 1) (place + 2) ≡ false =
+          ap (λ (bs : List Buffer). is_closed_at bs (buffer_of setup place - 1) (place + 2)) c.in_ok-made.ensures
+          ∙ open_first setup (map spec_value c.args.buffers.now) place inside (c.requires.routed.least place inside) (omega (arith, most, long)) in
+          subst (λ (es : List Noted). LeadTo view (place + 2) beginning es (record { come = (taken_of view place).count; closed = is_closed_at c.in_ok-made.made.items (buffer_of setup place - 1) (place + 2); due = [] })) (sym unused.none_noted)
+          (ap (λ (n : ℕ). record { come = n; closed = false; due = [] }) (sym (unused.none_taken place))
+          ∙ ap (λ (b : Bool). record { come = (taken_of view place).count; closed = b; due = [] }) (sym open_here));
     }
+
+pub returns-clause-open : goal.returns-clause-open
+returns-clause-open g c place inside =
+    let setup = setup_of c.args.producers.now c.args.writers.now in
+    let long = length-map c.args.buffers.now spec_value in
+    let most = c.requires.routed.most place inside in
+    ap (λ (bs : List Buffer). is_closed_at bs (buffer_of setup place - 1) (place + 2)) c.in_ok-made.ensures
+    ∙ open_first setup (map spec_value c.args.buffers.now) place inside (c.requires.routed.least place inside) (omega (arith, most, long))

@@ -1,15 +1,13 @@
-use Rattle.std.proofs.Common.{◌≡◌, ◌+◌, ◌-◌, ◌∙◌, ◌<◌, ℕ, true, List, [], length, vec_len, get_or, subst, sym, refl, ap, arith}
+use Rattle.std.proofs.Common.{◌≡◌, ◌+◌, ◌-◌, ◌∙◌, ◌<◌, ℕ, [], length, get_or, ap, arith}
 use Rattle.std.proofs.lemmas.List.{get_or_read}
 use Rattle.trace_base.specs.declared.policy.FullPolicy.TheVariants.{Ring}
 use Rattle.trace_base.specs.declared.policy.WriterSpec.{WriterSpec}
-use Rattle.page_geometry.specs.Sizes.{record_size}
 use Rattle.trace_model.specs.Sequences.{sequence_in, is_known}
 use Rattle.trace_model.specs.Buffers.{Buffer, empty_buffer}
-use Rattle.chunk_plain.specs.Setup.{size_of, producer_of}
 use Rattle.trace_buffer.specs.Answers.{state_of}
 use Rattle.service_core.specs.declared.service.ServiceCore.{ServiceCore}
-use Rattle.service_core.specs.Routing.{buffer_at, IsAt}
-use Rattle.service_core.specs.Agreement.{IsAgreeing, spec_at, no_writer}
+use Rattle.service_core.specs.Routing.{buffer_at}
+use Rattle.service_core.specs.Agreement.{spec_at, no_writer}
 use Rattle.service_core.proofs.RoutedLemmas.{stands_in}
 use Rattle.service_core.proofs.service.ServiceCore.state_at.Goals as goal
 

@@ -1,9 +1,8 @@
-use Rattle.std.proofs.Common.{◌≡◌, ◌+◌, ◌-◌, ◌*◌, ◌^◌, ◌∙◌, ◌<◌, ◌≤◌, ℕ, Bool, true, false, List, [], ◌∷◌, ◌++◌, length, set, get_or, subst, sym, refl, ap, arith, rules, inl, inr}
-use Rattle.chunk_plain.specs.Setup.{Setup, producer_of, range_of}
-use Rattle.chunk_plain.specs.Views.{ServiceView, taken_of}
+use Rattle.std.proofs.Common.{◌<◌, length, subst, arith, rules}
+use Rattle.chunk_plain.specs.Setup.{Setup}
 use Rattle.chunk_plain.proofs.SeatSteps.{services_follow, serves_on}
-use Rattle.service_core.specs.Agreement.{ServiceAgrees, KeepsRest, is_closed}
-use Rattle.service_core.specs.Taking.{SeesNone, TakesNext}
+use Rattle.service_core.specs.Agreement.{ServiceAgrees, KeepsRest}
+use Rattle.service_core.specs.Taking.{SeesNone}
 use Rattle.service_core.proofs.AgreeLemmas.{keeps_same, keeps_both}
 use Rattle.service_core.proofs.ChainLemmas.{takes_none_yet, takes_more, takes_until}
 use Rattle.service_core.proofs.service.ServiceCore.take_all.Goals as goal

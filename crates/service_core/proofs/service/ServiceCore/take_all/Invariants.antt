@@ -1,4 +1,3 @@
-use Rattle.std.proofs.Common.{◌≡◌}
 use Rattle.chunk_plain.specs.Meaning.{IsServiceStep}
 use Rattle.service_core.specs.Agreement.{ServiceAgrees, KeepsRest}
 use Rattle.service_core.specs.Taking.{TakesSome}

@@ -1,8 +1,7 @@
-use Rattle.std.proofs.Common.{◌≡◌, ◌+◌, ◌-◌, ◌∙◌, ◌<◌, ◌≤◌, ℕ, Bool, true, false, List, [], ◌∷◌, ◌++◌, length, set, get_or, subst, sym, refl, ap, arith, rules, inl, inr}
-use Rattle.chunk_plain.specs.Setup.{Setup, producer_of, range_of}
-use Rattle.chunk_plain.specs.Views.{ServiceView, taken_of}
-use Rattle.chunk_plain.proofs.SeatSteps.{services_follow, serves_on}
-use Rattle.service_core.specs.Agreement.{ServiceAgrees, KeepsRest, is_closed}
+use Rattle.std.proofs.Common.{subst}
+use Rattle.chunk_plain.specs.Setup.{Setup}
+use Rattle.chunk_plain.proofs.SeatSteps.{services_follow}
+use Rattle.service_core.specs.Agreement.{ServiceAgrees, KeepsRest}
 use Rattle.service_core.specs.Taking.{SeesOther}
 use Rattle.service_core.proofs.AgreeLemmas.{keeps_both}
 use Rattle.service_core.proofs.ChainLemmas.{sees_more}

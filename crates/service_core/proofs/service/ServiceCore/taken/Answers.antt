@@ -1,5 +1,4 @@
-use Rattle.std.proofs.Common.{◌≡◌, ◌+◌, ◌-◌, ◌∙◌, ◌<◌, ℕ, List, length, vec_len, get_or, subst, sym, ap, arith}
-use Rattle.chunk_plain.specs.Views.{ServiceView, taken_of}
+use Rattle.std.proofs.Common.{◌≡◌, ◌-◌, ℕ, List, length, get_or, subst, ap, arith}
 use Rattle.trace_base.specs.declared.policy.WriterSpec.{WriterSpec}
 use Rattle.service_core.proofs.RoutedLemmas.{taken_long}
 use Rattle.service_core.proofs.TakingLemmas.{read_count}

@@ -1,15 +1,14 @@
-use Rattle.std.proofs.Common.{◌≡◌, ◌+◌, ◌-◌, ◌∙◌, ◌<◌, ℕ, List, [], ◌∷◌, length, set, get_or, subst, sym, refl, ap, vec_len, arith, rules}
+use Rattle.std.proofs.Common.{◌+◌, ◌-◌, ◌∙◌, ◌<◌, ℕ, List, [], ◌∷◌, length, set, subst, sym, refl, ap, vec_len, arith}
 use Rattle.trace_base.specs.declared.policy.WriterSpec.{WriterSpec}
 use Rattle.page_geometry.specs.Sizes.{record_size}
 use Rattle.chunk_plain.specs.Setup.{producer_of}
 use Rattle.page_geometry.specs.Header.{packed}
 use Rattle.chunk_plain.specs.Steps.{taken_counts}
-use Rattle.chunk_plain.specs.Views.{Look, ServiceView, taken_of}
+use Rattle.chunk_plain.specs.Views.{Look, ServiceView}
 use Rattle.chunk_plain.specs.Words.{taken_content}
 use Rattle.chunk_plain.proofs.SeatSteps.{services_follow}
 use Rattle.service_core.specs.Routing.{IsAt}
 use Rattle.service_core.specs.Agreement.{ServiceAgrees, spec_at}
-use Rattle.service_core.specs.Taking.{took, looked}
 use Rattle.service_core.proofs.TakingLemmas.{one_of, other_of, read_count}
 use Rattle.service_core.proofs.AgreeLemmas.{agrees_took, agrees_looked}
 use Rattle.service_core.proofs.RoutedLemmas.{stands, closed_stays}
@@ -45,7 +44,7 @@ returns-in-Ok-clause-agrees g c =
     subst (λ (v : ServiceView). ServiceAgrees setup v c.take_in.new.self) (sym one.1)
     (agrees_took setup old c.args.self.now c.take_in.new.self place (one.0 ∷ []) (taken_content place c.in-Ok.taken) c.requires.agrees
     (record { layout = c.take_in.ensures.fields.layout; specs = c.take_in.ensures.fields.specs; writers = c.take_in.ensures.fields.writers; session = c.take_in.ensures.fields.session })
-    inside (serving.level place) refl id_is c.take_in.ensures.buffers (c.take_in.ensures.taken ∙ ap (λ (n : ℕ). set c.args.self.now.taken.items place (n + 1)) id_is))
+    inside c.requires.open (serving.level place) refl id_is c.take_in.ensures.buffers (c.take_in.ensures.taken ∙ ap (λ (n : ℕ). set c.args.self.now.taken.items place (n + 1)) id_is))
 
 pub returns-in-Ok-clause-keeps : goal.returns-in-Ok-clause-keeps
 returns-in-Ok-clause-keeps g c =

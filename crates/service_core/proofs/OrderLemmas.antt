@@ -1,0 +1,111 @@
+-- Notes that are in order stay so while the view grows, and go on at the end.
+use Rattle.std.proofs.Common.{◌≡◌, ◌≢◌, ℕ, suc, ◌-◌, Bool, true, false, List, [], ◌∷◌, ◌++◌, refl, sym, subst}
+use Rattle.std.specs.Prelude.{◌==◌, slice_get, Some, MatchBool}
+use Rattle.std.proofs.lemmas.Bool.{eq-eqb, ne_eqb}
+use Rattle.trace_model.specs.Images.{Patch}
+use Rattle.chunk_plain.specs.Views.{Content, Noted, Arrive, Partial, Patched, Closed, Read, Commit, Committed, ServiceView}
+use Rattle.chunk_plain.specs.Histories.{content_at}
+use Rattle.world_model.specs.Accounts.{CommitsElsewhere}
+use Rattle.service_core.specs.Agreement.{AreKnownNotes}
+use Rattle.service_core.specs.Taking.{patched_where, takings}
+use Rattle.service_core.specs.Order.{Stage, LeadTo}
+use Rattle.service_core.proofs.HistoryLemmas.{Grows}
+
+match_map : (b : Bool) (P Q R T : Type 0) → MatchBool b P Q → (P → R) → (Q → T) → MatchBool b R T
+match_map true P Q R T h same apart = same h
+match_map false P Q R T h same apart = apart h
+
+match_true : (b : Bool) (P Q : Type 0) → b ≡ true → P → MatchBool b P Q
+match_true b P Q is h = subst (λ (x : Bool). MatchBool x P Q) (sym is) h
+
+match_false : (b : Bool) (P Q : Type 0) → b ≡ false → Q → MatchBool b P Q
+match_false b P Q is h = subst (λ (x : Bool). MatchBool x P Q) (sym is) h
+
+-- one list of notes behind another
+pub lead_both : (view : ServiceView) (q : ℕ) (first mid last : Stage) (xs ys : List Noted) → LeadTo view q first xs mid → LeadTo view q mid ys last → LeadTo view q first (xs ++ ys) last
+lead_both view q first mid last [] ys one two = subst (λ (s : Stage). LeadTo view q s ys last) (sym one) two
+lead_both view q first mid last (Arrive other id ∷ xs) ys one two = (
+  one.0,
+  match_map (other == q) _ _ _ _ one.1
+      (λ h. (h.0, h.1, h.2, h.3, lead_both view q (record { come = suc first.come; closed = first.closed; due = h.2.patches }) mid last xs ys h.4 two))
+      (λ h. lead_both view q first mid last xs ys h two),
+)
+lead_both view q first mid last (Partial other id count ∷ xs) ys one two = (
+  one.0,
+  match_map (other == q) _ _ _ _ one.1
+      (λ h. (h.0, h.1, h.2, lead_both view q first mid last xs ys h.3 two))
+      (λ h. lead_both view q first mid last xs ys h two),
+)
+lead_both view q first mid last (Patched other id ∷ xs) ys one two =
+    match_map (other == q) _ _ _ _ one
+    (λ h. (h.0, h.1, h.2, lead_both view q (record first { due = [] }) mid last xs ys h.3 two))
+    (λ h. (h.0, lead_both view q first mid last xs ys h.1 two))
+lead_both view q first mid last (Closed other ∷ xs) ys one two = (
+  one.0,
+  match_map (other == q) _ _ _ _ one.1
+      (λ h. (h.0, lead_both view q (record first { closed = true }) mid last xs ys h.1 two))
+      (λ h. lead_both view q first mid last xs ys h two),
+)
+lead_both view q first mid last (Read other limit ∷ xs) ys one two = (one.0, lead_both view q first mid last xs ys one.1 two)
+lead_both view q first mid last (Commit at ∷ xs) ys one two = (one.0, one.1, lead_both view q first mid last xs ys one.2 two)
+
+elsewhere_grows : (old new : ServiceView) (q at : ℕ) → Grows old new → ((committed : Committed) × (slice_get old.commits at ≡ Some committed)) → CommitsElsewhere old q at → CommitsElsewhere new q at
+elsewhere_grows old new q at grows known elsewhere committed is =
+    let same : known.0 ≡ committed = let there = grows.commits at known.0 known.1 in cc (there, is) in
+    subst (λ (c : Committed). (c.image.sequence == q) ≡ false) same (elsewhere known.0 known.1)
+
+-- the view grows
+pub lead_grows : (old new : ServiceView) (q : ℕ) (first last : Stage) (xs : List Noted) → Grows old new → AreKnownNotes old xs → LeadTo old q first xs last → LeadTo new q first xs last
+lead_grows old new q first last [] grows known lead = lead
+lead_grows old new q first last (Arrive other id ∷ xs) grows known lead = (
+  lead.0,
+  match_map (other == q) _ _ _ _ lead.1
+      (λ h. (h.0, h.1, h.2, grows.contents q id h.2 h.3, lead_grows old new q (record { come = suc first.come; closed = first.closed; due = h.2.patches }) last xs grows known.1 h.4))
+      (λ h. lead_grows old new q first last xs grows known.1 h),
+)
+lead_grows old new q first last (Partial other id count ∷ xs) grows known lead = (
+  lead.0,
+  match_map (other == q) _ _ _ _ lead.1
+      (λ h. (h.0, h.1, record { found = h.2.found; looked = grows.looks (q - 2) id count h.2.found h.2.looked; some = h.2.some }, lead_grows old new q first last xs grows known.1 h.3))
+      (λ h. lead_grows old new q first last xs grows known.1 h),
+)
+lead_grows old new q first last (Patched other id ∷ xs) grows known lead =
+    match_map (other == q) _ _ _ _ lead
+    (λ h. (h.0, grows.contents q id h.0 h.1, h.2, lead_grows old new q (record first { due = [] }) last xs grows known.1 h.3))
+    (λ h. (h.0, lead_grows old new q first last xs grows known.1 h.1))
+lead_grows old new q first last (Closed other ∷ xs) grows known lead = (
+  lead.0,
+  match_map (other == q) _ _ _ _ lead.1
+      (λ h. (h.0, lead_grows old new q (record first { closed = true }) last xs grows known.1 h.1))
+      (λ h. lead_grows old new q first last xs grows known.1 h),
+)
+lead_grows old new q first last (Read other limit ∷ xs) grows known lead = (lead.0, lead_grows old new q first last xs grows known.1 lead.1)
+lead_grows old new q first last (Commit at ∷ xs) grows known lead =
+    (lead.0, elsewhere_grows old new q at grows known.0 lead.1, lead_grows old new q first last xs grows known.1 lead.2)
+
+-- one chunk of the sequence was taken
+pub lead_taken : (view : ServiceView) (q id : ℕ) (content : Content) → content_at view q id ≡ Some content
+    → LeadTo view q (record { come = id; closed = false; due = [] }) (takings q id (content ∷ [])) (record { come = suc id; closed = false; due = [] })
+lead_taken view q id content there = (refl, match_true (q == q) _ _ (eq-eqb q q refl) (refl, refl, content, there, behind content.patches refl))
+  where
+    behind : (patches : List Patch) → content.patches ≡ patches
+        → LeadTo view q (record { come = suc id; closed = false; due = patches }) (patched_where patches q id ++ []) (record { come = suc id; closed = false; due = [] })
+    behind [] is = refl
+    behind (patch ∷ patches) is = match_true (q == q) _ _ (eq-eqb q q refl) (content, there, is, refl)
+
+-- and one of another sequence
+pub lead_other : (view : ServiceView) (q other id come : ℕ) (closed : Bool) (content : Content) → other ≢ q
+    → LeadTo view q (record { come = come; closed = closed; due = [] }) (takings other id (content ∷ [])) (record { come = come; closed = closed; due = [] })
+lead_other view q other id come closed content differs = (refl, match_false (other == q) _ _ (ne_eqb other q differs) (behind content.patches))
+  where
+    behind : (patches : List Patch) → LeadTo view q (record { come = come; closed = closed; due = [] }) (patched_where patches other id ++ []) (record { come = come; closed = closed; due = [] })
+    behind [] = refl
+    behind (patch ∷ patches) = match_false (other == q) _ _ (ne_eqb other q differs) (refl, refl)
+
+-- the sequence is closed, or another one
+pub lead_closed : (view : ServiceView) (q come : ℕ) → LeadTo view q (record { come = come; closed = false; due = [] }) (Closed q ∷ []) (record { come = come; closed = true; due = [] })
+lead_closed view q come = (refl, match_true (q == q) _ _ (eq-eqb q q refl) (refl, refl))
+
+pub lead_closed_other : (view : ServiceView) (q other come : ℕ) (closed : Bool) → other ≢ q
+    → LeadTo view q (record { come = come; closed = closed; due = [] }) (Closed other ∷ []) (record { come = come; closed = closed; due = [] })
+lead_closed_other view q other come closed differs = (refl, match_false (other == q) _ _ (ne_eqb other q differs) refl)
