@@ -7,7 +7,7 @@ use Rattle.chunk_plain.specs.Setup.{sequence_of}
 use Rattle.chunk_plain.specs.Payload.{byte_of, byte_at, byte_in, sealed_to}
 use Rattle.chunk_plain.specs.Views.{At, Head, Draft, Content, Begun, Held, Completed, Found, taken_of}
 use Rattle.chunk_plain.specs.World.{World, Status, Writing, Ready, status, writer}
-use Rattle.chunk_plain.specs.Steps.{redrafts, with_head, with_word, completes, moved}
+use Rattle.chunk_plain.specs.Steps.{redrafts, with_head, with_word, with_words, completes, drafted, moved}
 use Rattle.chunk_plain.specs.Owned.{claims_of, reads_of, IsOwned}
 use Rattle.chunk_plain.specs.Drafts.{MayFollow, IsDraft, HasFinished, head_of, StillHas, IsThere}
 use Rattle.chunk_plain.specs.Words.{chunk_of}
@@ -168,17 +168,24 @@ heads_owned world place chunk id draft head ends o inside_w inside_c at follows 
     redrafts_owned world place chunk id draft (with_head draft head ends) o inside_w inside_c at good
     (λ about found has. (has.0, follows_on found.head draft.head head has.1 follows, (let less = has.2 in omega arith), has.3))
 
+-- other payload words stand in a held chunk, with the bytes of the finished fragments
+pub stores_owned : (world : World) (place chunk id : ℕ) (draft : Draft) (words : List ℕ) → IsOwned world → place < length world.writers → chunk < length world.chunks
+    → At (writer world place).begun id (Held chunk draft) → ((j : ℕ) → j < sealed_to draft.ends → byte_at words j ≡ byte_at draft.words j)
+    → IsOwned (drafted world place chunk id (with_words draft words))
+stores_owned world place chunk id draft words o inside_w inside_c at bytes =
+    let good = (o.counts place).drafts id chunk draft at in
+    redrafts_owned world place chunk id draft (with_words draft words) o inside_w inside_c at
+    record { count = good.count; reads = reads_same (byte_at draft.words) (byte_at words) draft.ends (λ j below. sym (bytes j below)) good.reads }
+    (λ about found has. (has.0, has.1, has.2, λ j below. bytes j (let most = has.2 in omega arith) ∙ has.3 j below))
+
 -- a payload word of a held chunk is stored, which keeps the bytes of the finished fragments
 pub publishes_owned : (world : World) (place chunk id index word : ℕ) (draft : Draft) → IsOwned world → place < length world.writers → chunk < length world.chunks
     → At (writer world place).begun id (Held chunk draft) → index < length draft.words
     → ((m : ℕ) → m < 8 → 8 * index + m < sealed_to draft.ends → byte_of word m ≡ byte_of (get_or draft.words index 0) m)
     → IsOwned (moved world place (redrafts (writer world place) chunk id (with_word draft index word)) chunk (Writing place id (with_word draft index word)))
 publishes_owned world place chunk id index word draft o inside_w inside_c at inside same =
-    let good = (o.counts place).drafts id chunk draft at in
-    let bytes = word_bytes draft.words index word (sealed_to draft.ends) same inside in
-    redrafts_owned world place chunk id draft (with_word draft index word) o inside_w inside_c at
-    record { count = good.count; reads = reads_same (byte_at draft.words) (byte_at (set draft.words index word)) draft.ends (λ j below. sym (bytes j below)) good.reads }
-    (λ about found has. (has.0, has.1, has.2, λ j below. bytes j (let most = has.2 in omega arith) ∙ has.3 j below))
+    stores_owned world place chunk id draft (set draft.words index word) o inside_w inside_c at
+    (word_bytes draft.words index word (sealed_to draft.ends) same inside)
 
 -- a held chunk is completed, whose content has the finished fragments
 pub completes_owned : (world : World) (place chunk id : ℕ) (draft : Draft) (content : Content) → IsOwned world → place < length world.writers → chunk < length world.chunks

@@ -1,15 +1,15 @@
 -- Each other step of a writer of the table of one thread keeps what the table keeps.
-use Rattle.std.proofs.Common.{◌≡◌, ℕ, zero, suc, ◌+◌, ◌-◌, ◌*◌, ◌<◌, ◌≤◌, Option, Some, None, List, [], ◌∷◌, length, set, get_or, subst, sym, refl, ap, ◌∙◌, arith, length-set}
+use Rattle.std.proofs.Common.{◌≡◌, ℕ, zero, suc, ◌+◌, ◌-◌, ◌<◌, ◌≤◌, Option, Some, None, List, [], ◌∷◌, length, set, get_or, subst, sym, refl, ap, ◌∙◌, arith, length-set}
 use Rattle.std.proofs.lemmas.List.{get_or-set_same, get_or-set_other}
 use Rattle.trace_model.specs.Calls as call
 use Rattle.page_geometry.specs.PageBits.{HasState, SetsState, KeepsOthers}
 use Rattle.page_geometry.specs.declared.chunk_state.ChunkState.TheVariants as state
 use Rattle.commit_body.specs.declared.body.CommitBody.{CommitBody}
 use Rattle.chunk_plain.specs.Setup.{Setup, spot, IsLaid}
-use Rattle.chunk_plain.specs.Payload.{byte_of, byte_at, sealed_to, HasFragments}
+use Rattle.chunk_plain.specs.Payload.{byte_at, sealed_to, HasFragments}
 use Rattle.chunk_plain.specs.Views.{Head, no_head, fresh}
 use Rattle.chunk_plain.specs.World.{World, Status, Unclaimed, Claimed, Stamped, Writing, Ready, Reading, status, writer}
-use Rattle.chunk_plain.specs.Steps.{stamps, begins, redrafts, with_head, with_word, completes, notes_call, moved, noted}
+use Rattle.chunk_plain.specs.Steps.{stamps, begins, redrafts, with_head, with_words, completes, notes_call, drafted, moved, noted}
 use Rattle.chunk_plain.specs.Owned.{times, IsOwned}
 use Rattle.chunk_plain.specs.Drafts.{MayFollow, draft_at, head_at, published, ends_by, IsHolding}
 use Rattle.chunk_plain.specs.Stored.{Stored, stored_at}
@@ -17,7 +17,7 @@ use Rattle.chunk_plain.specs.Shows.{state_of, claim_of, NeverAsked, ShowsPage, S
 use Rattle.chunk_plain.specs.Plain.{IsLent, StandsWhole, IsKept}
 use Rattle.chunk_plain.proofs.Owned.{claimed_status}
 use Rattle.chunk_plain.proofs.WriterSteps.{stamps_owned, begins_owned, notes_call_owned}
-use Rattle.chunk_plain.proofs.EntrySteps.{heads_owned, publishes_owned, completes_owned}
+use Rattle.chunk_plain.proofs.EntrySteps.{heads_owned, stores_owned, completes_owned}
 use Rattle.chunk_plain.proofs.PageSteps.{sets_page, same_page}
 use Rattle.chunk_plain.proofs.Sealing.{length-ends_from}
 use Rattle.chunk_plain.proofs.Shown.{shown_page_only, shown_header, shown_slot}
@@ -187,15 +187,15 @@ header_kept setup words slots world place chunk id header head laid kept inside_
       writers = length-set world.writers place view ∙ kept.writers;
     }
 
-pub publish_kept : (setup : Setup) (words : List ℕ) (slots : List Stored) (world : World) (place chunk id index word : ℕ)
+pub publish_kept : (setup : Setup) (words : List ℕ) (slots : List Stored) (world : World) (place chunk id : ℕ) (stored : List ℕ)
     → IsLaid setup → IsKept setup words slots world → place < length setup.writers
-    → IsHolding (writer world place) chunk id → index < length (draft_at (writer world place) id).words
-    → ((m : ℕ) → m < 8 → 8 * index + m < sealed_to (draft_at (writer world place) id).ends → byte_of word m ≡ byte_of (get_or (draft_at (writer world place) id).words index 0) m)
-    → IsKept setup words (set slots chunk (record (stored_at slots chunk) { words = set (stored_at slots chunk).words index word }))
-    (moved world place (redrafts (writer world place) chunk id (with_word (draft_at (writer world place) id) index word)) chunk (Writing place id (with_word (draft_at (writer world place) id) index word)))
-publish_kept setup words slots world place chunk id index word laid kept inside_w holding inside same =
+    → IsHolding (writer world place) chunk id → length stored ≡ length (stored_at slots chunk).words
+    → ((j : ℕ) → j < sealed_to (draft_at (writer world place) id).ends → byte_at stored j ≡ byte_at (draft_at (writer world place) id).words j)
+    → IsKept setup words (set slots chunk (record (stored_at slots chunk) { words = stored }))
+    (drafted world place chunk id (with_words (draft_at (writer world place) id) stored))
+publish_kept setup words slots world place chunk id stored laid kept inside_w holding many same =
     let shown = kept.shown in let at = spot setup chunk in let v = writer world place in
-    let old = draft_at v id in let draft = with_word old index word in let is = Writing place id draft in
+    let old = draft_at v id in let draft = with_words old stored in let is = Writing place id draft in
     let was = held_status setup words slots world place chunk id kept holding in
     let inside_c = held_chunk setup words slots world place chunk id kept holding in
     let slot = held_slot setup words slots world place chunk id kept holding in
@@ -205,16 +205,15 @@ publish_kept setup words slots world place chunk id index word laid kept inside_
     let next = moved world place view chunk is in
     let now : status next chunk ≡ is = get_or-set_same world.chunks chunk is Unclaimed c_inside in
     let never : (number : ℕ) → NeverAsked setup world number → NeverAsked setup next number = never_same setup world place view next.chunks world.service w_inside refl in
-    let stored = (stored_at slots chunk).words in
     let header : IsHeader setup (header_word setup words chunk) place id old.head = subst (λ t. ShowsHeader setup (header_word setup words chunk) t) was (shown.header chunk inside_c) in
     record {
-      shown = shown_slot setup words slots world next chunk (record (stored_at slots chunk) { words = set stored index word }) laid shown inside_c (length-set world.chunks chunk is)
+      shown = shown_slot setup words slots world next chunk (record (stored_at slots chunk) { words = stored }) laid shown inside_c (length-set world.chunks chunk is)
           (λ other differs. get_or-set_other world.chunks chunk other is Unclaimed differs) (λ number _. never number)
           (subst (λ t. ShowsPage setup next at (page_word setup words chunk) t) (sym now) (same_page setup world next at (page_word setup words chunk) (status world chunk) is (sym (ap state_of was)) (sym (ap claim_of was)) (never at.page) (shown.page chunk inside_c)))
           (subst (λ t. ShowsHeader setup (header_word setup words chunk) t) (sym now) header)
-          (subst (λ t. ShowsSlot at.payload_size t (record (stored_at slots chunk) { words = set stored index word })) (sym now)
-          (record { room = let many = length-set stored index word in let room = slot.room in omega arith; words = (ap (λ w. set w index word) slot.words.0, slot.words.1); body = tt }));
-      owned = publishes_owned world place chunk id index word old kept.owned w_inside c_inside holding inside same;
+          (subst (λ t. ShowsSlot at.payload_size t (record (stored_at slots chunk) { words = stored })) (sym now)
+          (record { room = let room = slot.room in omega (arith, many); words = (refl, slot.words.1); body = tt }));
+      owned = stores_owned world place chunk id old stored kept.owned w_inside c_inside holding same;
       writers = length-set world.writers place view ∙ kept.writers;
     }
 

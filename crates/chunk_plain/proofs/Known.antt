@@ -1,8 +1,9 @@
 -- What the code of the table of one thread knows of its world, and what its steps keep, as its goals say it.
-use Rattle.std.proofs.Common.{◌≡◌, ℕ, ◌+◌, ◌-◌, ◌*◌, ◌/◌, ◌%◌, ◌^◌, ◌<◌, ◌≤◌, ◌↔◌, IsTrue, IsSome, IfSome, not, Bool, Option, Some, None, List, length, set, get_or, vec_len, subst, sym, refl, ap, ◌∙◌, arith}
+use Rattle.std.proofs.Common.{◌≡◌, ℕ, ◌+◌, ◌-◌, ◌*◌, ◌^◌, ◌<◌, ◌≤◌, ◌↔◌, IsTrue, IsSome, IfSome, not, Bool, Option, Some, None, List, length, set, get_or, vec_len, subst, sym, refl, ap, ◌∙◌, arith}
 use Rattle.std.proofs.Math.Logic.{∥∥₁_map, ∥∥₁_elim}
 use Rattle.std.proofs.Math.Nat.{ℕ_set}
 use Rattle.std.proofs.Math.Bool.{Bool-set}
+use mathlib.Core.List.{is_set as list_set}
 use Rattle.std.specs.Coded.{le_prop}
 use Rattle.std.specs.Int.{bit_at}
 use Rattle.std.proofs.lemmas.List.{get_or-set_same}
@@ -14,12 +15,12 @@ use Rattle.page_geometry.specs.declared.chunk_state.ChunkState.TheVariants as st
 use Rattle.commit_body.specs.declared.body.CommitBody.{CommitBody}
 use Rattle.trace_model.specs.Calls as call
 use Rattle.chunk_plain.specs.declared.setup.Spot.{Spot}
-use Rattle.chunk_plain.specs.declared.step.Step.TheVariants.{Claim, Stamp, SetHeader, Publish, Look, Take}
+use Rattle.chunk_plain.specs.declared.step.Step.TheVariants.{Claim, Stamp, SetHeader, Look, Take}
 use Rattle.chunk_plain.specs.Setup.{Setup, spot, IsLaid}
-use Rattle.chunk_plain.specs.Payload.{byte_of, byte_at, sealed_to, HasFragments}
+use Rattle.chunk_plain.specs.Payload.{byte_at, sealed_to, HasFragments}
 use Rattle.chunk_plain.specs.Views.{Content, WriterView, ServiceView, newcomer, fresh, taken_of}
 use Rattle.chunk_plain.specs.World.{World, Status, Unclaimed, Writing, Ready, Reading, status, writer}
-use Rattle.chunk_plain.specs.Steps.{begins, completes, notes_call, looks_at, takes_in, learns, lets_go, moved, served, noted, serviced}
+use Rattle.chunk_plain.specs.Steps.{begins, with_words, drafted, completes, notes_call, looks_at, takes_in, learns, lets_go, moved, served, noted, serviced}
 use Rattle.chunk_plain.specs.Owned.{times, claims_of}
 use Rattle.chunk_plain.specs.Drafts.{MayFollow, draft_at, head_at, published, ends_by, IsHolding}
 use Rattle.chunk_plain.specs.Stored.{Stored, stored_at}
@@ -28,6 +29,9 @@ use Rattle.chunk_plain.specs.Plain.{IsLent, StandsWhole, world_after, read_as, I
 use Rattle.chunk_plain.proofs.Kept.{claim_kept, claim_bit_free}
 use Rattle.chunk_plain.proofs.KeptWriter.{claimed_by, is_chunk, body_of_claimed, stamp_kept, begin_kept, lent_inside, body_kept, held_status, held_chunk, held_slot, header_kept, publish_kept, complete_kept, call_kept}
 use Rattle.chunk_plain.proofs.KeptService.{serviced_kept, look_kept, take_kept, learn_kept, reading_of, read_chunk, release_kept}
+
+words_set : IsSet (List ℕ)
+words_set = hlevel (ℕ_set, list_set)
 
 -- the claim bit at the chunk's spot
 pub bit_set : (setup : Setup) (chunk found : ℕ) (at : Spot) → at ≡ spot setup chunk → IsClaimed found at.place → bit_at found (32 + (spot setup chunk).place) ≡ 1
@@ -94,13 +98,9 @@ module _ (setup : Setup) (words : List ℕ) (slots : List Stored) (world : World
   pub room : (chunk : ℕ) → chunk < length setup.spots → (spot setup chunk).payload_size ≤ 8 * length (stored_at slots chunk).words
   room chunk inside = ∥∥₁_elim kept (hlevel le_prop) (λ k. (k.shown.slot chunk inside).room)
 
-  -- so a word of the payload is one of the draft's
-  pub word_inside : (place chunk id index : ℕ) → IsHolding (writer world place) chunk id → 8 * index < (spot setup chunk).payload_size
-      → (index < length (stored_at slots chunk).words) × (index < length (draft_at (writer world place) id).words)
-  word_inside place chunk id index holding inside = (
-    ∥∥₁_elim kept (hlevel le_prop) (λ k. let slot = held_slot setup words slots world place chunk id k holding in let room = slot.room in omega arith),
-    ∥∥₁_elim kept (hlevel le_prop) (λ k. let slot = held_slot setup words slots world place chunk id k holding in let room = slot.room in let many = ap (λ (l : List ℕ). length l) slot.words.0 in omega arith),
-  )
+  -- the words of a held chunk are the draft's
+  pub draft_here : (place chunk id : ℕ) → IsHolding (writer world place) chunk id → (stored_at slots chunk).words ≡ (draft_at (writer world place) id).words
+  draft_here place chunk id holding = ∥∥₁_elim kept (words_set _ _) (λ k. (held_slot setup words slots world place chunk id k holding).words.0)
 
   -- ---- claim
 
@@ -182,21 +182,15 @@ module _ (setup : Setup) (words : List ℕ) (slots : List Stored) (world : World
       (∥∥₁_map kept (λ k. header_kept setup words slots world place chunk id header (record { count = count; flags = flags }) laid k inside_w holding
       record { word_is = header_is; id_fits = id_fits; writer_fits = number_fits; count_fits = count_fits; flags_fit = flags_fit } follows reads inside)))
 
-  pub word_step : (next : World) (slots' : List Stored) (place chunk id index word : ℕ) → IsLaid setup → place < length setup.writers
-      → IsHolding (writer world place) chunk id → 8 * index < (spot setup chunk).payload_size
-      → ((m : ℕ) → m < 8 → 8 * index + m < sealed_to (draft_at (writer world place) id).ends → byte_of word m ≡ byte_at (draft_at (writer world place) id).words (8 * index + m))
-      → slots' ≡ set slots chunk (record (stored_at slots chunk) { words = set (stored_at slots chunk).words index word })
-      → next ≡ world_after world (Publish place chunk id index word) → ∥ IsKept setup words slots' next ∥₁
-  word_step next slots' place chunk id index word laid inside_w holding inside same is next_is =
+  pub words_step : (next : World) (slots' : List Stored) (place chunk id : ℕ) (stored : List ℕ) → IsLaid setup → place < length setup.writers
+      → IsHolding (writer world place) chunk id → length stored ≡ length (stored_at slots chunk).words
+      → ((j : ℕ) → j < sealed_to (draft_at (writer world place) id).ends → byte_at stored j ≡ byte_at (draft_at (writer world place) id).words j)
+      → slots' ≡ set slots chunk (record (stored_at slots chunk) { words = stored })
+      → next ≡ drafted world place chunk id (with_words (draft_at (writer world place) id) stored) → ∥ IsKept setup words slots' next ∥₁
+  words_step next slots' place chunk id stored laid inside_w holding many same is next_is =
       subst (λ w. ∥ IsKept setup words slots' w ∥₁) (sym next_is)
-      (subst (λ l. ∥ IsKept setup words l (world_after world (Publish place chunk id index word)) ∥₁) (sym is)
-      (∥∥₁_map kept (λ k. publish_kept setup words slots world place chunk id index word laid k inside_w holding (word_inside place chunk id index holding inside).1
-      (λ m below less. same m below less ∙ byte_here (draft_at (writer world place) id).words index m below))))
-    where
-      byte_here : (l : List ℕ) (index m : ℕ) → m < 8 → byte_at l (8 * index + m) ≡ byte_of (get_or l index 0) m
-      byte_here l index m below =
-          ap (λ i. byte_of (get_or l i 0) ((8 * index + m) % 8)) (let at : (8 * index + m) / 8 ≡ index = omega arith in at)
-          ∙ ap (λ i. byte_of (get_or l index 0) i) (let rest : (8 * index + m) % 8 ≡ m = omega arith in rest)
+      (subst (λ l. ∥ IsKept setup words l (drafted world place chunk id (with_words (draft_at (writer world place) id) stored)) ∥₁) (sym is)
+      (∥∥₁_map kept (λ k. publish_kept setup words slots world place chunk id stored laid k inside_w holding many same)))
 
   -- ---- complete
 

@@ -1,7 +1,7 @@
 -- Payloads as bytes: the words that they stand in, and the fragments that they read as. After the shared memory ABI of the tracing service each
 -- fragment has its size in front, a varint of at most four bytes. That byte j of a payload is byte j % 8 of its word j / 8, counted from the low
 -- one, is this project's own.
-use Rattle.std.specs.Prelude.{◌≡◌, ℕ, zero, suc, ◌+◌, ◌-◌, ◌*◌, ◌/◌, ◌%◌, ◌<◌, ◌≤◌, nat_lt, List, [], ◌∷◌, ◌++◌, length, slice_index_or, if◌then◌else◌}
+use Rattle.std.specs.Prelude.{◌≡◌, ℕ, zero, suc, ◌+◌, ◌-◌, ◌*◌, ◌/◌, ◌%◌, ◌<◌, ◌≤◌, ◌⊎◌, nat_lt, List, [], ◌∷◌, ◌++◌, length, slice_index_or, if◌then◌else◌}
 use Rattle.std.specs.Int.{w64, to_le_bytes}
 
 -- byte m of a word, counted from the low one
@@ -15,6 +15,12 @@ byte_at words j = byte_of (slice_index_or words (j / 8) 0) (j % 8)
 -- byte j of the bytes
 abbrev pub byte_in : List ℕ → ℕ → ℕ
 byte_in bytes j = slice_index_or bytes j 0
+
+-- the words from one place on, up to another one, were stored with the bytes of a copy; each other byte is as before, or the copy's
+pub record StoredUpTo (copy : List ℕ) (first index : ℕ) (old new : List ℕ) : Type 0 where
+  pub count : length new ≡ length old
+  pub done : (j : ℕ) → 8 * first ≤ j → j < 8 * index → j < length copy → byte_at new j ≡ byte_in copy j
+  pub others : (j : ℕ) → j < length copy → (byte_at new j ≡ byte_at old j) ⊎ (byte_at new j ≡ byte_in copy j)
 
 -- the first bytes, so many
 abbrev pub first_bytes : (ℕ → ℕ) → ℕ → List ℕ

@@ -8,7 +8,7 @@ use Rattle.chunk_plain.specs.Setup.{Setup}
 use Rattle.chunk_plain.specs.Payload.{byte_at, first_bytes, sealed_to}
 use Rattle.chunk_plain.specs.Views.{Head, Content, Found, WriterView, newcomer, newcomer_service, none_taken, taken_of}
 use Rattle.chunk_plain.specs.World.{World, Status, Unclaimed, Claimed, Stamped, Writing, Ready, Reading, status, writer}
-use Rattle.chunk_plain.specs.Steps.{claims, stamps, begins, redrafts, with_head, with_word, completes, notes_call, looks_at, takes_in, learns, lets_go, notes, notes_commit, moved, served, noted, serviced}
+use Rattle.chunk_plain.specs.Steps.{claims, stamps, begins, redrafts, with_head, with_words, completes, notes_call, looks_at, takes_in, learns, lets_go, notes, notes_commit, moved, served, noted, serviced}
 use Rattle.chunk_plain.specs.Owned.{IsOwned}
 use Rattle.chunk_plain.specs.Drafts.{draft_at, head_at, ends_by}
 use Rattle.chunk_plain.specs.Stored.{Stored}
@@ -52,8 +52,8 @@ world_after world (SetHeader place chunk id count flags) =
     let view = writer world place in
     let draft = with_head (draft_at view id) (record { count = count; flags = flags }) (ends_by view id count) in
     moved world place (redrafts view chunk id draft) chunk (Writing place id draft)
-world_after world (Publish place chunk id index word) =
-    let view = writer world place in let draft = with_word (draft_at view id) index word in
+world_after world (Publish place chunk id words) =
+    let view = writer world place in let draft = with_words (draft_at view id) words.now in
     moved world place (redrafts view chunk id draft) chunk (Writing place id draft)
 world_after world (Complete place chunk id body) =
     let content = content_of place id (head_at (writer world place) id) body.now in

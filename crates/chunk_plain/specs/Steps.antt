@@ -2,7 +2,7 @@
 use Rattle.std.specs.Prelude.{ℕ, ◌+◌, ◌==◌, Bool, true, false, Option, Some, None, List, [], ◌∷◌, ◌++◌, map, length, slice_set, if◌then◌else◌}
 use Rattle.trace_model.specs.Calls.{Call}
 use Rattle.chunk_plain.specs.Views.{Ask, Head, Draft, fresh, Content, Held, Completed, WriterView, Taken, Found, Noted, Commit, Committed, ServiceView, taken_of}
-use Rattle.chunk_plain.specs.World.{World, Status}
+use Rattle.chunk_plain.specs.World.{World, Status, Writing, writer}
 
 -- the list without the first element that is this one
 abbrev pub without : ℕ → List ℕ → List ℕ
@@ -37,6 +37,10 @@ redrafts view chunk id draft = record view { begun = slice_set view.begun id (He
 -- the header of a held chunk is stored anew; with it come the ends of the fragments that are finished then
 abbrev pub with_head : Draft → Head → List ℕ → Draft
 with_head draft head ends = record draft { head = head; ends = ends }
+
+-- these payload words stand in a held chunk
+abbrev pub with_words : Draft → List ℕ → Draft
+with_words draft words = record draft { words = words }
 
 -- a payload word of a held chunk is stored
 abbrev pub with_word : Draft → ℕ → ℕ → Draft
@@ -90,6 +94,10 @@ notes_commit service committed = record service {
 abbrev pub moved : World → ℕ → WriterView → ℕ → Status → World
 moved world place view chunk to =
     record world { chunks = slice_set world.chunks chunk to; writers = slice_set world.writers place view }
+
+-- another thing stands in a chunk that a writer holds
+abbrev pub drafted : World → ℕ → ℕ → ℕ → Draft → World
+drafted world place chunk id draft = moved world place (redrafts (writer world place) chunk id draft) chunk (Writing place id draft)
 
 -- the service's view changes, and one chunk
 abbrev pub served : World → ServiceView → ℕ → Status → World

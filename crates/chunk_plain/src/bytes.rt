@@ -1,6 +1,6 @@
 //! Payload bytes in words, eight a word, the lowest first.
 ghost use Rattle.std.specs.Prelude.{◌≡◌, ℕ, ◌+◌, ◌*◌, ◌/◌, ◌<◌, ◌≤◌, ◌++◌, length, take, drop};
-ghost use Rattle.chunk_plain.specs.Payload.{byte_of, byte_at, byte_in};
+ghost use Rattle.chunk_plain.specs.Payload.{byte_of, byte_at, byte_in, StoredUpTo};
 
 /// The word with the bytes from a place on, and zeros behind the last of them.
 pub fn pack(from: &[u8], at: usize) -> u64
@@ -16,6 +16,36 @@ pub fn pack(from: &[u8], at: usize) -> u64
         eight[m] = rest[m];
     }
     u64::from_le_bytes(eight)
+}
+
+/// Stores the words from one place on, up to another one. Inside its callers its loop would have too
+/// few registers.
+#[inline(never)]
+pub fn pack_words(words: &mut [u64], first: usize, end: usize, from: &[u8])
+    requires order { first ≤ end }
+    requires within { end ≤ length words.old }
+    requires from { 8 * end < length from.now + 8 }
+    ensures { StoredUpTo from.now first end words.old words.new }
+{
+    let whole = end.min(from.len() / 8).max(first);
+    for index in first..whole {
+        words[index] = eight_at(from, 8 * index);
+    }
+    // The last word may have fewer bytes than eight.
+    if whole < end {
+        words[whole] = pack(from, 8 * whole);
+    }
+}
+
+/// The word with the eight bytes from a place on.
+fn eight_at(from: &[u8], at: usize) -> u64
+    requires { at + 8 ≤ length from.now }
+    ensures { (m : ℕ) → m < 8 → byte_of result m ≡ byte_in from.now (at + m) }
+{
+    let Some(eight) = from[at..].first_chunk::<8>() else {
+        unreachable!()
+    };
+    u64::from_le_bytes(*eight)
 }
 
 /// The place behind the last word that has a byte of this range; where it has none, its first word's.

@@ -8,22 +8,22 @@ ghost use Rattle.trace_base.specs.declared.limits.TheConstants.{MAX_FRAGMENTS};
 ghost use Rattle.page_geometry.specs.declared.chunk_state.ChunkState.TheVariants.{Complete as CompleteState};
 ghost use Rattle.page_geometry.specs.PageBits.{HasState};
 ghost use Rattle.chunk_plain.specs.declared.tokens.TheConstants.{ID_LIMIT};
-ghost use Rattle.chunk_plain.specs.declared.step.Step.TheVariants.{Stamp, Publish, Look, Take, Learn};
+ghost use Rattle.chunk_plain.specs.declared.step.Step.TheVariants.{Stamp, Look, Take, Learn};
 ghost use Rattle.chunk_plain.specs.Setup.{Setup, spot};
-ghost use Rattle.chunk_plain.specs.Payload.{byte_of, byte_at, byte_in, sealed_to};
+ghost use Rattle.chunk_plain.specs.Payload.{byte_at, byte_in, StoredUpTo};
 ghost use Rattle.chunk_plain.specs.Views.{Content, fresh, taken_of};
 ghost use Rattle.chunk_plain.specs.World.{World, Unclaimed, Writing, Ready, Reading, status, writer};
-ghost use Rattle.chunk_plain.specs.Steps.{begins, completes, moved, served, lets_go};
+ghost use Rattle.chunk_plain.specs.Steps.{begins, completes, with_words, drafted, moved, served, lets_go};
 ghost use Rattle.chunk_plain.specs.Owned.{times};
 ghost use Rattle.chunk_plain.specs.Drafts.{IsHolding, draft_at, head_at};
 ghost use Rattle.chunk_plain.specs.Stored.{stored_at};
 ghost use Rattle.chunk_plain.specs.Shows.{content_of, page_word, header_word};
-ghost use Rattle.chunk_plain.specs.Words.{HasClaimed, LooksAt};
+ghost use Rattle.chunk_plain.specs.Words.{HasClaimed, KeepsSealed, LooksAt};
 ghost use Rattle.chunk_plain.specs.Plain.{IsLent, StandsWhole, world_after};
 
 use crate::bytes::unpack;
 use crate::plain::PlainTable;
-use crate::slots::{body_of, put_body, put_word, take_body, words_of};
+use crate::slots::{body_of, put_body, put_words, take_body, words_of};
 use crate::step::Step;
 use crate::tokens::Seen;
 use crate::worlds::make_step;
@@ -101,24 +101,33 @@ impl PlainTable {
         put_body(&mut self.slots, chunk, body);
     }
 
-    /// Stores a payload word of a held chunk.
-    pub(crate) fn store_word(&mut self, place: u16, chunk: u32, id: u32, index: usize, word: u64)
+    /// Stores the payload words of a held chunk from one place on, up to another one.
+    pub(crate) fn store_words(
+        &mut self,
+        place: u16,
+        chunk: u32,
+        id: u32,
+        first: usize,
+        end: usize,
+        payload: &[u8],
+    )
         requires place { place < length self.old.layout.writers }
         requires held { IsHolding (writer self.old.seat.me.0 place) chunk id }
-        requires inside { 8 * index < (spot self.old.layout chunk).payload_size }
-        requires kept { (m : ℕ) → m < 8 → 8 * index + m < sealed_to (draft_at (writer self.old.seat.me.0 place) id).ends
-            → byte_of word m ≡ byte_at (draft_at (writer self.old.seat.me.0 place) id).words (8 * index + m) }
+        requires size { length payload.now ≡ (spot self.old.layout chunk).payload_size }
+        requires order { first ≤ end }
+        requires inside { 8 * end < length payload.now + 8 }
+        requires kept { KeepsSealed (writer self.old.seat.me.0 place) id payload.now }
         ensures layout { self.new.layout ≡ self.old.layout }
-        ensures index { index < length (draft_at (writer self.old.seat.me.0 place) id).words }
-        ensures world { self.new.seat.me.0 ≡ world_after self.old.seat.me.0 (Publish place chunk id index word) }
+        ensures words { StoredUpTo payload.now first end (draft_at (writer self.old.seat.me.0 place) id).words (stored_at self.new.slots.items chunk).words }
+        ensures world { self.new.seat.me.0 ≡ drafted self.old.seat.me.0 place chunk id
+            (with_words (draft_at (writer self.old.seat.me.0 place) id) (stored_at self.new.slots.items chunk).words) }
     {
-        put_word(&mut self.slots, chunk, index, word);
+        put_words(&mut self.slots, chunk, first, end, payload);
         let step = Step::Publish {
             place,
             chunk,
             id,
-            index,
-            word,
+            words: words_of(&self.slots, chunk),
         };
         let world = &self.world;
         make_step(&world.shared, &mut self.seat, &step);

@@ -12,7 +12,7 @@ ghost use Rattle.chunk_plain.specs.World.{World, writer, nowhere};
 ghost use Rattle.chunk_plain.specs.Owned.{IsOwned};
 ghost use Rattle.chunk_plain.specs.Words.{IsAtRest, IsServing};
 
-use crate::bytes::{pack, unpack, word_end};
+use crate::bytes::{unpack, word_end};
 use crate::notes::{ServiceEvent, WriterCall};
 use crate::plain::PlainTable;
 use crate::plain_seats::{PlainService, PlainWriter};
@@ -103,10 +103,14 @@ impl Words for PlainTable {
     fn publish(&mut self, seat: &mut PlainWriter, held: &mut Held, from: u32, to: u32) {
         let first = from as usize / 8;
         let end = word_end(from, to);
-        for index in first..end {
-            let word = pack(&held.body.payload, 8 * index);
-            self.store_word(seat.place, held.chunk, held.id, index, word);
-        }
+        self.store_words(
+            seat.place,
+            held.chunk,
+            held.id,
+            first,
+            end,
+            &held.body.payload,
+        );
     }
 
     fn set_header(&mut self, seat: &mut PlainWriter, held: &mut Held, count: u16, flags: u8) {

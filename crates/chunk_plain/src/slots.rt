@@ -1,8 +1,10 @@
 //! What a table of one thread keeps of a chunk beside its page and header word.
-ghost use Rattle.std.specs.Prelude.{◌≡◌, ◌<◌, Some, None, slice_set, vec_len, length, IsSome, IfOk};
+ghost use Rattle.std.specs.Prelude.{◌≡◌, ◌+◌, ◌*◌, ◌<◌, ◌≤◌, Some, None, slice_set, vec_len, length, IsSome, IfOk};
 ghost use Rattle.chunk_plain.specs.Made.{IsFreeSlot, HasFreeSlots};
+ghost use Rattle.chunk_plain.specs.Payload.{StoredUpTo};
 ghost use Rattle.chunk_plain.specs.Stored.{stored_at};
 
+use crate::bytes::pack_words;
 use crate::setup::Spot;
 use arrayvec::ArrayVec;
 use commit_body::CommitBody;
@@ -74,16 +76,20 @@ pub fn put_body(slots: &mut Vec<Slot>, chunk: u32, body: CommitBody)
     slots[chunk as usize].body = Some(body);
 }
 
-/// Stores a payload word of a chunk.
-pub fn put_word(slots: &mut Vec<Slot>, chunk: u32, index: usize, word: u64)
+/// Stores the payload words of a chunk from one place on, up to another one.
+pub fn put_words(slots: &mut Vec<Slot>, chunk: u32, first: usize, end: usize, payload: &[u8])
     requires inside { chunk < vec_len slots.old }
-    requires within { index < length (stored_at slots.old.items chunk).words }
+    requires order { first ≤ end }
+    requires within { end ≤ length (stored_at slots.old.items chunk).words }
+    requires payload { 8 * end < length payload.now + 8 }
     ensures rest { slots.new.items ≡ slice_set slots.old.items chunk (record (stored_at slots.old.items chunk) {
-      words = slice_set (stored_at slots.old.items chunk).words index word;
+      words = (stored_at slots.new.items chunk).words;
     }) }
+    ensures words { StoredUpTo payload.now first end (stored_at slots.old.items chunk).words (stored_at slots.new.items chunk).words }
     ensures len { vec_len slots.new ≡ vec_len slots.old }
 {
-    slots[chunk as usize].words[index] = word;
+    let slot = &mut slots[chunk as usize];
+    pack_words(&mut slot.words, first, end, payload);
 }
 
 /// The payload words of a chunk.

@@ -32,8 +32,7 @@ pub enum Step<'a> {
         place: u16,
         chunk: u32,
         id: u32,
-        index: usize,
-        word: u64,
+        words: &'a [u64],
     },
     Complete {
         place: u16,

@@ -6,6 +6,9 @@ ghost use Rattle.trace_model.specs.Images.{with_bytes};
 
 use proto_stream::ChunkCursor;
 
+/// Pieces up to so many bytes are short.
+const SHORT: usize = 16;
+
 /// Writes the first bytes of the piece at a place, as many as fit, and says how many.
 pub fn put_at(payload: &mut [u8], at: u32, piece: &[u8]) -> usize
     requires within { at ≤ length payload.old }
@@ -13,8 +16,23 @@ pub fn put_at(payload: &mut [u8], at: u32, piece: &[u8]) -> usize
     ensures count { result ≡ min (length piece.now) (length payload.old - at) }
     ensures bytes { payload.new ≡ with_bytes payload.old at (take result piece.now) }
 {
+    if piece.len() <= SHORT && piece.len() <= payload.len() - at as usize {
+        put_short(payload, at as usize, piece);
+        return piece.len();
+    }
     let mut cursor = ChunkCursor::new(payload, at);
     cursor.put(piece)
+}
+
+/// Writes a short piece at a place, where it fits: byte by byte, which takes less time than a call,
+/// and than wider steps over bytes that were just stored one by one.
+fn put_short(payload: &mut [u8], at: usize, piece: &[u8])
+    requires { at + length piece.now ≤ length payload.old }
+    ensures { payload.new ≡ with_bytes payload.old at piece.now }
+{
+    for i in 0..piece.len() {
+        payload[at + i] = piece[i];
+    }
 }
 
 /// Sets aside the four bytes of a nested length at a place; false where they don't fit.

@@ -98,6 +98,7 @@ impl HeldChunk {
 
     /// Starts a fragment: the ones before are published, the header counts it, and four bytes are set
     /// aside for its size.
+    #[inline(always)]
     pub fn start_fragment<W: Words>(self, table: &mut W, seat: &mut W::Writer) -> OpenFragment
         requires seat { W.means.sits table.old seat.old }
         requires fit { IsFit (W.means.setup table.old) (W.means.view table.old seat.old) self self.count self.at }
