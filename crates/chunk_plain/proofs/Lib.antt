@@ -23,4 +23,3 @@ pub mod Resting
 pub mod WorldSet
 pub mod Publishing
 pub mod Taking
-pub mod TestFragments

@@ -16,8 +16,6 @@ mod plain_words;
 mod setup;
 mod slots;
 mod step;
-#[cfg(test)]
-mod tests;
 mod tokens;
 mod words;
 mod worlds;

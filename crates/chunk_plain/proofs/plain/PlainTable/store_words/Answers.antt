@@ -1,6 +1,5 @@
-use Rattle.std.proofs.Common.{◌≡◌, ◌+◌, ◌*◌, ◌<◌, ◌≤◌, ◌∙◌, ℕ, List, length, ap, sym, subst, arith}
+use Rattle.std.proofs.Common.{◌<◌, ◌∙◌, ℕ, List, length, ap, subst, arith}
 use Rattle.chunk_plain.specs.Payload.{StoredUpTo}
-use Rattle.chunk_plain.specs.Setup.{spot}
 use Rattle.chunk_plain.specs.Stored.{Stored, stored_at}
 use Rattle.chunk_plain.specs.Steps.{with_words, drafted}
 use Rattle.chunk_plain.specs.Drafts.{draft_at}

@@ -1,9 +1,9 @@
-use Rattle.std.proofs.Common.{◌≡◌, ℕ, ◌+◌, ◌*◌, ◌/◌, ◌<◌, ◌≤◌, ◌∙◌, List, length, refl, ap, sym, subst, arith, Some, ⊎_elim}
+use Rattle.std.proofs.Common.{◌≡◌, ℕ, ◌/◌, ◌<◌, ◌≤◌, ◌∙◌, List, length, refl, ap, sym, subst, arith, Some, ⊎_elim}
 use Rattle.std.proofs.lemmas.Bool.{cases_lt}
 use Rattle.chunk_plain.specs.Payload.{StoredUpTo}
 use Rattle.chunk_plain.specs.Views.{Draft, Held}
 use Rattle.chunk_plain.specs.World.{World, Writing, writer}
-use Rattle.chunk_plain.specs.Steps.{redrafts, with_words, drafted, moved}
+use Rattle.chunk_plain.specs.Steps.{redrafts, with_words, moved}
 use Rattle.chunk_plain.specs.Drafts.{draft_at}
 use Rattle.chunk_plain.specs.Stored.{stored_at}
 use Rattle.chunk_plain.specs.Words.{KeepsSealed}

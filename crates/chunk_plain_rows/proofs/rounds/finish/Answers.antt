@@ -4,7 +4,7 @@ use Rattle.chunk_plain.specs.Payload.{byte_in}
 use Rattle.chunk_plain.specs.Views.{Draft}
 use Rattle.chunk_plain.specs.Drafts.{draft_at, published}
 use Rattle.chunk_plain.proofs.Holding.{redrafts_holds, published_more}
-use Rattle.chunk_plain.proofs.tests.finish.Goals as goal
+use Rattle.chunk_plain_rows.proofs.rounds.finish.Goals as goal
 
 pub complete-requires-clause-held : goal.complete-requires-clause-held
 complete-requires-clause-held g c =

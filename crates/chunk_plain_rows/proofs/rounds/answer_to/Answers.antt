@@ -3,7 +3,7 @@ use Rattle.chunk_plain.specs.Views.{WriterView, ServiceView, Taken, none_taken}
 use Rattle.chunk_plain.specs.World.{World, writer, nowhere}
 use Rattle.chunk_plain.specs.Owned.{held_count}
 use Rattle.chunk_plain.proofs.MadeLemmas.{all_same}
-use Rattle.chunk_plain.proofs.tests.answer_to.Goals as goal
+use Rattle.chunk_plain_rows.proofs.rounds.answer_to.Goals as goal
 
 pub fill-requires-else-not-fill-clause-seat : goal.fill-requires-else-not-fill-clause-seat
 fill-requires-else-not-fill-clause-seat c =

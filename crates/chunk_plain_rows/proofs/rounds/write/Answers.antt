@@ -8,8 +8,8 @@ use Rattle.chunk_plain.specs.Drafts.{draft_at, head_at, published, ends_by, IsHo
 use Rattle.chunk_plain.specs.Words.{HasClaimed, KeepsSealed}
 use Rattle.chunk_plain.proofs.Holding.{claims_has, begins_holds, redrafts_holds, redrafts_draft, published_more}
 use Rattle.chunk_plain.proofs.SeatSteps.{steps_follow}
-use Rattle.chunk_plain.proofs.TestFragments.{short_fragment, chunk_inside}
-use Rattle.chunk_plain.proofs.tests.write.Goals as goal
+use Rattle.chunk_plain_rows.proofs.TestFragments.{short_fragment, chunk_inside}
+use Rattle.chunk_plain_rows.proofs.rounds.write.Goals as goal
 
 pub begin-held-requires-clause-claimed : goal.begin-held-requires-clause-claimed
 begin-held-requires-clause-claimed g c =

@@ -10,11 +10,7 @@ ghost use Rattle.chunk_plain.specs.Drafts.{IsHolding};
 ghost use Rattle.chunk_plain.specs.Meaning.{IsWriterStep, IsServiceStep};
 ghost use Rattle.chunk_plain.specs.Words.{KeepsSealed, FindsOther};
 
-use crate::plain::PlainTable;
-use crate::plain_seats::PlainWriter;
-use crate::setup::ProducerSpec;
-use crate::tokens::{Held, NotComplete};
-use crate::words::Words;
+use chunk_plain::{Held, NotComplete, PlainTable, PlainWriter, ProducerSpec, Words};
 use page_geometry::{Geometry, PageWord};
 use std::alloc::Global;
 use std::test::Fail;
