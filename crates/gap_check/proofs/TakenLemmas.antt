@@ -8,7 +8,7 @@ use Rattle.std.proofs.lemmas.Option.{slice_get_within}
 use Rattle.trace_model.specs.Record.{record_of, mark_where}
 use Rattle.trace_model.specs.Tells.{IsTold, TellsFrom, Tells}
 use Rattle.trace_model.specs.Delivery.{Delivered, records_of, sequence_of, IsFaithful}
-use Rattle.trace_file.specs.Parts.{SaysPacket, SaysOnly, SaysNone, BeginsWithMark}
+use Rattle.trace_file.specs.Apart.{SaysPacket, SaysOnly, SaysNone, BeginsWithMark}
 use Rattle.packet_runs.specs.Runs.{Said, IsAt, StandFrom, StandIn}
 use Rattle.packet_runs.specs.Tellers.{IsAfter, IsReady}
 use Rattle.packet_runs.specs.declared.teller.Teller.{Teller}

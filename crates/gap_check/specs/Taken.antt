@@ -1,7 +1,7 @@
 -- What the tellers of all sequences have taken.
 use Rattle.std.specs.Prelude.{◌≡◌, ℕ, ◌+◌, ◌<◌, ◌≤◌, List, [], ◌∷◌, length, All, Some, slice_get}
 use Rattle.trace_model.specs.Delivery.{Delivered, records_of, sequence_of}
-use Rattle.trace_file.specs.Parts.{SaysPacket, SaysOnly}
+use Rattle.trace_file.specs.Apart.{SaysPacket, SaysOnly}
 use Rattle.packet_runs.specs.Runs.{Said}
 use Rattle.packet_runs.specs.Tellers.{IsAfter, IsReady}
 use Rattle.packet_runs.specs.declared.teller.Teller.{Teller}

@@ -1,7 +1,7 @@
 -- What a verdict says.
 use Rattle.std.specs.Prelude.{◌≡◌, ℕ, suc, ◌+◌, ◌<◌, List, [], ◌∷◌, ◌++◌, length, map, All, Some, slice_get}
 use Rattle.trace_model.specs.Delivery.{Delivered, IsFaithful}
-use Rattle.trace_file.specs.Parts.{BeginsWithMark}
+use Rattle.trace_file.specs.Apart.{BeginsWithMark}
 use Rattle.trace_file.specs.Traces.{TracePacket, ReadsAsTrace, ReadsFrom}
 use Rattle.gap_check.specs.declared.verdict.Verdict.{Verdict}
 use Rattle.gap_check.specs.declared.verdict.Verdict.TheVariants.{Agrees, Differs}
@@ -12,6 +12,7 @@ use Rattle.gap_check.specs.declared.verdict.CheckFault.TheVariants.{OutOfMemory,
 abbrev pub delivered_as : TracePacket → Delivered
 delivered_as packet = record { sequence = packet.sequence; bytes = packet.bytes }
 
+-- the packets of a trace as what was delivered
 abbrev pub delivered_by : List TracePacket → List Delivered
 delivered_by packets = map delivered_as packets
 
@@ -25,6 +26,7 @@ pub record AreFaithful (emitted : List (List (List ℕ))) (packets : List TraceP
   pub faithful : IsFaithful emitted (delivered_by packets)
   pub counted : count ≡ length packets
 
+-- the packets before this one are faithful to what was emitted, and with it they aren't
 pub record IsFirstUntold (emitted : List (List (List ℕ))) (packets : List TracePacket) (number sequence : ℕ) : Type 0 where
   pub told : List TracePacket
   pub untold : TracePacket
@@ -35,6 +37,7 @@ pub record IsFirstUntold (emitted : List (List (List ℕ))) (packets : List Trac
   pub faithful : IsFaithful emitted (delivered_by told)
   pub unfaithful : IsFaithful emitted (delivered_by (told ++ untold ∷ [])) → ⊥
 
+-- the verdict is true
 abbrev pub SaysVerdict : List (List (List ℕ)) → List TracePacket → Verdict → Type 0
 SaysVerdict emitted packets (Agrees count) = AreFaithful emitted packets count
 SaysVerdict emitted packets (Differs number sequence) = IsFirstUntold emitted packets number sequence

@@ -7,6 +7,7 @@ use Rattle.trace_buffer.specs.declared.answers.BufferCounts.{BufferCounts}
 use Rattle.loss_report.specs.declared.counts.SequenceCounts.{SequenceCounts}
 use Rattle.loss_report.specs.Lines.{Entry, line_text}
 
+-- a name and the number behind it
 abbrev pub entry : List ℕ → ℕ → Entry
 entry name value = record { name = name; value = value }
 
@@ -15,6 +16,7 @@ abbrev pub size_name : FullPolicy → List ℕ
 size_name Ring = codes "ring bytes"
 size_name Discard = codes "discard bytes"
 
+-- the line of a buffer
 abbrev pub buffer_line : ℕ → BufferCounts → List ℕ
 buffer_line number counts =
     line_text (entry (codes "buffer") number)
@@ -27,6 +29,7 @@ buffer_line number counts =
     ∷ entry (codes "padding") counts.padding
     ∷ [])
 
+-- the line of a sequence
 abbrev pub sequence_line : ℕ → SequenceCounts → List ℕ
 sequence_line number counts =
     line_text (entry (codes "sequence") number)
@@ -38,6 +41,7 @@ sequence_line number counts =
     ∷ entry (codes "cut") counts.cut
     ∷ [])
 
+-- the line of a flush request that was answered
 abbrev pub flush_line : ℕ → ℕ → List ℕ
 flush_line number chunks = line_text (entry (codes "flush") number) (entry (codes "chunks") chunks ∷ [])
 

@@ -29,9 +29,11 @@ why_of row.Partial chunk_id = Partial chunk_id
 why_of row.Unpatched chunk_id = Unpatched chunk_id
 why_of row.End chunk_id = End
 
+-- the reason of a stop place
 abbrev pub stop_told : StopPlace → Why
 stop_told stop = why_of stop.why stop.at.chunk_id
 
+-- the reason why a read ended
 abbrev pub why_told : model.ReadEnd → Why
 why_told AtLimit = Limit
 why_told (Stopped stop) = stop_told stop
@@ -56,6 +58,7 @@ pub record EndsInRecordAt (old new : Buffer) (before after : Intake) (sequence l
   pub part : TakesPart (after_told before (record_bytes sequence delivered)) after
       (record_of failed.body sequence failed.marked)
 
+-- a write failed in the record of some packet, behind all records before it
 pub record EndsInRecord (old new : Buffer) (before after : Intake) (sequence limit : ℕ) : Type 0 where
   pub count : ℕ
   pub ends : EndsInRecordAt old new before after sequence limit count

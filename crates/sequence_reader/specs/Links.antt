@@ -21,6 +21,7 @@ use Rattle.sequence_reader.specs.Spots.{rows_of, cursor_of, IsSpot, reach_of}
 use Rattle.sequence_reader.specs.declared.step.Piece.{Piece}
 use Rattle.sequence_reader.specs.Steps.{IsPieceAt, IsStopAt}
 
+-- a fate as one of the model
 abbrev pub fate_value : Fate → row.Fate
 fate_value Whole = row.Whole
 fate_value Marked = row.Marked
@@ -66,6 +67,7 @@ passed_in Whole = Cut
 passed_in CutOff = Cut
 passed_in (Open why) = Cut
 
+-- as what a chain of this fate is passed: one without its start counts as nothing
 abbrev pub passed_by : Fate → Bool → Passed
 passed_by fate headless = if headless then Nothing else passed_in fate
 
@@ -84,12 +86,14 @@ pub record EndsAt (links : List Link) (why : Why) : Type 0 where
   pub turn_is : turn_of link ≡ Ends
   pub told : stop_told (stop_place links) ≡ why
 
+-- the next link is passed, and this is behind it
 pub record IsPassedLink (buffer : Buffer) (bounds : Bounds) (spot next : Spot) (passed : Passed) : Type 0 where
   pub is : IsLink (rows_of buffer bounds.sequence (cursor_of spot)) (rows_of buffer bounds.sequence (cursor_of next))
       (turn_value passed) (cursor_of next)
   pub kept : delivers (turn_value passed) ≡ false
   pub behind : IsSpot buffer bounds next
 
+-- the next link is a packet to be delivered, so long, and this is behind it
 pub record IsPacket (buffer : Buffer) (bounds : Bounds) (spot next : Spot) (first : Piece) (len : ℕ) : Type 0 where
   pub begins : IsPieceAt buffer bounds spot first
   pub is : IsLink (rows_of buffer bounds.sequence (cursor_of spot)) (rows_of buffer bounds.sequence (cursor_of next))
@@ -98,6 +102,7 @@ pub record IsPacket (buffer : Buffer) (bounds : Bounds) (spot next : Spot) (firs
   pub few : len ≤ 2 ^ 59
   pub behind : IsSpot buffer bounds next
 
+-- what a reader finds at a spot: the end, a link to pass, or a packet
 abbrev pub Finds : Buffer → Bounds → Spot → Found → Type 0
 Finds buffer bounds spot (found.Ends why) = EndsAt (rows_of buffer bounds.sequence (cursor_of spot)) why
 Finds buffer bounds spot (found.Passes passed next) = IsPassedLink buffer bounds spot next passed

@@ -17,6 +17,7 @@ row_at buffer state at =
 abbrev pub rows_of : Buffer → ℕ → Cursor → List Link
 rows_of buffer sequence at = row_at buffer (sequence_in buffer.sequences sequence) at
 
+-- where a reader's spot stands in the row
 abbrev pub cursor_of : Spot → Cursor
 cursor_of spot = place spot.chunk_id spot.passed
 
@@ -38,6 +39,7 @@ pub record FitsChunk (closed : Bool) (chunk : Chunk) (spot : Spot) : Type 0 wher
   pub offset : spot.passed < length chunk.fragments → spot.offset ≡ start_from 0 spot.passed chunk.fragments
   pub left : length chunk.fragments ≤ spot.passed → 0 < spot.passed → is_part closed chunk ≡ true
 
+-- the spot is one that a reader may stand at: in a live record it is at the beginning of a fragment, or behind the last
 abbrev pub IsSpot : Buffer → Bounds → Spot → Type 0
 IsSpot buffer bounds spot = spot.chunk_id < bounds.end → (stored : BufferRecord)
     → live_at buffer bounds.sequence spot.chunk_id ≡ Some stored → FitsChunk bounds.closed stored.chunk spot

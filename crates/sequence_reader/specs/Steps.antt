@@ -16,6 +16,7 @@ use Rattle.sequence_reader.specs.declared.step.Step.TheVariants as step
 use Rattle.sequence_reader.specs.Ends.{why_of}
 use Rattle.sequence_reader.specs.Spots.{rows_of, cursor_of, IsSpot, reach_of}
 
+-- the spot behind a fragment
 abbrev pub spot_behind : Spot → ℕ → Bool → Spot
 spot_behind spot end ended =
     if ended
@@ -55,6 +56,7 @@ pub record IsPassedPart (closed : Bool) (chunk : Chunk) (spot : Spot) (why : Why
   pub why_is : why ≡ Partial spot.chunk_id
   pub may_is : may ≡ false
 
+-- what a chunk shows at a spot
 abbrev pub ShowsIn : Bool → Chunk → Spot → Step → Type 0
 ShowsIn closed chunk spot (step.Fragment piece) = IsPieceIn closed chunk spot piece
 ShowsIn closed chunk spot (step.Gap lost) = ⊥
@@ -88,6 +90,7 @@ pub record IsStopAt (links : List Link) (why : Why) (may : Bool) : Type 0 where
   pub links_are : links ≡ row.Stop at reason may ∷ []
   pub told : why_of reason at.chunk_id ≡ why
 
+-- what the row shows at a spot: a fragment, a gap, or the stop place
 abbrev pub Shows : Buffer → Bounds → Spot → Step → Type 0
 Shows buffer bounds spot (step.Fragment piece) = IsPieceAt buffer bounds spot piece
 Shows buffer bounds spot (step.Gap lost) = IsGapAt buffer bounds spot lost

@@ -18,6 +18,7 @@ use Rattle.sequence_reader.specs.declared.spot.Bounds.{Bounds}
 use Rattle.sequence_reader.specs.Ends.{record_bytes, row_met, why_told}
 use Rattle.sequence_reader.specs.Spots.{AreBounds, IsSpot, rows_of, cursor_of}
 
+-- the bytes of the first link
 abbrev pub first_bytes : List Link → List ℕ
 first_bytes [] = []
 first_bytes (link ∷ links) = link_bytes link
@@ -72,6 +73,7 @@ pub record Fails (old new : Buffer) (before after : Intake) (sequence rest : ℕ
   pub read : with_read old sequence 0 ≡ old
   pub part : TakesPart before after (record_of failed.body sequence failed.marked)
 
+-- what one turn of a read does: it goes on, it is done, or a write failed
 abbrev pub Turns : (old new : Buffer) (before after : Intake) → Bounds → ℕ → Progress → Turned → Type 0
 Turns old new before after bounds limit progress (On next) = GoesOn old new before after bounds limit progress next
 Turns old new before after bounds limit progress (Ended why) =

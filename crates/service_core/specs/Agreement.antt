@@ -17,6 +17,7 @@ use Rattle.service_core.specs.Routing.{is_closed_at}
 use Rattle.service_core.specs.Order.{LeadTo, beginning}
 use Rattle.service_core.specs.declared.service.ServiceCore.{ServiceCore}
 
+-- a buffer's specification as one of the model
 abbrev pub spec_value : BufferSpec → first.BufferSpec
 spec_value spec = record { size = spec.size; policy = spec.policy }
 
@@ -24,6 +25,7 @@ spec_value spec = record { size = spec.size; policy = spec.policy }
 abbrev pub first_of : {S : Type 0} → Setup → ServiceCore S → List Buffer
 first_of setup core = first.first_buffers setup 1 (map spec_value core.specs.items)
 
+-- the specification of a writer that there isn't
 abbrev pub no_writer : WriterSpec
 no_writer = record { producer = 0; buffer = 0; policy = Drops }
 
@@ -51,6 +53,7 @@ IsKnownNote view (Closed sequence) = Unit {0}
 IsKnownNote view (Read sequence limit) = Unit {0}
 IsKnownNote view (Commit place) = (committed : Committed) × (slice_get view.commits place ≡ Some committed)
 
+-- what was noted is known
 abbrev pub AreKnownNotes : ServiceView → List Noted → Type 0
 AreKnownNotes view [] = Unit {0}
 AreKnownNotes view (note ∷ notes) = IsKnownNote view note × AreKnownNotes view notes

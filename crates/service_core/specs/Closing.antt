@@ -19,6 +19,7 @@ pub record ClosesAll {S : Type 0} (setup : Setup) (producer : ℕ) (old new : Se
   pub closed : (place : ℕ) → place < length setup.writers → producer_of setup place ≡ producer → is_closed setup new place ≡ true
   pub others : (place : ℕ) → place < length setup.writers → producer_of setup place ≢ producer → is_closed setup new place ≡ is_closed setup old place
 
+-- the notes that close the sequences of these writers
 abbrev pub closes_of : List ℕ → List Noted
 closes_of places = map (λ place. Closed (sequence_of place)) places
 
@@ -34,6 +35,7 @@ pub record TakesAndClosesSome (setup : Setup) (producer taken : ℕ) (writers : 
   pub takes : Takes setup (places_of producer 0 setup.writers) taken old between
   pub view : new ≡ noted_more between (closes_of (places_of producer 0 writers))
 
+-- of the writers before this place, those of the producer are closed, and all others are as they were
 pub record ClosesSome {S : Type 0} (setup : Setup) (producer first : ℕ) (old new : ServiceCore S) : Type 0 where
   pub fields : KeepsFields old new
   pub closed : (place : ℕ) → place < first → place < length setup.writers → producer_of setup place ≡ producer → is_closed setup new place ≡ true

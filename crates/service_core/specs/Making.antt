@@ -9,6 +9,7 @@ use Rattle.chunk_plain.specs.Views.{ServiceView, taken_of}
 use Rattle.trace_buffer.specs.declared.answers.BufferSpec.{BufferSpec}
 use Rattle.service_core.specs.Agreement.{buffer_of}
 
+-- the specification of a buffer by its place
 abbrev pub buffer_spec_at : List BufferSpec → ℕ → BufferSpec
 buffer_spec_at buffers index = slice_index_or buffers index (record { size = 0; policy = Ring })
 
@@ -18,6 +19,7 @@ pub record IsBufferSize (size : ℕ) : Type 0 where
   pub units : size % BYTES_PER_KB ≡ 0
   pub most : size ≤ MAX_RING_SIZE
 
+-- each buffer has a size that it may have
 abbrev pub HaveSizes : List BufferSpec → Type 0
 HaveSizes buffers = (index : ℕ) → index < length buffers → IsBufferSize (buffer_spec_at buffers index).size
 

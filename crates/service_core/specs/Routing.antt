@@ -8,6 +8,7 @@ use Rattle.trace_model.specs.Buffers.{Buffer, empty_buffer}
 use Rattle.trace_model.specs.History.{Event, Arrives, ArrivesInPart}
 use Rattle.chunk_plain.specs.Histories.{once_read}
 
+-- the buffer at a place
 abbrev pub buffer_at : List Buffer → ℕ → Buffer
 buffer_at buffers index = slice_index_or buffers index (empty_buffer 0 Ring [])
 

@@ -26,6 +26,7 @@ takings sequence chunk_id (content ∷ contents) =
 abbrev pub looked : ServiceView → List Look → ServiceView
 looked view looks = record view { looks = view.looks ++ looks }
 
+-- more was taken of a writer
 abbrev pub taken_more : Taken → List Content → Taken
 taken_more taken contents = record { count = taken.count + length contents; contents = taken.contents ++ contents }
 

@@ -9,6 +9,7 @@ use Rattle.session_core.specs.declared.answers.SessionFault.{SessionFault}
 use Rattle.session_core.specs.declared.answers.SessionFault.TheVariants.{NoSuchFlush}
 use Rattle.session_core.specs.States.{Acknowledge, refusal_in}
 
+-- a session as its callers see it
 pub record SessionValue : Type 0 where
   pub state : SessionState
   -- how many writers are configured
@@ -18,6 +19,7 @@ pub record SessionValue : Type 0 where
   -- in a place for each writer that there may be: the answer that is kept of it
   pub answers : List (Option Answer)
 
+-- a session as it is made
 abbrev pub new_session : SessionValue
 new_session = record { state = Idle; writers = 0; requests = 0; answers = replicate MAX_WRITERS None }
 
@@ -26,9 +28,11 @@ abbrev pub left_as : Option SessionFault → SessionValue → SessionValue → S
 left_as None old new = new
 left_as (Some fault) old new = old
 
+-- the session in another state
 abbrev pub moved : SessionState → SessionValue → SessionValue
 moved state session = record session { state = state }
 
+-- the session with so many writers
 abbrev pub configured : ℕ → SessionValue → SessionValue
 configured writers session = record session { state = Configured; writers = writers }
 
@@ -46,6 +50,7 @@ refusal_or (Some fault) known flush = Some fault
 refusal_or None true flush = None
 refusal_or None false flush = Some (NoSuchFlush flush)
 
+-- why an answer to a request is refused: the state first, then that there is no such request
 abbrev pub acknowledge_refusal : SessionValue → ℕ → Option SessionFault
 acknowledge_refusal session flush = refusal_or (refusal_in Acknowledge session.state) (has_request session flush) flush
 
@@ -58,6 +63,7 @@ kept (Some before) answer = if nat_lt before.flush answer.flush then Some answer
 abbrev pub answer_at : SessionValue → ℕ → Option Answer
 answer_at session place = slice_index_or session.answers place None
 
+-- the session with an answer of the writer at this place, where it is one to keep
 abbrev pub with_answer : SessionValue → ℕ → Answer → SessionValue
 with_answer session place answer = record session { answers = slice_set session.answers place (kept (answer_at session place) answer) }
 

@@ -6,6 +6,7 @@ use Rattle.session_core.specs.declared.answers.SessionState.TheVariants.{Idle, C
 use Rattle.session_core.specs.declared.answers.SessionFault.{SessionFault}
 use Rattle.session_core.specs.declared.answers.SessionFault.TheVariants.{WrongState}
 
+-- the calls of a session, after the service model of Perfetto's consumers
 pub data SessionCall : Type 0 where
   Configure : SessionCall
   Start : SessionCall
@@ -34,6 +35,7 @@ abbrev pub refusal_where : SessionState → Option SessionState → Option Sessi
 refusal_where state None = Some (WrongState state)
 refusal_where state (Some next) = None
 
+-- why a call is refused in a state; None where it is allowed
 abbrev pub refusal_in : SessionCall → SessionState → Option SessionFault
 refusal_in call state = refusal_where state (state_behind call state)
 

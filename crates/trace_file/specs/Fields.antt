@@ -11,6 +11,7 @@ pub data FieldValue : Type 0 where
   Content : (bytes : List ℕ) → FieldValue
   FourBytes : FieldValue
 
+-- a field of a message: its number and its value (the encoding)
 pub record MessageField : Type 0 where
   pub number : ℕ
   pub value : FieldValue

@@ -9,6 +9,7 @@ pub record Reading : Type 0 where
   pub rest : List ℕ
   pub fault : Option TraceFault
 
+-- what a reader has still to answer: the packets from a place on, or again the fault that it met
 abbrev pub ReadsBehind : Option TraceFault → ℕ → List ℕ → List TracePacket → Option TraceFault → Type 0
 ReadsBehind None at rest packets ending = ReadsFrom at rest packets ending
 ReadsBehind (Some fault) at rest packets ending = (packets ≡ []) × (ending ≡ Some fault)

@@ -6,15 +6,18 @@ use Rattle.trace_file.specs.declared.packet.Packet.{Packet}
 use Rattle.trace_file.specs.Fields.{FieldValue, Number, EightBytes, Content, FourBytes, MessageField}
 use Rattle.trace_file.specs.Traces.{TracePacket}
 
+-- a field's value as the definitions have it
 abbrev pub value_of : Value → FieldValue
 value_of (values.Number n) = Number n
 value_of values.EightBytes = EightBytes
 value_of (values.Content bytes) = Content bytes.now
 value_of values.FourBytes = FourBytes
 
+-- a field as the definitions have it
 abbrev pub field_of : Field → MessageField
 field_of field = record { number = field.number; value = value_of field.value }
 
+-- a packet as the definitions have it
 abbrev pub packet_of : Packet → TracePacket
 packet_of packet = record {
   at = packet.at;

@@ -17,6 +17,7 @@ of_sequence sequence packets = filter (λ packet. packet.sequence == sequence) p
 abbrev pub content_bytes : List TracePacket → ℕ
 content_bytes packets = sum_by (λ packet. length packet.content) packets
 
+-- how many packets there are, how many bear a mark, and how many bytes they have
 unfoldable pub totals_of : List TracePacket → Totals
 totals_of packets = record {
   packets = length packets;
