@@ -97,6 +97,7 @@ Puts buffer before after bounds limit progress (put.Ended why) =
 Puts buffer before after bounds limit progress put.Failed =
     Fails buffer buffer before after bounds.sequence (limit - progress.delivered)
 
+-- a fault is answered only where the count of faults rose
 abbrev pub CountsPut : (old new : ℕ) → Put → Type 0
 CountsPut old new (put.Passed passed next) = new ≡ old
 CountsPut old new (put.Ended why) = new ≡ old

@@ -11,6 +11,7 @@ pub record Stage : Type 0 where
   pub closed : Bool
   pub due : List Patch
 
+-- nothing of a sequence has come
 abbrev pub beginning : Stage
 beginning = record { come = 0; closed = false; due = [] }
 
