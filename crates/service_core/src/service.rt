@@ -49,6 +49,7 @@ impl<S: Drop> ServiceCore<S> {
         requires routed { IsRouted (setup_of producers.now writers.now) (length buffers.now) }
         requires fits { RecordsFit (setup_of producers.now writers.now) buffers.now }
         ensures seat { IfOk result (λ core. core.seat ≡ seat) }
+        ensures specs { IfOk result (λ core. core.specs.items ≡ buffers.now) }
         ensures agrees { IfOk result (λ core. (view : ServiceView) → IsUnused (length writers.now) view
             → ServiceAgrees (setup_of producers.now writers.now) view core) }
         ensures open { IfOk result (λ core. (place : ℕ) → place < length writers.now
