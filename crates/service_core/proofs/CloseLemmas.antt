@@ -31,7 +31,7 @@ use Rattle.service_core.proofs.RoutedLemmas.{stands, closed_by_none}
 use Rattle.service_core.proofs.AgreeLemmas.{first_stays, order_there}
 use Rattle.service_core.proofs.OrderLemmas.{lead_both, lead_grows, lead_closed, lead_closed_other}
 
-noted_grows : (view : ServiceView) (notes : List Noted) → Grows view (noted_more view notes)
+pub noted_grows : (view : ServiceView) (notes : List Noted) → Grows view (noted_more view notes)
 noted_grows view notes = record { contents = λ s i content is. is; looks = λ p i n found is. is; commits = λ k committed is. is }
 
 -- Notes are made of what the buffers did.

@@ -1,9 +1,11 @@
 pub mod AgreeLemmas
+pub mod BufferLemmas
 pub mod ChainLemmas
 pub mod CloseLemmas
 pub mod HistoryLemmas
 pub mod MakeLemmas
 pub mod OrderLemmas
+pub mod ReadingLemmas
 pub mod RouteLemmas
 pub mod RoutedLemmas
 pub mod ShapeLemmas

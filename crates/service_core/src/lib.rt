@@ -1,5 +1,5 @@
 //! The service: it takes the chunks that writers completed, and images that come by a commit, into
-//! its buffers, closes producers, and asks for flushes.
+//! its buffers, reads these into a sink, closes producers, and asks for flushes.
 //! A layer above may rely on this: on any table of chunks the buffers are the fold of the history that
 //! the service noted in its seat's view; each call says what it noted, in which order, and what it
 //! left. No call but `make` takes memory.
@@ -11,6 +11,7 @@ mod committing;
 mod flushes;
 mod making;
 mod patching;
+mod reading;
 mod routing;
 mod service;
 mod taking;

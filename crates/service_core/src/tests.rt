@@ -6,6 +6,8 @@ ghost use Rattle.chunk_plain.specs.Setup.{size_of, producer_of};
 ghost use Rattle.service_core.specs.Agreement.{ServiceAgrees, is_closed};
 
 use crate::ServiceCore;
+use byte_io::memory::MemSink;
+use byte_io::traits::Sink;
 use chunk_image::Image;
 use chunk_plain::{PlainTable, ProducerSpec, Words};
 use page_geometry::Geometry;
@@ -19,19 +21,23 @@ use trace_buffer::{Arrived, BufferSpec};
 struct Round {
     taken: u64,
     arrived: Option<Arrived>,
+    delivered: u64,
     answered: [bool; 2],
     closed: bool,
 }
 
-/// One chunk comes by a commit; then a flush request is made and answered, and the producer is closed.
-fn play<W: Words>(
+/// One chunk comes by a commit and is read; then a flush request is made and answered, and the
+/// producer is closed.
+fn play<W: Words, O: Sink>(
     service: &mut ServiceCore<W::Service>,
     table: &mut W,
     image: &Image<'_>,
+    out: &mut O,
 ) -> Option<Round>
     requires serves { W.means.serves table.old service.old.seat }
     requires agrees { ServiceAgrees (W.means.setup table.old) (W.means.service_view table.old service.old.seat) service.old }
     requires open { (place : ℕ) → place < length (W.means.setup table.old).writers → is_closed (W.means.setup table.old) service.old place ≡ false }
+    requires reads { W.means.takes_reads table.old service.old.seat }
     requires writer { 0 < length (W.means.setup table.old).writers }
     requires requests { service.old.session.requests ≡ 0 }
     requires sequence { image.now.sequence ≡ FIRST_SEQUENCE }
@@ -41,6 +47,7 @@ fn play<W: Words>(
 {
     let taken = service.collect(table, 1);
     let arrived = service.commit(table, 1, image, &[]).ok();
+    let delivered = service.read_buffer(table, 1, 5, out).ok()?;
     let flush = service.request_flush(table).ok()?;
     let before = service.answered(flush);
     service.acknowledge(flush, 1, 0).ok()?;
@@ -49,12 +56,13 @@ fn play<W: Words>(
     Some(Round {
         taken,
         arrived,
+        delivered,
         answered,
         closed: service.state(2).closed,
     })
 }
 
-fn played_round(alloc: Global, payload: &[u8]) -> Result<Option<Round>, Fail>
+fn played_round(alloc: Global, payload: &[u8], out: &mut MemSink) -> Result<Option<Round>, Fail>
     requires { length payload.now ≡ 284 }
 {
     let geometry = Geometry::new(4096, 14)?;
@@ -77,16 +85,22 @@ fn played_round(alloc: Global, payload: &[u8]) -> Result<Option<Round>, Fail>
         flags: 0,
         payload,
     };
-    Ok(play(&mut service, &mut table, &image))
+    Ok(play(&mut service, &mut table, &image, out))
 }
 
 #[test]
 fn plays_a_round(rt: HostRuntime) -> Result<(), Fail> {
     let mut payload = [0u8; 284];
-    payload[0] = 2;
-    let round = played_round(rt.alloc(), &payload)?.ok_or("a refused call")?;
+    payload[..3].copy_from_slice(b"\x02\x40\x01");
+    let mut sink = MemSink::with_room(rt.alloc(), 100)?;
+    let round = played_round(rt.alloc(), &payload, &mut sink)?.ok_or("a refused call")?;
     assert_eq!(rt; round.taken, 0);
     assert_eq!(rt; round.arrived, Some(Arrived::Kept));
+    assert_eq!(rt; round.delivered, 1);
+    assert_eq!(rt;
+        sink.taken(),
+        b"\x0A\x07\x40\x01\x50\x02\xD0\x02\x01".as_slice()
+    );
     assert_eq!(rt; round.answered, [false, true]);
     assert!(rt; round.closed);
     Ok(())

@@ -7,7 +7,7 @@ use Rattle.page_geometry.proofs.SizeLemmas.{payload_size_most}
 use Rattle.chunk_plain.specs.declared.setup.ProducerSpec.{ProducerSpec}
 use Rattle.chunk_plain.specs.Setup.{Setup, size_of, producer_of}
 use Rattle.chunk_plain.specs.Laying.{setup_of}
-use Rattle.chunk_plain.specs.Views.{Taken, none_taken}
+use Rattle.chunk_plain.specs.Views.{none_taken}
 use Rattle.chunk_plain.specs.World.{World, nowhere}
 use Rattle.trace_buffer.specs.declared.answers.BufferSpec.{BufferSpec}
 use Rattle.service_core.specs.Agreement.{ServiceAgrees, is_closed, buffer_of}

@@ -1,0 +1,115 @@
+use Rattle.std.proofs.Common.{◌+◌, ◌-◌, ◌∙◌, ◌<◌, ◌≤◌, ℕ, List, length, subst, sym, ap, refl, arith}
+use Rattle.std.proofs.lemmas.List.{get_or_read}
+use Rattle.trace_base.specs.declared.policy.WriterSpec.{WriterSpec}
+use Rattle.page_geometry.specs.Sizes.{record_size}
+use Rattle.chunk_plain.specs.Setup.{Setup, size_of, producer_of}
+use Rattle.chunk_plain.proofs.SeatSteps.{serves_on, services_follow}
+use Rattle.service_core.specs.Routing.{IsAt}
+use Rattle.service_core.specs.Agreement.{ServiceAgrees, KeepsRest, spec_at, no_writer}
+use Rattle.service_core.specs.Reading.{FailsAmong}
+use Rattle.sequence_reader.proofs.PutLemmas.{on_err}
+use Rattle.service_core.proofs.AgreeLemmas.{keeps_same, keeps_both}
+use Rattle.service_core.proofs.RoutedLemmas.{stands}
+use Rattle.service_core.proofs.BufferLemmas.{reads_begin, reads_skip, reads_add, reads_fail, reads_end}
+use Rattle.service_core.proofs.service.ServiceCore.read_buffer.Goals as goal
+
+pub loop-place-init : goal.loop-place-init
+loop-place-init g c =
+    let means = g.W.Words.means in
+    let setup = means.setup c.args.table.now in
+    record {
+      agrees = c.requires.agrees;
+      keeps = keeps_same setup c.args.self.now;
+      step = serves_on means c.args.table.now c.args.self.now.seat c.requires.serves;
+      reads = reads_begin setup c.args.self.now c.args.buffer c.args.limit (means.service_view c.args.table.now c.args.self.now.seat) (g.O.Sink.taken c.args.out.now);
+      faults = refl;
+    }
+
+pub loop-place-preserved-then-index-buffer : goal.loop-place-preserved-then-index-buffer
+loop-place-preserved-then-index-buffer g c =
+    let means = g.W.Words.means in
+    let i = c.loop-place.invariant in
+    let setup = means.setup c.args.table.now in
+    let place = c.loop-place.place in
+    let end = c.len-place-end.ensures in
+    let joined = c.args.self.now.writers.ok.0 in
+    let test = c.loop-place-test.true in
+    let low : place < length setup.writers = subst (λ (ws : List WriterSpec). place < length ws) c.requires.agrees.writers (omega (arith, end, joined, test)) in
+    let low_items = subst (λ (ws : List WriterSpec). place < length ws) (sym i.agrees.writers) low in
+    let read = get_or_read c.loop-place.self.writers.items place c.index.result.now low_items c.index.ensures no_writer ∙ ap (λ (ws : List WriterSpec). spec_at ws place) i.agrees.writers in
+    let old = means.service_view c.args.table.now c.args.self.now.seat in
+    let between = means.service_view c.loop-place.table c.loop-place.self.seat in
+    record {
+      agrees = i.agrees;
+      keeps = i.keeps;
+      step = i.step;
+      reads = reads_skip setup c.args.self.now c.args.buffer c.args.limit old (g.O.Sink.taken c.args.out.now) c.loop-place.self place c.loop-place.left between (g.O.Sink.taken c.loop-place.out)
+          i.reads low (λ same. c.if-index-buffer.true (ap (λ (w : WriterSpec). w.buffer) read ∙ same));
+      faults = i.faults;
+    }
+
+pub loop-place-preserved : goal.loop-place-preserved
+loop-place-preserved g c =
+    let means = g.W.Words.means in
+    let i = c.loop-place.invariant in
+    let setup = means.setup c.args.table.now in
+    let place = c.loop-place.place in
+    let mid = c.loop-place.self in
+    let new = means.service_view c.read_writer.new.table c.read_writer.new.self.seat in
+    let end = c.len-place-end.ensures in
+    let joined = c.args.self.now.writers.ok.0 in
+    let test = c.loop-place-test.true in
+    let low : place < length setup.writers = subst (λ (ws : List WriterSpec). place < length ws) c.requires.agrees.writers (omega (arith, end, joined, test)) in
+    let low_items = subst (λ (ws : List WriterSpec). place < length ws) (sym i.agrees.writers) low in
+    let read = get_or_read mid.writers.items place c.index.result.now low_items c.index.ensures no_writer ∙ ap (λ (ws : List WriterSpec). spec_at ws place) i.agrees.writers in
+    let same = sym (ap (λ (w : WriterSpec). w.buffer) read) ∙ c.if-index-buffer.false in
+    let size : ℕ = record_size (size_of setup (producer_of setup place)) in
+    let old = means.service_view c.args.table.now c.args.self.now.seat in
+    let between = means.service_view c.loop-place.table mid.seat in
+    let at = subst (λ (n : ℕ). IsAt mid.buffers.items (n - 1) (place + 2) size) same (stands setup between mid place i.agrees low) in
+    let stays = i.step.setup_stays in
+    record {
+      agrees = subst (λ (s : Setup). ServiceAgrees s new c.read_writer.new.self) stays c.in_ok-left.ensures.agrees;
+      keeps = keeps_both setup c.args.self.now mid c.read_writer.new.self i.keeps (subst (λ (s : Setup). KeepsRest s mid c.read_writer.new.self) stays c.in_ok-left.ensures.keeps);
+      step = services_follow means c.args.table.now c.args.self.now.seat c.loop-place.table mid.seat c.read_writer.new.table c.read_writer.new.self.seat i.step c.in_ok-left.ensures.step;
+      reads = reads_add setup c.args.self.now c.args.buffer c.args.limit old (g.O.Sink.taken c.args.out.now) mid place c.loop-place.left size between (g.O.Sink.taken c.loop-place.out)
+          i.reads low same at i.agrees.known c.read_writer.new.self new (g.O.Sink.taken c.read_writer.new.out) c.in_ok-left.field-0 c.in_ok-left.ensures.reads;
+      faults = c.in_ok-left.ensures.count ∙ i.faults;
+    }
+
+pub returns-in_err-left-clause-fails : goal.returns-in_err-left-clause-fails
+returns-in_err-left-clause-fails g c =
+    let means = g.W.Words.means in
+    let i = c.loop-place.invariant in
+    let setup = means.setup c.args.table.now in
+    let place = c.loop-place.place in
+    let mid = c.loop-place.self in
+    let new = means.service_view c.read_writer.new.table c.read_writer.new.self.seat in
+    let end = c.len-place-end.ensures in
+    let joined = c.args.self.now.writers.ok.0 in
+    let test = c.loop-place-test.true in
+    let low : place < length setup.writers = subst (λ (ws : List WriterSpec). place < length ws) c.requires.agrees.writers (omega (arith, end, joined, test)) in
+    let low_items = subst (λ (ws : List WriterSpec). place < length ws) (sym i.agrees.writers) low in
+    let read = get_or_read mid.writers.items place c.index.result.now low_items c.index.ensures no_writer ∙ ap (λ (ws : List WriterSpec). spec_at ws place) i.agrees.writers in
+    let same = sym (ap (λ (w : WriterSpec). w.buffer) read) ∙ c.if-index-buffer.false in
+    let size : ℕ = record_size (size_of setup (producer_of setup place)) in
+    let old = means.service_view c.args.table.now c.args.self.now.seat in
+    let between = means.service_view c.loop-place.table mid.seat in
+    let at = subst (λ (n : ℕ). IsAt mid.buffers.items (n - 1) (place + 2) size) same (stands setup between mid place i.agrees low) in
+    let taken = g.O.Sink.taken c.read_writer.new.out in
+    on_err c.from_residual.result (FailsAmong setup c.args.self.now c.args.buffer c.args.limit old new (g.O.Sink.taken c.args.out.now) taken)
+    (reads_fail setup c.args.self.now c.args.buffer c.args.limit old (g.O.Sink.taken c.args.out.now) mid place c.loop-place.left size between (g.O.Sink.taken c.loop-place.out)
+    i.reads low same at i.agrees.known new taken c.requires.agrees c.in_err-left.ensures.fails)
+
+pub returns-clause-reads : goal.returns-clause-reads
+returns-clause-reads g c =
+    let means = g.W.Words.means in
+    let i = c.loop-place.invariant in
+    let setup = means.setup c.args.table.now in
+    let place = c.loop-place.place in
+    let end = c.len-place-end.ensures in
+    let joined = c.args.self.now.writers.ok.0 in
+    let test = c.loop-place-test.false in
+    let past : length setup.writers ≤ place = subst (λ (ws : List WriterSpec). length ws ≤ place) c.requires.agrees.writers (omega (arith, end, joined, test)) in
+    reads_end setup c.args.self.now c.args.buffer c.args.limit (means.service_view c.args.table.now c.args.self.now.seat) (g.O.Sink.taken c.args.out.now) c.loop-place.self place c.loop-place.left
+    (c.args.limit - c.loop-place.left) (means.service_view c.loop-place.table c.loop-place.self.seat) (g.O.Sink.taken c.loop-place.out) i.reads c.requires.agrees past refl
