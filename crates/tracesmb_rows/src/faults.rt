@@ -1,10 +1,8 @@
 //! What follows from each failing call of the outside, and from an input that is too long.
-use crate::play::{AMPLE, owned_words, status_of};
+use crate::play::{AMPLE, status_of};
 use byte_io::memory::{MemSink, MemSource};
 use byte_io::script::{ScriptSink, ScriptSource};
-use byte_io::traits::OpenGate;
 use std::test::Fail;
-use tracesmb_top::trace_top;
 
 const INPUT: &[u8] = b"buffer 64 ring\nproducer 1 4096 14\nwriter 1 1 drop\np 1 8:1\np 1 8:2\n";
 
@@ -23,7 +21,7 @@ fn each_failing_read_is_a_read_fault(rt: HostRuntime) -> Result<(), Fail> {
         let mut input = ScriptSource::new(INPUT.to_vec(rt.alloc())?, 5, failing);
         let mut trace = MemSink::with_room(rt.alloc(), AMPLE)?;
         let mut text = MemSink::with_room(rt.alloc(), AMPLE)?;
-        let status = status_of(&rt, &mut input, &mut trace, &mut text)?;
+        let status = status_of(&rt, &["replay"], &mut input, &mut trace, &mut text)?;
         if status == 0 {
             assert_eq!(rt; trace.taken(), TRACE);
             passed = true;
@@ -45,7 +43,7 @@ fn each_failing_write_is_a_write_fault(rt: HostRuntime) -> Result<(), Fail> {
         let mut input = MemSource::new(INPUT.to_vec(rt.alloc())?);
         let mut trace = ScriptSink::with_room(rt.alloc(), AMPLE, failing)?;
         let mut text = MemSink::with_room(rt.alloc(), AMPLE)?;
-        let status = status_of(&rt, &mut input, &mut trace, &mut text)?;
+        let status = status_of(&rt, &["replay"], &mut input, &mut trace, &mut text)?;
         if status == 0 {
             assert_eq!(rt; trace.taken(), TRACE);
             passed = true;
@@ -65,7 +63,10 @@ fn a_full_trace_holds_a_front_part(rt: HostRuntime) -> Result<(), Fail> {
         let mut input = MemSource::new(INPUT.to_vec(rt.alloc())?);
         let mut trace = MemSink::with_room(rt.alloc(), room)?;
         let mut text = MemSink::with_room(rt.alloc(), AMPLE)?;
-        assert_eq!(rt; status_of(&rt, &mut input, &mut trace, &mut text)?, 5);
+        assert_eq!(rt;
+            status_of(&rt, &["replay"], &mut input, &mut trace, &mut text)?,
+            5
+        );
         assert_eq!(rt; trace.taken(), &TRACE[..room]);
         assert_eq!(rt; text.taken(), b"write fault\n".as_slice());
     }
@@ -74,20 +75,13 @@ fn a_full_trace_holds_a_front_part(rt: HostRuntime) -> Result<(), Fail> {
 
 #[test]
 fn a_text_that_fails_leaves_the_status(rt: HostRuntime) -> Result<(), Fail> {
-    let words = owned_words(rt.alloc(), &["play"])?;
     let mut input = MemSource::new(Vec::new(rt.alloc()));
     let mut trace = MemSink::with_room(rt.alloc(), 0)?;
     let mut text = MemSink::with_room(rt.alloc(), 3)?;
-    let status = trace_top(
-        &rt,
-        rt.alloc(),
-        &words,
-        &mut input,
-        &mut trace,
-        &mut text,
-        &OpenGate,
+    assert_eq!(rt;
+        status_of(&rt, &["play"], &mut input, &mut trace, &mut text)?,
+        2
     );
-    assert_eq!(rt; status, 2);
     assert_eq!(rt; text.taken(), b"usa".as_slice());
     Ok(())
 }
@@ -97,8 +91,28 @@ fn one_byte_too_many_is_too_long(rt: HostRuntime) -> Result<(), Fail> {
     let mut input = MemSource::new(vec![in rt.alloc(); b'\n'; 67_108_865]?);
     let mut trace = MemSink::with_room(rt.alloc(), AMPLE)?;
     let mut text = MemSink::with_room(rt.alloc(), AMPLE)?;
-    assert_eq!(rt; status_of(&rt, &mut input, &mut trace, &mut text)?, 7);
+    assert_eq!(rt;
+        status_of(&rt, &["replay"], &mut input, &mut trace, &mut text)?,
+        7
+    );
     assert_eq!(rt; trace.taken(), NOTHING);
     assert_eq!(rt; text.taken(), b"input too long\n".as_slice());
+    Ok(())
+}
+
+// `gen` goes on where the input fails, since it reads none.
+#[test]
+fn gen_reads_nothing(rt: HostRuntime) -> Result<(), Fail> {
+    let failing = vec![in rt.alloc(); 1]?;
+    let mut input = ScriptSource::new(INPUT.to_vec(rt.alloc())?, 5, failing);
+    let mut trace = MemSink::with_room(rt.alloc(), 10)?;
+    let mut text = MemSink::with_room(rt.alloc(), AMPLE)?;
+    let words = ["gen", "0", "1", "1"];
+    assert_eq!(rt;
+        status_of(&rt, &words, &mut input, &mut trace, &mut text)?,
+        5
+    );
+    assert_eq!(rt; trace.taken(), b"buffer 655".as_slice());
+    assert_eq!(rt; text.taken(), b"write fault\n".as_slice());
     Ok(())
 }

@@ -1,11 +1,12 @@
 //! One call of the top call over objects in memory.
-ghost use Rattle.std.specs.Prelude.{◌≡◌, ◌≢◌, ◌↔◌, ◌⊎◌, ◌<◌, ◌≤◌, ℕ, List, [], length, map, Some, None, IfSome, IfOk};
+ghost use Rattle.std.specs.Prelude.{◌≡◌, ◌≢◌, ◌⊎◌, ◌<◌, ◌≤◌, ℕ, List, [], length, map, Some, IfSome, IfOk};
 ghost use Rattle.std.specs.String.{string_bytes};
 ghost use Rattle.byte_io.specs.Bytes.{told, Faulted};
 ghost use Rattle.byte_io.specs.Memory.{mem_sink_taken, mem_sink_faults};
-ghost use Rattle.tracesmb_top.specs.Words.{HasWrittenForm};
-ghost use Rattle.tracesmb_top.specs.Refusals.{refusal_of};
-ghost use Rattle.tracesmb_top.specs.Answers.{Delivers, DeliversPart, Says, usage_line, memory_line, write_line, long_line};
+ghost use Rattle.command_words.specs.declared.command.Command.{Command};
+ghost use Rattle.tracesmb_top.specs.Words.{Ask, AskForNothing, ReadsInput};
+ghost use Rattle.tracesmb_top.specs.Commands.{Accepts, IsGiven, Refuses, Wrote, WrotePart};
+ghost use Rattle.tracesmb_top.specs.Answers.{Says, usage_line, memory_line, write_line, long_line};
 
 use byte_io::memory::{MemSink, MemSource};
 use byte_io::traits::{OpenGate, Sink, Source};
@@ -37,21 +38,25 @@ pub fn owned_words(alloc: Global, words: &[&str]) -> Result<Vec<String>, AllocEr
     Ok(owned)
 }
 
-/// Calls the top call with the words `replay`, and answers its status.
+/// Calls the top call, and answers its status.
 pub fn status_of<R: Threads + Wait + Sync + AllocGlobal, S: Source, T: Sink + Send, O: Sink>(
     rt: &R,
+    words: &[&str],
     input: &mut S,
     trace: &mut T,
     text: &mut O,
 ) -> Result<u8, AllocError>
-    ensures plays { IfOk result (λ status. status ≢ 2) }
-    ensures delivers { IfOk result (λ status. status ≡ 0 → (given : List ℕ) × IfSome (S.left input.old) (λ told. given ≡ told)
-        × Delivers given (T.taken trace.old) (T.taken trace.new)) }
-    ensures read_fault { IfOk result (λ status. (status ≡ 4 → Faulted (S.faults input.old) (S.faults input.new)) × (S.faults input.old < S.faults input.new → status ≡ 4)) }
-    ensures write_fault { IfOk result (λ status. (status ≡ 5 → Faulted (T.faults trace.old) (T.faults trace.new)) × (T.faults trace.old < T.faults trace.new → status ≡ 5)) }
+    ensures unknown { IfOk result (λ status. status ≡ 2 → AskForNothing (map (λ word. word.now) words.now)) }
+    ensures writes { IfOk result (λ status. status ≡ 0 → (command : Command) × (given : List ℕ)
+        × Ask (map (λ word. word.now) words.now) command × IsGiven command (S.left input.old) given
+        × Wrote command given (T.taken trace.old) (T.taken trace.new)) }
+    ensures read_fault { IfOk result (λ status. (status ≡ 4 → Faulted (S.faults input.old) (S.faults input.new))
+        × (S.faults input.old < S.faults input.new → status ≡ 4)) }
+    ensures write_fault { IfOk result (λ status. (status ≡ 5 → Faulted (T.faults trace.old) (T.faults trace.new))
+        × (T.faults trace.old < T.faults trace.new → status ≡ 5)) }
     ensures untouched { IfOk result (λ status. status ≢ 0 → status ≢ 5 → T.taken trace.new ≡ T.taken trace.old) }
 {
-    let words = owned_words(rt.alloc(), &["replay"])?;
+    let words = owned_words(rt.alloc(), words)?;
     Ok(trace_top(rt, rt.alloc(), &words, input, trace, text, &OpenGate))
 }
 
@@ -62,16 +67,31 @@ pub fn play<R: Threads + Wait + Sync + AllocGlobal>(
     input: &[u8],
 ) -> Result<Played, AllocError>
     ensures known { IfOk result (λ played. (played.status ≤ 3) ⊎ (played.status ≡ 5) ⊎ (played.status ≡ 7)) }
-    ensures words { IfOk result (λ played. (played.status ≡ 2) ↔ (¬ (HasWrittenForm (map (λ word. word.now) words.now)))) }
-    ensures delivers { IfOk result (λ played. played.status ≡ 0 → Delivers input.now (told [] []) (told (mem_sink_taken played.trace) [])) }
-    ensures complete { IfOk result (λ played. HasWrittenForm (map (λ word. word.now) words.now) → length input.now ≤ MAX_INPUT → refusal_of input.now ≡ None → mem_sink_faults played.trace ≡ 0 → (played.status ≡ 0) ⊎ (played.status ≡ 1)) }
-    ensures refused { IfOk result (λ played. played.status ≡ 3 → (line : List ℕ) × (refusal_of input.now ≡ Some line) × Says (told [] []) (told (mem_sink_taken played.text) []) 0 (mem_sink_faults played.text) line) }
-    ensures refuses { IfOk result (λ played. HasWrittenForm (map (λ word. word.now) words.now) → length input.now ≤ MAX_INPUT → (line : List ℕ) → refusal_of input.now ≡ Some line → (played.status ≡ 3) ⊎ (played.status ≡ 1)) }
-    ensures part { IfOk result (λ played. played.status ≡ 5 → DeliversPart input.now (told [] []) (told (mem_sink_taken played.trace) [])) }
-    ensures says_memory { IfOk result (λ played. played.status ≡ 1 → Says (told [] []) (told (mem_sink_taken played.text) []) 0 (mem_sink_faults played.text) memory_line) }
-    ensures says_usage { IfOk result (λ played. played.status ≡ 2 → Says (told [] []) (told (mem_sink_taken played.text) []) 0 (mem_sink_faults played.text) usage_line) }
-    ensures says_write { IfOk result (λ played. played.status ≡ 5 → Says (told [] []) (told (mem_sink_taken played.text) []) 0 (mem_sink_faults played.text) write_line) }
-    ensures says_long { IfOk result (λ played. played.status ≡ 7 → Says (told [] []) (told (mem_sink_taken played.text) []) 0 (mem_sink_faults played.text) long_line) }
+    ensures unknown { IfOk result (λ played. played.status ≡ 2 → AskForNothing (map (λ word. word.now) words.now)) }
+    ensures words { IfOk result (λ played. AskForNothing (map (λ word. word.now) words.now) → (played.status ≡ 2) ⊎ (played.status ≡ 1)) }
+    ensures writes { IfOk result (λ played. played.status ≡ 0 → (command : Command) × (given : List ℕ)
+        × Ask (map (λ word. word.now) words.now) command × IsGiven command (Some input.now) given
+        × Wrote command given (told [] []) (told (mem_sink_taken played.trace) [])) }
+    ensures complete { IfOk result (λ played. (command : Command) → Ask (map (λ word. word.now) words.now) command
+        → mem_sink_faults played.trace ≡ 0 → (ReadsInput command → Accepts command (Some input.now))
+        → (played.status ≡ 0) ⊎ (played.status ≡ 1)) }
+    ensures refused { IfOk result (λ played. played.status ≡ 3 → (command : Command) × (given line : List ℕ)
+        × Ask (map (λ word. word.now) words.now) command × IsGiven command (Some input.now) given × Refuses command given line
+        × Says (told [] []) (told (mem_sink_taken played.text) []) 0 (mem_sink_faults played.text) line) }
+    ensures refuses { IfOk result (λ played. (command : Command) → Ask (map (λ word. word.now) words.now) command
+        → length input.now ≤ MAX_INPUT → (line : List ℕ) → Refuses command input.now line
+        → (played.status ≡ 3) ⊎ (played.status ≡ 1)) }
+    ensures part { IfOk result (λ played. played.status ≡ 5 → (command : Command) × (given : List ℕ)
+        × Ask (map (λ word. word.now) words.now) command × IsGiven command (Some input.now) given
+        × WrotePart command given (told [] []) (told (mem_sink_taken played.trace) [])) }
+    ensures says_memory { IfOk result (λ played. played.status ≡ 1
+        → Says (told [] []) (told (mem_sink_taken played.text) []) 0 (mem_sink_faults played.text) memory_line) }
+    ensures says_usage { IfOk result (λ played. played.status ≡ 2
+        → Says (told [] []) (told (mem_sink_taken played.text) []) 0 (mem_sink_faults played.text) usage_line) }
+    ensures says_write { IfOk result (λ played. played.status ≡ 5
+        → Says (told [] []) (told (mem_sink_taken played.text) []) 0 (mem_sink_faults played.text) write_line) }
+    ensures says_long { IfOk result (λ played. played.status ≡ 7
+        → Says (told [] []) (told (mem_sink_taken played.text) []) 0 (mem_sink_faults played.text) long_line) }
     ensures quiet { IfOk result (λ played. played.status ≡ 0 → mem_sink_taken played.text ≡ []) }
     ensures too_long { IfOk result (λ played. played.status ≡ 7 → MAX_INPUT < length input.now) }
     ensures untouched { IfOk result (λ played. played.status ≢ 0 → played.status ≢ 5 → mem_sink_taken played.trace ≡ []) }

@@ -182,6 +182,104 @@ fn plays_as_many_bytes_as_packets_share(rt: HostRuntime) -> Result<(), Fail> {
     Ok(())
 }
 
+/// Command lines, with a blank between two words.
+struct Command {
+    line: &'static str,
+    input: &'static [u8],
+    status: u8,
+    trace: &'static [u8],
+    text: &'static [u8],
+}
+
+static COMMANDS: [Command; 9] = [
+    // A workload, which reads nothing.
+    Command {
+        line: "gen 0 1 1",
+        input: b"play\n",
+        status: 0,
+        trace: b"buffer 65536 ring\nproducer 16 4096 14\nwriter 1 1 stall\np 1 8:7 900{1:\"n\"*24 2:1}\n",
+        text: b"",
+    },
+    // Two sequences, each with its totals, and then those of all.
+    Command {
+        line: "read",
+        input: b"\x0A\x07\x40\x01\x50\x02\xD0\x02\x01\x0A\x07\x40\x09\x50\x03\xD0\x02\x01\x0A\x04\x40\x02\x50\x02",
+        status: 0,
+        trace: b"sequence 2 packets 2 marked 1 bytes 11\nsequence 3 packets 1 marked 1 bytes 7\npackets 3 bytes 18\n",
+        text: b"",
+    },
+    Command {
+        line: "read",
+        input: b"",
+        status: 0,
+        trace: b"packets 0 bytes 0\n",
+        text: b"",
+    },
+    // The last record is cut short.
+    Command {
+        line: "read",
+        input: b"\x0A\x04\x40\x02\x50\x02\x0A\x07\x40",
+        status: 3,
+        trace: b"",
+        text: b"offset 6: cut short\n",
+    },
+    // A group begins.
+    Command {
+        line: "read",
+        input: b"\x0A\x00\x0B",
+        status: 3,
+        trace: b"",
+        text: b"offset 2: group\n",
+    },
+    // A field of a record passes the record's end.
+    Command {
+        line: "read",
+        input: b"\x0A\x03\x40\x02\x50\x02",
+        status: 3,
+        trace: b"",
+        text: b"offset 4: bad record\n",
+    },
+    // No writers.
+    Command {
+        line: "gen 0 0 1",
+        input: b"",
+        status: 2,
+        trace: b"",
+        text: USAGE,
+    },
+    // A number with a leading zero.
+    Command {
+        line: "gen 00 1 1",
+        input: b"",
+        status: 2,
+        trace: b"",
+        text: USAGE,
+    },
+    // Not built yet.
+    Command {
+        line: "check",
+        input: b"==\n",
+        status: 2,
+        trace: b"",
+        text: USAGE,
+    },
+];
+
+#[test]
+fn does_other_commands(rt: HostRuntime) -> Result<(), Fail> {
+    for command in &COMMANDS {
+        let mut words = Vec::new(rt.alloc());
+        for word in command.line.split(' ') {
+            words.push(word)?;
+        }
+        let played = play(&rt, &words, command.input)?;
+        assert_eq!(rt; played.status, command.status, "{}", command.line);
+        assert_eq!(rt; played.trace.taken(), command.trace, "{}", command.line);
+        assert_eq!(rt; played.text.taken(), command.text, "{}", command.line);
+    }
+    Ok(())
+}
+
 const USAGE: &[u8] = b"usage: tracesmb replay|run|read|check|gen NUMBER WRITERS PACKETS\n";
 
 static WRONG_WORDS: [&[&str]; 8] = [

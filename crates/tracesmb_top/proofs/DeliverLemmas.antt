@@ -17,8 +17,9 @@ use Rattle.scenario_text.specs.Trees.{GivesTree, GiveTrees}
 use Rattle.tracesmb_top.specs.Built.{packet_nodes, packet_len, behind_packet, unbuilt_line, or_played, first_unbuilt}
 use Rattle.tracesmb_top.specs.Played.{Emits, EmitAll, IsPlayed, packet_by, packets_of}
 use Rattle.tracesmb_top.specs.Refusals.{not_built_line, refusal_by, refusal_of}
-use Rattle.tracesmb_top.specs.Trace.{lone_delivery, lone_trace}
-use Rattle.tracesmb_top.specs.Answers.{Delivers, DeliversPart}
+use Rattle.tracesmb_top.specs.Trace.{lone_delivery, lone_trace, IsDelivery}
+use Rattle.command_words.specs.declared.command.Command.TheVariants.{Replay}
+use Rattle.tracesmb_top.specs.Commands.{Wrote, WrotePart}
 use Rattle.tracesmb_top.proofs.PacketLemmas.{packet_as}
 
 records_are : (first : Bool) (packets : List (List ℕ)) → records_of 2 (lone_delivery first packets) ≡ all_records 2 first packets
@@ -108,32 +109,41 @@ is_played text parts is none trees =
     let built = all_built text parts is none in
     record { parts = parts; scenario_is = is; built = built; emitted = emit_all 0 parts.lines (played_built text parts.lines built) trees }
 
-delivers : (text : List ℕ) (packets : List (List ℕ)) (old new : Intake) → IsPlayed text packets
-    → new ≡ after_told old (lone_trace true packets) → Delivers text old new
+delivery : (text : List ℕ) (packets : List (List ℕ)) → IsPlayed text packets → IsDelivery text (lone_trace true packets)
 unfolding lone_trace
-delivers text packets old new played taken = record {
+delivery text packets played = record {
   packets = packets;
   played = played;
   delivered = lone_delivery true packets;
   faithful = is_faithful packets;
   none_missing = is_complete packets;
   delivered_is = refl;
+  bytes_are = refl;
+}
+
+-- ---- what is written of a text that was read as a scenario
+
+pub replay_wrote : (text : List ℕ) (parts : Parts) (old new : Intake)
+    → scenario_of text ≡ Ok parts → refusal_of text ≡ None → GiveTrees parts.lines
+    → new ≡ after_told old (lone_trace true (packets_of parts.lines)) → Wrote Replay text old new
+replay_wrote text parts old new is none trees taken = record {
+  bytes = lone_trace true (packets_of parts.lines);
+  writes = delivery text (packets_of parts.lines) (is_played text parts is none trees);
   taken = taken;
 }
 
-delivers_part : (text : List ℕ) (packets : List (List ℕ)) (old new : Intake) → IsPlayed text packets
-    → TakesPart old new (lone_trace true packets) → DeliversPart text old new
-unfolding lone_trace
-delivers_part text packets old new played part = record { packets = packets; played = played; part = part }
-
--- ---- the same of a text that was read as a scenario
-
-pub delivers_read : (text : List ℕ) (parts : Parts) (old new : Intake)
+pub replay_wrote_part : (text : List ℕ) (parts : Parts) (old new : Intake)
     → scenario_of text ≡ Ok parts → refusal_of text ≡ None → GiveTrees parts.lines
-    → new ≡ after_told old (lone_trace true (packets_of parts.lines)) → Delivers text old new
-delivers_read text parts old new is none trees taken = delivers text (packets_of parts.lines) old new (is_played text parts is none trees) taken
+    → TakesPart old new (lone_trace true (packets_of parts.lines)) → WrotePart Replay text old new
+replay_wrote_part text parts old new is none trees part = record {
+  bytes = lone_trace true (packets_of parts.lines);
+  writes = delivery text (packets_of parts.lines) (is_played text parts is none trees);
+  part = part;
+}
 
-pub delivers_read_part : (text : List ℕ) (parts : Parts) (old new : Intake)
-    → scenario_of text ≡ Ok parts → refusal_of text ≡ None → GiveTrees parts.lines
-    → TakesPart old new (lone_trace true (packets_of parts.lines)) → DeliversPart text old new
-delivers_read_part text parts old new is none trees part = delivers_part text (packets_of parts.lines) old new (is_played text parts is none trees) part
+-- a text that has a delivery isn't refused
+pub delivery_unrefused : (text bytes : List ℕ) → IsDelivery text bytes → refusal_of text ≡ None
+unfolding refusal_of refusal_by
+delivery_unrefused text bytes delivery =
+    let played = delivery.played in
+    ap (refusal_by text) played.scenario_is ∙ ap (option_map not_built_line) played.built

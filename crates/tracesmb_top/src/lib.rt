@@ -4,7 +4,9 @@
 #![tactic(auto)]
 
 mod built;
+mod commands;
 mod deliver;
+mod input;
 mod packet;
 mod reading;
 mod say;

@@ -1,14 +1,15 @@
-//! The lines that the top call writes on its text.
-ghost use Rattle.std.specs.Prelude.{◌≡◌, ◌++◌};
+//! The lines that the top call writes on its text, each with the status that it stands for.
+ghost use Rattle.std.specs.Prelude.{◌≡◌, ◌≤◌, length};
 ghost use Rattle.tracesmb_top.specs.Answers.{Says, usage_line, memory_line, read_line, write_line, long_line};
 ghost use Rattle.tracesmb_top.specs.Refusals as refusals;
 
 use arrayvec::ArrayVec;
 use byte_io::put::{WriteFault, put_all};
 use byte_io::traits::Sink;
+use trace_file::TraceFault;
 
 /// Writes a line. A fault in writing it changes nothing else: it shows in the sink's count alone.
-pub fn say<O: Sink>(text: &mut O, line: &[u8])
+fn say<O: Sink>(text: &mut O, line: &[u8])
     ensures { Says (O.taken text.old) (O.taken text.new) (O.faults text.old) (O.faults text.new) line.now }
 {
     match put_all(text, line) {
@@ -18,41 +19,60 @@ pub fn say<O: Sink>(text: &mut O, line: &[u8])
 }
 
 #[tactic(auto, unfolding(crate::specs::Answers::usage_line))]
-pub fn say_usage<O: Sink>(text: &mut O)
-    ensures { Says (O.taken text.old) (O.taken text.new) (O.faults text.old) (O.faults text.new) usage_line }
+pub fn say_usage<O: Sink>(text: &mut O) -> u8
+    ensures status { result ≡ 2 }
+    ensures says { Says (O.taken text.old) (O.taken text.new) (O.faults text.old) (O.faults text.new) usage_line }
 {
     say(
         text,
         b"usage: tracesmb replay|run|read|check|gen NUMBER WRITERS PACKETS\n",
-    )
+    );
+    2
 }
 
 #[tactic(auto, unfolding(crate::specs::Answers::memory_line))]
-pub fn say_out_of_memory<O: Sink>(text: &mut O)
-    ensures { Says (O.taken text.old) (O.taken text.new) (O.faults text.old) (O.faults text.new) memory_line }
+pub fn say_out_of_memory<O: Sink>(text: &mut O) -> u8
+    ensures status { result ≡ 1 }
+    ensures says { Says (O.taken text.old) (O.taken text.new) (O.faults text.old) (O.faults text.new) memory_line }
 {
-    say(text, b"out of memory\n")
+    say(text, b"out of memory\n");
+    1
 }
 
 #[tactic(auto, unfolding(crate::specs::Answers::read_line))]
-pub fn say_read_fault<O: Sink>(text: &mut O)
-    ensures { Says (O.taken text.old) (O.taken text.new) (O.faults text.old) (O.faults text.new) read_line }
+pub fn say_read_fault<O: Sink>(text: &mut O) -> u8
+    ensures status { result ≡ 4 }
+    ensures says { Says (O.taken text.old) (O.taken text.new) (O.faults text.old) (O.faults text.new) read_line }
 {
-    say(text, b"read fault\n")
+    say(text, b"read fault\n");
+    4
 }
 
 #[tactic(auto, unfolding(crate::specs::Answers::write_line))]
-pub fn say_write_fault<O: Sink>(text: &mut O)
-    ensures { Says (O.taken text.old) (O.taken text.new) (O.faults text.old) (O.faults text.new) write_line }
+pub fn say_write_fault<O: Sink>(text: &mut O) -> u8
+    ensures status { result ≡ 5 }
+    ensures says { Says (O.taken text.old) (O.taken text.new) (O.faults text.old) (O.faults text.new) write_line }
 {
-    say(text, b"write fault\n")
+    say(text, b"write fault\n");
+    5
 }
 
 #[tactic(auto, unfolding(crate::specs::Answers::long_line))]
-pub fn say_too_long<O: Sink>(text: &mut O)
-    ensures { Says (O.taken text.old) (O.taken text.new) (O.faults text.old) (O.faults text.new) long_line }
+pub fn say_too_long<O: Sink>(text: &mut O) -> u8
+    ensures status { result ≡ 7 }
+    ensures says { Says (O.taken text.old) (O.taken text.new) (O.faults text.old) (O.faults text.new) long_line }
 {
-    say(text, b"input too long\n")
+    say(text, b"input too long\n");
+    7
+}
+
+/// Says why an input is refused.
+pub fn say_refusal<O: Sink>(text: &mut O, line: &[u8]) -> u8
+    ensures status { result ≡ 3 }
+    ensures says { Says (O.taken text.old) (O.taken text.new) (O.faults text.old) (O.faults text.new) line.now }
+{
+    say(text, line);
+    3
 }
 
 /// `line L: not built`, with its line feed.
@@ -66,4 +86,32 @@ pub fn not_built_line(line: u32) -> ArrayVec<u8, 64>
     let _ = bytes.try_extend_from_slice(digits.format(line).as_bytes());
     let _ = bytes.try_extend_from_slice(b": not built\n");
     bytes
+}
+
+/// `offset N: REASON`, with its line feed.
+#[tactic(auto, unfolding(crate::specs::Refusals::offset_line))]
+fn offset_line(offset: u64, reason: &[u8]) -> ArrayVec<u8, 64>
+    requires { length reason.now ≤ 16 }
+    ensures { result.items ≡ refusals.offset_line offset reason.now }
+{
+    let mut digits = itoa::Buffer::new();
+    let mut bytes = ArrayVec::new();
+    let _ = bytes.try_extend_from_slice(b"offset ");
+    let _ = bytes.try_extend_from_slice(digits.format(offset).as_bytes());
+    let _ = bytes.try_extend_from_slice(b": ");
+    let _ = bytes.try_extend_from_slice(reason);
+    let _ = bytes.try_extend_from_slice(b"\n");
+    bytes
+}
+
+/// The line of a trace's fault.
+#[tactic(auto, unfolding(crate::specs::Refusals::trace_fault_line))]
+pub fn trace_fault_line(fault: TraceFault) -> ArrayVec<u8, 64>
+    ensures { result.items ≡ refusals.trace_fault_line fault }
+{
+    match fault {
+        TraceFault::Group { offset } => offset_line(offset, b"group"),
+        TraceFault::BadRecord { offset } => offset_line(offset, b"bad record"),
+        TraceFault::CutShort { offset } => offset_line(offset, b"cut short"),
+    }
 }

@@ -1,20 +1,34 @@
-//! The command words.
-ghost use Rattle.std.specs.Prelude.{◌≡◌, ◌↔◌, IsTrue, map, codes};
+//! The command that the words ask for.
+ghost use Rattle.std.specs.Prelude.{◌≡◌, Err, IsTrue, ◌↔◌, IfOk, map};
 ghost use Rattle.std.specs.String.{string_bytes};
-ghost use Rattle.tracesmb_top.specs.Words.{HasWrittenForm};
+ghost use Rattle.tracesmb_top.specs.Words.{Ask, AskForNothing, ReadsInput};
 
-fn is_replay_word(word: &str) -> bool
-    ensures { IsTrue result ↔ (word.now ≡ codes "replay") }
+use command_words::{Command, WordsFault, read_words};
+use std::alloc::Global;
+
+/// The command that the words ask for, of those that are built.
+#[tactic(auto, using(crate::proofs::WordLemmas::ask_built, crate::proofs::WordLemmas::check_alone))]
+pub fn asked_command(alloc: Global, words: &[String]) -> Result<Command, WordsFault>
+    ensures asked { IfOk result (λ command. Ask (map string_bytes words.now) command) }
+    ensures unknown { result ≡ Err WordsFault.Unknown → AskForNothing (map string_bytes words.now) }
 {
-    word == "replay"
+    match read_words(alloc, words) {
+        Ok(Command::Check) => Err(WordsFault::Unknown),
+        Ok(command) => Ok(command),
+        Err(fault) => Err(fault),
+    }
 }
 
-/// Whether the words are `replay` alone, which is all that is built.
-pub fn is_replay(words: &[String]) -> bool
-    ensures { IsTrue result ↔ HasWrittenForm (map string_bytes words.now) }
+/// Whether the command reads the input.
+pub fn reads_input(command: Command) -> bool
+    ensures { IsTrue result ↔ ReadsInput command }
 {
-    match words {
-        [word] => is_replay_word(word.as_str()),
-        _ => false,
+    match command {
+        Command::Gen {
+            number: _,
+            writers: _,
+            packets: _,
+        } => false,
+        Command::Replay | Command::Read | Command::Check => true,
     }
 }

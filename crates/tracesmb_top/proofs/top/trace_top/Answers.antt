@@ -1,30 +1,22 @@
-use Rattle.std.proofs.Common.{◌≡◌, ◌∙◌, ap, Ok, Err, None, true}
-use Rattle.byte_io.specs.Bytes.{after_told, TakesPart}
-use Rattle.scenario_text.specs.Scenario.{parts_of, scenario_of}
-use Rattle.tracesmb_top.specs.Played.{packets_of}
-use Rattle.tracesmb_top.specs.Refusals.{refusal_of}
-use Rattle.tracesmb_top.specs.Trace.{lone_trace}
-use Rattle.tracesmb_top.proofs.DeliverLemmas.{delivers_read, delivers_read_part}
+use Rattle.std.proofs.Common.{◌∙◌, ap, map, Err}
+use Rattle.std.specs.String.{string_bytes}
+use Rattle.tracesmb_top.specs.Commands.{IsGiven, WrotePart}
+use Rattle.tracesmb_top.proofs.CommandLemmas.{never_refused}
 use Rattle.tracesmb_top.proofs.top.trace_top.Goals as goal
 
-pub returns-in-Ok-deliver-clause-delivers : goal.returns-in-Ok-deliver-clause-delivers
-returns-in-Ok-deliver-clause-delivers g c = λ zero.
-    let is : scenario_of c.in-Ok.told.items ≡ Ok (parts_of c.in-Ok-read_built.scenario) = rw c.deref.ensures.value at c.in-Ok-read_built.ensures.exact in
-    let none : refusal_of c.in-Ok.told.items ≡ None = rw c.deref.ensures.value at c.in-Ok-read_built.ensures.built in
-    let taken : g.T.Sink.taken c.deliver.new.trace ≡ after_told (g.T.Sink.taken c.args.trace.now) (lone_trace true (packets_of c.in-Ok-read_built.scenario.lines.items)) =
-    rw c.deref-in-Ok-read_built.ensures.value at c.in-Ok-deliver.ensures.all in (
-      c.in-Ok.told.items,
-      c.in-Ok.ensures.all,
-      delivers_read c.in-Ok.told.items (parts_of c.in-Ok-read_built.scenario) _ _ is none c.in-Ok-read_built.ensures.trees taken,
-    )
+pub returns-in-Ok-perform-clause-refuses : goal.returns-in-Ok-perform-clause-refuses
+returns-in-Ok-perform-clause-refuses g c = λ command ask quiet.
+    let wrote = c.in-Ok-perform.ensures.ends in
+    let given : IsGiven c.in-Ok.command (g.S.Source.left c.args.input.now) c.deref.result.now =
+    rw c.deref.ensures.value (c.in-Ok-take_input.ensures.given) in
+    never_refused _ (map string_bytes c.args.words.now) c.in-Ok.command command _ c.deref.result.now wrote.bytes
+    c.in-Ok.ensures.asked ask given wrote.writes
 
-pub returns-clause-part : goal.returns-clause-part
-returns-clause-part g c = λ five.
-    let is : scenario_of c.in-Ok.told.items ≡ Ok (parts_of c.in-Ok-read_built.scenario) = rw c.deref.ensures.value at c.in-Ok-read_built.ensures.exact in
-    let none : refusal_of c.in-Ok.told.items ≡ None = rw c.deref.ensures.value at c.in-Ok-read_built.ensures.built in
-    let part : TakesPart (g.T.Sink.taken c.args.trace.now) (g.T.Sink.taken c.deliver.new.trace) (lone_trace true (packets_of c.in-Ok-read_built.scenario.lines.items)) =
-    rw c.deref-in-Ok-read_built.ensures.value at (c.deliver.ensures.part (c.in-Err-WriteFault.is ∙ ap Err c.in-Err-WriteFault.field-0-is)) in (
-      c.in-Ok.told.items,
-      c.in-Ok.ensures.all,
-      delivers_read_part c.in-Ok.told.items (parts_of c.in-Ok-read_built.scenario) _ _ is none c.in-Ok-read_built.ensures.trees part,
-    )
+pub returns-clause-refuses : goal.returns-clause-refuses
+returns-clause-refuses g c = λ command ask quiet.
+    let wrote : WrotePart c.in-Ok.command c.deref.result.now (g.T.Sink.taken c.args.trace.now) (g.T.Sink.taken c.perform.new.trace) =
+    rw (c.in-Err-WriteFault.is ∙ ap Err c.in-Err-WriteFault.field-0-is) at c.perform.ensures.ends in
+    let given : IsGiven c.in-Ok.command (g.S.Source.left c.args.input.now) c.deref.result.now =
+    rw c.deref.ensures.value (c.in-Ok-take_input.ensures.given) in
+    never_refused _ (map string_bytes c.args.words.now) c.in-Ok.command command _ c.deref.result.now wrote.bytes
+    c.in-Ok.ensures.asked ask given wrote.writes
