@@ -23,3 +23,4 @@ pub mod Resting
 pub mod WorldSet
 pub mod Publishing
 pub mod Taking
+pub mod Agreeing

@@ -81,7 +81,7 @@ nothing_counted place = record {
   level = omega arith;
 }
 
-first_owned : (setup : Setup) → IsOwned (first_world setup)
+pub first_owned : (setup : Setup) → IsOwned (first_world setup)
 first_owned setup =
     let free : (c : ℕ) → status (first_world setup) c ≡ Unclaimed = λ c. all_same Unclaimed setup.spots c in
     let fresh : (k : ℕ) → writer (first_world setup) k ≡ newcomer = λ k. all_same newcomer setup.writers k in

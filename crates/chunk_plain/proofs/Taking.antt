@@ -15,14 +15,14 @@ use Rattle.chunk_plain.specs.declared.step.Step.TheVariants.{Take}
 use Rattle.chunk_plain.specs.Setup.{Setup, spot, sequence_of}
 use Rattle.chunk_plain.specs.Payload.{byte_at, byte_in}
 use Rattle.chunk_plain.specs.Views.{Head, Content, ServiceView, Taken, none_taken, taken_of}
-use Rattle.chunk_plain.specs.World.{World, Unclaimed, Ready, Reading, status}
+use Rattle.chunk_plain.specs.World.{World, Status, Unclaimed, Ready, Reading, status}
 use Rattle.chunk_plain.specs.Steps.{looks_at, takes_in, learns, served, serviced}
 use Rattle.chunk_plain.specs.Drafts.{head_of}
 use Rattle.chunk_plain.specs.Stored.{Stored, stored_at}
-use Rattle.chunk_plain.specs.Shows.{content_of, page_word, header_word}
+use Rattle.chunk_plain.specs.Shows.{ShowsPage, ShowsHeader, IsHeader, content_of, page_word, header_word}
 use Rattle.chunk_plain.specs.Words.{IsServing}
 use Rattle.chunk_plain.specs.Plain.{IsLent, read_as, world_after, IsKept}
-use Rattle.chunk_plain.proofs.KeptService.{IsReadyAt, found_ready}
+use Rattle.chunk_plain.proofs.KeptService.{IsReadyAt, header_reads, found_ready}
 use Rattle.chunk_plain.proofs.Known.{is_some_by}
 use Rattle.chunk_plain.proofs.Resting.{takes_serving}
 use Rattle.chunk_plain.proofs.WorldSet.{world_set}
@@ -143,3 +143,18 @@ pub taken_serves : (setup : Setup) (service : ServiceView) (place chunk word : �
     → IsServing setup (learns (takes_in (looks_at service chunk word (packed header) None) place chunk) place content)
 taken_serves setup service place chunk word header content serving inside =
     takes_serving setup (looks_at service chunk word (packed header) None) place chunk content (record { writers = serving.writers; level = serving.level }) inside
+
+-- a chunk that was found to be another isn't ready under this writer and id
+pub other_found : (setup : Setup) (words : List ℕ) (slots : List Stored) (world : World) → ∥ IsKept setup words slots world ∥₁ → (place chunk id word : ℕ) (header : ChunkHeader) → chunk < length setup.spots
+    → word ≡ page_word setup words chunk → header ≡ unpacked (header_word setup words chunk)
+    → (HasState word (spot setup chunk).place Complete → header.writer_id ≡ place + 1 → header.chunk_id ≡ id → ⊥)
+    → (content : Content) → status world chunk ≡ Ready place id content → ⊥
+other_found setup words slots world kept place chunk id word header inside word_is fields other content ready =
+    ∥∥₁_elim kept (λ a b. absurd a) (λ k.
+    let page : ShowsPage setup world (spot setup chunk) (page_word setup words chunk) (Ready place id content) =
+    subst (λ (t : Status). ShowsPage setup world (spot setup chunk) (page_word setup words chunk) t) ready (k.shown.page chunk inside) in
+    let shows : IsHeader setup (header_word setup words chunk) place id (head_of content) =
+    subst (λ (t : Status). ShowsHeader setup (header_word setup words chunk) t) ready (k.shown.header chunk inside) in
+    let reads = fields ∙ header_reads setup (header_word setup words chunk) place id (head_of content) shows in
+    other (subst (λ (w : ℕ). HasState w (spot setup chunk).place Complete) (sym word_is) page.state)
+    (ap (λ (h : ChunkHeader). h.writer_id) reads) (ap (λ (h : ChunkHeader). h.chunk_id) reads))

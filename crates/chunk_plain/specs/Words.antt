@@ -1,5 +1,5 @@
 -- What a call on a table does to the views of its seats, and what the views have between two calls.
-use Rattle.std.specs.Prelude.{◌≡◌, ℕ, ◌+◌, ◌-◌, ◌*◌, ◌<◌, ◌≤◌, ◌⊎◌, Bool, true, Option, Some, None, List, [], length, map, vec_len, if◌then◌else◌}
+use Rattle.std.specs.Prelude.{◌≡◌, ℕ, ◌+◌, ◌-◌, ◌*◌, ◌%◌, ◌<◌, ◌≤◌, ◌⊎◌, Bool, true, Option, Some, None, List, [], length, map, vec_len, if◌then◌else◌}
 use Rattle.std.specs.Int.{bit_at}
 use Rattle.trace_base.specs.declared.limits.TheConstants.{MAX_FRAGMENTS}
 use Rattle.page_geometry.specs.declared.chunk_header.TheConstants.{MAX_FLAGS}
@@ -23,7 +23,7 @@ use Rattle.chunk_plain.specs.Payload.{byte_at, byte_in, sealed_to}
 use Rattle.chunk_plain.specs.Views.{At, Ask, Content, Begun, Held, Completed, WriterView, Found, Look, ServiceView, taken_of, Noted, Arrive, Partial, Patched, Closed, Read, Committed}
 use Rattle.chunk_plain.specs.Steps.{claims, stamps, begins, redrafts, looks_at, takes_in, learns}
 use Rattle.chunk_plain.specs.Owned.{times}
-use Rattle.chunk_plain.specs.Drafts.{MayFollow, IsFound, head_of, draft_at, head_at, published}
+use Rattle.chunk_plain.specs.Drafts.{MayFollow, IsFound, StillHas, head_of, draft_at, head_at, published}
 use Rattle.chunk_plain.specs.Shows.{content_of}
 
 -- Between two calls
@@ -51,6 +51,24 @@ LearntAsFound view = (n : ℕ) (look : Look) (found : Found) (content : Content)
     → At (taken_of view found.place).contents found.id content
     → MayFollow found.head (head_of content) × (length found.sealed ≤ length content.image.payload)
     × ((j : ℕ) → j < length found.sealed → byte_in content.image.payload j ≡ byte_in found.sealed j)
+
+-- what two looks found of a chunk is there still, in one begun chunk of its writer
+pub record HasBoth (about : ℕ) (found : Found) (next : ℕ) (other : Found) : Type 0 where
+  pub entry : Begun
+  pub found_is : IsFound found
+  pub has : StillHas about found entry
+  pub other_is : IsFound other
+  pub had : StillHas next other entry
+
+-- Looks that found a chunk of the same writer and id found what one begun chunk of the writer has.
+abbrev pub LooksAgree : ServiceView → Type 0
+LooksAgree view = (n m : ℕ) (look later : Look) (found other : Found) → At view.looks n look → look.found ≡ Some found → At view.looks m later
+    → later.found ≡ Some other → found.place ≡ other.place → found.id ≡ other.id → ∥ HasBoth look.chunk found later.chunk other ∥₁
+
+-- so where equally many fragments were finished, they are the same, and so is flag 1, if there are any
+pub record FoundAlike (one other : Found) : Type 0 where
+  pub sealed : one.sealed ≡ other.sealed
+  pub front : 0 < length one.ends → one.head.flags % 2 ≡ other.head.flags % 2
 
 -- Writers
 

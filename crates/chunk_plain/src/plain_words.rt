@@ -5,12 +5,12 @@ ghost use Rattle.std.proofs.Math.Logic.{∥∥₁_map, ∥∥₁_elim};
 ghost use Rattle.std.proofs.Math.Nat.{ℕ_set};
 ghost use Rattle.std.specs.Coded.{le_prop};
 ghost use mathlib.Core.Option.{some-injective};
-ghost use Rattle.chunk_plain.specs.Views.{Completed};
+ghost use Rattle.chunk_plain.specs.Views.{At, Begun, Completed};
 ghost use Rattle.chunk_plain.specs.Drafts.{StillHas};
 ghost use Rattle.chunk_plain.specs.Plain.{IsKept};
 ghost use Rattle.chunk_plain.specs.World.{World, writer, nowhere};
 ghost use Rattle.chunk_plain.specs.Owned.{IsOwned};
-ghost use Rattle.chunk_plain.specs.Words.{IsAtRest, IsServing};
+ghost use Rattle.chunk_plain.specs.Words.{IsAtRest, IsServing, HasBoth};
 
 use crate::bytes::{unpack, word_end};
 use crate::notes::{ServiceEvent, WriterCall};
@@ -59,6 +59,22 @@ impl Words for PlainTable {
           ∥∥₁_elim table.kept (Prim.hlevel le_prop) (λ kept. (fact kept).1.2),
           λ j below. ∥∥₁_elim table.kept (ℕ_set _ _) (λ kept. (fact kept).1.3 j below),
         ) };
+
+    ghost looks_agree = { λ table seat serves n m look later found other at is then was place id.
+        let both : IsKept table.layout table.words.items table.slots.items table.seat.me.0 → HasBoth look.chunk found later.chunk other = λ kept.
+        let here = kept.owned.looks n look found at is in
+        let there = kept.owned.looks m later other then was in
+        let moved = subst (λ (i : ℕ). At (writer table.seat.me.0 found.place).begun i there.1.entry) (sym id)
+        (subst (λ (p : ℕ). At (writer table.seat.me.0 p).begun other.id there.1.entry) (sym place) there.1.at) in
+        let same = some-injective here.1.entry there.1.entry (sym here.1.at ∙ moved) in
+        record {
+          entry = here.1.entry;
+          found_is = here.0;
+          has = here.1.has;
+          other_is = there.0;
+          had = subst (λ (e : Begun). StillHas later.chunk other e) (sym same) there.1.has;
+        } in
+        ∥∥₁_map table.kept both };
 
     ghost told_view = { λ table seat world told sits. ap (λ (known : Option World). writer (unwrap_or known nowhere) seat.place) told };
 

@@ -6,14 +6,14 @@ ghost use Rattle.trace_base.specs.declared.limits.TheConstants.{MAX_FRAGMENTS};
 ghost use Rattle.chunk_plain.specs.declared.tokens.TheConstants.{MAX_HELD, ID_LIMIT};
 ghost use Rattle.chunk_plain.specs.Setup.{spot, producer_of, IsChunkOf, IsLaid, id_at};
 ghost use Rattle.chunk_plain.specs.Payload.{sealed_to, HasFragments};
-ghost use Rattle.chunk_plain.specs.Views.{taken_of};
+ghost use Rattle.chunk_plain.specs.Views.{Content, taken_of};
 ghost use Rattle.chunk_plain.specs.World.{World, Unclaimed, Claimed as ClaimedBy, Writing, Ready, Reading, status, writer};
 ghost use Rattle.chunk_plain.specs.Steps.{redrafts, with_head, completes, notes_call, lets_go, notes, notes_commit, moved, served, noted, serviced};
 ghost use Rattle.chunk_plain.specs.Owned.{times, held_count, IsOwned};
 ghost use Rattle.chunk_plain.specs.Drafts.{MayFollow, draft_at, head_at, published, ends_by, IsHolding};
 ghost use Rattle.chunk_plain.specs.Shows.{ShowsPage, ShowsHeader, ShowsPayload};
 ghost use Rattle.chunk_plain.specs.Meaning.{Meaning, IsWriterStep, IsServiceStep};
-ghost use Rattle.chunk_plain.specs.Words.{IsAtRest, IsServing, LearntAsFound, TriesClaim, HasClaimed, IsBegun, BeginsChunk, KeepsSealed, IsPublished, PublishesBytes, completed_content, LooksAt, ShowsFound, IsTakenPayload, taken_content, TakesChunk, FindsOther, call_of, event_of, IsReadEvent, committed_of};
+ghost use Rattle.chunk_plain.specs.Words.{IsAtRest, IsServing, LearntAsFound, LooksAgree, TriesClaim, HasClaimed, IsBegun, BeginsChunk, KeepsSealed, IsPublished, PublishesBytes, completed_content, LooksAt, ShowsFound, IsTakenPayload, taken_content, TakesChunk, FindsOther, call_of, event_of, IsReadEvent, committed_of};
 
 use crate::notes::{ServiceEvent, WriterCall};
 use crate::tokens::{Claimed, Held, NotComplete, Seen, Taken};
@@ -169,7 +169,8 @@ pub trait Words {
             × (means.told self.new ≡ Some (served world (means.service_view self.new seat.new) chunk
             (Reading (writer - 1) id (taken_content (writer - 1) taken))))) }
         ensures told_other { IfErr result (λ _. (world : World) → means.told self.old ≡ Some world
-            → means.told self.new ≡ Some (serviced world (means.service_view self.new seat.new))) };
+            → ((content : Content) → status world chunk ≡ Ready (writer - 1) id content → ⊥)
+            × (means.told self.new ≡ Some (serviced world (means.service_view self.new seat.new)))) };
 
     /// The body goes back into the table, and then the chunk is free.
     fn release(&mut self, seat: &mut Self::Service, taken: Taken)
@@ -222,6 +223,9 @@ pub trait Words {
 
     // what was found of a chunk while it was written is in its content
     ghost learnt: { (table : Self) (seat : Self.Service) → means.serves table seat → LearntAsFound (means.service_view table seat) };
+
+    // looks that found a chunk of the same writer and id found what one begun chunk has
+    ghost looks_agree: { (table : Self) (seat : Self.Service) → means.serves table seat → LooksAgree (means.service_view table seat) };
 
     // a seat's view is its part of the world that the table tells
     ghost told_view: { (table : Self) (seat : Self.Writer) (world : World) → means.told table ≡ Some world → means.sits table seat

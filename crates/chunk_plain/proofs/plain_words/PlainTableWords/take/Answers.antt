@@ -1,5 +1,6 @@
-use Rattle.std.proofs.Common.{◌≡◌, ℕ, ◌-◌, ◌<◌, ◌∙◌, length, List, Some, IsSome, refl, ap, sym, subst, arith, rules}
-use denote.Enum.Bare.{same_true}
+use Rattle.std.proofs.lemmas.Bool.{true≢false}
+use Rattle.std.proofs.Common.{◌≡◌, ℕ, ◌+◌, ◌-◌, ◌<◌, ◌∙◌, false, not, length, List, Some, IsSome, refl, ap, sym, subst, arith, rules}
+use denote.Enum.Bare.{same_true, sameb}
 use Rattle.std.specs.Vec.{with_items}
 use Rattle.page_geometry.specs.contracts.chunk_state.ChunkState.{the_type}
 use Rattle.page_geometry.specs.declared.chunk_state.ChunkState.TheVariants.{Complete}
@@ -8,16 +9,17 @@ use Rattle.commit_body.specs.declared.body.CommitBody.{CommitBody}
 use Rattle.chunk_plain.specs.declared.setup.Spot.{Spot}
 use Rattle.chunk_plain.specs.Setup.{spot}
 use Rattle.chunk_plain.specs.Payload.{byte_at, byte_in}
-use Rattle.chunk_plain.specs.Views.{Head, taken_of}
+use Rattle.chunk_plain.specs.Views.{Head, Content, taken_of}
 use Rattle.chunk_plain.specs.World.{World, Ready, Reading, status}
-use Rattle.chunk_plain.specs.Steps.{served}
+use Rattle.chunk_plain.specs.Steps.{served, serviced}
 use Rattle.chunk_plain.specs.Stored.{Stored, stored_at}
 use Rattle.chunk_plain.specs.Shows.{content_of}
 use Rattle.chunk_plain.proofs.Known as known
 use Rattle.chunk_plain.proofs.Resting as resting
 use Rattle.chunk_plain.proofs.Taking as taking
-use Rattle.chunk_plain.proofs.Taking.{ready_found, not_false, with_items_is}
+use Rattle.chunk_plain.proofs.Taking.{ready_found, other_found, not_false, with_items_is}
 use Rattle.chunk_plain.proofs.plain_words.PlainTableWords.take.Goals as goal
+use Rattle.chunk_plain.proofs.plain_words.PlainTableWords.take.Goals.{then-ne-via-then-ne, then-ne-via-else-ne+then-header-writer, then-ne-via-else-ne+else-header-writer+then-header-id}
 
 pub set_read-requires-clause-ready : goal.set_read-requires-clause-ready
 set_read-requires-clause-ready c =
@@ -211,4 +213,22 @@ returns-clause-told_taken c = λ world e.
     subst (λ (w : World). ∥ status w chunk ≡ Ready place c.args.id full_content ∥₁ × (Some next ≡ Some (served w next.service chunk (Reading place c.args.id full_content)))) same (
       ready,
       ap (λ (w : World). Some w) (taking.taken_world self.seat.me.0 middle next place chunk seen.word.0 c.args.id header full_content took c.learn.ensures.world ready),
+    )
+
+pub returns-then-ne-clause-told_other : goal.returns-then-ne-clause-told_other
+returns-then-ne-clause-told_other c = λ world e.
+    let self = c.args.self.now in let place = c.args.writer - 1 in let chunk = c.args.chunk in let seen = c.peek-seen.result in let header = seen.header in
+    let next = c.note_look.new.self.seat.me.0 in
+    let same : self.seat.me.0 ≡ world = cc in
+    let back : c.args.writer ≡ place + 1 = omega arith in
+    let at_is : c.spot-place.result.place ≡ (spot self.layout chunk).place = ap (λ (s : Spot). s.place) c.spot-place.ensures.spot in
+    let other : HasState seen.word.0 (spot self.layout chunk).place Complete → header.writer_id ≡ place + 1 → header.chunk_id ≡ c.args.id → ⊥ = λ complete writer id_is.
+    elim c.then-ne.branch [
+      | then-ne-via-then-ne w ↦ let found = c.state.ensures.only Complete (subst (λ (p : ℕ). HasState seen.word.0 p Complete) (sym at_is) complete) in let t = w.if-ne.true in let n : c.ne.result ≡ false = c.ne.ensures ∙ ap (λ s. not (sameb the_type s Complete)) found in absurd (true≢false (sym t ∙ n))
+      | then-ne-via-else-ne+then-header-writer w ↦ w.if-header-writer.true (omega (arith, back, writer))
+      | then-ne-via-else-ne+else-header-writer+then-header-id w ↦ w.if-header-id.true id_is
+    ] in
+    subst (λ (w : World). ((content : Content) → status w chunk ≡ Ready place c.args.id content → ⊥) × (Some next ≡ Some (serviced w next.service))) same (
+      other_found self.layout self.words.items self.slots.items self.seat.me.0 self.kept place chunk c.args.id seen.word.0 header c.requires.chunk c.peek-seen.ensures.word c.peek-seen.ensures.fields other,
+      ap (λ (w : World). Some w) (c.note_look.ensures.world ∙ ap (λ service. serviced self.seat.me.0 service) (sym (ap (λ (w : World). w.service) c.note_look.ensures.world))),
     )
