@@ -1,3 +1,4 @@
+pub mod BeginningLemmas
 pub mod FaithfulLemmas
 pub mod FrontLemmas
 pub mod MakingLemmas

@@ -7,4 +7,4 @@
 
 mod laws;
 
-pub use laws::{every_account_is_faithful, finds_are_fronts};
+pub use laws::{every_account_is_faithful, finds_are_fronts, tables_begin_as_accounts};
