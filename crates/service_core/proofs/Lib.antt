@@ -1,4 +1,5 @@
 pub mod AgreeLemmas
+pub mod AnswerLemmas
 pub mod BufferLemmas
 pub mod ChainLemmas
 pub mod CloseLemmas
@@ -10,3 +11,4 @@ pub mod RouteLemmas
 pub mod RoutedLemmas
 pub mod ShapeLemmas
 pub mod TakingLemmas
+pub mod ToldLemmas

@@ -5,3 +5,4 @@ pub mod Order
 pub mod Reading
 pub mod Routing
 pub mod Taking
+pub mod Told

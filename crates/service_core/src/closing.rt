@@ -1,11 +1,14 @@
 //! Closing a producer.
-ghost use Rattle.std.specs.Prelude.{◌≡◌, ◌<◌, false, [], ◌∷◌, length};
+ghost use Rattle.std.specs.Prelude.{◌≡◌, ◌<◌, false, Some, [], ◌∷◌, length};
 ghost use Rattle.chunk_plain.specs.Meaning.{IsServiceStep};
 ghost use Rattle.chunk_plain.specs.Setup.{sequence_of};
 ghost use Rattle.chunk_plain.specs.Views.{Closed};
+ghost use Rattle.chunk_plain.specs.World.{World};
+ghost use Rattle.chunk_plain.specs.Steps.{serviced};
 ghost use Rattle.service_core.specs.Agreement.{ServiceAgrees, IsOpen, is_closed};
 ghost use Rattle.service_core.specs.Taking.{noted_more};
 ghost use Rattle.service_core.specs.Closing.{ClosesOne, ClosesAll, TakesAndCloses};
+ghost use Rattle.service_core.specs.Told.{LeavesNone};
 
 use crate::routing::close_in;
 use crate::service::ServiceCore;
@@ -23,6 +26,8 @@ impl<S> ServiceCore<S> {
         ensures closes { ClosesOne (W.means.setup table.old) place self.old self.new }
         ensures step { IsServiceStep W.means table.old self.old.seat table.new self.new.seat }
         ensures view { W.means.service_view table.new self.new.seat ≡ noted_more (W.means.service_view table.old self.old.seat) (Closed (sequence_of place) ∷ []) }
+        ensures told { (world : World) → W.means.told table.old ≡ Some world
+            → W.means.told table.new ≡ Some (serviced world (W.means.service_view table.new self.new.seat)) }
     {
         let sequence = place as u32 + FIRST_SEQUENCE;
         let index = usize::from(self.writers[place].buffer) - 1;
@@ -43,6 +48,8 @@ impl<S> ServiceCore<S> {
         ensures step { IsServiceStep W.means table.old self.old.seat table.new self.new.seat }
         ensures takes { TakesAndCloses (W.means.setup table.old) producer result
             (W.means.service_view table.old self.old.seat) (W.means.service_view table.new self.new.seat) }
+        ensures told { (world : World) → W.means.told table.old ≡ Some world
+            → LeavesNone (W.means.setup table.old) producer world (W.means.told table.new) (W.means.service_view table.new self.new.seat) }
     {
         let count = self.collect(table, producer);
         for place in 0..self.writers.len() {

@@ -1,5 +1,5 @@
 //! Taking complete chunks.
-ghost use Rattle.std.specs.Prelude.{◌≡◌, ℕ, ◌+◌, ◌-◌, ◌*◌, ◌<◌, ◌≤◌, true, false, List, [], ◌∷◌, length, vec_len, map, slice_set, slice_index_or};
+ghost use Rattle.std.specs.Prelude.{◌≡◌, ℕ, ◌+◌, ◌-◌, ◌*◌, ◌<◌, ◌≤◌, true, false, Some, List, [], ◌∷◌, length, vec_len, map, slice_set, slice_index_or};
 ghost use Rattle.trace_base.specs.declared.limits.TheConstants.{MAX_FRAGMENTS, MAX_WRITERS, FIRST_SEQUENCE};
 ghost use Rattle.chunk_plain.specs.declared.tokens.TheConstants.{ID_LIMIT};
 ghost use Rattle.page_geometry.specs.declared.chunk_header.TheConstants.{MAX_FLAGS};
@@ -10,12 +10,14 @@ ghost use Rattle.trace_model.specs.History.{buffers_after};
 ghost use Rattle.chunk_plain.specs.Setup.{spot, range_of, producer_of, IsChunkOf, sequence_of};
 ghost use Rattle.chunk_plain.specs.Views.{taken_of};
 ghost use Rattle.chunk_plain.specs.Owned.{times};
-ghost use Rattle.chunk_plain.specs.Steps.{lets_go};
+ghost use Rattle.chunk_plain.specs.World.{World, Unclaimed};
+ghost use Rattle.chunk_plain.specs.Steps.{lets_go, served, serviced};
 ghost use Rattle.chunk_plain.specs.Words.{taken_content};
 ghost use Rattle.chunk_plain.specs.Meaning.{IsServiceStep};
 ghost use Rattle.service_core.specs.Routing.{IsAt, is_closed_at, arrivals_of};
 ghost use Rattle.service_core.specs.Agreement.{ServiceAgrees, KeepsFields, KeepsRest, IsOpen, is_closed, spec_at};
 ghost use Rattle.service_core.specs.Taking.{patched_where, takings, noted_more, TakesOne, SeesOther, IsRange, TakesNext, SeesNone, TakesOf, Takes, places_of};
+ghost use Rattle.service_core.specs.Told.{FreesOne, FreesNone, FreesNext, FreesNoneOf, LeavesNext, LeavesNone};
 
 use crate::routing::{arrive_in, patch_in};
 use crate::service::ServiceCore;
@@ -35,6 +37,8 @@ fn note_patches<W: Words>(
     requires { W.means.serves table.old seat.old }
     ensures view { W.means.service_view table.new seat.new ≡ noted_more (W.means.service_view table.old seat.old) (patched_where (map patch_value patches.now) sequence chunk_id) }
     ensures step { IsServiceStep W.means table.old seat.old table.new seat.new }
+    ensures told { (world : World) → W.means.told table.old ≡ Some world
+        → W.means.told table.new ≡ Some (serviced world (W.means.service_view table.new seat.new)) }
 {
     if !patches.is_empty() {
         table.note(seat, ServiceEvent::Patched { sequence, chunk_id });
@@ -63,6 +67,8 @@ impl<S> ServiceCore<S> {
         ensures taken { self.new.taken.items ≡ slice_set self.old.taken.items place (taken.header.chunk_id + 1) }
         ensures fields { KeepsFields self.old self.new }
         ensures step { IsServiceStep W.means table.old self.old.seat table.new self.new.seat }
+        ensures told { (world : World) → W.means.told table.old ≡ Some world
+            → W.means.told table.new ≡ Some (served world (W.means.service_view table.new self.new.seat) taken.chunk Unclaimed) }
     {
         let sequence = place as u32 + FIRST_SEQUENCE;
         let index = usize::from(self.writers[place].buffer) - 1;
@@ -102,6 +108,12 @@ impl<S> ServiceCore<S> {
         ensures step { IsServiceStep W.means table.old self.old.seat table.new self.new.seat }
         ensures taken { result ≡ true → TakesOne place (W.means.service_view table.old self.old.seat) (W.means.service_view table.new self.new.seat) }
         ensures other { result ≡ false → SeesOther (W.means.setup table.old) place chunk (W.means.service_view table.old self.old.seat) (W.means.service_view table.new self.new.seat) }
+        ensures told_taken { result ≡ true → (world : World) → W.means.told table.old ≡ Some world
+            → FreesOne place (taken_of (W.means.service_view table.old self.old.seat) place).count chunk world
+            (W.means.told table.new) (W.means.service_view table.new self.new.seat) }
+        ensures told_other { result ≡ false → (world : World) → W.means.told table.old ≡ Some world
+            → FreesNone place (taken_of (W.means.service_view table.old self.old.seat) place).count chunk world
+            (W.means.told table.new) (W.means.service_view table.new self.new.seat) }
     {
         match table.take(&mut self.seat, chunk, place as u16 + 1, self.taken[place]) {
             Ok(taken) => {
@@ -133,6 +145,12 @@ impl<S> ServiceCore<S> {
         ensures step { IsServiceStep W.means table.old self.old.seat table.new self.new.seat }
         ensures taken { result ≡ true → TakesNext place (W.means.service_view table.old self.old.seat) (W.means.service_view table.new self.new.seat) }
         ensures none { result ≡ false → SeesNone (W.means.setup table.old) place (W.means.service_view table.old self.old.seat) (W.means.service_view table.new self.new.seat) }
+        ensures told_taken { result ≡ true → (world : World) → W.means.told table.old ≡ Some world
+            → FreesNext (W.means.setup table.old) place (taken_of (W.means.service_view table.old self.old.seat) place).count world
+            (W.means.told table.new) (W.means.service_view table.new self.new.seat) }
+        ensures told_none { result ≡ false → (world : World) → W.means.told table.old ≡ Some world
+            → FreesNoneOf place (taken_of (W.means.service_view table.old self.old.seat) place).count first (first + count) world
+            (W.means.told table.new) (W.means.service_view table.new self.new.seat) }
     {
         for chunk in first..first + count {
             if self.try_take(table, place, chunk) {
@@ -153,6 +171,8 @@ impl<S> ServiceCore<S> {
         ensures keeps { KeepsRest (W.means.setup table.old) self.old self.new }
         ensures step { IsServiceStep W.means table.old self.old.seat table.new self.new.seat }
         ensures takes { TakesOf (W.means.setup table.old) place result (W.means.service_view table.old self.old.seat) (W.means.service_view table.new self.new.seat) }
+        ensures told { (world : World) → W.means.told table.old ≡ Some world
+            → LeavesNext (W.means.setup table.old) place world (W.means.told table.new) (W.means.service_view table.new self.new.seat) }
     {
         let (first, count) = self.layout.chunks_of(self.writers[place].producer);
         for taken in 0..count {
@@ -176,6 +196,8 @@ impl<S> ServiceCore<S> {
         ensures step { IsServiceStep W.means table.old self.old.seat table.new self.new.seat }
         ensures takes { Takes (W.means.setup table.old) (places_of producer 0 (W.means.setup table.old).writers) result
             (W.means.service_view table.old self.old.seat) (W.means.service_view table.new self.new.seat) }
+        ensures told { (world : World) → W.means.told table.old ≡ Some world
+            → LeavesNone (W.means.setup table.old) producer world (W.means.told table.new) (W.means.service_view table.new self.new.seat) }
     {
         let mut count = 0u64;
         for place in 0..self.writers.len() {

@@ -8,6 +8,8 @@ use Rattle.service_core.specs.Taking.{places_of, noted_more}
 use Rattle.service_core.specs.Closing.{ClosesOne, closes_of}
 use Rattle.service_core.proofs.ChainLemmas.{places_add, places_skip}
 use Rattle.service_core.proofs.CloseLemmas.{closes_skip, closes_add, noted_close}
+use Rattle.chunk_plain.specs.Views.{ServiceView}
+use Rattle.service_core.proofs.ToldLemmas.{leaves_noted}
 use Rattle.service_core.proofs.service.ServiceCore.close_producer.Goals as goal
 
 pub loop-place-preserved-then-index-producer : goal.loop-place-preserved-then-index-producer
@@ -28,6 +30,7 @@ loop-place-preserved-then-index-producer g c =
       agrees = i.agrees;
       closes = closes_skip setup c.args.producer place c.args.self.now c.loop-place.self i.closes differs;
       step = i.step;
+      told = i.told;
       takes = record { between = i.takes.between; takes = i.takes.takes; view = i.takes.view ∙ ap (λ (ps : List ℕ). noted_more i.takes.between (closes_of ps)) (sym places) };
     }
 
@@ -54,6 +57,8 @@ loop-place-preserved g c =
       closes = closes_add setup c.args.producer place c.args.self.now c.loop-place.self c.close_writer.new.self i.closes
           (subst (λ (s : Setup). ClosesOne s place c.loop-place.self c.close_writer.new.self) stays c.close_writer.ensures.closes) same;
       step = services_follow means c.args.table.now c.args.self.now.seat c.loop-place.table c.loop-place.self.seat c.close_writer.new.table c.close_writer.new.self.seat i.step c.close_writer.ensures.step;
+      told = λ world is. leaves_noted setup c.args.producer world (means.told c.loop-place.table) (means.told c.close_writer.new.table) mid new (i.told world is)
+          (ap (λ (v : ServiceView). v.taken) c.close_writer.ensures.view) c.close_writer.ensures.told;
       takes = record {
         between = i.takes.between;
         takes = i.takes.takes;

@@ -1,14 +1,18 @@
-use Rattle.std.proofs.Common.{◌+◌, ◌∙◌, ◌<◌, ℕ, List, length, subst, sym, ap, arith}
+use Rattle.std.proofs.Common.{◌≡◌, ◌+◌, ◌∙◌, ◌<◌, ℕ, Some, List, length, subst, sym, refl, ap, arith}
 use Rattle.chunk_plain.specs.Setup.{Setup}
-use Rattle.chunk_plain.proofs.SeatSteps.{services_follow}
+use Rattle.chunk_plain.proofs.SeatSteps.{services_follow, serves_on}
 use Rattle.service_core.specs.Agreement.{ServiceAgrees, KeepsRest}
 use Rattle.std.proofs.Common.{take}
 use Rattle.std.proofs.lemmas.List.{get_or_read}
 use Rattle.trace_base.specs.declared.policy.WriterSpec.{WriterSpec}
 use Rattle.service_core.specs.Agreement.{spec_at, no_writer}
 use Rattle.service_core.specs.Taking.{TakesOf, Takes, places_of}
-use Rattle.service_core.proofs.AgreeLemmas.{keeps_both}
+use Rattle.service_core.proofs.AgreeLemmas.{keeps_same, keeps_both}
 use Rattle.service_core.proofs.ChainLemmas.{takes_writer, places_add, places_skip}
+use Rattle.chunk_plain.specs.Views.{Taken, ServiceView, taken_of}
+use Rattle.service_core.specs.Told.{LeavesNext}
+use Rattle.service_core.proofs.TakingLemmas.{taken_other}
+use Rattle.service_core.proofs.ToldLemmas.{leaves_yet, leaves_skip, leaves_add, leaves_all}
 use Rattle.service_core.proofs.service.ServiceCore.collect.Goals as goal
 
 pub loop-place-preserved-then-index-producer : goal.loop-place-preserved-then-index-producer
@@ -28,6 +32,8 @@ loop-place-preserved-then-index-producer g c =
       agrees = i.agrees;
       keeps = i.keeps;
       step = i.step;
+      told = λ world is. leaves_skip setup c.args.producer place world (means.told c.loop-place.table) (means.service_view c.loop-place.table c.loop-place.self.seat) (i.told world is)
+          (λ same. c.if-index-producer.true (ap (λ (w : WriterSpec). w.producer) read ∙ same));
       takes = subst (λ (ps : List ℕ). Takes setup ps c.loop-place.count (means.service_view c.args.table.now c.args.self.now.seat) (means.service_view c.loop-place.table c.loop-place.self.seat)) (sym places) i.takes;
       small = omega (arith, small);
     }
@@ -58,7 +64,36 @@ loop-place-preserved g c =
       agrees = subst (λ (s : Setup). ServiceAgrees s new c.take_all.new.self) stays c.take_all.ensures.agrees;
       keeps = keeps_both setup c.args.self.now c.loop-place.self c.take_all.new.self i.keeps (subst (λ (s : Setup). KeepsRest s c.loop-place.self c.take_all.new.self) stays c.take_all.ensures.keeps);
       step = services_follow means c.args.table.now c.args.self.now.seat c.loop-place.table c.loop-place.self.seat c.take_all.new.table c.take_all.new.self.seat i.step c.take_all.ensures.step;
+      told = λ world is. leaves_add setup c.args.producer place world (means.told c.loop-place.table) (means.told c.take_all.new.table) mid new (i.told world is)
+          (λ other differs. ap (λ (v : ServiceView). (taken_of v other).count) took.view ∙ ap (λ (t : Taken). t.count) (taken_other mid place other took.looks took.contents differs))
+          (λ w e. subst (λ (s : Setup). LeavesNext s place w (means.told c.take_all.new.table) new) stays (c.take_all.ensures.told w e));
       takes = subst (λ (n : ℕ). Takes setup (places_of c.args.producer 0 (take (place + 1) setup.writers)) (c.loop-place.count + n) old new) (sym more)
           (subst (λ (ps : List ℕ). Takes setup ps (c.loop-place.count + c.take_all.result) old new) (sym places) takes);
       small = omega (arith, small, more, fits);
     }
+
+pub loop-place-init : goal.loop-place-init
+loop-place-init g c =
+    let means = g.W.Words.means in
+    let setup = means.setup c.args.table.now in
+    let old = means.service_view c.args.table.now c.args.self.now.seat in
+    record {
+      agrees = c.requires.agrees;
+      keeps = keeps_same setup c.args.self.now;
+      step = serves_on means c.args.table.now c.args.self.now.seat c.requires.serves;
+      takes = (refl, refl);
+      told = λ world is. leaves_yet setup c.args.producer world (means.told c.args.table.now) old is
+          (g.met.W.Words.told_service_view c.args.table.now c.args.self.now.seat world is c.requires.serves);
+      small = omega arith;
+    }
+
+pub returns-clause-told : goal.returns-clause-told
+returns-clause-told g c world is =
+    let means = g.W.Words.means in
+    let setup = means.setup c.args.table.now in
+    let joined = c.args.self.now.writers.ok.0 in
+    let end = c.len-place-end.ensures in
+    let test = c.loop-place-test.false in
+    let long = ap (λ (ws : List WriterSpec). length ws) c.requires.agrees.writers in
+    leaves_all setup c.args.producer c.loop-place.place world (means.told c.loop-place.table) (means.service_view c.loop-place.table c.loop-place.self.seat)
+    (c.loop-place.invariant.told world is) (omega (arith, joined, end, test, long))

@@ -1,3 +1,6 @@
+use Rattle.std.proofs.Common.{◌≡◌, Some}
+use Rattle.chunk_plain.specs.World.{World}
+use Rattle.service_core.specs.Told.{LeavesNoneYet}
 use Rattle.std.proofs.Common.{◌≤◌, ◌*◌, ◌^◌, take}
 use Rattle.chunk_plain.specs.Meaning.{IsServiceStep}
 use Rattle.service_core.specs.Agreement.{ServiceAgrees, KeepsRest}
@@ -11,5 +14,7 @@ invariant-loop-place g l = record {
   step : IsServiceStep g.W.Words.means l.fn.table l.fn.self.seat l.table l.self.seat;
   takes : Takes (g.W.Words.means.setup l.fn.table) (places_of l.producer 0 (take l.place (g.W.Words.means.setup l.fn.table).writers)) l.count
       (g.W.Words.means.service_view l.fn.table l.fn.self.seat) (g.W.Words.means.service_view l.table l.self.seat);
+  told : (world : World) → g.W.Words.means.told l.fn.table ≡ Some world
+      → LeavesNoneYet (g.W.Words.means.setup l.fn.table) l.producer l.place world (g.W.Words.means.told l.table) (g.W.Words.means.service_view l.table l.self.seat);
   small : l.count ≤ l.place * 2 ^ 32;
 }

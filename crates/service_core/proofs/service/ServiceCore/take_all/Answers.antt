@@ -1,10 +1,16 @@
-use Rattle.std.proofs.Common.{◌<◌, length, subst, arith, rules}
+use Rattle.std.proofs.Common.{◌≡◌, ◌+◌, ◌<◌, ◌≤◌, ℕ, Some, length, ap, subst, arith, rules}
 use Rattle.chunk_plain.specs.Setup.{Setup}
 use Rattle.chunk_plain.proofs.SeatSteps.{services_follow, serves_on}
 use Rattle.service_core.specs.Agreement.{ServiceAgrees, KeepsRest}
 use Rattle.service_core.specs.Taking.{SeesNone}
 use Rattle.service_core.proofs.AgreeLemmas.{keeps_same, keeps_both}
 use Rattle.service_core.proofs.ChainLemmas.{takes_none_yet, takes_more, takes_until}
+use Rattle.chunk_plain.specs.Views.{ServiceView, taken_of}
+use Rattle.chunk_plain.specs.Setup.{range_of, producer_of}
+use Rattle.service_core.specs.Taking.{IsRange}
+use Rattle.service_core.specs.Told.{FreesNext, FreesNoneOf, FreesSome}
+use Rattle.service_core.proofs.ToldLemmas.{frees_some_yet, frees_some_more, none_by_count, none_by_ids, none_by_looks, range_is}
+use Rattle.service_core.proofs.TakingLemmas.{read_count}
 use Rattle.service_core.proofs.service.ServiceCore.take_all.Goals as goal
 
 pub loop-taken-init : goal.loop-taken-init
@@ -14,6 +20,8 @@ loop-taken-init g c =
       agrees = c.requires.agrees;
       keeps = keeps_same (means.setup c.args.table.now) c.args.self.now;
       step = serves_on means c.args.table.now c.args.self.now.seat c.requires.serves;
+      told = λ world is. frees_some_yet (means.setup c.args.table.now) c.args.place world (means.told c.args.table.now) (means.service_view c.args.table.now c.args.self.now.seat) is
+          (g.met.W.Words.told_service_view c.args.table.now c.args.self.now.seat world is c.requires.serves);
       some = takes_none_yet (means.service_view c.args.table.now c.args.self.now.seat) c.args.place;
     }
 
@@ -35,6 +43,8 @@ loop-taken-preserved g c =
       agrees = subst (λ (s : Setup). ServiceAgrees s new c.take_next.new.self) same c.take_next.ensures.agrees;
       keeps = keeps_both setup c.args.self.now c.loop-taken.self c.take_next.new.self i.keeps (subst (λ (s : Setup). KeepsRest s c.loop-taken.self c.take_next.new.self) same c.take_next.ensures.keeps);
       step = services_follow means c.args.table.now c.args.self.now.seat c.loop-taken.table c.loop-taken.self.seat c.take_next.new.table c.take_next.new.self.seat i.step c.take_next.ensures.step;
+      told = λ world is. frees_some_more setup place c.loop-taken.taken (taken_of mid place).count world (means.told c.loop-taken.table) (means.told c.take_next.new.table) mid new (i.told world is)
+          (λ w e. subst (λ (s : Setup). FreesNext s place (taken_of mid place).count w (means.told c.take_next.new.table) new) same (c.take_next.ensures.told_taken (search rules) w e));
       some = takes_more place c.loop-taken.taken old mid new inside i.some took;
     }
 
@@ -49,3 +59,52 @@ returns-then-not-take_next-clause-takes g c =
     let new = means.service_view c.take_next.new.table c.take_next.new.self.seat in
     let none = c.take_next.ensures.none (search rules) in
     takes_until setup place c.loop-taken.taken old mid new i.some (subst (λ (s : Setup). SeesNone s place mid new) i.step.setup_stays none)
+
+pub returns-then-not-take_next-clause-told : goal.returns-then-not-take_next-clause-told
+returns-then-not-take_next-clause-told g c world is =
+    let means = g.W.Words.means in
+    let i = c.loop-taken.invariant in
+    let setup = means.setup c.args.table.now in
+    let place = c.args.place in
+    let old = means.service_view c.args.table.now c.args.self.now.seat in
+    let mid = means.service_view c.loop-taken.table c.loop-taken.self.seat in
+    let new = means.service_view c.take_next.new.table c.take_next.new.self.seat in
+    let none = c.take_next.ensures.none (search rules) in
+    let range : IsRange (range_of setup (producer_of setup place)) c.chunks_of-first.result.0 c.chunks_of-first.result.1 =
+    range_is setup c.args.self.now.layout c.args.self.now.writers.items place c.index.result.now c.chunks_of-first.result
+    c.requires.agrees.layout c.requires.agrees.writers c.requires.place c.index.ensures c.chunks_of-first.ensures in
+    none_by_looks setup place c.loop-taken.taken world (means.told c.loop-taken.table) (means.told c.take_next.new.table) mid new (i.told world is)
+    (ap (λ (v : ServiceView). (taken_of v place).count) none.view)
+    (λ w e. subst (λ (n : ℕ). FreesNoneOf place (taken_of mid place).count n (n + (range_of setup (producer_of setup place)).count) w (means.told c.take_next.new.table) new) range.first_is
+    (subst (λ (n : ℕ). FreesNoneOf place (taken_of mid place).count c.chunks_of-first.result.0 (c.chunks_of-first.result.0 + n) w (means.told c.take_next.new.table) new) range.count_is
+    (c.take_next.ensures.told_none (search rules) w e)))
+
+pub returns-then-index-clause-told : goal.returns-then-index-clause-told
+returns-then-index-clause-told g c world is =
+    let means = g.W.Words.means in
+    let i = c.loop-taken.invariant in
+    let setup = means.setup c.args.table.now in
+    let place = c.args.place in
+    none_by_ids setup place c.loop-taken.taken world (means.told c.loop-taken.table) (means.service_view c.loop-taken.table c.loop-taken.self.seat) (i.told world is)
+    (let many = i.agrees.many in
+    let below = c.requires.place in
+    let view = means.service_view c.loop-taken.table c.loop-taken.self.seat in
+    let inside : place < length view.taken = omega (arith, many, below) in
+    let count = read_count view c.loop-taken.self.taken.items place c.index-in-loop-taken.result.now i.agrees.taken inside c.index-in-loop-taken.ensures in
+    let last = c.if-index.true in
+    omega (arith, count, last))
+
+pub returns-clause-told : goal.returns-clause-told
+returns-clause-told g c world is =
+    let means = g.W.Words.means in
+    let i = c.loop-taken.invariant in
+    let setup = means.setup c.args.table.now in
+    let place = c.args.place in
+    let view = means.service_view c.loop-taken.table c.loop-taken.self.seat in
+    let range = range_is setup c.args.self.now.layout c.args.self.now.writers.items place c.index.result.now c.chunks_of-first.result
+    c.requires.agrees.layout c.requires.agrees.writers c.requires.place c.index.ensures c.chunks_of-first.ensures in
+    let all = c.loop-taken-test.false in
+    let most = c.loop-taken.auto.taken-end in
+    let done : c.loop-taken.taken ≡ c.chunks_of-first.result.1 = omega (arith, all, most) in
+    none_by_count setup place c.chunks_of-first.result.1 world (means.told c.loop-taken.table) view
+    (subst (λ (n : ℕ). FreesSome setup place n world (means.told c.loop-taken.table) view) done (i.told world is)) (let many = range.count_is in omega (arith, many))

@@ -1,3 +1,6 @@
+use Rattle.std.proofs.Common.{◌≡◌, Some}
+use Rattle.chunk_plain.specs.World.{World}
+use Rattle.service_core.specs.Told.{FreesSome}
 use Rattle.chunk_plain.specs.Meaning.{IsServiceStep}
 use Rattle.service_core.specs.Agreement.{ServiceAgrees, KeepsRest}
 use Rattle.service_core.specs.Taking.{TakesSome}
@@ -8,5 +11,7 @@ invariant-loop-taken g l = record {
   agrees : ServiceAgrees (g.W.Words.means.setup l.fn.table) (g.W.Words.means.service_view l.table l.self.seat) l.self;
   keeps : KeepsRest (g.W.Words.means.setup l.fn.table) l.fn.self l.self;
   step : IsServiceStep g.W.Words.means l.fn.table l.fn.self.seat l.table l.self.seat;
+  told : (world : World) → g.W.Words.means.told l.fn.table ≡ Some world
+      → FreesSome (g.W.Words.means.setup l.fn.table) l.place l.taken world (g.W.Words.means.told l.table) (g.W.Words.means.service_view l.table l.self.seat);
   some : TakesSome l.place l.taken (g.W.Words.means.service_view l.fn.table l.fn.self.seat) (g.W.Words.means.service_view l.table l.self.seat);
 }

@@ -19,3 +19,6 @@ patch_in-requires g c =
     let after = c.arrive_in.ensures.after in
     let events = arrivals_of (image_value (record { sequence = c.args.place + 2; chunk_id = c.args.taken.header.chunk_id; count = c.args.taken.header.count; flags = c.args.taken.header.flags; payload = c.deref.result })) in
     (size, subst (λ (xs : List Buffer). IsAt xs (c.from-index.result - 1) (c.args.place + 2) size) (sym after) (is_at_after bs (c.from-index.result - 1) (c.args.place + 2) size events at))
+
+pub returns-clause-told : goal.returns-clause-told
+returns-clause-told g c world is = c.release.ensures.told _ (c.note_patches.ensures.told _ (c.note.ensures.told world is))

@@ -4,7 +4,8 @@ use Rattle.page_geometry.specs.Sizes.{record_size}
 use Rattle.chunk_plain.specs.Setup.{producer_of}
 use Rattle.page_geometry.specs.Header.{packed}
 use Rattle.chunk_plain.specs.Steps.{taken_counts}
-use Rattle.chunk_plain.specs.Views.{Look, ServiceView}
+use Rattle.chunk_plain.specs.Views.{Look, ServiceView, taken_of}
+use Rattle.service_core.proofs.ToldLemmas.{frees_one, frees_none}
 use Rattle.chunk_plain.specs.Words.{taken_content}
 use Rattle.chunk_plain.proofs.SeatSteps.{services_follow}
 use Rattle.service_core.specs.Routing.{IsAt}
@@ -98,3 +99,31 @@ returns-in-Err-clause-other g c _ =
     let inside : place < length old.taken = omega (arith, many, below) in
     let count = read_count old c.args.self.now.taken.items place c.index.result.now c.requires.agrees.taken inside c.index.ensures in
     other_of setup old new place c.args.chunk c.index.result.now c.in-Err.field-0 count c.in-Err.ensures.other
+
+pub returns-in-Ok-clause-told_taken : goal.returns-in-Ok-clause-told_taken
+returns-in-Ok-clause-told_taken g c _ world is =
+    let old = g.W.Words.means.service_view c.args.table.now c.args.self.now.seat in
+    let mid = g.W.Words.means.service_view c.take.new.self c.take.new.seat in
+    let new = g.W.Words.means.service_view c.take_in.new.table c.take_in.new.self.seat in
+    let place = c.args.place in
+    let serving = g.met.W.Words.serving c.args.table.now c.args.self.now.seat c.requires.serves in
+    let many = serving.writers in
+    let below = c.requires.place in
+    let inside : place < length old.taken = omega (arith, many, below) in
+    let count = read_count old c.args.self.now.taken.items place c.index.result.now c.requires.agrees.taken inside c.index.ensures in
+    let told = c.in-Ok.ensures.told_taken world is in
+    frees_one place (place + 1 - 1) (taken_of old place).count c.index.result.now c.args.chunk c.in-Ok.taken.chunk (taken_content (place + 1 - 1) c.in-Ok.taken) world
+    (g.W.Words.means.told c.take_in.new.table) mid new (omega arith) count c.in-Ok.ensures.taken.chunk_is told.0 (c.take_in.ensures.told _ told.1)
+
+pub returns-in-Err-clause-told_other : goal.returns-in-Err-clause-told_other
+returns-in-Err-clause-told_other g c _ world is =
+    let old = g.W.Words.means.service_view c.args.table.now c.args.self.now.seat in
+    let new = g.W.Words.means.service_view c.take.new.self c.take.new.seat in
+    let place = c.args.place in
+    let serving = g.met.W.Words.serving c.args.table.now c.args.self.now.seat c.requires.serves in
+    let many = serving.writers in
+    let below = c.requires.place in
+    let inside : place < length old.taken = omega (arith, many, below) in
+    let count = read_count old c.args.self.now.taken.items place c.index.result.now c.requires.agrees.taken inside c.index.ensures in
+    let told = c.in-Err.ensures.told_other world is in
+    frees_none place (place + 1 - 1) (taken_of old place).count c.index.result.now c.args.chunk world (g.W.Words.means.told c.take.new.self) new (omega arith) count told.0 told.1

@@ -1,0 +1,104 @@
+-- What the service's calls leave where the table tells its world.
+use Rattle.std.specs.Prelude.{◌≡◌, ℕ, zero, suc, ◌+◌, ◌<◌, ◌≤◌, ◌⊎◌, length, Option, Some}
+use Rattle.chunk_plain.specs.declared.tokens.TheConstants.{ID_LIMIT}
+use Rattle.chunk_plain.specs.declared.setup.ChunkRange.{ChunkRange}
+use Rattle.chunk_plain.specs.Setup.{Setup, range_of, producer_of, IsChunkOf, id_at}
+use Rattle.chunk_plain.specs.Views.{At, Draft, Content, Held, Completed, WriterView, ServiceView, taken_of}
+use Rattle.chunk_plain.specs.World.{World, Status, Unclaimed, Claimed, Stamped, Writing, Ready, Reading, status, writer}
+use Rattle.chunk_plain.specs.Steps.{served, serviced}
+use Rattle.chunk_plain.specs.Words.{IsAtRest}
+
+-- The world behind steps of the service: the writers' views are as they were, the service's is this one, and each chunk is as it was or free.
+pub record StandsBehind (old : World) (view : ServiceView) (new : World) : Type 0 where
+  pub writers : new.writers ≡ old.writers
+  pub service : new.service ≡ view
+  pub chunks : (chunk : ℕ) → (status new chunk ≡ status old chunk) ⊎ (status new chunk ≡ Unclaimed)
+
+-- no chunk of the producer waits as the next one of the writer at this place, as long as the writer has an id left for one
+abbrev pub NoneNext : Setup → (place : ℕ) → World → Type 0
+NoneNext setup place world = (chunk : ℕ) (content : Content) → IsChunkOf setup (producer_of setup place) chunk → (taken_of world.service place).count < ID_LIMIT
+    → status world chunk ≡ Ready place (id_at setup place (taken_of world.service place).count) content → ⊥
+
+-- nor as that of any of the producer's writers
+abbrev pub NoneLeft : Setup → (producer : ℕ) → World → Type 0
+NoneLeft setup producer world = (place : ℕ) → place < length setup.writers → producer_of setup place ≡ producer → NoneNext setup place world
+
+-- the table tells a world behind the call, in which none is left
+pub record LeavesNone (setup : Setup) (producer : ℕ) (old : World) (told : Option World) (view : ServiceView) : Type 0 where
+  pub new : World
+  pub told_is : told ≡ Some new
+  pub stands : StandsBehind old view new
+  pub none_left : NoneLeft setup producer new
+
+-- the same while the writers before this place are done
+pub record LeavesNoneYet (setup : Setup) (producer first : ℕ) (old : World) (told : Option World) (view : ServiceView) : Type 0 where
+  pub new : World
+  pub told_is : told ≡ Some new
+  pub stands : StandsBehind old view new
+  pub none_left : (place : ℕ) → place < first → place < length setup.writers → producer_of setup place ≡ producer → NoneNext setup place new
+
+-- and of the writer at this place alone
+pub record LeavesNext (setup : Setup) (place : ℕ) (old : World) (told : Option World) (view : ServiceView) : Type 0 where
+  pub new : World
+  pub told_is : told ≡ Some new
+  pub stands : StandsBehind old view new
+  pub none : NoneNext setup place new
+
+-- the chunk waited as the one with this id of the writer at this place, and is free
+pub record FreesOne (place id chunk : ℕ) (old : World) (told : Option World) (view : ServiceView) : Type 0 where
+  pub ready : ∥ ((content : Content) × (status old chunk ≡ Ready place id content)) ∥₁
+  pub told_is : told ≡ Some (served old view chunk Unclaimed)
+
+-- a chunk of the producer did
+pub record FreesNext (setup : Setup) (place id : ℕ) (old : World) (told : Option World) (view : ServiceView) : Type 0 where
+  pub chunk : ℕ
+  pub is : IsChunkOf setup (producer_of setup place) chunk
+  pub frees : FreesOne place id chunk old told view
+
+-- the chunk waits, with whatever content, as the one with this id of the writer at this place: this isn't so
+abbrev pub Isnt : (place id chunk : ℕ) → World → Type 0
+Isnt place id chunk world = (content : Content) → status world chunk ≡ Ready place id content → ⊥
+
+-- it isn't, and nothing but the service's view has changed
+pub record FreesNone (place id chunk : ℕ) (old : World) (told : Option World) (view : ServiceView) : Type 0 where
+  pub isnt : Isnt place id chunk old
+  pub told_is : told ≡ Some (serviced old view)
+
+-- the same of the chunks from one up to another
+pub record FreesNoneOf (place id first last : ℕ) (old : World) (told : Option World) (view : ServiceView) : Type 0 where
+  pub isnt : (chunk : ℕ) → first ≤ chunk → chunk < last → Isnt place id chunk old
+  pub told_is : told ≡ Some (serviced old view)
+
+-- one where the chunk is free
+abbrev pub free_one : Status → ℕ
+free_one Unclaimed = 1
+free_one _ = 0
+
+-- how many of the chunks from this one on are free, of so many
+abbrev pub free_in : World → (first count : ℕ) → ℕ
+free_in world first zero = 0
+free_in world first (suc count) = free_one (status world (first + count)) + free_in world first count
+
+-- while chunks of the writer at this place are taken, at least as many of its producer's are free
+pub record FreesSome (setup : Setup) (place taken : ℕ) (old : World) (told : Option World) (view : ServiceView) : Type 0 where
+  pub new : World
+  pub told_is : told ≡ Some new
+  pub stands : StandsBehind old view new
+  pub freed : taken ≤ free_in new (range_of setup (producer_of setup place)).first (range_of setup (producer_of setup place)).count
+
+-- From what is left to what is ready
+
+-- a writer completes its chunks in the order of their ids: none is completed behind one that it holds
+abbrev pub CompletesInOrder : WriterView → Type 0
+CompletesInOrder view = (id later about chunk : ℕ) (draft : Draft) (content : Content) → At view.begun id (Held about draft)
+    → At view.begun later (Completed chunk content) → later < id
+
+-- the writers of the producer are at rest, complete their chunks in order, and have begun ids that there are
+abbrev pub AreOrderly : Setup → (producer : ℕ) → World → Type 0
+AreOrderly setup producer world = (place : ℕ) → place < length setup.writers → producer_of setup place ≡ producer
+    → IsAtRest setup place (writer world place) × CompletesInOrder (writer world place) × (length (writer world place).begun ≤ ID_LIMIT)
+
+-- no chunk of the producer is ready, of any of its writers
+abbrev pub NoneReady : Setup → (producer : ℕ) → World → Type 0
+NoneReady setup producer world = (place : ℕ) → place < length setup.writers → producer_of setup place ≡ producer
+    → (chunk id : ℕ) (content : Content) → IsChunkOf setup producer chunk → status world chunk ≡ Ready place id content → ⊥
