@@ -1,10 +1,10 @@
 -- Looks that found a chunk of the same writer and id found the same of it: the chunk has what each found.
-use Rattle.std.proofs.Common.{◌≡◌, ◌∙◌, ℕ, ◌+◌, ◌-◌, ◌%◌, ◌<◌, ◌≤◌, Some, length, sym, arith}
+use Rattle.std.proofs.Common.{◌≡◌, ◌∙◌, ℕ, Some, length, sym, arith}
 use Rattle.std.proofs.Math.Logic.{∥∥₁_elim}
 use Rattle.std.proofs.Math.Nat.{ℕ_set}
 use Rattle.std.proofs.lemmas.Grind.{same_number_lists}
 use mathlib.Core.List.{is_set as list_set}
-use Rattle.chunk_plain.specs.Payload.{byte_at, byte_in, sealed_to}
+use Rattle.chunk_plain.specs.Payload.{byte_at, byte_in}
 use Rattle.chunk_plain.specs.Views.{At, Begun, Held, Completed, Found, Look, ServiceView}
 use Rattle.chunk_plain.specs.Drafts.{IsFound, BeginsAs, StillHas}
 use Rattle.chunk_plain.specs.Words.{HasBoth, FoundAlike, LooksAgree}

@@ -103,12 +103,17 @@ module _ (setup : Setup) (words : List ℕ) (slots : List Stored) (world : World
     load_shown = ∥∥₁_map kept (λ k. shows_payload chunk bytes (status world chunk) whole (k.shown.slot chunk inside) loaded)
 
     pub load_found : ShowsFound world.service chunk bytes
-    load_found n look found at about is untaken j below =
-        ∥∥₁_elim kept (ℕ_set _ _) (λ k.
-        let there = (k.owned.looks n look found at is).1 in
-        let now = as_found setup words slots world chunk found k untaken there.entry there.at (subst (λ d. StillHas d found there.entry) about there.has) in
-        let most = found_inside setup words slots world chunk found k untaken there.entry there.at (subst (λ d. StillHas d found there.entry) about there.has) in
-        loaded j (omega (arith, whole, most)) ∙ now.bytes j below)
+    load_found n look found at about is untaken = (
+      ∥∥₁_elim kept (hlevel le_prop) (λ k.
+          let there = (k.owned.looks n look found at is).1 in
+          let most = found_inside setup words slots world chunk found k untaken there.entry there.at (subst (λ d. StillHas d found there.entry) about there.has) in
+          omega (arith, whole, most)),
+      λ j below. ∥∥₁_elim kept (ℕ_set _ _) (λ k.
+          let there = (k.owned.looks n look found at is).1 in
+          let now = as_found setup words slots world chunk found k untaken there.entry there.at (subst (λ d. StillHas d found there.entry) about there.has) in
+          let most = found_inside setup words slots world chunk found k untaken there.entry there.at (subst (λ d. StillHas d found there.entry) about there.has) in
+          loaded j (omega (arith, whole, most)) ∙ now.bytes j below),
+    )
 
     pub load_read : 0 < times chunk world.service.reading → IsServing setup world.service → ∥ IsTakenPayload world.service bytes ∥₁
     load_read reading serving =

@@ -148,7 +148,7 @@ pub record LooksAt (setup : Setup) (chunk word : ℕ) (header : ChunkHeader) (ol
 abbrev pub ShowsFound : ServiceView → ℕ → List ℕ → Type 0
 ShowsFound view chunk bytes = (n : ℕ) (look : Look) (found : Found) → At view.looks n look → look.chunk ≡ chunk → look.found ≡ Some found
     → (taken_of view found.place).count ≤ found.id
-    → (j : ℕ) → j < length found.sealed → byte_in bytes j ≡ byte_in found.sealed j
+    → (length found.sealed ≤ length bytes) × ((j : ℕ) → j < length found.sealed → byte_in bytes j ≡ byte_in found.sealed j)
 
 -- the bytes are the payload of a content that the view has
 pub record IsTakenPayload (view : ServiceView) (bytes : List ℕ) : Type 0 where
