@@ -1,0 +1,9 @@
+pub mod AccountLemmas
+pub mod BalanceLemmas
+pub mod FirstLemmas
+pub mod LosesLemmas
+pub mod PlayLemmas
+pub mod PlayedLemmas
+pub mod ScrapedLemmas
+pub mod SortedLemmas
+pub mod StandsLemmas

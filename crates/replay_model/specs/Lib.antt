@@ -1,0 +1,7 @@
+pub mod Acts
+pub mod Does
+pub mod Flushes
+pub mod Laws
+pub mod Played
+pub mod Plays
+pub mod Schedule
