@@ -191,7 +191,7 @@ count_at buffers world place (spec ∷ specs) (suc i) counts get =
       is = h.is ∙ ap (λ (p : ℕ). counts_of buffer.policy (writer world p).calls (sequence_in buffer.sequences (sequence_of p))) at;
     }
 
-each_is : {A : Type 0} (P : A → Type 0) (xs : List A) (i : ℕ) (x : A) → AllByRecursion P xs → slice_get xs i ≡ Some x → P x
+pub each_is : {A : Type 0} (P : A → Type 0) (xs : List A) (i : ℕ) (x : A) → AllByRecursion P xs → slice_get xs i ≡ Some x → P x
 each_is P [] i x all get = absurd (cc)
 each_is P (y ∷ xs) zero x all get = let same : y ≡ x = cc in subst P same all.0
 each_is P (y ∷ xs) (suc i) x all get = each_is P xs i x all.1 get

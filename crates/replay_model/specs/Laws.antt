@@ -1,8 +1,10 @@
 -- The laws of replay.
-use Rattle.std.specs.Prelude.{ℕ, suc, ◌<◌, ◌≤◌, List, [], length}
+use Rattle.std.specs.Prelude.{◌≡◌, ℕ, suc, ◌<◌, ◌≤◌, List, [], length}
 use Rattle.trace_model.specs.Buffers.{Buffer}
 use Rattle.trace_model.specs.Counts.{last_count}
 use Rattle.trace_model.specs.Delivery.{IsFaithful}
+use Rattle.trace_model.specs.Packets.{packets_of}
+use Rattle.model_laws.specs.ChunkCounts.{lost_count}
 use Rattle.model_laws.specs.Losses.{Loses}
 use Rattle.chunk_plain.specs.Setup.{Setup}
 use Rattle.chunk_plain.specs.World.{World, writer}
@@ -11,6 +13,7 @@ use Rattle.scenario_text.specs.Scenario.{Parts}
 use Rattle.scenario_text.specs.Accepted.{calls_asked}
 use Rattle.scenario_text.specs.Limits.{IsSetUp}
 use Rattle.replay_model.specs.Does.{Wrote}
+use Rattle.replay_model.specs.Enough.{HasEnough, IsPlayable}
 use Rattle.replay_model.specs.Flushes.{FlushNote}
 use Rattle.replay_model.specs.Plays.{Plays}
 use Rattle.replay_model.specs.Played.{IsPlayed, emitted_in, records_in, packet_counts, AreBalanced}
@@ -44,3 +47,8 @@ abbrev pub EveryReportIsBalanced : Type 0
 EveryReportIsBalanced = (scenario : Parts) (setup : Setup) (world : World) (notes : List FlushNote) → IsPlayed scenario setup world notes
     → length scenario.lines ≤ last_count → IsSetUp scenario.buffers scenario.producers scenario.writers
     → AreBalanced (packet_counts scenario setup world)
+
+-- Where chunks are enough, no writer drops or gives up a packet.
+abbrev pub EnoughLosesNothing : Type 0
+EnoughLosesNothing = (scenario : Parts) (setup : Setup) (world : World) (notes : List FlushNote) → IsPlayed scenario setup world notes
+    → IsPlayable scenario → HasEnough scenario → (place : ℕ) → place < length setup.writers → lost_count (packets_of (writer world place).calls) ≡ 0

@@ -1,5 +1,6 @@
 pub mod Acts
 pub mod Does
+pub mod Enough
 pub mod Flushes
 pub mod Laws
 pub mod Played

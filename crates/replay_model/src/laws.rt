@@ -1,6 +1,6 @@
 //! Laws on what acts make of a world, and on what a scenario's acts lead to: contracts of functions with
 //! nothing to do.
-ghost use Rattle.replay_model.specs.Laws.{NothingPlaysNothing, WritersWrote, WritersLose, ReplaysAreAccounts, EveryReplayIsFaithful, EveryReportIsBalanced};
+ghost use Rattle.replay_model.specs.Laws.{NothingPlaysNothing, WritersWrote, WritersLose, ReplaysAreAccounts, EveryReplayIsFaithful, EveryReportIsBalanced, EnoughLosesNothing};
 
 /// No acts lead from a world to itself.
 pub fn nothing_plays_nothing()
@@ -31,4 +31,9 @@ pub fn every_replay_is_faithful()
 /// The report of what the lines lead to counts every packet once.
 pub fn every_report_is_balanced()
     ensures { EveryReportIsBalanced }
+{}
+
+/// Where chunks are enough, no writer drops or gives up a packet.
+pub fn enough_loses_nothing()
+    ensures { EnoughLosesNothing }
 {}
