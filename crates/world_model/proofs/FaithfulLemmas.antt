@@ -179,7 +179,7 @@ module _ (size place : ℕ) (view : WriterView) (held : List Image) (cut : HasCu
   committed come closed due events None none elsewhere order = nothing come closed due events none order
   committed come closed due events (Some one) none elsewhere order = (none, elsewhere one refl, order)
 
-  order_events : (notes : List Noted) (come : ℕ) (closed : Bool) (due : List Patch) → InOrder (all_images view held) service q come closed due notes
+  pub order_events : (notes : List Noted) (come : ℕ) (closed : Bool) (due : List Patch) → InOrder (all_images view held) service q come closed due notes
       → Ordered come closed due (flat_map (happened service) notes)
   order_events [] come closed due order = order
   order_events (Arrive other id ∷ notes) come closed due order =

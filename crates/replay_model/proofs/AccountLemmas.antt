@@ -1,0 +1,419 @@
+-- A world that stands as it should is an account: its records are faithful to what its writers emitted.
+use Rattle.std.proofs.Common.{◌≡◌, ◌∙◌, ℕ, zero, suc, ◌+◌, ◌-◌, ◌<◌, ◌≤◌, ◌⊎◌, Bool, true, false, ◌&&◌, cond, All, List, [], ◌∷◌, ◌++◌, length, map, get_or, Option, Some, None, refl, sym, ap, subst, arith, inl, inr, length-append}
+use Rattle.std.specs.Prelude.{◌==◌, slice_get, MatchBool, option_map}
+use Rattle.std.proofs.Math.Logic.{∥∥₁_elim, ∥∥₁_map}
+use Rattle.std.proofs.Math.Nat.{ℕ_set}
+use Rattle.std.proofs.Math.Bool.{Bool-set}
+use mathlib.Core.Sum.{⊎_set}
+use mathlib.Core.List.{is_set as list_set}
+use Rattle.std.proofs.Math.Option.{is_set as option_set}
+use Rattle.std.proofs.lemmas.Bool.{cases_lt, false≢true, eqb-true, and_parts}
+use Rattle.std.specs.Coded.{le_prop}
+use Rattle.std.proofs.lemmas.List.{length-map}
+use Rattle.std.proofs.lemmas.Option.{same_Some, slice_get-map, slice_get-get_or, slice_get_within}
+use Rattle.trace_base.specs.declared.policy.WriterPolicy.TheVariants.{Drops}
+use Rattle.trace_base.specs.declared.policy.WriterSpec.{WriterSpec}
+use Rattle.trace_model.specs.Fragments.{drop_size}
+use Rattle.trace_model.specs.Images.{Image, Patch}
+use Rattle.trace_model.specs.Packets.{emissions_of}
+use Rattle.trace_model.specs.Sequences.{Sequence, fresh, sequence_in, is_known}
+use Rattle.trace_model.specs.Tells.{Tells}
+use Rattle.trace_model.specs.Delivery.{Delivered, IsFaithful, records_of}
+use Rattle.trace_model.specs.History.{records_after}
+use Rattle.chunk_plain.specs.Setup.{Setup, sequence_of}
+use Rattle.chunk_plain.specs.Drafts.{IsFound, IsThere, StillHas}
+use Rattle.chunk_plain.specs.Views.{At, Begun, Held, Completed, Content, Draft, Found, Look, Noted, Arrive, Partial, Patched, Closed, Read, Commit, ServiceView, taken_of, WriterView, newcomer}
+use Rattle.chunk_plain.specs.World.{World, writer}
+use Rattle.chunk_plain.specs.Histories.{completed_images, content_at, found_among, is_scraped, history_of}
+use Rattle.chunk_plain.specs.Owned.{IsOwned, held_count}
+use Rattle.chunk_plain.proofs.Lists.{at_inside, at_one, at_some}
+use Rattle.world_model.specs.FirstBuffers.{BufferSpec, payload_at, first_buffers}
+use Rattle.world_model.specs.FrontLaws.{StandsIn}
+use Rattle.world_model.specs.Accounts.{all_images, HasCut, IsScraped, InOrder, IsAccount}
+use Rattle.delivery_laws.specs.DeliveryLaws.{IsAccountOf}
+use Rattle.delivery_laws.proofs.CompleteLemmas.{full_at}
+use Rattle.delivery_laws.proofs.WrittenPackets.{are_full}
+use Rattle.world_model.proofs.ProjectLemmas.{all_mine}
+use Rattle.world_model.proofs.MakingLemmas.{only_writers}
+use Rattle.world_model.proofs.FaithfulLemmas.{told_of, order_events}
+use Rattle.world_model.proofs.FrontLemmas.{finds_are_fronts}
+use Rattle.world_model.proofs.PartLemmas.{IsLooked, looked as as_looked}
+use Rattle.world_model.proofs.OwnLemmas.{image_at, elem_at}
+use Rattle.trace_writer.specs.Laws.{IsHeldImage}
+use Rattle.service_core.specs.Order.{Stage, IsFoundPart, LeadTo, beginning}
+use Rattle.replay_model.specs.Does.{Wrote, is_shut}
+use Rattle.replay_model.proofs.SortedLemmas.{at_stage, IsSorted}
+use Rattle.replay_model.proofs.ScrapedLemmas.{counted, one_held, two_held, few_held}
+use Rattle.replay_model.proofs.StandsLemmas.{Stands}
+
+-- ---- from the order of the service to that of an account
+
+content_set : IsSet Content
+content_set = hlevel (ℕ_set, Bool-set, ⊎_set, list_set, option_set)
+
+by_match : (b : Bool) (P Q R T : Type 0) → MatchBool b P Q → (P → R) → (Q → T) → MatchBool b R T
+by_match true P Q R T h same apart = same h
+by_match false P Q R T h same apart = apart h
+
+-- notes that lead on are in order, where each part is a front of what its writer made of the chunk
+pub lead_in_order : (images : List Image) (view : ServiceView) (q : ℕ)
+    → ((id count : ℕ) → IsFoundPart view q id count → IsScraped images view q id count)
+    → (notes : List Noted) (stage last : Stage) → LeadTo view q stage notes last → last.due ≡ [] → InOrder images view q stage.come stage.closed stage.due notes
+lead_in_order images view q scraped [] stage last lead none = ap (λ (s : Stage). s.due) lead ∙ none
+lead_in_order images view q scraped (Arrive other id ∷ notes) stage last lead none = (
+  lead.0,
+  by_match (other == q) _ _ _ _ lead.1
+      (λ h. (
+        h.0,
+        h.1,
+        h.2,
+        subst (λ (i : ℕ). content_at view q i ≡ Some h.2) h.1 h.3,
+        lead_in_order images view q scraped notes (record { come = suc stage.come; closed = stage.closed; due = h.2.patches }) last h.4 none,
+      ))
+      (λ h. subst (λ (due : List Patch). InOrder images view q stage.come stage.closed due notes) lead.0 (lead_in_order images view q scraped notes stage last h none)),
+)
+lead_in_order images view q scraped (Partial other id count ∷ notes) stage last lead none = (
+  lead.0,
+  by_match (other == q) _ _ _ _ lead.1
+      (λ h. (
+        h.0,
+        h.1,
+        subst (λ (i : ℕ). IsScraped images view q i count) h.1 (scraped id count h.2),
+        subst (λ (due : List Patch). InOrder images view q stage.come stage.closed due notes) lead.0 (lead_in_order images view q scraped notes stage last h.3 none),
+      ))
+      (λ h. subst (λ (due : List Patch). InOrder images view q stage.come stage.closed due notes) lead.0 (lead_in_order images view q scraped notes stage last h none)),
+)
+lead_in_order images view q scraped (Patched other id ∷ notes) stage last lead none =
+    by_match (other == q) _ _ _ _ lead
+    (λ h. (h.0, h.1, h.2, lead_in_order images view q scraped notes (record stage { due = [] }) last h.3 none))
+    (λ h. (h.0, subst (λ (due : List Patch). InOrder images view q stage.come stage.closed due notes) h.0 (lead_in_order images view q scraped notes stage last h.1 none)))
+lead_in_order images view q scraped (Closed other ∷ notes) stage last lead none = (
+  lead.0,
+  by_match (other == q) _ _ _ _ lead.1
+      (λ h. (
+        h.0,
+        subst (λ (due : List Patch). InOrder images view q stage.come true due notes) lead.0
+            (lead_in_order images view q scraped notes (record stage { closed = true }) last h.1 none),
+      ))
+      (λ h. subst (λ (due : List Patch). InOrder images view q stage.come stage.closed due notes) lead.0 (lead_in_order images view q scraped notes stage last h none)),
+)
+lead_in_order images view q scraped (Read other limit ∷ notes) stage last lead none =
+    (lead.0, subst (λ (due : List Patch). InOrder images view q stage.come stage.closed due notes) lead.0 (lead_in_order images view q scraped notes stage last lead.1 none))
+lead_in_order images view q scraped (Commit place ∷ notes) stage last lead none =
+    (lead.0, lead.1, subst (λ (due : List Patch). InOrder images view q stage.come stage.closed due notes) lead.0 (lead_in_order images view q scraped notes stage last lead.2 none))
+
+-- ---- images of what was begun
+
+get_more : {A : Type 0} (xs ys : List A) (i : ℕ) (x : A) → slice_get xs i ≡ Some x → slice_get (xs ++ ys) i ≡ Some x
+get_more [] ys i x e = absurd (cc)
+get_more (y ∷ xs) ys zero x e = e
+get_more (y ∷ xs) ys (suc i) x e = get_more xs ys i x e
+
+get_seam : {A : Type 0} (xs : List A) (y : A) → slice_get (xs ++ y ∷ []) (length xs) ≡ Some y
+get_seam [] y = refl
+get_seam (x ∷ xs) y = get_seam xs y
+
+-- an image that was completed is among those of all chunks, at its own id
+completed_there : (begun : List Begun) (i chunk : ℕ) (content : Content) → At begun i (Completed chunk content)
+    → (n : ℕ) × (slice_get (completed_images begun) n ≡ Some content.image)
+completed_there [] i chunk content at = absurd (cc)
+completed_there (Held other draft ∷ begun) zero chunk content at = absurd (cc)
+completed_there (Held other draft ∷ begun) (suc i) chunk content at = completed_there begun i chunk content at
+completed_there (Completed other one ∷ begun) zero chunk content at =
+    let same : one ≡ content = cc in (0, ap (λ (c : Content). Some c.image) same)
+completed_there (Completed other one ∷ begun) (suc i) chunk content at =
+    let h = completed_there begun i chunk content at in (suc h.0, h.1)
+
+-- what was found so is of this writer, under this id
+scraped_as : (p id count : ℕ) (looks : List Look) (found : Found) → found_among p id count looks ≡ Some found → (found.place ≡ p) × (found.id ≡ id)
+scraped_as p id count [] found e = absurd (cc)
+scraped_as p id count (look ∷ looks) found e = step (is_scraped p id count look.found) refl e (λ f. scraped_as p id count looks found f)
+  where
+    names : (o : Option Found) → is_scraped p id count o ≡ true → o ≡ Some found → (found.place ≡ p) × (found.id ≡ id)
+    names None s f = absurd (false≢true s)
+    names (Some one) s f =
+        let same : one ≡ found = cc in
+        let first = and_parts ((one.place == p) && (one.id == id)) (length one.ends == count) s in
+        let both = and_parts (one.place == p) (one.id == id) first.0 in
+        subst (λ (x : Found). (x.place ≡ p) × (x.id ≡ id)) same (eqb-true one.place p both.0, eqb-true one.id id both.1)
+
+    step : (b : Bool) → is_scraped p id count look.found ≡ b → cond b look.found (found_among p id count looks) ≡ Some found
+        → (found_among p id count looks ≡ Some found → (found.place ≡ p) × (found.id ≡ id)) → (found.place ≡ p) × (found.id ≡ id)
+    step true s f rest = names look.found s f
+    step false s f rest = rest f
+
+module _ (setup : Setup) (world : World) (owned : ∥ IsOwned world ∥₁) (place : ℕ) (wrote : Wrote setup place (writer world place)) where
+  abbrev view : WriterView
+  view = writer world place
+
+  abbrev begun : List Begun
+  begun = (writer world place).begun
+
+  abbrev images : List Image
+  images = all_images (writer world place) wrote.held
+
+  named : (n chunk : ℕ) (content : Content) → At begun n (Completed chunk content) → content.image.chunk_id ≡ n
+  named n chunk content at = ∥∥₁_elim owned (ℕ_set _ _) (λ (is : IsOwned world). ((is.counts place).named n chunk content at).0)
+
+  -- what the service learnt was completed
+  learnt : (n : ℕ) (content : Content) → At (taken_of world.service place).contents n content → (chunk : ℕ) × At begun n (Completed chunk content)
+  learnt n content at = by_entry some.0 some.1
+    where
+      inside : n < length begun
+      inside = ∥∥₁_elim owned (hlevel le_prop) (λ (is : IsOwned world). let l = (is.counts place).learnt n content at in at_inside begun (Completed l.0 content) n l.1)
+
+      some : (one : Begun) × At begun n one
+      some = at_some begun n inside
+
+      by_entry : (one : Begun) → At begun n one → (chunk : ℕ) × At begun n (Completed chunk content)
+      by_entry (Held chunk draft) there =
+          absurd (∥∥₁_elim owned (hlevel le_prop) (λ (is : IsOwned world).
+          let l = (is.counts place).learnt n content at in
+          let same = at_one begun (Held chunk draft) (Completed l.0 content) n there l.1 in
+          let never : ⊥ = cc in never))
+      by_entry (Completed chunk one) there =
+          let same : one ≡ content = ∥∥₁_elim owned (content_set _ _) (λ (is : IsOwned world).
+          let l = (is.counts place).learnt n content at in
+          let equal = at_one begun (Completed chunk one) (Completed l.0 content) n there l.1 in
+          let contents : one ≡ content = cc in contents) in
+          (chunk, subst (λ (c : Content). At begun n (Completed chunk c)) same there)
+
+  finds : (n : ℕ) (look : Look) (found : Found) → At world.service.looks n look → look.found ≡ Some found → IsFound found
+  finds n look found at is = ∥∥₁_elim owned (hlevel (ℕ_set, le_prop)) (λ (o : IsOwned world). (o.looks n look found at is).0)
+
+  -- the image of a completed chunk stands at its id
+  image_of_completed : (id chunk : ℕ) (content : Content) → At begun id (Completed chunk content) → slice_get images id ≡ Some content.image
+  image_of_completed id chunk content at =
+      let h = completed_there begun id chunk content at in
+      let there : slice_get images h.0 ≡ Some content.image = get_more (completed_images begun) wrote.held h.0 content.image h.1 in
+      let paged = image_at (place + 2) 0 wrote.cut.cut.pages h.0 content.image (subst (λ (xs : List Image). slice_get xs h.0 ≡ Some content.image) wrote.cut.cut.images_are there) in
+      let number = ap (λ (i : Image). i.chunk_id) paged.is in
+      let id_is = named id chunk content at in
+      let same : h.0 ≡ id = omega (arith, number, id_is) in
+      subst (λ (n : ℕ). slice_get images n ≡ Some content.image) same there
+
+  -- and that of the held one at the end
+  record IsHeldAt (id chunk : ℕ) (draft : Draft) : Type 0 where
+    image : Image
+    there : slice_get images id ≡ Some image
+    stands : StandsIn draft image
+
+  image_of_held : (id chunk : ℕ) (draft : Draft) → At begun id (Held chunk draft) → IsHeldAt id chunk draft
+  image_of_held id chunk draft at = by_held wrote.held refl
+    where
+      some : 1 ≤ held_count begun
+      some = one_held begun id chunk draft at
+
+      by_held : (held : List Image) → wrote.held ≡ held → IsHeldAt id chunk draft
+      by_held [] is =
+          let all = counted begun in let many = wrote.begun in let none = ap (λ (xs : List Image). length xs) is in
+          absurd (omega (arith, all, many, none, some))
+      by_held (one ∷ other ∷ others) is = absurd (wrote.only one other others is)
+      by_held (image ∷ []) is = record {
+        image = image;
+        there =
+            subst (λ (xs : List Image). slice_get (completed_images begun ++ xs) id ≡ Some image) (sym is)
+            (subst (λ (n : ℕ). slice_get (completed_images begun ++ image ∷ []) n ≡ Some image) (sym id_is) (get_seam (completed_images begun) image));
+        stands = subst (λ (d : Draft). StandsIn d image) same_draft stands_there;
+      }
+        where
+          held_is : IsHeldImage view image
+          held_is = wrote.stands image is
+
+          last : At begun (length held_is.completed) (Held held_is.chunk held_is.draft)
+          last = subst (λ (bs : List Begun). At bs (length held_is.completed) (Held held_is.chunk held_is.draft)) (sym held_is.begun)
+              (elem_at (held_is.completed ++ Held held_is.chunk held_is.draft ∷ []) (length held_is.completed) (Held held_is.chunk held_is.draft)
+              (get_seam held_is.completed (Held held_is.chunk held_is.draft)))
+
+          ends : length begun ≡ length held_is.completed + 1
+          ends = ap (λ (bs : List Begun). length bs) held_is.begun ∙ length-append held_is.completed (Held held_is.chunk held_is.draft ∷ [])
+
+          id_last : id ≡ length held_is.completed
+          id_last = by_order (cases_lt id (length held_is.completed))
+            where
+              by_order : (id < length held_is.completed) ⊎ (length held_is.completed ≤ id) → id ≡ length held_is.completed
+              by_order (inl below) =
+                  let two = two_held begun id (length held_is.completed) chunk held_is.chunk draft held_is.draft at last below in
+                  let few = few_held setup place view wrote in
+                  absurd (omega (arith, two, few))
+              by_order (inr past) = let inside = at_inside begun (Held chunk draft) id at in let long = ends in omega (arith, past, inside, long)
+
+          same_draft : held_is.draft ≡ draft
+          same_draft =
+              let here : At begun id (Held held_is.chunk held_is.draft) = subst (λ (n : ℕ). At begun n (Held held_is.chunk held_is.draft)) (sym id_last) last in
+              let equal = at_one begun (Held held_is.chunk held_is.draft) (Held chunk draft) id here at in
+              cc
+
+          id_is : id ≡ length (completed_images begun)
+          id_is =
+              let all = counted begun in let many = wrote.begun in let one = ap (λ (xs : List Image). length xs) is in
+              let long = ends in let at_end = id_last in
+              omega (arith, all, many, one, long, at_end)
+
+          stands_there : StandsIn held_is.draft image
+          stands_there = record {
+            head = held_is.head;
+            before = held_is.before;
+            count = held_is.count;
+            rest = held_is.rest;
+            payload = held_is.payload;
+            bytes = held_is.bytes;
+          }
+
+  small_image : (id : ℕ) (image : Image) → slice_get images id ≡ Some image → length image.payload < drop_size
+  small_image id image there =
+      let size : ℕ = payload_at setup place in
+      let paged = image_at (place + 2) 0 wrote.cut.cut.pages id image (subst (λ (xs : List Image). slice_get xs id ≡ Some image) wrote.cut.cut.images_are there) in
+      let full = full_at size wrote.cut.cut.pages id paged.page (are_full size wrote.cut.cut.pages wrote.cut.cut.cut.full) paged.get in
+      let long : length image.payload ≡ size = ap (λ (i : Image). length i.payload) paged.is ∙ full.whole in
+      let small = wrote.cut.small in
+      omega (arith, long, small)
+
+  -- what a look found of a chunk is there still
+  still : (id : ℕ) (one : Begun) → At begun id one → (n : ℕ) (look : Look) (found : Found) → At world.service.looks n look → look.found ≡ Some found
+      → found.place ≡ place → found.id ≡ id → IsOwned world → StillHas look.chunk found one
+  still id one at n look found there is place_is id_is owns =
+      let thing : IsThere view look.chunk found = subst (λ (p : ℕ). IsThere (writer world p) look.chunk found) place_is (owns.looks n look found there is).1 in
+      let entry_at : At begun id thing.entry = subst (λ (i : ℕ). At begun i thing.entry) id_is thing.at in
+      subst (StillHas look.chunk found) (at_one begun thing.entry one id entry_at at) thing.has
+
+  -- a part that a look found is a front of its chunk's image
+  scraped : (id count : ℕ) → IsFoundPart world.service (sequence_of place) id count → IsScraped images world.service (sequence_of place) id count
+  scraped id count part = by_entry some.0 some.1
+    where
+      found : Found
+      found = part.found
+
+      looked_at : IsLooked world.service.looks count part.found
+      looked_at = as_looked (place + 2 - 2) id count world.service.looks part.found part.looked
+
+      named_so : (part.found.place ≡ place) × (part.found.id ≡ id)
+      named_so =
+          let both = scraped_as (place + 2 - 2) id count world.service.looks part.found part.looked in
+          let back : place + 2 - 2 ≡ place = omega arith in
+          (both.0 ∙ back, both.1)
+
+      inside : id < length begun
+      inside = ∥∥₁_elim owned (hlevel le_prop) (λ (is : IsOwned world).
+          let thing : IsThere view looked_at.look.chunk part.found =
+          subst (λ (p : ℕ). IsThere (writer world p) looked_at.look.chunk part.found) named_so.0 (is.looks looked_at.number looked_at.look part.found looked_at.at looked_at.found_is).1 in
+          at_inside begun thing.entry id (subst (λ (i : ℕ). At begun i thing.entry) named_so.1 thing.at))
+
+      some : (one : Begun) × At begun id one
+      some = at_some begun id inside
+
+      by_entry : (one : Begun) → At begun id one → IsScraped images world.service (sequence_of place) id count
+      by_entry (Completed chunk content) at = record {
+        found = part.found;
+        looked = part.looked;
+        image = content.image;
+        there = image_of_completed id chunk content at;
+        front = finds_are_fronts.completed looked_at.look.chunk chunk part.found content
+            (finds looked_at.number looked_at.look part.found looked_at.at looked_at.found_is)
+            (∥∥₁_elim owned (hlevel (ℕ_set, le_prop)) (still id (Completed chunk content) at looked_at.number looked_at.look part.found looked_at.at looked_at.found_is named_so.0 named_so.1))
+            part.some;
+      }
+      by_entry (Held chunk draft) at =
+          let h = image_of_held id chunk draft at in
+          record {
+            found = part.found;
+            looked = part.looked;
+            image = h.image;
+            there = h.there;
+            front = finds_are_fronts.held looked_at.look.chunk chunk part.found draft h.image
+                (finds looked_at.number looked_at.look part.found looked_at.at looked_at.found_is)
+                (∥∥₁_elim owned (hlevel (ℕ_set, le_prop)) (still id (Held chunk draft) at looked_at.number looked_at.look part.found looked_at.at looked_at.found_is named_so.0 named_so.1))
+                (∥∥₁_elim owned (hlevel (ℕ_set, le_prop)) (λ (is : IsOwned world). (is.counts place).drafts id chunk draft at))
+                h.stands (small_image id h.image h.there) part.some;
+          }
+
+  pub order_of : IsSorted setup world.service → place < length setup.writers → InOrder images world.service (sequence_of place) 0 false [] world.service.events
+  order_of sorted inside =
+      lead_in_order images world.service (sequence_of place) scraped world.service.events beginning
+      (at_stage (taken_of world.service place).count (is_shut (sequence_of place) world.service.events)) (sorted.lead place inside) refl
+
+  pub tells_of : IsSorted setup world.service → place < length setup.writers → (buffers : List BufferSpec) (spec : WriterSpec) → slice_get setup.writers place ≡ Some spec
+      → Tells (emissions_of view.calls) (place + 2) (records_of (place + 2) (records_after (first_buffers setup 1 buffers) (history_of world.service)))
+  tells_of sorted inside buffers spec get =
+      told_of (payload_at setup place) place view wrote.held wrote.cut world.service learnt named finds setup buffers spec get (order_of sorted inside)
+
+  -- the account of the sequence, in a buffer that has it
+  pub account_in : IsSorted setup world.service → place < length setup.writers → (sequences : List Sequence) (record_size : ℕ)
+      → is_known sequences (place + 2) ≡ true → sequence_in sequences (place + 2) ≡ fresh (place + 2) record_size
+      → IsAccountOf (payload_at setup place) view.calls wrote.cut.cut.pages sequences (place + 2) record_size (history_of world.service)
+  account_in sorted inside sequences record_size known start = record {
+    possible = wrote.cut.possible;
+    cut = wrote.cut.cut.cut;
+    known = known;
+    start = start;
+    order = order_events (payload_at setup place) place view wrote.held wrote.cut world.service learnt named finds world.service.events 0 false [] (order_of sorted inside);
+  }
+
+-- ---- the whole
+
+pub many_writers : (setup : Setup) (world : World) → ∥ IsOwned world ∥₁ → Stands setup world → length world.writers ≡ length setup.writers
+many_writers setup world owned stands = ∥∥₁_elim owned (ℕ_set _ _) (λ (is : IsOwned world). sym is.all_taken ∙ stands.sorted.many)
+
+no_spec : WriterSpec
+no_spec = record { producer = 0; buffer = 0; policy = Drops }
+
+pub standing_is_faithful : (setup : Setup) (buffers : List BufferSpec) (world : World) → ∥ IsOwned world ∥₁ → Stands setup world
+    → IsFaithful (map (λ (view : WriterView). emissions_of view.calls) world.writers) (records_after (first_buffers setup 1 buffers) (history_of world.service))
+standing_is_faithful setup buffers world owned stands = record { known = known; told = tells }
+  where
+    many : length world.writers ≡ length setup.writers
+    many = many_writers setup world owned stands
+
+    known : All (λ (d : Delivered). (2 ≤ d.sequence) × (d.sequence < length (map (λ (view : WriterView). emissions_of view.calls) world.writers) + 2))
+        (records_after (first_buffers setup 1 buffers) (history_of world.service))
+    known =
+        subst (λ (n : ℕ). All (λ (d : Delivered). (2 ≤ d.sequence) × (d.sequence < n + 2)) (records_after (first_buffers setup 1 buffers) (history_of world.service)))
+        (sym many ∙ sym (length-map world.writers (λ (view : WriterView). emissions_of view.calls)))
+        (all_mine (λ s. (2 ≤ s) × (s < length setup.writers + 2)) (history_of world.service) (first_buffers setup 1 buffers) (only_writers setup 1 buffers))
+
+    tells : (place : ℕ) (packets : List (List ℕ)) → slice_get (map (λ (view : WriterView). emissions_of view.calls) world.writers) place ≡ Some packets
+        → Tells packets (place + 2) (records_of (place + 2) (records_after (first_buffers setup 1 buffers) (history_of world.service)))
+    tells place packets e =
+        let long = length-map world.writers (λ (view : WriterView). emissions_of view.calls) in
+        let low = slice_get_within (map (λ (view : WriterView). emissions_of view.calls) world.writers) place packets e in
+        let all = many in
+        let inside : place < length world.writers = omega (arith, low, long) in
+        let within : place < length setup.writers = omega (arith, inside, all) in
+        let view : WriterView = writer world place in
+        let there = slice_get-get_or world.writers place newcomer inside in
+        let same : emissions_of view.calls ≡ packets =
+        same_Some (emissions_of view.calls) packets
+        (sym (slice_get-map (λ (v : WriterView). emissions_of v.calls) world.writers place ∙ ap (option_map (λ (v : WriterView). emissions_of v.calls)) there) ∙ e) in
+        let spec : WriterSpec = get_or setup.writers place no_spec in
+        let get = slice_get-get_or setup.writers place no_spec within in
+        subst (λ (ps : List (List ℕ)). Tells ps (place + 2) (records_of (place + 2) (records_after (first_buffers setup 1 buffers) (history_of world.service)))) same
+        (tells_of setup world owned place (stands.wrote place within) stands.sorted within buffers spec get)
+
+module _ (setup : Setup) (world : World) (owned : ∥ IsOwned world ∥₁) (stands : Stands setup world) where
+  abbrev held_by : (place : ℕ) → (place < length setup.writers) ⊎ (length setup.writers ≤ place) → List Image
+  held_by place (inl inside) = (stands.wrote place inside).held
+  held_by place (inr past) = []
+
+  cut_by : (place : ℕ) (c : (place < length setup.writers) ⊎ (length setup.writers ≤ place)) → place < length setup.writers
+      → HasCut (payload_at setup place) place (writer world place) (held_by place c)
+  cut_by place (inl inside) low = (stands.wrote place inside).cut
+  cut_by place (inr past) low = absurd (omega (arith, past, low))
+
+  order_by : (place : ℕ) (c : (place < length setup.writers) ⊎ (length setup.writers ≤ place)) → place < length setup.writers
+      → InOrder (all_images (writer world place) (held_by place c)) world.service (sequence_of place) 0 false [] world.service.events
+  order_by place (inl inside) low = order_of setup world owned place (stands.wrote place inside) stands.sorted inside
+  order_by place (inr past) low = absurd (omega (arith, past, low))
+
+  account_of_world : IsOwned world → IsAccount setup world
+  account_of_world is =
+      let many = many_writers setup world owned stands in
+      record {
+        owned = is;
+        writers = many;
+        held = λ place. held_by place (cases_lt place (length setup.writers));
+        cuts = λ place low. cut_by place (cases_lt place (length setup.writers)) (omega (arith, low, many));
+        order = λ place low. order_by place (cases_lt place (length setup.writers)) (omega (arith, low, many));
+      }
+
+  pub standing_is_account : ∥ IsAccount setup world ∥₁
+  standing_is_account = ∥∥₁_map owned account_of_world

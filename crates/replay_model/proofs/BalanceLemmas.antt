@@ -1,0 +1,273 @@
+-- The report of a replay counts every packet once.
+use Rattle.std.proofs.Common.{◌≡◌, ◌∙◌, ℕ, zero, suc, ◌+◌, ◌-◌, ◌*◌, ◌<◌, ◌≤◌, Bool, true, false, List, [], ◌∷◌, ◌++◌, length, map, fold, Some, refl, sym, ap, subst, arith, cond}
+use Rattle.std.specs.Prelude.{◌==◌, slice_get}
+use Rattle.std.specs.List.{AllByRecursion}
+use Rattle.std.proofs.lemmas.Bool.{eq-eqb}
+use Rattle.std.proofs.lemmas.Option.{slice_get_within}
+use Rattle.trace_base.specs.declared.policy.FullPolicy.{FullPolicy}
+use Rattle.trace_base.specs.declared.policy.FullPolicy.TheVariants.{Ring, Discard}
+use Rattle.trace_base.specs.declared.policy.WriterSpec.{WriterSpec}
+use Rattle.page_geometry.specs.Sizes.{record_size}
+use Rattle.trace_model.specs.Calls.{Call, Begun, Number, Bytes, Nested, Ended, GivenUp, Finished, Flushed}
+use Rattle.trace_model.specs.Counts.{last_count}
+use Rattle.trace_model.specs.Encoding.{number_field, bytes_field}
+use Rattle.trace_model.specs.Packets.{Packet, Account, noted, begun_count, begun_packet, with_more, with_nested, with_nested_ended, given_up_packet, finished_packet}
+use Rattle.trace_model.specs.Balance.{PacketCounts, IsBalanced, counts_of}
+use Rattle.trace_model.specs.Buffers.{Buffer, empty_buffer}
+use Rattle.trace_model.specs.History.{Event, state_after, buffers_after}
+use Rattle.trace_model.specs.Sequences.{Sequence, sequence_in}
+use Rattle.model_laws.proofs.LossLemmas.{losses_change_no_shape}
+use Rattle.model_laws.proofs.ReportLemmas.{counts_are_balanced}
+use Rattle.delivery_laws.proofs.ReportLemmas.{accounts_are_histories}
+use Rattle.field_tree.specs.declared.node.FieldNode.TheVariants as node
+use Rattle.field_tree.specs.Nodes.{Shown}
+use Rattle.chunk_plain.specs.Setup.{Setup, sequence_of, size_of}
+use Rattle.chunk_plain.specs.World.{World, writer}
+use Rattle.chunk_plain.specs.Histories.{history_of}
+use Rattle.world_model.specs.FirstBuffers.{BufferSpec, sequences_from, first_buffers}
+use Rattle.world_model.proofs.MakingLemmas.{set_at}
+use Rattle.scenario_text.specs.declared.scenario.BufferLine.{BufferLine}
+use Rattle.scenario_text.specs.declared.scenario.NumberedLine.{NumberedLine}
+use Rattle.scenario_text.specs.declared.scenario.LineKind.{LineKind}
+use Rattle.scenario_text.specs.declared.scenario.LineKind.TheVariants as line
+use Rattle.scenario_text.specs.Scenario.{Parts}
+use Rattle.scenario_text.specs.Accepted.{line_calls, calls_asked, node_call}
+use Rattle.scenario_text.specs.Limits.{IsWriter}
+use Rattle.service_core.specs.Routing.{buffer_at}
+use Rattle.replay_model.specs.Flushes.{FlushNote}
+use Rattle.replay_model.specs.Played.{IsPlayed, buffer_specs, buffers_of, buffers_in, counts_from}
+use Rattle.replay_model.specs.Laws.{EveryReportIsBalanced}
+use Rattle.replay_model.proofs.AccountLemmas.{account_in}
+use Rattle.replay_model.proofs.PlayedLemmas.{played_stands, setup_writers, writers_lose}
+
+-- ---- how many packets the lines begin
+
+abbrev begins : List Call → ℕ
+begins [] = 0
+begins (Begun kept ∷ calls) = suc (begins calls)
+begins (Number field value ∷ calls) = begins calls
+begins (Bytes field text times ∷ calls) = begins calls
+begins (Nested field ∷ calls) = begins calls
+begins (Ended ∷ calls) = begins calls
+begins (GivenUp ∷ calls) = begins calls
+begins (Finished ∷ calls) = begins calls
+begins (Flushed ∷ calls) = begins calls
+
+begins_append : (xs ys : List Call) → begins (xs ++ ys) ≡ begins xs + begins ys
+begins_append [] ys = omega arith
+begins_append (Begun kept ∷ xs) ys = let rest = begins_append xs ys in omega (arith, rest)
+begins_append (Number field value ∷ xs) ys = begins_append xs ys
+begins_append (Bytes field text times ∷ xs) ys = begins_append xs ys
+begins_append (Nested field ∷ xs) ys = begins_append xs ys
+begins_append (Ended ∷ xs) ys = begins_append xs ys
+begins_append (GivenUp ∷ xs) ys = begins_append xs ys
+begins_append (Finished ∷ xs) ys = begins_append xs ys
+begins_append (Flushed ∷ xs) ys = begins_append xs ys
+
+abbrev account : List Packet → Bool → Account
+account packets flushed = record { packets = packets; flushed = flushed }
+
+many_begun : (calls : List Call) (packets : List Packet) (flushed : Bool) → length (fold noted (account packets flushed) calls).packets ≡ length packets + begins calls
+many_begun [] packets flushed = omega arith
+many_begun (Begun kept ∷ calls) packets flushed =
+    let rest = many_begun calls (begun_packet kept (account packets flushed) ∷ packets) false in omega (arith, rest)
+many_begun (Number field value ∷ calls) [] flushed = many_begun calls [] flushed
+many_begun (Number field value ∷ calls) (packet ∷ packets) flushed = many_begun calls (with_more (number_field field value) packet ∷ packets) flushed
+many_begun (Bytes field text times ∷ calls) [] flushed = many_begun calls [] flushed
+many_begun (Bytes field text times ∷ calls) (packet ∷ packets) flushed = many_begun calls (with_more (bytes_field field text times) packet ∷ packets) flushed
+many_begun (Nested field ∷ calls) [] flushed = many_begun calls [] flushed
+many_begun (Nested field ∷ calls) (packet ∷ packets) flushed = many_begun calls (with_nested field packet ∷ packets) flushed
+many_begun (Ended ∷ calls) [] flushed = many_begun calls [] flushed
+many_begun (Ended ∷ calls) (packet ∷ packets) flushed = many_begun calls (with_nested_ended packet ∷ packets) flushed
+many_begun (GivenUp ∷ calls) [] flushed = many_begun calls [] flushed
+many_begun (GivenUp ∷ calls) (packet ∷ packets) flushed = many_begun calls (given_up_packet packet ∷ packets) flushed
+many_begun (Finished ∷ calls) [] flushed = many_begun calls [] flushed
+many_begun (Finished ∷ calls) (packet ∷ packets) flushed = many_begun calls (finished_packet packet ∷ packets) flushed
+many_begun (Flushed ∷ calls) packets flushed = many_begun calls packets true
+
+nodes_begin_none : (nodes : List Shown) → begins (map node_call nodes) ≡ 0
+unfolding node_call
+nodes_begin_none [] = refl
+nodes_begin_none ((node.Number field value, text) ∷ nodes) = nodes_begin_none nodes
+nodes_begin_none ((node.Bytes field times, text) ∷ nodes) = nodes_begin_none nodes
+nodes_begin_none ((node.Begin field, text) ∷ nodes) = nodes_begin_none nodes
+nodes_begin_none ((node.End, text) ∷ nodes) = nodes_begin_none nodes
+
+one_of : (b : Bool) (calls : List Call) → begins calls ≤ 1 → begins (cond b calls []) ≤ 1
+one_of true calls few = few
+one_of false calls few = omega arith
+
+line_begins : (number : ℕ) (kind : LineKind) → begins (line_calls number kind) ≤ 1
+unfolding line_calls
+line_begins number (line.Packet writer fields) =
+    one_of (number == writer) (Begun true ∷ map node_call fields ++ Finished ∷ [])
+    (let both = begins_append (map node_call fields) (Finished ∷ []) in let none = nodes_begin_none fields in omega (arith, both, none))
+line_begins number (line.Begin writer) = one_of (number == writer) (Begun true ∷ []) (omega arith)
+line_begins number (line.Add writer fields) = one_of (number == writer) (map node_call fields) (let none = nodes_begin_none fields in omega (arith, none))
+line_begins number (line.Nest writer field) = one_of (number == writer) (Nested field ∷ []) (omega arith)
+line_begins number (line.Unnest writer) = one_of (number == writer) (Ended ∷ []) (omega arith)
+line_begins number (line.End writer) = one_of (number == writer) (Finished ∷ []) (omega arith)
+line_begins number (line.Flush writer) = one_of (number == writer) (Flushed ∷ []) (omega arith)
+line_begins number (line.Collect producer) = omega arith
+line_begins number (line.Scrape producer) = omega arith
+line_begins number (line.Close producer) = omega arith
+line_begins number (line.Read buffer limit) = omega arith
+line_begins number line.Request = omega arith
+
+lines_begin : (number : ℕ) (lines : List NumberedLine) → begins (calls_asked number lines) ≤ length lines
+lines_begin number [] = omega arith
+lines_begin number (line ∷ lines) =
+    let both = begins_append (line_calls number line.what) (calls_asked number lines) in
+    let one = line_begins number line.what in
+    let rest = lines_begin number lines in
+    omega (arith, both, one, rest)
+
+pub asked_few : (number : ℕ) (lines : List NumberedLine) → begun_count (calls_asked number lines) ≤ length lines
+asked_few number lines =
+    let many = many_begun (calls_asked number lines) [] false in
+    let few = lines_begin number lines in
+    omega (arith, many, few)
+
+-- ---- the buffer of a writer
+
+first_at : (setup : Setup) (n : ℕ) (specs : List BufferSpec) (i : ℕ) (spec : BufferSpec) → slice_get specs i ≡ Some spec
+    → buffer_at (first_buffers setup n specs) i ≡ empty_buffer spec.size spec.policy (sequences_from setup (n + i) 0 setup.writers)
+first_at setup n [] i spec get = absurd (cc)
+first_at setup n (first ∷ specs) zero spec get =
+    let same : first ≡ spec = cc in
+    let at : n ≡ n + 0 = omega arith in
+    ap (λ (s : BufferSpec). empty_buffer s.size s.policy (sequences_from setup n 0 setup.writers)) same
+    ∙ ap (λ (m : ℕ). empty_buffer spec.size spec.policy (sequences_from setup m 0 setup.writers)) at
+first_at setup n (first ∷ specs) (suc i) spec get =
+    let at : suc n + i ≡ n + suc i = omega arith in
+    first_at setup (suc n) specs i spec get
+    ∙ ap (λ (m : ℕ). empty_buffer spec.size spec.policy (sequences_from setup m 0 setup.writers)) at
+
+-- what a buffer comes to, at its place
+after_at : (buffers : List Buffer) (events : List Event) (i : ℕ) → i < length buffers → buffer_at (buffers_after buffers events) i ≡ state_after (buffer_at buffers i) events
+after_at [] events i low = absurd (omega (arith, low))
+after_at (buffer ∷ buffers) events zero low = refl
+after_at (buffer ∷ buffers) events (suc i) low = after_at buffers events i (omega (arith, low))
+
+first_long : (setup : Setup) (n : ℕ) (specs : List BufferSpec) → length (first_buffers setup n specs) ≡ length specs
+first_long setup n [] = refl
+first_long setup n (s ∷ specs) = ap suc (first_long setup (suc n) specs)
+
+-- ---- the counts
+
+-- what is lost counts once, under either policy
+balanced_under : (one other : FullPolicy) (calls : List Call) (state : Sequence) → IsBalanced (counts_of one calls state) → IsBalanced (counts_of other calls state)
+balanced_under Ring Ring calls state balanced = balanced
+balanced_under Ring Discard calls state balanced = let sum = balanced.sum in record { sum = omega (arith, sum) }
+balanced_under Discard Ring calls state balanced = let sum = balanced.sum in record { sum = omega (arith, sum) }
+balanced_under Discard Discard calls state balanced = balanced
+
+record IsCountOf (buffers : List Buffer) (world : World) (place i : ℕ) (specs : List WriterSpec) (counts : PacketCounts) : Type 0 where
+  spec : WriterSpec
+  get : slice_get specs i ≡ Some spec
+  is : counts ≡ counts_of (buffer_at buffers (spec.buffer - 1)).policy (writer world (place + i)).calls
+      (sequence_in (buffer_at buffers (spec.buffer - 1)).sequences (sequence_of (place + i)))
+
+count_at : (buffers : List Buffer) (world : World) (place : ℕ) (specs : List WriterSpec) (i : ℕ) (counts : PacketCounts)
+    → slice_get (counts_from buffers world place specs) i ≡ Some counts → IsCountOf buffers world place i specs counts
+count_at buffers world place [] i counts get = absurd (cc)
+count_at buffers world place (spec ∷ specs) zero counts get =
+    let buffer : Buffer = buffer_at buffers (spec.buffer - 1) in
+    let first : PacketCounts = counts_of buffer.policy (writer world place).calls (sequence_in buffer.sequences (sequence_of place)) in
+    let same : first ≡ counts = cc in
+    let at : place ≡ place + 0 = omega arith in
+    record {
+      spec = spec;
+      get = refl;
+      is = sym same ∙ ap (λ (p : ℕ). counts_of buffer.policy (writer world p).calls (sequence_in buffer.sequences (sequence_of p))) at;
+    }
+count_at buffers world place (spec ∷ specs) (suc i) counts get =
+    let h = count_at buffers world (suc place) specs i counts get in
+    let buffer : Buffer = buffer_at buffers (h.spec.buffer - 1) in
+    let at : suc place + i ≡ place + suc i = omega arith in
+    record {
+      spec = h.spec;
+      get = h.get;
+      is = h.is ∙ ap (λ (p : ℕ). counts_of buffer.policy (writer world p).calls (sequence_in buffer.sequences (sequence_of p))) at;
+    }
+
+pub each_is : {A : Type 0} (P : A → Type 0) (xs : List A) (i : ℕ) (x : A) → AllByRecursion P xs → slice_get xs i ≡ Some x → P x
+each_is P [] i x all get = absurd (cc)
+each_is P (y ∷ xs) zero x all get = let same : y ≡ x = cc in subst P same all.0
+each_is P (y ∷ xs) (suc i) x all get = each_is P xs i x all.1 get
+
+get_map : {A B : Type 0} (f : A → B) (xs : List A) (i : ℕ) (x : A) → slice_get xs i ≡ Some x → slice_get (map f xs) i ≡ Some (f x)
+get_map f [] i x get = absurd (cc)
+get_map f (y ∷ xs) zero x get = let same : y ≡ x = cc in ap (λ a. Some (f a)) same
+get_map f (y ∷ xs) (suc i) x get = get_map f xs i x get
+
+module _ (scenario : Parts) (setup : Setup) (world : World) (notes : List FlushNote) (played : IsPlayed scenario setup world notes)
+    (few : length scenario.lines ≤ last_count) (place : ℕ) (spec : WriterSpec) (get : slice_get scenario.writers place ≡ Some spec)
+    (is_writer : IsWriter scenario.buffers scenario.producers spec) where
+  abbrev index : ℕ
+  index = spec.buffer - 1
+
+  abbrev made : BufferSpec
+  made = record { size = is_writer.into_buffer.kb * 1024; policy = is_writer.into_buffer.policy }
+
+  abbrev first : Buffer
+  first = empty_buffer made.size made.policy (sequences_from setup spec.buffer 0 setup.writers)
+
+  there : slice_get (buffer_specs scenario) index ≡ Some made
+  there = get_map (λ (line : BufferLine). record { size = line.kb * 1024; policy = line.policy }) scenario.buffers index is_writer.into_buffer is_writer.buffer_is
+
+  begins_as : buffer_at (buffers_of scenario setup) index ≡ first
+  begins_as =
+      let least = is_writer.counts_buffer in
+      let number : 1 + index ≡ spec.buffer = omega (arith, least) in
+      first_at setup 1 (buffer_specs scenario) index made there
+      ∙ ap (λ (m : ℕ). empty_buffer made.size made.policy (sequences_from setup m 0 setup.writers)) number
+
+  inside : index < length (buffers_of scenario setup)
+  inside =
+      let low = slice_get_within (buffer_specs scenario) index made there in
+      let long = first_long setup 1 (buffer_specs scenario) in
+      omega (arith, low, long)
+
+  pub becomes : buffer_at (buffers_in scenario setup world) index ≡ state_after first (history_of world.service)
+  becomes = after_at (buffers_of scenario setup) (history_of world.service) index inside ∙ ap (λ (b : Buffer). state_after b (history_of world.service)) begins_as
+
+  writer_there : slice_get setup.writers place ≡ Some spec
+  writer_there = ap (λ (specs : List WriterSpec). slice_get specs place) (setup_writers scenario setup played.setup_is) ∙ get
+
+  within : place < length setup.writers
+  within = slice_get_within setup.writers place spec writer_there
+
+  begun_few : begun_count (writer world place).calls ≤ last_count
+  begun_few =
+      let same = (losses_change_no_shape (calls_asked (suc place) scenario.lines) (writer world place).calls (writers_lose scenario setup world notes played place)).begun in
+      let asked = asked_few (suc place) scenario.lines in
+      omega (arith, same, asked, few)
+
+  balanced : IsBalanced (counts_of (buffer_at (buffers_in scenario setup world) index).policy (writer world place).calls
+      (sequence_in (buffer_at (buffers_in scenario setup world) index).sequences (sequence_of place)))
+  balanced =
+      let h = played_stands scenario setup world notes played in
+      let wrote = h.0.wrote place within in
+      let is = set_at setup place spec writer_there spec.buffer in
+      let named = eq-eqb spec.buffer spec.buffer refl in
+      let own = account_in setup world h.1 place wrote h.0.sorted within (sequences_from setup spec.buffer 0 setup.writers)
+      (record_size (size_of setup spec.producer)) (is.known ∙ named) (is.start named) in
+      let history = accounts_are_histories _ (writer world place).calls _ (sequences_from setup spec.buffer 0 setup.writers) (place + 2)
+      (record_size (size_of setup spec.producer)) (history_of world.service) own begun_few in
+      let here : IsBalanced (counts_of made.policy (writer world place).calls (sequence_in (state_after first (history_of world.service)).sequences (place + 2))) =
+      counts_are_balanced _ (writer world place).calls _ made.size made.policy (sequences_from setup spec.buffer 0 setup.writers) (place + 2)
+      (record_size (size_of setup spec.producer)) (history_of world.service) history in
+      subst (λ (b : Buffer). IsBalanced (counts_of b.policy (writer world place).calls (sequence_in b.sequences (sequence_of place)))) (sym becomes)
+      (balanced_under made.policy (state_after first (history_of world.service)).policy (writer world place).calls
+      (sequence_in (state_after first (history_of world.service)).sequences (place + 2)) here)
+
+pub every_report_is_balanced : EveryReportIsBalanced
+every_report_is_balanced scenario setup world notes played few is_set_up place counts get =
+    let count = count_at (buffers_in scenario setup world) world 0 scenario.writers place counts get in
+    let is_writer = each_is (IsWriter scenario.buffers scenario.producers) scenario.writers place count.spec is_set_up.are_writers count.get in
+    let at : place ≡ 0 + place = omega arith in
+    subst IsBalanced (sym count.is)
+    (subst (λ (p : ℕ). IsBalanced (counts_of (buffer_at (buffers_in scenario setup world) (count.spec.buffer - 1)).policy (writer world p).calls
+    (sequence_in (buffer_at (buffers_in scenario setup world) (count.spec.buffer - 1)).sequences (sequence_of p)))) at
+    (balanced scenario setup world notes played few place count.spec count.get is_writer))

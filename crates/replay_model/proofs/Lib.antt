@@ -1,0 +1,13 @@
+pub mod AccountLemmas
+pub mod BalanceLemmas
+pub mod FirstLemmas
+pub mod LosesLemmas
+pub mod LostLemmas
+pub mod NoneLostLemmas
+pub mod PigeonLemmas
+pub mod PlayLemmas
+pub mod PlayedLemmas
+pub mod RoomLemmas
+pub mod ScrapedLemmas
+pub mod SortedLemmas
+pub mod StandsLemmas

@@ -1,0 +1,84 @@
+-- What writers have written and the service has noted stays as it should, act by act.
+use Rattle.std.proofs.Common.{◌≡◌, ◌≢◌, ◌∙◌, ℕ, ◌+◌, ◌<◌, ◌⊎◌, Bool, true, false, List, length, get_or, sym, ap, subst, inl, inr}
+use Rattle.std.specs.Prelude.{MatchBool}
+use Rattle.std.proofs.lemmas.Bool.{cases_eq}
+use Rattle.trace_model.specs.Buffers.{Buffer}
+use Rattle.trace_model.specs.Calls.{Call, Flushed}
+use Rattle.trace_model.specs.History.{buffers_after}
+use Rattle.trace_model.specs.Packets.{packets_of, is_writing}
+use Rattle.chunk_plain.specs.Setup.{Setup}
+use Rattle.chunk_plain.specs.Views.{ServiceView, WriterView, newcomer}
+use Rattle.chunk_plain.specs.World.{World, writer}
+use Rattle.chunk_plain.specs.Histories.{history_of}
+use Rattle.chunk_plain.specs.Owned.{IsOwned}
+use Rattle.service_core.specs.Reading.{reads_in}
+use Rattle.service_core.specs.Taking.{places_of}
+use Rattle.replay_model.specs.Acts.{Act, Ask, Request, Answer, Collect, Scrape, CloseProducer, ReadAll}
+use Rattle.replay_model.specs.Does.{Does, Collects, Closes, Works, Alone, Helped, Asks, Wrote, AreOpen}
+use Rattle.replay_model.proofs.SortedLemmas.{IsSorted, sorted_takes, sorted_closes, sorted_reads, open_places_fit}
+use Rattle.replay_model.proofs.ScrapedLemmas.{sorted_scrapes}
+
+pub sorted_collects : (setup : Setup) (producer : ℕ) (old new : World) → IsSorted setup old.service → Collects setup producer old new → IsSorted setup new.service
+sorted_collects setup producer old new sorted collects =
+    (sorted_takes setup (places_of producer 0 setup.writers) collects.taken old.service new.service sorted (open_places_fit setup producer old.service collects.opened) collects.takes).0
+
+sorted_closed : (setup : Setup) (producer : ℕ) (old new : World) → IsSorted setup old.service → Closes setup producer old new → IsSorted setup new.service
+sorted_closed setup producer old new sorted closes =
+    let between : ServiceView = closes.closes.between in
+    let mid = sorted_takes setup (places_of producer 0 setup.writers) closes.taken old.service between sorted (open_places_fit setup producer old.service closes.opened) closes.closes.takes in
+    let opened : AreOpen setup producer between = λ place inside mine. mid.1 (place + 2) ∙ closes.opened place inside mine in
+    subst (IsSorted setup) (sym closes.closes.view) (sorted_closes setup producer between mid.0 opened)
+
+-- a writer's work leaves the other writers, and the notes in order
+pub works_others : (setup : Setup) (place : ℕ) (old new : World) → Works setup place old new → (other : ℕ) → other ≢ place → writer new other ≡ writer old other
+works_others setup place old new (Alone _ _ leaves) other differs = leaves.writers other differs
+works_others setup place old new (Helped _ asking freed _ stalls leaves full collects some rest) other differs =
+    works_others setup place freed new rest other differs
+    ∙ ap (λ (ws : List WriterView). get_or ws other newcomer) collects.writers
+    ∙ leaves.writers other differs
+
+pub works_sorted : (setup : Setup) (place : ℕ) (old new : World) → Works setup place old new → IsSorted setup old.service → IsSorted setup new.service
+works_sorted setup place old new (Alone _ _ leaves) sorted = subst (IsSorted setup) (sym leaves.service) sorted
+works_sorted setup place old new (Helped _ asking freed _ stalls leaves full collects some rest) sorted =
+    works_sorted setup place freed new rest
+    (sorted_collects setup _ asking freed (subst (IsSorted setup) (sym leaves.service) sorted) collects)
+
+-- Each writer has written what it was asked for, and the notes on each sequence are in order.
+pub record Stands (setup : Setup) (world : World) : Type 0 where
+  pub sorted : IsSorted setup world.service
+  pub wrote : (place : ℕ) → place < length setup.writers → Wrote setup place (writer world place)
+
+same_writers : (setup : Setup) (old new : World) → new.writers ≡ old.writers → ((place : ℕ) → place < length setup.writers → Wrote setup place (writer old place))
+    → (place : ℕ) → place < length setup.writers → Wrote setup place (writer new place)
+same_writers setup old new is wrote place inside =
+    subst (Wrote setup place) (sym (ap (λ (ws : List WriterView). get_or ws place newcomer) is)) (wrote place inside)
+
+stands_asks : (setup : Setup) (place : ℕ) (call : Call) (old new : World) → Asks setup place call old new → Stands setup old → Stands setup new
+stands_asks setup place call old new asks stands = record {
+  sorted = works_sorted setup place old new asks.works stands.sorted;
+  wrote = λ other inside. by_place other inside (cases_eq other place);
+}
+  where
+    by_place : (other : ℕ) → other < length setup.writers → (other ≡ place) ⊎ (other ≡ place → ⊥) → Wrote setup other (writer new other)
+    by_place other inside (inl same) = subst (λ (p : ℕ). Wrote setup p (writer new p)) (sym same) asks.wrote
+    by_place other inside (inr differs) = subst (Wrote setup other) (sym (works_others setup place old new asks.works other differs)) (stands.wrote other inside)
+
+stands_answer : (setup : Setup) (place : ℕ) (old new : World) (b : Bool) → MatchBool b (new ≡ old) (Asks setup place Flushed old new) → Stands setup old → Stands setup new
+stands_answer setup place old new true same stands = subst (Stands setup) (sym same) stands
+stands_answer setup place old new false asks stands = stands_asks setup place Flushed old new asks stands
+
+pub stands_does : (setup : Setup) (buffers : List Buffer) (act : Act) (old new : World) → Does setup buffers act old new → ∥ IsOwned new ∥₁ → Stands setup old → Stands setup new
+stands_does setup buffers (Ask place call) old new does owned stands = stands_asks setup place call old new does stands
+stands_does setup buffers Request old new does owned stands = subst (Stands setup) (sym does) stands
+stands_does setup buffers (Answer place) old new does owned stands = stands_answer setup place old new (is_writing (packets_of (writer old place).calls)) does stands
+stands_does setup buffers (Collect producer) old new does owned stands =
+    record { sorted = sorted_collects setup producer old new stands.sorted does; wrote = same_writers setup old new does.writers stands.wrote }
+stands_does setup buffers (Scrape producer) old new does owned stands =
+    let wrote = same_writers setup old new does.writers stands.wrote in
+    record { sorted = sorted_scrapes setup producer old new stands.sorted does; wrote = wrote }
+stands_does setup buffers (CloseProducer producer) old new does owned stands =
+    record { sorted = sorted_closed setup producer old new stands.sorted does; wrote = same_writers setup old new does.writers stands.wrote }
+stands_does setup buffers (ReadAll buffer limit) old new does owned stands = record {
+  sorted = subst (IsSorted setup) (sym does.notes) (sorted_reads setup old.service (reads_in setup (buffers_after buffers (history_of old.service)) buffer limit) stands.sorted);
+  wrote = same_writers setup old new does.writers stands.wrote;
+}

@@ -1,0 +1,163 @@
+-- What each act makes of a world. Looks of the service are free, and what each chunk is used for follows from the views by ownership.
+use Rattle.std.specs.Prelude.{◌≡◌, ◌≢◌, ℕ, ◌+◌, ◌-◌, ◌<◌, ◌⊎◌, nat_le, ◌==◌, Bool, true, false, List, [], ◌∷◌, ◌++◌, length, slice_get, Option, Some, MatchBool, if◌then◌else◌}
+use Rattle.std.specs.List.{flat_map, list_any}
+use Rattle.trace_base.specs.declared.policy.WriterPolicy.{WriterPolicy}
+use Rattle.trace_base.specs.declared.policy.WriterPolicy.TheVariants.{Drops, Stalls}
+use Rattle.trace_model.specs.Buffers.{Buffer}
+use Rattle.trace_model.specs.Calls.{Call, Begun, Flushed}
+use Rattle.trace_model.specs.History.{buffers_after}
+use Rattle.trace_model.specs.Images.{Image}
+use Rattle.trace_model.specs.Packets.{packets_of, account_of, is_writing}
+use Rattle.chunk_plain.specs.declared.tokens.TheConstants.{ID_LIMIT}
+use Rattle.chunk_plain.specs.Setup.{Setup, range_of, producer_of, sequence_of, IsChunkOf, id_at}
+use Rattle.chunk_plain.specs.Views as views
+use Rattle.chunk_plain.specs.Views.{Content, Draft, Held, Completed, Look, Noted, Partial, Closed, ServiceView, WriterView, taken_of}
+use Rattle.chunk_plain.specs.World.{World, Ready, status, writer}
+use Rattle.chunk_plain.specs.Histories.{completed_images, history_of}
+use Rattle.claim_arbiter.specs.Claiming.{NoneFree}
+use Rattle.world_model.specs.FirstBuffers.{payload_at}
+use Rattle.world_model.specs.Accounts.{HasCut}
+use Rattle.trace_writer.specs.Asked.{begun_as, written_as}
+use Rattle.trace_writer.specs.Claims.{KeepsClaims}
+use Rattle.trace_writer.specs.Core.{last_is_held, holds_newest}
+use Rattle.trace_writer.specs.Laws.{IsHeldImage}
+use Rattle.service_core.specs.Agreement.{spec_at, AreKnownNotes}
+use Rattle.service_core.specs.Closing.{TakesAndCloses}
+use Rattle.service_core.specs.Reading.{reads_in, noted_read}
+use Rattle.service_core.specs.Taking.{Takes, places_of, looked, noted_more}
+use Rattle.replay_model.specs.Acts.{Act, Ask, Request, Answer, Collect, Scrape, CloseProducer, ReadAll}
+
+-- ---- the service
+
+-- the note closes the sequence
+abbrev pub is_close_of : (sequence : ℕ) → Noted → Bool
+is_close_of sequence (Closed other) = other == sequence
+is_close_of sequence other = false
+
+-- one of the notes closed the sequence
+abbrev pub is_shut : (sequence : ℕ) → List Noted → Bool
+is_shut sequence notes = list_any (is_close_of sequence) notes
+
+-- no sequence of the producer's writers is closed
+abbrev pub AreOpen : Setup → (producer : ℕ) → ServiceView → Type 0
+AreOpen setup producer service =
+    (place : ℕ) → place < length setup.writers → producer_of setup place ≡ producer → is_shut (sequence_of place) service.events ≡ false
+
+-- no chunk of the producer waits as the next one of any of its writers, as long as the writer has an id left for one
+abbrev pub NoneReady : Setup → (producer : ℕ) → World → Type 0
+NoneReady setup producer world = (place : ℕ) → place < length setup.writers → producer_of setup place ≡ producer
+    → (chunk : ℕ) (content : Content) → IsChunkOf setup (producer_of setup place) chunk → (taken_of world.service place).count < ID_LIMIT
+    → status world chunk ≡ Ready place (id_at setup place (taken_of world.service place).count) content → ⊥
+
+-- The producer's complete chunks are taken, so many: writer by writer in rising number, each one's in rising id. None is complete behind it.
+pub record Collects (setup : Setup) (producer : ℕ) (old new : World) : Type 0 where
+  pub opened : AreOpen setup producer old.service
+  pub writers : new.writers ≡ old.writers
+  pub taken : ℕ
+  pub takes : Takes setup (places_of producer 0 setup.writers) taken old.service new.service
+  pub none_left : NoneReady setup producer new
+
+-- the note of the part of a chunk with this id, where it is held and one of its fragments is finished
+abbrev pub part_of_held : (sequence id : ℕ) → Option views.Begun → List Noted
+part_of_held sequence id (Some (Held chunk draft)) =
+    if nat_le 2 draft.head.count then Partial sequence id (draft.head.count - 1) ∷ [] else []
+part_of_held sequence id other = []
+
+-- the part of the chunk that is to be taken next of the writer at this place, where the writer holds it
+abbrev pub part_held : (place : ℕ) → World → List Noted
+part_held place world =
+    part_of_held (sequence_of place) (taken_of world.service place).count (slice_get (writer world place).begun (taken_of world.service place).count)
+
+-- the parts of chunks that the producer's writers hold, in rising place
+abbrev pub parts_held : Setup → (producer : ℕ) → World → List Noted
+parts_held setup producer world = flat_map (λ place. part_held place world) (places_of producer 0 setup.writers)
+
+-- The producer's complete chunks are taken, and then the finished fragments of those that its writers hold. Each part was found by a look.
+pub record Scrapes (setup : Setup) (producer : ℕ) (old new : World) : Type 0 where
+  pub opened : AreOpen setup producer old.service
+  pub writers : new.writers ≡ old.writers
+  pub taken : ℕ
+  pub between : ServiceView
+  pub takes : Takes setup (places_of producer 0 setup.writers) taken old.service between
+  pub looks : List Look
+  pub notes : new.service ≡ noted_more (looked between looks) (parts_held setup producer new)
+  pub found : AreKnownNotes new.service (parts_held setup producer new)
+  pub none_left : NoneReady setup producer new
+
+-- the producer's complete chunks are taken, and then its sequences closed
+pub record Closes (setup : Setup) (producer : ℕ) (old new : World) : Type 0 where
+  pub opened : AreOpen setup producer old.service
+  pub writers : new.writers ≡ old.writers
+  pub taken : ℕ
+  pub closes : TakesAndCloses setup producer taken old.service new.service
+  pub none_left : NoneReady setup producer new
+
+-- the buffer's sequences are read in rising id, each with what is left of the limit
+pub record Reads (setup : Setup) (buffers : List Buffer) (buffer limit : ℕ) (old new : World) : Type 0 where
+  pub writers : new.writers ≡ old.writers
+  pub notes : new.service
+      ≡ noted_more old.service (flat_map noted_read (reads_in setup (buffers_after buffers (history_of old.service)) buffer limit))
+
+-- ---- a writer
+
+-- the policy of the writer at this place
+abbrev pub policy_of : Setup → (place : ℕ) → WriterPolicy
+policy_of setup place = (spec_at setup.writers place).policy
+
+-- steps of the writer at this place change nothing of the other writers and of the service
+pub record LeavesRest (place : ℕ) (old new : World) : Type 0 where
+  pub writers : (other : ℕ) → other ≢ place → writer new other ≡ writer old other
+  pub service : new.service ≡ old.service
+
+-- no chunk of the producer is free
+abbrev pub IsFull : Setup → (producer : ℕ) → World → Type 0
+IsFull setup producer world = NoneFree world (range_of setup producer).first ((range_of setup producer).first + (range_of setup producer).count)
+
+-- Steps of the writer and, where it is one that stalls and no chunk is free, the taking of its producer's complete chunks, which takes some.
+pub data Works (setup : Setup) (place : ℕ) : World → World → Type 0 where
+  Alone : (old new : World) → LeavesRest place old new → Works setup place old new
+  Helped : (old asking freed new : World) → policy_of setup place ≡ Stalls → LeavesRest place old asking
+      → IsFull setup (producer_of setup place) asking → Collects setup (producer_of setup place) asking freed
+      → freed.service.events ≢ asking.service.events → Works setup place freed new → Works setup place old new
+
+-- what is noted where no chunk is free: the packet is dropped at its begin, or given up
+abbrev pub dropped_call : Call → List Call
+dropped_call (Begun kept) = begun_as true Drops
+dropped_call call = written_as true Drops call
+
+-- The call is noted; or, by a writer that drops and only where no chunk is free, that the packet is lost.
+abbrev pub Notes : Setup → (place : ℕ) → Call → World → World → Type 0
+Notes setup place call old new =
+    ((writer new place).calls ≡ (writer old place).calls ++ call ∷ [])
+    ⊎ (((writer new place).calls ≡ (writer old place).calls ++ dropped_call call)
+    × (policy_of setup place ≡ Drops) × IsFull setup (producer_of setup place) new)
+
+-- What a writer has written, between two calls: its chunks are a cut of its packets; it holds its newest chunk exactly where its newest packet
+-- isn't lost and no flush came behind it, and what it holds is published but for the last fragment; and its claims are of its producer's chunks.
+pub record Wrote (setup : Setup) (place : ℕ) (view : WriterView) : Type 0 where
+  pub held : List Image
+  pub cut : HasCut (payload_at setup place) place view held
+  pub holds : last_is_held view.begun ≡ holds_newest (account_of view.calls)
+  pub begun : length view.begun ≡ length (completed_images view.begun) + length held
+  pub stands : (image : Image) → held ≡ image ∷ [] → IsHeldImage view image
+  pub only : (one other : Image) (others : List Image) → held ≡ one ∷ other ∷ others → ⊥
+  pub claims : KeepsClaims setup place view
+
+-- the writer at this place is asked for a call, and does it
+pub record Asks (setup : Setup) (place : ℕ) (call : Call) (old new : World) : Type 0 where
+  pub works : Works setup place old new
+  pub notes : Notes setup place call old new
+  pub wrote : Wrote setup place (writer new place)
+
+-- ---- all acts
+
+-- what an act makes of a world, where the buffers were these at first
+abbrev pub Does : Setup → List Buffer → Act → World → World → Type 0
+Does setup buffers (Ask place call) old new = Asks setup place call old new
+Does setup buffers Request old new = new ≡ old
+Does setup buffers (Answer place) old new =
+    MatchBool (is_writing (packets_of (writer old place).calls)) (new ≡ old) (Asks setup place Flushed old new)
+Does setup buffers (Collect producer) old new = Collects setup producer old new
+Does setup buffers (Scrape producer) old new = Scrapes setup producer old new
+Does setup buffers (CloseProducer producer) old new = Closes setup producer old new
+Does setup buffers (ReadAll buffer limit) old new = Reads setup buffers buffer limit old new

@@ -1,0 +1,54 @@
+-- The laws of replay.
+use Rattle.std.specs.Prelude.{◌≡◌, ℕ, suc, ◌<◌, ◌≤◌, List, [], length}
+use Rattle.trace_model.specs.Buffers.{Buffer}
+use Rattle.trace_model.specs.Counts.{last_count}
+use Rattle.trace_model.specs.Delivery.{IsFaithful}
+use Rattle.trace_model.specs.Packets.{packets_of}
+use Rattle.model_laws.specs.ChunkCounts.{lost_count}
+use Rattle.model_laws.specs.Losses.{Loses}
+use Rattle.chunk_plain.specs.Setup.{Setup}
+use Rattle.chunk_plain.specs.World.{World, writer}
+use Rattle.world_model.specs.Accounts.{IsAccount}
+use Rattle.scenario_text.specs.Scenario.{Parts}
+use Rattle.scenario_text.specs.Accepted.{calls_asked}
+use Rattle.scenario_text.specs.Limits.{IsSetUp}
+use Rattle.replay_model.specs.Does.{Wrote}
+use Rattle.replay_model.specs.Enough.{HasEnough, IsPlayable}
+use Rattle.replay_model.specs.Flushes.{FlushNote}
+use Rattle.replay_model.specs.Plays.{Plays}
+use Rattle.replay_model.specs.Played.{IsPlayed, emitted_in, records_in, packet_counts, AreBalanced}
+
+-- no acts lead from a world to itself
+abbrev pub NothingPlaysNothing : Type 0
+NothingPlaysNothing = (setup : Setup) (buffers : List Buffer) (world : World) → Plays setup buffers [] world world []
+
+-- behind a scenario's acts each writer has cut its packets into its chunks
+abbrev pub WritersWrote : Type 0
+WritersWrote = (scenario : Parts) (setup : Setup) (world : World) (notes : List FlushNote) → IsPlayed scenario setup world notes
+    → (place : ℕ) → place < length setup.writers → Wrote setup place (writer world place)
+
+-- and has noted what the lines ask of it, with packets lost and flushes between packets
+abbrev pub WritersLose : Type 0
+WritersLose = (scenario : Parts) (setup : Setup) (world : World) (notes : List FlushNote) → IsPlayed scenario setup world notes
+    → (place : ℕ) → Loses (calls_asked (suc place) scenario.lines) (writer world place).calls
+
+-- What the lines lead to is an account.
+abbrev pub ReplaysAreAccounts : Type 0
+ReplaysAreAccounts = (scenario : Parts) (setup : Setup) (world : World) (notes : List FlushNote) → IsPlayed scenario setup world notes
+    → ∥ IsAccount setup world ∥₁
+
+-- So the records that are written are faithful to the packets that the lines have writers emit, whatever is lost on the way.
+abbrev pub EveryReplayIsFaithful : Type 0
+EveryReplayIsFaithful = (scenario : Parts) (setup : Setup) (world : World) (notes : List FlushNote) → IsPlayed scenario setup world notes
+    → IsFaithful (emitted_in scenario) (records_in scenario setup world)
+
+-- The report counts every packet once, where no more lines are there than a count can tell and each writer names a buffer.
+abbrev pub EveryReportIsBalanced : Type 0
+EveryReportIsBalanced = (scenario : Parts) (setup : Setup) (world : World) (notes : List FlushNote) → IsPlayed scenario setup world notes
+    → length scenario.lines ≤ last_count → IsSetUp scenario.buffers scenario.producers scenario.writers
+    → AreBalanced (packet_counts scenario setup world)
+
+-- Where chunks are enough, no writer drops or gives up a packet.
+abbrev pub EnoughLosesNothing : Type 0
+EnoughLosesNothing = (scenario : Parts) (setup : Setup) (world : World) (notes : List FlushNote) → IsPlayed scenario setup world notes
+    → IsPlayable scenario → HasEnough scenario → (place : ℕ) → place < length setup.writers → lost_count (packets_of (writer world place).calls) ≡ 0

@@ -1,0 +1,124 @@
+-- The replay of a scenario, end to end: the world that its lines lead to, and the trace and the report that are functions of it.
+use Rattle.std.specs.Prelude.{◌≡◌, ℕ, suc, ◌-◌, ◌*◌, List, [], ◌∷◌, map, Some, slice_get}
+use Rattle.std.specs.List.{AllZip}
+use Rattle.byte_io.specs.Bytes.{Intake, after_told}
+use Rattle.trace_base.specs.declared.limits.TheConstants.{BYTES_PER_KB}
+use Rattle.trace_base.specs.declared.policy.WriterSpec.{WriterSpec}
+use Rattle.trace_model.specs.Balance.{PacketCounts, IsBalanced, counts_of}
+use Rattle.trace_model.specs.Buffers.{Buffer}
+use Rattle.trace_model.specs.Delivery.{Delivered, IsFaithful, trace_of}
+use Rattle.trace_model.specs.History.{buffers_after, records_after}
+use Rattle.trace_model.specs.Packets.{emissions_of}
+use Rattle.trace_model.specs.Sequences.{sequence_in}
+use Rattle.scenario_text.specs.declared.scenario.BufferLine.{BufferLine}
+use Rattle.scenario_text.specs.declared.scenario.ProducerLine.{ProducerLine}
+use Rattle.scenario_text.specs.declared.scenario.NumberedLine.{NumberedLine}
+use Rattle.scenario_text.specs.Scenario.{Parts}
+use Rattle.scenario_text.specs.Accepted.{calls_asked}
+use Rattle.chunk_plain.specs.declared.setup.ProducerSpec.{ProducerSpec}
+use Rattle.chunk_plain.specs.Setup.{Setup, sequence_of}
+use Rattle.chunk_plain.specs.Laying.{setup_of}
+use Rattle.chunk_plain.specs.Plain.{first_world}
+use Rattle.chunk_plain.specs.World.{World, writer}
+use Rattle.chunk_plain.specs.Histories.{history_of}
+use Rattle.world_model.specs.FirstBuffers.{BufferSpec, first_buffers}
+use Rattle.trace_buffer.specs.Answers as answers
+use Rattle.loss_report.specs.declared.counts.SequenceCounts.{SequenceCounts}
+use Rattle.loss_report.specs.Report.{report_text}
+use Rattle.service_core.specs.Routing.{buffer_at}
+use Rattle.replay_model.specs.Flushes.{FlushNote, flush_sums}
+use Rattle.replay_model.specs.Plays.{Plays}
+use Rattle.replay_model.specs.Schedule.{schedule_of}
+
+-- ---- the set-up
+
+-- the pages of a producer line, cut so
+pub record IsSpecOf (line : ProducerLine) (spec : ProducerSpec) : Type 0 where
+  pub pages : spec.pages ≡ line.pages
+  pub page_size : spec.geometry.page_size ≡ line.page_size
+  pub chunks : spec.geometry.chunks ≡ line.chunks
+
+-- the set-up of a table for a scenario's producers and writers
+pub record IsSetupOf (scenario : Parts) (setup : Setup) : Type 0 where
+  pub specs : List ProducerSpec
+  pub made : AllZip IsSpecOf scenario.producers specs
+  pub laid : setup ≡ setup_of specs scenario.writers
+
+-- a scenario's buffers
+abbrev pub buffer_specs : Parts → List BufferSpec
+buffer_specs scenario = map (λ (line : BufferLine). record { size = line.kb * BYTES_PER_KB; policy = line.policy }) scenario.buffers
+
+-- as the service has them at first
+abbrev pub buffers_of : Parts → Setup → List Buffer
+buffers_of scenario setup = first_buffers setup 1 (buffer_specs scenario)
+
+-- ---- what was played
+
+-- the lines lead from a table as it is made to this world
+pub record IsPlayed (scenario : Parts) (setup : Setup) (world : World) (notes : List FlushNote) : Type 0 where
+  pub setup_is : IsSetupOf scenario setup
+  pub plays : Plays setup (buffers_of scenario setup) (schedule_of scenario) (first_world setup) world notes
+
+-- the packets that the lines have each writer emit, of which the first has this number
+abbrev pub emitted_from : List NumberedLine → (number : ℕ) → List WriterSpec → List (List (List ℕ))
+emitted_from lines number [] = []
+emitted_from lines number (spec ∷ specs) = emissions_of (calls_asked number lines) ∷ emitted_from lines (suc number) specs
+
+-- the packets that a scenario has its writers emit, by its lines alone
+abbrev pub emitted_in : Parts → List (List (List ℕ))
+emitted_in scenario = emitted_from scenario.lines 1 scenario.writers
+
+-- the records that a world's history writes
+abbrev pub records_in : Parts → Setup → World → List Delivered
+records_in scenario setup world = records_after (buffers_of scenario setup) (history_of world.service)
+
+-- ---- the report
+
+-- the buffers behind a world's history
+abbrev pub buffers_in : Parts → Setup → World → List Buffer
+buffers_in scenario setup world = buffers_after (buffers_of scenario setup) (history_of world.service)
+
+-- what became of the packets of the writers from this place on
+abbrev pub counts_from : List Buffer → World → (place : ℕ) → List WriterSpec → List PacketCounts
+counts_from buffers world place [] = []
+counts_from buffers world place (spec ∷ specs) =
+    counts_of (buffer_at buffers (spec.buffer - 1)).policy (writer world place).calls
+    (sequence_in (buffer_at buffers (spec.buffer - 1)).sequences (sequence_of place))
+    ∷ counts_from buffers world (suc place) specs
+
+-- what became of each writer's packets
+abbrev pub packet_counts : Parts → Setup → World → List PacketCounts
+packet_counts scenario setup world = counts_from (buffers_in scenario setup world) world 0 scenario.writers
+
+-- the counts as they are printed
+abbrev pub printed : PacketCounts → SequenceCounts
+printed counts = record {
+  begun = counts.begun;
+  delivered = counts.delivered;
+  dropped = counts.dropped;
+  overwritten = counts.overwritten;
+  discarded = counts.discarded;
+  cut = counts.cut;
+}
+
+-- the report of a world, with the flush requests that were made on the way to it
+abbrev pub report_of : Parts → Setup → World → List FlushNote → List ℕ
+report_of scenario setup world notes =
+    report_text (map answers.counts_of (buffers_in scenario setup world)) (map printed (packet_counts scenario setup world))
+    (flush_sums notes world.service.taken)
+
+-- each writer's packets are counted once
+abbrev pub AreBalanced : List PacketCounts → Type 0
+AreBalanced counts = (place : ℕ) (one : PacketCounts) → slice_get counts place ≡ Some one → IsBalanced one
+
+-- The scenario was replayed: there is a world that its lines lead to. The trace has taken that world's records and nothing else, and the text is its
+-- report. The records are faithful to what the scenario has its writers emit, and the report counts every packet once.
+pub record Replays (scenario : Parts) (old new : Intake) (text : List ℕ) : Type 0 where
+  pub setup : Setup
+  pub world : World
+  pub notes : List FlushNote
+  pub played : IsPlayed scenario setup world notes
+  pub trace : new ≡ after_told old (trace_of (records_in scenario setup world))
+  pub report : text ≡ report_of scenario setup world notes
+  pub faithful : IsFaithful (emitted_in scenario) (records_in scenario setup world)
+  pub balanced : AreBalanced (packet_counts scenario setup world)

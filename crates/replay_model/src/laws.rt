@@ -1,0 +1,39 @@
+//! Laws on what acts make of a world, and on what a scenario's acts lead to: contracts of functions with
+//! nothing to do.
+ghost use Rattle.replay_model.specs.Laws.{NothingPlaysNothing, WritersWrote, WritersLose, ReplaysAreAccounts, EveryReplayIsFaithful, EveryReportIsBalanced, EnoughLosesNothing};
+
+/// No acts lead from a world to itself.
+pub fn nothing_plays_nothing()
+    ensures { NothingPlaysNothing }
+{}
+
+/// Behind a scenario's acts each writer has cut its packets into its chunks.
+pub fn writers_wrote()
+    ensures { WritersWrote }
+{}
+
+/// Behind a scenario's acts each writer has noted what the lines ask of it, with packets lost and
+/// flushes between packets.
+pub fn writers_lose()
+    ensures { WritersLose }
+{}
+
+/// What a scenario's acts lead to is an account.
+pub fn replays_are_accounts()
+    ensures { ReplaysAreAccounts }
+{}
+
+/// The records that are written are faithful to the packets that the lines have writers emit.
+pub fn every_replay_is_faithful()
+    ensures { EveryReplayIsFaithful }
+{}
+
+/// The report of what the lines lead to counts every packet once.
+pub fn every_report_is_balanced()
+    ensures { EveryReportIsBalanced }
+{}
+
+/// Where chunks are enough, no writer drops or gives up a packet.
+pub fn enough_loses_nothing()
+    ensures { EnoughLosesNothing }
+{}

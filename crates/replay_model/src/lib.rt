@@ -1,0 +1,12 @@
+//! Replay, end to end, as definitions and laws: what a scenario's lines have its writers and the service do, act by act, and
+//! what the trace and the report are then; there is no program code here.
+//! A layer above may cite the laws: they are public functions with empty bodies whose contracts are the
+//! statements.
+#![tactic(auto)]
+
+mod laws;
+
+pub use laws::{
+    every_replay_is_faithful, every_report_is_balanced, nothing_plays_nothing,
+    replays_are_accounts, writers_lose, writers_wrote,
+};
