@@ -31,7 +31,7 @@ use Rattle.chunk_plain.proofs.KeptWriter.{is_chunk}
 -- ---- look, note and note_commit
 
 -- a step that changes the service's view alone
-serviced_shown : (setup : Setup) (words : List ℕ) (slots : List Stored) (world : World) (service : ServiceView) → IsKept setup words slots world
+pub serviced_shown : (setup : Setup) (words : List ℕ) (slots : List Stored) (world : World) (service : ServiceView) → IsKept setup words slots world
     → IsOwned (serviced world service) → IsKept setup words slots (serviced world service)
 serviced_shown setup words slots world service kept owned =
     let shown = kept.shown in

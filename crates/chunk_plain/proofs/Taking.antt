@@ -50,7 +50,7 @@ pub lent_by : (world : World) (place chunk id : ℕ) → ∥ ((content : Content
 lent_by world place chunk id reading = ∥∥₁_map reading (λ r. subst IsLent (sym r.1) tt)
 
 -- a content by its parts
-content_by : (content : Content) (place id : ℕ) (head : Head) (body : CommitBody) → (content.image.chunk_id ≡ id) × (content.image.sequence ≡ sequence_of place)
+pub content_by : (content : Content) (place id : ℕ) (head : Head) (body : CommitBody) → (content.image.chunk_id ≡ id) × (content.image.sequence ≡ sequence_of place)
     → head_of content ≡ head → body.payload.items ≡ content.image.payload → map patch_value body.patches.value.items ≡ content.patches → body.target ≡ content.target
     → content ≡ content_of place id head body
 content_by content place id head body named head_is payload_is patches_are target_is =

@@ -70,7 +70,7 @@ fn put_eight(into: &mut [u8], at: usize, eight: [u8; 8])
 }
 
 /// Puts the bytes of a word at a place.
-fn put_bytes(into: &mut [u8], at: usize, word: u64)
+pub fn put_bytes(into: &mut [u8], at: usize, word: u64)
     requires { at + 8 ≤ length into.old }
     ensures size { length into.new ≡ length into.old }
     ensures here { (m : ℕ) → m < 8 → byte_in into.new (at + m) ≡ byte_of word m }

@@ -5,7 +5,7 @@
 //! owned by exactly one seat, or waits for the service whole, as its writer completed it.
 #![tactic(auto)]
 
-mod bytes;
+pub mod bytes;
 pub mod laws;
 mod layout;
 mod notes;

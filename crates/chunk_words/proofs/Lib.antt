@@ -1,0 +1,14 @@
+pub mod Standing
+pub mod Bodies
+pub mod Turns
+pub mod WriterMoves
+pub mod WriterEnds
+pub mod ServiceFinds
+pub mod ServiceMoves
+pub mod ServiceEnds
+pub mod Rests
+pub mod Storing
+pub mod Loading
+pub mod TakingUp
+pub mod Making
+pub mod Owners

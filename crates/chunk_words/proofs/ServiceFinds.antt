@@ -1,0 +1,202 @@
+-- What the service finds at a chunk.
+use Rattle.std.proofs.Common.{◌≡◌, ◌≢◌, ℕ, ◌+◌, ◌*◌, ◌/◌, ◌%◌, ◌<◌, ◌==◌, if◌then◌else◌, Option, Some, None, List, length, get_or, subst, sym, refl, ap, ◌∙◌, arith}
+use Rattle.std.specs.Int.{bit_at}
+use Rattle.std.proofs.lemmas.Bool.Decides.{nat_tests}
+use native.Mathlib.Decide.{ℕ_discrete}
+use mathlib.Core.Logic.{dite}
+use Rattle.page_geometry.specs.Header.{unpacked}
+use Rattle.page_geometry.specs.PageBits.{HasState, state_number}
+use Rattle.page_geometry.specs.declared.chunk_header.ChunkHeader.{ChunkHeader}
+use Rattle.page_geometry.specs.declared.chunk_state.ChunkState.TheVariants as state
+use Rattle.chunk_plain.specs.Setup.{Setup, spot}
+use Rattle.chunk_plain.specs.Payload.{byte_of, byte_at, byte_in, first_bytes, sealed_to}
+use Rattle.chunk_plain.specs.Views.{Head, Content, Held, Completed, Found}
+use Rattle.chunk_plain.specs.World.{World, Status, Unclaimed, Claimed, Stamped, Writing, Ready, Reading, status, writer}
+use Rattle.chunk_plain.specs.Drafts.{IsFound, IsThere, StillHas, head_of}
+use Rattle.chunk_plain.specs.Stored.{Stored, stored_at}
+use Rattle.chunk_plain.specs.Shows.{state_of, ShowsHeader, ShowsWords, HoldsPayload, IsHeader, header_word}
+use Rattle.chunk_plain.specs.Plain.{IsKept}
+use Rattle.chunk_plain.specs.Words.{IsOfHeader, FindsWritten}
+use Rattle.chunk_plain.proofs.Lists.{at_one}
+use Rattle.chunk_plain.proofs.Sealing.{reads_same, length-first_bytes, first_byte}
+use Rattle.chunk_plain.proofs.OwnershipLemmas.{as_found, found_inside}
+use Rattle.chunk_plain.proofs.KeptService.{held_untaken, finished, header_reads, reading_of}
+use Rattle.chunk_words.specs.Knows.{Watch, Nothing, Started, Full, Lifted}
+use Rattle.chunk_words.specs.Rule.{IsStarted, IsFull, IsWatched}
+use Rattle.chunk_words.specs.Moves.{watch_for, Tells}
+
+-- ---- what a page word says
+
+abbrev pub watch_by : (chunk low high : ℕ) → Watch
+watch_by chunk low high = if low == 0 then Nothing else if high == 0 then Started chunk else Full chunk
+
+watch_true : (setup : Setup) (world : World) (chunk low high : ℕ) (is : Status) → status world chunk ≡ is
+    → low ≡ bit_at (state_number (state_of is)) 0 → high ≡ bit_at (state_number (state_of is)) 1 → IsWatched setup world (watch_by chunk low high)
+watch_true setup world chunk low high Unclaimed was l h = subst (λ n. IsWatched setup world (watch_by chunk n high)) (sym l) tt
+watch_true setup world chunk low high (Claimed k) was l h = subst (λ n. IsWatched setup world (watch_by chunk n high)) (sym l) tt
+watch_true setup world chunk low high (Stamped k i) was l h = subst (λ n. IsWatched setup world (watch_by chunk n high)) (sym l) tt
+watch_true setup world chunk low high (Writing k i d) was l h =
+    subst (λ n. IsWatched setup world (watch_by chunk n high)) (sym l) (subst (λ n. IsWatched setup world (watch_by chunk 1 n)) (sym h) (subst IsStarted (sym was) tt))
+watch_true setup world chunk low high (Ready k i m) was l h =
+    subst (λ n. IsWatched setup world (watch_by chunk n high)) (sym l) (subst (λ n. IsWatched setup world (watch_by chunk 1 n)) (sym h) (subst IsFull (sym was) tt))
+watch_true setup world chunk low high (Reading k i m) was l h = subst (λ n. IsWatched setup world (watch_by chunk n high)) (sym l) tt
+
+pub watch_holds : (setup : Setup) (world : World) (chunk word place : ℕ) → HasState word place (state_of (status world chunk)) → IsWatched setup world (watch_for chunk word place)
+watch_holds setup world chunk word place state = watch_true setup world chunk (bit_at word (2 * place)) (bit_at word (2 * place + 1)) (status world chunk) refl state.low state.high
+
+-- ---- what a header word says of a chunk that was being written
+
+-- the finished fragments of a chunk that was started, with its writer and id
+pub record FindsStarted (setup : Setup) (world : World) (chunk header : ℕ) : Type 0 where
+  pub one : Found
+  pub found : IsFound one
+  pub there : IsThere (writer world one.place) chunk one
+  pub of_header : IsOfHeader setup (unpacked header) world.service one
+
+starts_of : (setup : Setup) (front : List ℕ) (slots : List Stored) (world : World) (chunk : ℕ) (is : Status) → IsKept setup front slots world → chunk < length setup.spots
+    → status world chunk ≡ is → IsStarted is → FindsStarted setup world chunk (header_word setup front chunk)
+starts_of setup front slots world chunk Unclaimed kept inside was started = absurd started
+starts_of setup front slots world chunk (Claimed k) kept inside was started = absurd started
+starts_of setup front slots world chunk (Stamped k i) kept inside was started = absurd started
+starts_of setup front slots world chunk (Reading k i m) kept inside was started = absurd started
+starts_of setup front slots world chunk (Writing k i draft) kept inside was started =
+    let shows : IsHeader setup (header_word setup front chunk) k i draft.head = subst (λ t. ShowsHeader setup (header_word setup front chunk) t) was (kept.shown.header chunk inside) in
+    let reads = header_reads setup (header_word setup front chunk) k i draft.head shows in
+    let at = (kept.owned.owns k chunk).writing_is i draft was in
+    let n = sealed_to draft.ends in let many = length-first_bytes (byte_at draft.words) n in
+    let good = finished world k chunk i draft kept.owned at in
+    record {
+      one = record { place = k; id = i; head = draft.head; ends = draft.ends; sealed = first_bytes (byte_at draft.words) n };
+      found = good;
+      there = record {
+        entry = Held chunk draft;
+        at = at;
+        has = (refl, record { count_grows = omega arith; front_stays = λ some. refl }, omega arith, λ j below. sym (first_byte (byte_at draft.words) n j (omega arith)));
+      };
+      of_header = record {
+        place_is = sym (ap (λ (h : ChunkHeader). h.writer_id) reads);
+        id_is = sym (ap (λ (h : ChunkHeader). h.chunk_id) reads);
+        head_is = sym (ap (λ (h : ChunkHeader). let head : Head = record { count = h.count; flags = h.flags } in head) reads);
+        untaken = held_untaken world k chunk i draft kept.owned at;
+        finished = good;
+      };
+    }
+starts_of setup front slots world chunk (Ready k i content) kept inside was started =
+    let shows : IsHeader setup (header_word setup front chunk) k i (head_of content) = subst (λ t. ShowsHeader setup (header_word setup front chunk) t) was (kept.shown.header chunk inside) in
+    let reads = header_reads setup (header_word setup front chunk) k i (head_of content) shows in
+    let owns = (kept.owned.owns k chunk).ready_is i content was in
+    let whole = (kept.owned.counts k).wholes i chunk content owns.0 in
+    let payload = content.image.payload in
+    let n = sealed_to whole.ends in let many = length-first_bytes (byte_in payload) n in let most = whole.inside in
+    let good : IsFound (record { place = k; id = i; head = head_of content; ends = whole.ends; sealed = first_bytes (byte_in payload) n }) = record {
+      sealed = record {
+        count = whole.sealed.count;
+        reads = reads_same (byte_in payload) (byte_in (first_bytes (byte_in payload) n)) whole.ends (λ j below. sym (first_byte (byte_in payload) n j below)) whole.sealed.reads;
+      };
+      whole = many;
+    } in
+    record {
+      one = record { place = k; id = i; head = head_of content; ends = whole.ends; sealed = first_bytes (byte_in payload) n };
+      found = good;
+      there = record {
+        entry = Completed chunk content;
+        at = owns.0;
+        has = (refl, record { count_grows = omega arith; front_stays = λ some. refl }, omega arith, λ j below. sym (first_byte (byte_in payload) n j (omega arith)));
+      };
+      of_header = record {
+        place_is = sym (ap (λ (h : ChunkHeader). h.writer_id) reads);
+        id_is = sym (ap (λ (h : ChunkHeader). h.chunk_id) reads);
+        head_is = sym (ap (λ (h : ChunkHeader). let head : Head = record { count = h.count; flags = h.flags } in head) reads);
+        untaken = owns.1;
+        finished = good;
+      };
+    }
+
+-- what a look finds, by the page word that was found and by what stands there at the header's load
+pub record Finds (setup : Setup) (world : World) (chunk word header : ℕ) : Type 0 where
+  pub found : Option Found
+  pub there : (one : Found) → found ≡ Some one → IsFound one × IsThere (writer world one.place) chunk one
+  pub says : FindsWritten setup chunk word (unpacked header) world.service found
+
+pub finds_by : (setup : Setup) (front : List ℕ) (slots : List Stored) (world : World) (chunk word : ℕ) → IsKept setup front slots world → chunk < length setup.spots
+    → IsWatched setup world (watch_for chunk word (spot setup chunk).place) → Finds setup world chunk word (header_word setup front chunk)
+finds_by setup front slots world chunk word kept inside watched =
+    let low = bit_at word (2 * (spot setup chunk).place) in let high = bit_at word (2 * (spot setup chunk).place + 1) in
+    dite (ℕ_discrete low 0)
+    (λ zero_. record { found = None; there = λ one e. absurd cc; says = record { some = λ (s : HasState word (spot setup chunk).place state.BeingWritten). absurd (let one : low ≡ 1 = s.low in omega arith); none = λ _. refl } })
+    (λ low_set. dite (ℕ_discrete high 0)
+    (λ none. let started : IsStarted (status world chunk) = subst (λ (w : Watch). IsWatched setup world w) (watch_is chunk low high low_set none) watched in
+    let finds = starts_of setup front slots world chunk (status world chunk) kept inside refl started in
+    record {
+      found = Some finds.one;
+      there = λ one e. subst (λ (f : Found). IsFound f × IsThere (writer world f.place) chunk f) (let same : finds.one ≡ one = cc in same) (finds.found, finds.there);
+      says = record { some = λ _. (finds.one, refl, finds.of_header); none = λ no_. absurd (no_ (record { low = low_one word (2 * (spot setup chunk).place) low_set; high = none })) };
+    })
+    (λ high_set. record { found = None; there = λ one e. absurd cc; says = record { some = λ (s : HasState word (spot setup chunk).place state.BeingWritten). absurd (high_set s.high); none = λ _. refl } }))
+  where
+    watch_is : (chunk low high : ℕ) → low ≢ 0 → high ≡ 0 → watch_by chunk low high ≡ Started chunk
+    watch_is chunk low high one zero_ = grind (arith, nat_tests, one, zero_)
+
+    low_one : (word at : ℕ) → bit_at word at ≢ 0 → bit_at word at ≡ 1
+    low_one word at set_ = let below = Rattle.std.proofs.lemmas.Nat.Bits.bit_at-lt word at in omega (arith, set_)
+
+-- ---- what a payload word says
+
+abbrev pub watch_on : ℕ → Status → Watch
+watch_on chunk (Reading place id content) = Lifted chunk place id content
+watch_on chunk _ = Nothing
+
+watch_on_holds : (setup : Setup) (world : World) (chunk : ℕ) (is : Status) → status world chunk ≡ is → IsWatched setup world (watch_on chunk is)
+watch_on_holds setup world chunk Unclaimed was = tt
+watch_on_holds setup world chunk (Claimed k) was = tt
+watch_on_holds setup world chunk (Stamped k i) was = tt
+watch_on_holds setup world chunk (Writing k i d) was = tt
+watch_on_holds setup world chunk (Ready k i m) was = tt
+watch_on_holds setup world chunk (Reading k i m) was = was
+
+pub watch_on_true : (setup : Setup) (world : World) (chunk : ℕ) → IsWatched setup world (watch_on chunk (status world chunk))
+watch_on_true setup world chunk = watch_on_holds setup world chunk (status world chunk) refl
+
+watch_reads : (chunk place id : ℕ) (content : Content) (is : Status) → watch_on chunk is ≡ Lifted chunk place id content → is ≡ Reading place id content
+watch_reads chunk place id content Unclaimed e = absurd cc
+watch_reads chunk place id content (Claimed k) e = absurd cc
+watch_reads chunk place id content (Stamped k i) e = absurd cc
+watch_reads chunk place id content (Writing k i d) e = absurd cc
+watch_reads chunk place id content (Ready k i m) e = absurd cc
+watch_reads chunk place id content (Reading k i m) e = cc
+
+-- byte 8 * index + m of the words is byte m of the word with this index
+pub word_byte : (words : List ℕ) (index m : ℕ) → m < 8 → byte_at words (8 * index + m) ≡ byte_of (get_or words index 0) m
+word_byte words index m small = let q : (8 * index + m) / 8 ≡ index = omega arith in let p : (8 * index + m) % 8 ≡ m = omega arith in
+    ap (λ i. byte_of (get_or words i 0) ((8 * index + m) % 8)) q ∙ ap (λ k. byte_of (get_or words index 0) k) p
+
+pub tells_of : (setup : Setup) (front : List ℕ) (slots : List Stored) (world : World) (chunk index word : ℕ) (before : Watch) → IsKept setup front slots world
+    → chunk < length setup.spots → word ≡ get_or (stored_at slots chunk).words index 0 → IsWatched setup world before
+    → Tells chunk index (spot setup chunk).payload_size word before (watch_on chunk (status world chunk)) world.service
+tells_of setup front slots world chunk index word before kept inside is watched =
+    let words = (stored_at slots chunk).words in let slot = kept.shown.slot chunk inside in
+    let byte : (m : ℕ) → m < 8 → byte_of word m ≡ byte_at words (8 * index + m) = λ m small. ap (λ w. byte_of w m) is ∙ sym (word_byte words index m small) in
+    record {
+      found = λ n look found at about same untaken.
+          let there = (kept.owned.looks n look found at same).1 in
+          let has = subst (λ c. StillHas c found there.entry) about there.has in
+          let as_it_was = as_found setup front slots world chunk found kept untaken there.entry there.at has in
+          (found_inside setup front slots world chunk found kept untaken there.entry there.at has, λ m small below. byte m small ∙ as_it_was.bytes (8 * index + m) below);
+      stays = λ place id content same. let was : status world chunk ≡ Reading place id content = subst (λ (w : Watch). IsWatched setup world w) same watched in ap (watch_on chunk) was ∙ sym same;
+      read = λ place id content same. let was = watch_reads chunk place id content (status world chunk) same in
+          let holds : HoldsPayload (spot setup chunk).payload_size words content.image.payload = subst (λ t. ShowsWords (spot setup chunk).payload_size t words) was slot.words in
+          (holds.whole, λ m small below. byte m small ∙ holds.bytes (8 * index + m) (let whole = holds.whole in omega arith));
+      reading = λ has. let was = reading_of world chunk kept.owned has in
+          let entry = (kept.owned.owns was.0 chunk).reading_is was.1 was.2 was.3 in
+          ∣ (
+            was.0,
+            was.1,
+            was.2,
+            ap (watch_on chunk) was.3,
+            entry.1,
+            λ known at.
+                let learnt = (kept.owned.counts was.0).learnt was.1 known at in
+                let one : Completed learnt.0 known ≡ Completed chunk was.2 = at_one (writer world was.0).begun (Completed learnt.0 known) (Completed chunk was.2) was.1 learnt.1 entry.0 in
+                let same : known ≡ was.2 = cc in same,
+          ) ∣₁;
+    }

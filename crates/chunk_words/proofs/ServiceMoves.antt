@@ -1,0 +1,261 @@
+-- Each step of the service's seat on a chunk that it doesn't have keeps the rule, and tells what it finds.
+use Rattle.std.proofs.Common.{◌≡◌, ◌≢◌, ℕ, ◌+◌, ◌^◌, ◌<◌, Option, Some, None, List, [], length, set, get_or, subst, sym, refl, ap, ◌∙◌, arith, bit_and}
+use Rattle.std.proofs.lemmas.List.{get_or-set_same}
+use Rattle.atomic_table.specs.Table.{Allows, keeps, takes}
+use Rattle.page_geometry.specs.Header.{packed, unpacked}
+use Rattle.page_geometry.specs.PageBits.{HasState, SetsState, KeepsOthers}
+use Rattle.page_geometry.specs.declared.chunk_header.ChunkHeader.{ChunkHeader}
+use Rattle.page_geometry.specs.declared.chunk_state.ChunkState.TheVariants as state
+use Rattle.commit_body.specs.declared.body.CommitBody.{CommitBody}
+use Rattle.chunk_plain.specs.Setup.{Setup, spot}
+use Rattle.chunk_plain.specs.Views.{At, Head, Content, WriterView, ServiceView, taken_of}
+use Rattle.chunk_plain.specs.World.{World, Status, Unclaimed, Ready, Reading, status}
+use Rattle.chunk_plain.specs.Steps.{looks_at, takes_in, served, serviced}
+use Rattle.chunk_plain.specs.Drafts.{head_of}
+use Rattle.chunk_plain.specs.Stored.{Stored, stored_at}
+use Rattle.chunk_plain.specs.Shows.{state_of, ShowsHeader, ShowsSlot, IsHeader, page_word, header_word}
+use Rattle.chunk_plain.specs.Words.{LooksAt}
+use Rattle.chunk_plain.specs.Plain.{IsKept}
+use Rattle.chunk_plain.proofs.Owned.{looks_owned}
+use Rattle.chunk_plain.proofs.KeptService.{serviced_shown, header_reads, take_kept}
+use Rattle.chunk_words.specs.Knows.{Watch, Nothing, Full, Known, Lifted, Service, hand_with}
+use Rattle.chunk_words.specs.Places.{payload_start, payload_words}
+use Rattle.chunk_words.specs.Rule.{Roll, IsIn, IsOf, IsRead, IsFull, IsWatched, HasHeader, IsManned, IsShared}
+use Rattle.chunk_words.specs.Moves.{Mine, watch_for, IsSeen, IsTakenWith, Looks, Serves, Takes, Loads}
+use Rattle.chunk_words.proofs.Standing.{words_front}
+use Rattle.chunk_words.proofs.Bodies.{with_service_hand, in_before_service, bodies_stay, bodies_out}
+use Rattle.chunk_words.proofs.Turns.{served_change, serviced_change, service_turn}
+use Rattle.chunk_words.proofs.WriterMoves.{Table, front_many, page_front, page_is, chunk_inside}
+use Rattle.chunk_words.proofs.WriterEnds.{words_loaded}
+use Rattle.chunk_words.proofs.ServiceFinds.{watch_holds, finds_by, watch_on, watch_on_true, tells_of}
+
+pub header_is : (setup : Setup) (s : Table) (r : IsShared setup s) (chunk : ℕ) → chunk < length setup.spots → get_or s.words (setup.pages + chunk) 0 ≡ header_word setup r.front chunk
+header_is setup s r chunk inside = r.words.front_is (setup.pages + chunk) (omega arith)
+
+-- a service's hand that is empty has no slot
+pub no_slot : (roll : Roll) (chunk : ℕ) → roll.hand ≡ 0 → roll.hand ≢ hand_with chunk
+no_slot roll chunk none same = absurd (omega arith)
+
+pub same_hand : (roll : Roll) (hand chunk : ℕ) → roll.hand ≡ hand → IsIn (with_service_hand roll hand) chunk → IsIn roll chunk
+same_hand roll hand chunk same in_now = record { with_none = in_now.with_none; not_service = λ e. in_now.not_service (sym same ∙ e) }
+
+-- A step that reads a word and changes what the service sees and watches, and no chunk.
+pub serviced_allowed : (setup : Setup) (s : Table) (r : IsShared setup s) (id index made : ℕ) (joined : List WriterView) (watch seen : Watch) (v view : ServiceView)
+    → At s.views id (Service 0 made joined watch v) → IsKept setup r.front r.slots (serviced r.world view) → IsWatched setup (serviced r.world view) seen
+    → IsShared setup (record { words = set s.words index (get_or s.words index 0); homes = s.homes; views = set s.views id (Service 0 made joined seen view) })
+serviced_allowed setup s r id index made joined watch seen v view at kept watched =
+    let f = r.manned.each id (Service 0 made joined watch v) at in
+    record {
+      world = serviced r.world view;
+      front = r.front;
+      slots = r.slots;
+      roll = with_service_hand r.roll 0;
+      laid = r.laid;
+      kept = kept;
+      words = words_loaded setup s.words r.front r.slots index r.words;
+      bodies = bodies_stay setup s.homes r.slots r.slots r.roll (with_service_hand r.roll 0) r.bodies (λ d. refl) (λ d. same_hand r.roll 0 d f.2);
+      manned = service_turn setup r.world (serviced r.world view) r.roll s.views id 0 0 made joined watch seen v view r.manned at (serviced_change r.world view) (λ d e. absurd (omega arith)) watched;
+    }
+
+-- what the service sees is part of the world as it is owned now
+seen_now : (setup : Setup) (front : List ℕ) (slots : List Stored) (world : World) (view : ServiceView) → IsKept setup front slots world → world.service ≡ view → IsSeen view
+seen_now setup front slots world view kept same = ∣ (world, kept.owned, same) ∣₁
+
+module _ (setup : Setup) (count id made : ℕ) (joined : List WriterView) where
+  -- ---- look
+
+  pub peeks_allowed : (chunk : ℕ) (watch : Watch) (v : ServiceView) → chunk < length setup.spots
+      → Allows (IsShared setup) count id (Service 0 made joined watch v, []) (spot setup chunk).page (λ found. found)
+      (λ found new. new ≡ (Service 0 made joined (watch_for chunk found (spot setup chunk).place) v, []))
+  peeks_allowed chunk watch v inside s r deep at small =
+      let f = r.manned.each id (Service 0 made joined watch v) at in
+      let found = get_or s.words (spot setup chunk).page 0 in
+      let state = subst (λ w. HasState w (spot setup chunk).place (state_of (status r.world chunk))) (sym (page_is setup s r chunk inside)) (r.kept.shown.page chunk inside).state in
+      let seen = watch_for chunk found (spot setup chunk).place in (
+        Service 0 made joined seen v,
+        keeps,
+        tt,
+        subst (λ z. IsShared setup (record { words = set s.words (spot setup chunk).page found; homes = s.homes; views = set s.views id (Service 0 made joined seen z) })) (sym f.0)
+            (serviced_allowed setup s r id (spot setup chunk).page made joined watch seen v r.world.service at r.kept (watch_holds setup r.world chunk found (spot setup chunk).place state)),
+        refl,
+      )
+
+  pub finds_allowed : (chunk word : ℕ) (v : ServiceView) → chunk < length setup.spots
+      → Allows (IsShared setup) count id (Service 0 made joined (watch_for chunk word (spot setup chunk).place) v, []) (setup.pages + chunk) (λ found. found)
+      (Looks setup chunk word (Service 0 made joined (watch_for chunk word (spot setup chunk).place) v, []))
+  finds_allowed chunk word v inside s r deep at small =
+      let watch = watch_for chunk word (spot setup chunk).place in
+      let f = r.manned.each id (Service 0 made joined watch v) at in
+      let header = get_or s.words (setup.pages + chunk) 0 in let is = header_is setup s r chunk inside in
+      let finds = finds_by setup r.front r.slots r.world chunk word r.kept inside f.5 in
+      let view = looks_at r.world.service chunk word (packed (unpacked header)) finds.found in
+      let kept = serviced_shown setup r.front r.slots r.world view r.kept (looks_owned r.world chunk word (packed (unpacked header)) finds.found r.kept.owned finds.there) in (
+        Service 0 made joined Nothing view,
+        keeps,
+        tt,
+        serviced_allowed setup s r id (setup.pages + chunk) made joined watch Nothing v view at kept tt,
+        record {
+          view = view;
+          looks = record {
+            found = finds.found;
+            finds = subst (λ (z : ServiceView). Rattle.chunk_plain.specs.Words.FindsWritten setup chunk word (unpacked header) z finds.found) (sym f.0)
+                (subst (λ h. Rattle.chunk_plain.specs.Words.FindsWritten setup chunk word (unpacked h) r.world.service finds.found) (sym is) finds.says);
+            view = ap (λ z. looks_at z chunk word (packed (unpacked header)) finds.found) (sym f.0);
+          };
+          new_is = refl;
+          seen = seen_now setup r.front r.slots (serviced r.world view) view kept refl;
+        },
+      )
+
+  -- ---- take: the header of a complete chunk, then the state
+
+  pub knows_allowed : (chunk : ℕ) (v : ServiceView) → chunk < length setup.spots
+      → Allows (IsShared setup) count id (Service 0 made joined (Full chunk) v, []) (setup.pages + chunk) (λ found. found)
+      (λ found new. new ≡ (Service 0 made joined (Known chunk found) v, []))
+  knows_allowed chunk v inside s r deep at small =
+      let f = r.manned.each id (Service 0 made joined (Full chunk) v) at in
+      let header = get_or s.words (setup.pages + chunk) 0 in
+      let shows = subst (λ w. ShowsHeader setup w (status r.world chunk)) (sym (header_is setup s r chunk inside)) (r.kept.shown.header chunk inside) in (
+        Service 0 made joined (Known chunk header) v,
+        keeps,
+        tt,
+        subst (λ z. IsShared setup (record { words = set s.words (setup.pages + chunk) header; homes = s.homes; views = set s.views id (Service 0 made joined (Known chunk header) z) })) (sym f.0)
+            (serviced_allowed setup s r id (setup.pages + chunk) made joined (Full chunk) (Known chunk header) v r.world.service at r.kept (full_header header (status r.world chunk) f.5 shows)),
+        refl,
+      )
+    where
+      full_header : (header : ℕ) (is : Status) → IsFull is → ShowsHeader setup header is → HasHeader setup header is
+      full_header header (Ready place id_ content) full shows = shows
+      full_header header Unclaimed full shows = absurd full
+      full_header header (Rattle.chunk_plain.specs.World.Claimed k) full shows = absurd full
+      full_header header (Rattle.chunk_plain.specs.World.Stamped k i) full shows = absurd full
+      full_header header (Rattle.chunk_plain.specs.World.Writing k i d) full shows = absurd full
+      full_header header (Reading k i m) full shows = absurd full
+
+  pub misses_allowed : (chunk word header index : ℕ) (watch : Watch) (v : ServiceView)
+      → Allows (IsShared setup) count id (Service 0 made joined watch v, []) index (λ found. found)
+      (λ _. Serves (λ view. looks_at view chunk word header None) (Service 0 made joined watch v, []))
+  misses_allowed chunk word header index watch v s r deep at small =
+      let f = r.manned.each id (Service 0 made joined watch v) at in
+      let view = looks_at r.world.service chunk word header None in
+      let kept = serviced_shown setup r.front r.slots r.world view r.kept (looks_owned r.world chunk word header None r.kept.owned (λ one e. absurd cc)) in (
+        Service 0 made joined Nothing (looks_at v chunk word header None),
+        keeps,
+        tt,
+        subst (λ z. IsShared setup (record { words = set s.words index (get_or s.words index 0); homes = s.homes; views = set s.views id (Service 0 made joined Nothing (looks_at z chunk word header None)) })) (sym f.0)
+            (serviced_allowed setup s r id index made joined watch Nothing v view at kept tt),
+        record { new_is = refl; seen = seen_now setup r.front r.slots (serviced r.world view) (looks_at v chunk word header None) kept (ap (λ z. looks_at z chunk word header None) (sym f.0)) },
+      )
+
+  -- the status of a chunk that is known to be complete
+  pub record IsKnown (world : World) (chunk header : ℕ) : Type 0 where
+    pub place : ℕ
+    pub at_id : ℕ
+    pub content : Content
+    pub ready : status world chunk ≡ Ready place at_id content
+    pub header_is : IsHeader setup header place at_id (head_of content)
+
+  known_by : (world : World) (chunk header : ℕ) (is : Status) → status world chunk ≡ is → HasHeader setup header is → IsKnown world chunk header
+  known_by world chunk header (Ready place at_id content) was has = record { place = place; at_id = at_id; content = content; ready = was; header_is = has }
+  known_by world chunk header Unclaimed was has = absurd has
+  known_by world chunk header (Rattle.chunk_plain.specs.World.Claimed k) was has = absurd has
+  known_by world chunk header (Rattle.chunk_plain.specs.World.Stamped k i) was has = absurd has
+  known_by world chunk header (Rattle.chunk_plain.specs.World.Writing k i d) was has = absurd has
+  known_by world chunk header (Reading k i m) was has = absurd has
+
+  pub takes_allowed : (place chunk word header mask : ℕ) (v : ServiceView) → chunk < length setup.spots → place < length setup.writers
+      → (unpacked header).writer_id ≡ place + 1 → (unpacked header).chunk_id ≡ (taken_of v place).count
+      → ((found : ℕ) → found < 2 ^ 64 → HasState found (spot setup chunk).place state.Complete → SetsState found (bit_and found mask) (spot setup chunk).place state.BeingRead)
+      → ((found : ℕ) → KeepsOthers found (bit_and found mask) (spot setup chunk).place)
+      → Allows (IsShared setup) count id (Service 0 made joined (Known chunk header) v, []) (spot setup chunk).page (λ found. bit_and found mask)
+      (λ _. Takes place chunk (spot setup chunk).payload_size word (unpacked header) (Service 0 made joined (Known chunk header) v, []))
+  takes_allowed place chunk word header mask v inside inside_w writer_is id_is sets keep s r deep at small =
+      let at_ = spot setup chunk in let found = get_or s.words at_.page 0 in let new = bit_and found mask in
+      let world = r.world in let f = r.manned.each id (Service 0 made joined (Known chunk header) v) at in
+      let is = page_is setup s r chunk inside in let c_inside = chunk_inside setup s r chunk inside in
+      let known = known_by world chunk header (status world chunk) refl f.5 in let content = known.content in
+      let reads = header_reads setup header known.place known.at_id (head_of content) known.header_is in
+      let same_writer : known.place ≡ place = let one = ap (λ (h : ChunkHeader). h.writer_id) reads in omega arith in
+      let n = (taken_of world.service place).count in
+      let fields_id : (unpacked header).chunk_id ≡ known.at_id = ap (λ (h : ChunkHeader). h.chunk_id) reads in
+      let same_id : known.at_id ≡ n = sym fields_id ∙ (id_is ∙ ap (λ (z : ServiceView). (taken_of z place).count) f.0) in
+      let ready : status world chunk ≡ Ready place n content = known.ready ∙ (ap (λ p. Ready p known.at_id content) same_writer ∙ ap (λ i. Ready place i content) same_id) in
+      let view = takes_in (looks_at world.service chunk word (packed (unpacked header)) None) place chunk in
+      let to = Reading place n content in let next = served world view chunk to in
+      let now : status next chunk ≡ to = get_or-set_same world.chunks chunk to Unclaimed c_inside in
+      let small_page : page_word setup r.front chunk < 2 ^ 64 = subst (λ w. w < 2 ^ 64) is small in
+      let kept = subst (λ w. IsKept setup (set r.front at_.page (bit_and w mask)) r.slots next) (sym is)
+      (take_kept setup r.front r.slots world place chunk word (packed (unpacked header)) (bit_and (page_word setup r.front chunk) mask) content r.laid r.kept inside_w inside ready
+      (sets (page_word setup r.front chunk) small_page) (keep (page_word setup r.front chunk))) in
+      let slot : ShowsSlot at_.payload_size (Ready place n content) (stored_at r.slots chunk) = subst (λ t. ShowsSlot at_.payload_size t (stored_at r.slots chunk)) ready (r.kept.shown.slot chunk inside) in
+      let in_ : IsIn r.roll chunk = record {
+        with_none = λ other out. absurd (subst (IsOf other) ready (r.manned.handed other chunk out));
+        not_service = no_slot r.roll chunk f.2;
+      } in
+      let home = r.bodies.home_is chunk inside in_ ∙ ap (λ (b : Option CommitBody). mathlib.Core.Option.some (mathlib.Core.Option.some b)) slot.body.1 in
+      let roll = with_service_hand r.roll (hand_with chunk) in
+      let i = (unpacked header).chunk_id in
+      let i_is : i ≡ n = fields_id ∙ same_id in
+      let turn = service_turn setup world next r.roll s.views id 0 (hand_with chunk) made joined (Known chunk header) (Lifted chunk place i content) v view r.manned at
+      (served_change world chunk view to c_inside (λ other has. absurd (subst (IsOf other) ready has)))
+      (λ d e. let same : chunk ≡ d = omega arith in subst (λ c. IsRead (status next c)) same (subst IsRead (sym now) tt))
+      (subst (λ j. status next chunk ≡ Reading place j content) (sym i_is) now) in
+      let named = (r.kept.owned.counts place).named n chunk content ((r.kept.owned.owns place chunk).ready_is n content ready).0 in (
+        Service (hand_with chunk) made joined (Lifted chunk place i content) (takes_in (looks_at v chunk word (packed (unpacked header)) None) place chunk),
+        takes chunk (Some slot.body.0),
+        home,
+        record {
+          world = next;
+          front = set r.front at_.page new;
+          slots = r.slots;
+          roll = roll;
+          laid = r.laid;
+          kept = kept;
+          words = words_front setup s.words r.front r.slots at_.page new (page_front setup s r chunk inside) (front_many setup s r) r.words;
+          bodies = bodies_out setup s.homes r.slots r.roll roll chunk r.bodies (λ in_now. in_now.not_service refl)
+              (λ d _. in_before_service r.roll (hand_with chunk) d (no_slot r.roll d f.2));
+          manned = subst (λ z. IsManned setup next roll (set s.views id (Service (hand_with chunk) made joined (Lifted chunk place i content) (takes_in (looks_at z chunk word (packed (unpacked header)) None) place chunk)))) (sym f.0) turn;
+        },
+        record {
+          content = content;
+          body = slot.body.0;
+          with_header = record {
+            id_is = named.0 ∙ sym i_is;
+            sequence_is = named.1;
+            head_is = sym (ap (λ (h : ChunkHeader). let head : Head = record { count = h.count; flags = h.flags } in head) reads);
+            whole = slot.words.whole;
+            body_is = slot.body.2;
+          };
+          new_is = refl;
+        },
+      )
+
+  -- ---- load
+
+  pub loads_allowed : (hand chunk index : ℕ) (watch : Watch) (v : ServiceView) (carried : List (ℕ × Option CommitBody)) → chunk < length setup.spots → index < payload_words setup chunk
+      → Allows (IsShared setup) count id (Service hand made joined watch v, carried) (payload_start setup chunk + index) (λ found. found)
+      (Loads chunk index (spot setup chunk).payload_size (Service hand made joined watch v, carried))
+  loads_allowed hand chunk index watch v carried inside less s r deep at small =
+      let f = r.manned.each id (Service hand made joined watch v) at in
+      let place = payload_start setup chunk + index in let word = get_or s.words place 0 in
+      let seen = watch_on chunk (status r.world chunk) in
+      let tells = tells_of setup r.front r.slots r.world chunk index word watch r.kept inside (r.words.payload_is chunk index inside less) f.5 in
+      let roll = with_service_hand r.roll hand in
+      let turn = service_turn setup r.world r.world r.roll s.views id hand hand made joined watch seen v r.world.service r.manned at
+      (record { service = refl; writers = refl; still = λ other d x. x }) (λ d e. r.manned.lifted d (f.2 ∙ e)) (watch_on_true setup r.world chunk) in (
+        Service hand made joined seen v,
+        keeps,
+        tt,
+        record {
+          world = r.world;
+          front = r.front;
+          slots = r.slots;
+          roll = roll;
+          laid = r.laid;
+          kept = r.kept;
+          words = words_loaded setup s.words r.front r.slots place r.words;
+          bodies = bodies_stay setup s.homes r.slots r.slots r.roll roll r.bodies (λ d. refl) (λ d. same_hand r.roll hand d f.2);
+          manned = subst (λ z. IsManned setup r.world roll (set s.views id (Service hand made joined seen z))) (sym f.0) turn;
+        },
+        record { watch = seen; tells = subst (λ (z : ServiceView). Rattle.chunk_words.specs.Moves.Tells chunk index (spot setup chunk).payload_size word watch seen z) (sym f.0) tells; new_is = refl },
+      )

@@ -1,0 +1,17 @@
+use Rattle.std.proofs.Common.{◌∙◌, [], ap}
+use Rattle.chunk_plain.specs.Steps.{stamps, begins}
+use Rattle.chunk_plain.proofs.Resting.{begins_rest}
+use Rattle.chunk_words.specs.Knows.{Knows, view_of, by_writer}
+use Rattle.chunk_words.specs.Moves.{Mine}
+use Rattle.chunk_words.proofs.Rests.{sits_now}
+use Rattle.chunk_words.proofs.host.HostTable.begin.Goals as goal
+
+pub returns-clause-seat : goal.returns-clause-seat
+returns-clause-seat c =
+    let self = c.args.self.now in let seat = c.args.seat.now in let view = view_of seat.seat.me.0 in let chunk = c.args.claimed.chunk in
+    let last = c.step_begin.ensures.me in let words = last.words in
+    let known = ap (λ (m : Mine). m.0) c.body_out-body.ensures.me ∙ ap (λ (m : Mine). m.0) c.step_stamp.ensures.me.new_is in
+    sits_now self seat c.step_begin.new.seat (begins (stamps view chunk) chunk words) c.requires.seat
+    (c.step_begin.ensures.seat ∙ (c.body_out-body.ensures.seat ∙ c.step_stamp.ensures.seat)) (c.step_begin.ensures.place ∙ c.step_stamp.ensures.place)
+    (last.new_is ∙ ap (λ (k : Knows). let m : Mine = (by_writer 0 (λ v. begins v chunk words) k, []) in m) known)
+    (begins_rest self.layout seat.place view c.requires.seat.rests.rests chunk words c.requires.claimed)

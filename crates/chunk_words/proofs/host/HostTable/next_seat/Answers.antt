@@ -1,0 +1,13 @@
+use Rattle.std.proofs.Common.{arith}
+use Rattle.chunk_words.specs.Knows.{made_of, joined_of, watch_of, service_of}
+use Rattle.chunk_words.proofs.Making.{splits_shared}
+use Rattle.chunk_words.proofs.host.HostTable.next_seat.Goals as goal
+
+pub split_seat-requires : goal.split_seat-requires
+split_seat-requires c =
+    let self = c.args.self.now in let seat = c.args.service.now.seat in let k = seat.me.0 in (
+      c.requires.seat,
+      (let words = self.word_count in omega arith),
+      rw (self.key, c.requires.idle)
+          (splits_shared self.layout seat.id (made_of k) (joined_of k) (watch_of k) (service_of k) c.requires.inside),
+    )

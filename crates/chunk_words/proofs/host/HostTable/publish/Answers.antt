@@ -1,0 +1,37 @@
+use Rattle.std.proofs.Common.{◌/◌, ◌≤◌, List, ℕ, length, refl, ap, subst, arith}
+use Rattle.chunk_plain.specs.Payload.{StoredUpTo}
+use Rattle.chunk_plain.specs.Views.{Held}
+use Rattle.chunk_plain.specs.Steps.{redrafts, with_words}
+use Rattle.chunk_plain.specs.Drafts.{draft_at}
+use Rattle.chunk_plain.proofs.Publishing.{published_range}
+use Rattle.chunk_plain.proofs.Resting.{entry_rest}
+use Rattle.chunk_words.specs.Knows.{view_of}
+use Rattle.chunk_words.specs.Moves.{Mine}
+use Rattle.chunk_words.proofs.Rests.{sits_now, held_of_table}
+use Rattle.chunk_words.proofs.host.HostTable.publish.Goals as goal
+
+pub store_words-requires-clause-chunk : goal.store_words-requires-clause-chunk
+store_words-requires-clause-chunk c =
+    let self = c.args.self.now in let seat = c.args.seat.now in
+    held_of_table self.layout seat.place c.args.held.now.chunk c.args.held.now.id (view_of seat.seat.me.0) self.laid c.requires.seat.rests.rests c.requires.held
+
+pub returns-clause-view : goal.returns-clause-view
+returns-clause-view c =
+    let seat = c.args.seat.now in let copy = c.args.held.now.body.payload.items in let id = c.args.held.now.id in let stores = c.store_words.ensures.me in
+    let old = draft_at (view_of seat.seat.me.0) id in
+    let whole : c.args.to ≤ length copy = let inside = c.requires.inside in let size = c.requires.size in let joined = c.args.held.now.body.payload.ok.0 in omega arith in
+    record {
+      words = stores.words;
+      bytes = published_range copy old.words stores.words c.args.from c.args.to c.word_end-end.result
+          c.requires.order whole (λ less. (c.word_end-end.ensures.some less).0)
+          (subst (λ (l : List ℕ). StoredUpTo l (c.args.from / 8) c.word_end-end.result old.words stores.words) c.deref.ensures.value stores.stored);
+      view = ap (λ (m : Mine). view_of m.0) stores.new_is;
+    }
+
+pub returns-clause-seat : goal.returns-clause-seat
+returns-clause-seat c =
+    let self = c.args.self.now in let seat = c.args.seat.now in let chunk = c.args.held.now.chunk in let id = c.args.held.now.id in
+    let view = view_of seat.seat.me.0 in let stores = c.store_words.ensures.me in
+    let draft = with_words (draft_at view id) stores.words in
+    sits_now self seat c.store_words.new.seat (redrafts view chunk id draft) c.requires.seat c.store_words.ensures.seat c.store_words.ensures.place stores.new_is
+    (entry_rest self.layout seat.place view c.requires.seat.rests.rests chunk id (Held chunk draft) c.requires.held refl)

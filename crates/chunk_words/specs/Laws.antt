@@ -1,0 +1,35 @@
+-- What the rule of a table that threads share says, part by part: ownership in the words of a page word, a header word, payload words and views, between
+-- any two steps of any seats.
+use Rattle.std.specs.Prelude.{◌≡◌, ℕ, Option, List}
+use Rattle.atomic_table.specs.Table.{State}
+use Rattle.commit_body.specs.declared.body.CommitBody.{CommitBody}
+use Rattle.chunk_plain.specs.Setup.{Setup}
+use Rattle.chunk_plain.specs.Views.{At, WriterView, ServiceView}
+use Rattle.chunk_plain.specs.World.{World, writer}
+use Rattle.chunk_plain.specs.Stored.{Stored}
+use Rattle.chunk_plain.specs.Ownership.{Ownership}
+use Rattle.chunk_words.specs.Knows.{Watch, Knows, Writer, Service}
+use Rattle.chunk_words.specs.Rule.{HoldsWords, Roll, HoldsBodies, IsShared}
+
+-- The table's words are those of chunks in a world that is owned in its eight parts, and each writer and the service have one seat at most, whose view is
+-- that world's.
+pub record SharedOwnership (setup : Setup) (state : State (Option CommitBody) Knows) : Type 0 where
+  pub world : World
+  -- the page and header words, and the payload words and the body of each chunk
+  pub front : List ℕ
+  pub slots : List Stored
+  pub roll : Roll
+  pub words : HoldsWords setup state.words front slots
+  pub bodies : HoldsBodies setup state.homes slots roll
+  pub parts : Ownership setup front slots world
+  pub writers : (seat place hand : ℕ) (view : WriterView) → At state.views seat (Writer place hand view) → view ≡ writer world place
+  pub one_seat : (seat other place hand held : ℕ) (view known : WriterView) → At state.views seat (Writer place hand view)
+      → At state.views other (Writer place held known) → seat ≡ other
+  pub service : (seat hand made : ℕ) (joined : List WriterView) (watch : Watch) (view : ServiceView)
+      → At state.views seat (Service hand made joined watch view) → view ≡ world.service
+  pub one_service : (seat other hand held made more : ℕ) (joined views : List WriterView) (watch watched : Watch) (view known : ServiceView)
+      → At state.views seat (Service hand made joined watch view) → At state.views other (Service held more views watched known) → seat ≡ other
+
+-- Each step is allowed by the rule alone, so between any two steps of any number of threads ownership holds.
+abbrev pub SharedIsOwnership : Type 0
+SharedIsOwnership = (setup : Setup) (state : State (Option CommitBody) Knows) → IsShared setup state → SharedOwnership setup state

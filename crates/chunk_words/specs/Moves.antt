@@ -1,0 +1,221 @@
+-- What each atomic step tells the seat that makes it.
+use Rattle.std.specs.Prelude.{◌≡◌, ℕ, ◌+◌, ◌*◌, ◌<◌, ◌≤◌, ◌==◌, not, true, Bool, Option, Some, None, List, [], ◌∷◌, length, vec_len, slice_index_or, IfSome, if◌then◌else◌}
+use Rattle.std.specs.Int.{bit_at}
+use Rattle.atomic_table.specs.Table.{Me}
+use Rattle.trace_model.specs.Calls.{Call}
+use Rattle.page_geometry.specs.declared.page_word.TheConstants.{CLAIM_BIT}
+use Rattle.page_geometry.specs.declared.chunk_header.ChunkHeader.{ChunkHeader}
+use Rattle.page_geometry.specs.declared.chunk_header.TheConstants.{MAX_FLAGS}
+use Rattle.page_geometry.specs.declared.chunk_state.ChunkState.TheVariants.{Complete}
+use Rattle.page_geometry.specs.Header.{packed, unpacked}
+use Rattle.page_geometry.specs.PageBits.{HasState}
+use Rattle.trace_base.specs.declared.limits.TheConstants.{MAX_FRAGMENTS}
+use Rattle.commit_body.specs.declared.body.CommitBody.{CommitBody}
+use Rattle.chunk_plain.specs.Payload.{byte_of, byte_in, sealed_to, StoredUpTo}
+use Rattle.chunk_plain.specs.Views.{At, Head, Draft, Content, Found, Look, ServiceView, taken_of}
+use Rattle.chunk_plain.specs.World.{World}
+use Rattle.chunk_plain.specs.Steps.{claims, stamps, begins, redrafts, with_head, with_word, with_words, completes, notes_call, looks_at, takes_in, learns, lets_go, notes, notes_commit}
+use Rattle.chunk_plain.specs.Owned.{times, IsOwned}
+use Rattle.chunk_plain.specs.Drafts.{draft_at, head_at, ends_by, head_of}
+use Rattle.chunk_plain.specs.Shows.{IsBodyOf, content_of}
+use Rattle.chunk_plain.specs.Setup.{Setup, spot, sequence_of}
+use Rattle.chunk_plain.specs.Words.{LooksAt, call_of, event_of, committed_of}
+use Rattle.chunk_words.specs.declared.moves.Move.{Move}
+use Rattle.chunk_words.specs.declared.moves.Move.TheVariants.{Claim, Stamp, Begin, SetHeader, Publish, Fetch, Complete as CompleteStep, Call as CallStep, Peek, Find, Know, Miss, Take, Load, Learn, Lift, Release, Event, Commit}
+use Rattle.chunk_words.specs.Knows.{Watch, Nothing, Started, Full, Known, Lifted, Knows, hand_with, no_content, hand_of, view_of, place_of, service_of, watch_of, by_writer, by_service}
+
+-- what a seat knows and has
+abbrev pub Mine : Type 0
+Mine = Me (Option CommitBody) Knows
+
+-- the claim bit of the chunk at this place is clear
+abbrev pub is_clear : ℕ → ℕ → Bool
+is_clear word place = not (bit_at word (CLAIM_BIT + place) == 1)
+
+-- what the service watches once it found a page word
+abbrev pub watch_for : (chunk word place : ℕ) → Watch
+watch_for chunk word place =
+    if bit_at word (2 * place) == 0 then Nothing else if bit_at word (2 * place + 1) == 0 then Started chunk else Full chunk
+
+-- the body in the slot that was taken last
+abbrev pub body_in : List (ℕ × Option CommitBody) → Option CommitBody
+body_in [] = None
+body_in (slot ∷ slots) = slot.1
+
+-- The service's view is its part of some owned world: what follows from that, it may rely on.
+abbrev pub IsSeen : ServiceView → Type 0
+IsSeen view = ∥ ((world : World) × IsOwned world × (world.service ≡ view)) ∥₁
+
+-- the payload word with this number has the bytes that stand there
+abbrev pub IsWordOf : List ℕ → ℕ → ℕ → Type 0
+IsWordOf bytes index word = (m : ℕ) → m < 8 → 8 * index + m < length bytes → byte_of word m ≡ byte_in bytes (8 * index + m)
+
+-- What a payload word of a chunk tells: of a chunk that was found being written, what it had finished, as long as its id isn't taken; of one that is being
+-- read, its content, which the service watches from then on.
+pub record Tells (chunk index size word : ℕ) (before after : Watch) (view : ServiceView) : Type 0 where
+  pub found : (n : ℕ) (look : Look) (found : Found) → At view.looks n look → look.chunk ≡ chunk → look.found ≡ Some found
+      → (taken_of view found.place).count ≤ found.id → (length found.sealed ≤ size) × IsWordOf found.sealed index word
+  pub stays : (place id : ℕ) (content : Content) → before ≡ Lifted chunk place id content → after ≡ before
+  pub read : (place id : ℕ) (content : Content) → after ≡ Lifted chunk place id content → (length content.image.payload ≡ size) × IsWordOf content.image.payload index word
+  pub reading : 0 < times chunk view.reading → ∥ ((place id : ℕ) × (content : Content) × (after ≡ Lifted chunk place id content)
+      × (id < (taken_of view place).count) × ((known : Content) → At (taken_of view place).contents id known → known ≡ content)) ∥₁
+
+-- a content that was taken: of this writer and under this id, with this header and body
+pub record IsTakenWith (place id size : ℕ) (header : ChunkHeader) (content : Content) (body : CommitBody) : Type 0 where
+  pub id_is : content.image.chunk_id ≡ id
+  pub sequence_is : content.image.sequence ≡ sequence_of place
+  pub head_is : head_of content ≡ record { count = header.count; flags = header.flags }
+  pub whole : length content.image.payload ≡ size
+  pub body_is : IsBodyOf size content body
+
+-- What each step tells of what was known and carried before it, the number that it found, and what is known and carried behind it.
+
+-- the claim bit is set; a chunk that was won was none that the writer has claimed already
+pub record Claims (chunk place : ℕ) (me : Mine) (found : ℕ) (new : Mine) : Type 0 where
+  pub fresh : is_clear found place ≡ true → times chunk (view_of me.0).claimed ≡ 0
+  pub new_is : new ≡ (by_writer 0 (λ view. claims view chunk found (is_clear found place)) me.0, [])
+
+-- the header is stored, and the slot is out with the writer: its body has room for a payload of this size
+pub record Stamps (chunk size : ℕ) (me new : Mine) : Type 0 where
+  pub body : CommitBody
+  pub whole : vec_len body.payload ≡ size
+  pub new_is : new ≡ (by_writer (hand_with chunk) (λ view. stamps view chunk) me.0, (chunk, Some body) ∷ [])
+
+-- the chunk is begun with the payload words that stand in it
+pub record Begins (chunk size : ℕ) (me new : Mine) : Type 0 where
+  pub words : List ℕ
+  pub room : size ≤ 8 * length words
+  pub new_is : new ≡ (by_writer 0 (λ view. begins view chunk words) me.0, [])
+
+abbrev pub SetsHeader : (chunk id : ℕ) → Head → Mine → Mine → Type 0
+SetsHeader chunk id head me new =
+    new ≡ (by_writer 0 (λ view. redrafts view chunk id (with_head (draft_at view id) head (ends_by view id head.count))) me.0, [])
+
+-- the word keeps each byte of the fragments that are finished
+abbrev pub KeepsWord : Draft → ℕ → ℕ → Type 0
+KeepsWord draft index word = (m : ℕ) → m < 8 → 8 * index + m < sealed_to draft.ends → byte_of word m ≡ byte_of (slice_index_or draft.words index 0) m
+
+-- a payload word of a held chunk is stored
+pub record Publishes (chunk id index word : ℕ) (me new : Mine) : Type 0 where
+  pub inside : index < length (draft_at (view_of me.0) id).words
+  pub new_is : new ≡ (by_writer 0 (λ view. redrafts view chunk id (with_word (draft_at view id) index word)) me.0, [])
+
+-- payload words of a held chunk were stored, from one place on up to another one
+pub record Stores (chunk id first index : ℕ) (copy : List ℕ) (me new : Mine) : Type 0 where
+  pub words : List ℕ
+  pub stored : StoredUpTo copy first index (draft_at (view_of me.0) id).words words
+  pub new_is : new ≡ (by_writer 0 (λ view. redrafts view chunk id (with_words (draft_at view id) words)) me.0, [])
+
+-- the slot of a held chunk is out with its writer
+pub record Fetches (chunk : ℕ) (me new : Mine) : Type 0 where
+  pub body : Option CommitBody
+  pub new_is : new ≡ (by_writer (hand_with chunk) (λ view. view) me.0, (chunk, body) ∷ [])
+
+-- the slot of a chunk that is read is out with the service
+pub record Lifts (setup : Setup) (chunk : ℕ) (me new : Mine) : Type 0 where
+  pub inside : chunk < length setup.spots
+  pub body : Option CommitBody
+  pub new_is : new ≡ (by_service (hand_with chunk) Nothing (λ view. view) me.0, (chunk, body) ∷ [])
+
+-- the chunk is completed, and the slot goes back with this body
+abbrev pub Completes : (chunk id : ℕ) → CommitBody → Mine → Mine → Type 0
+Completes chunk id body me new =
+    new ≡ (by_writer 0 (λ view. completes view chunk id (content_of (place_of me.0) id (head_at view id) body)) me.0, [])
+
+-- the writer has noted the call
+abbrev pub Notes : Call → Mine → Mine → Type 0
+Notes call me new = new ≡ (by_writer 0 (λ view. notes_call view call) me.0, [])
+
+-- the page word is found, and what it says is watched
+abbrev pub Peeks : (chunk place : ℕ) → Mine → ℕ → Mine → Type 0
+Peeks chunk place me found new = new ≡ (by_service 0 (watch_for chunk found place) (λ view. view) me.0, [])
+
+-- the header of a complete chunk is found
+abbrev pub ReadsHeader : (chunk : ℕ) → Mine → ℕ → Mine → Type 0
+ReadsHeader chunk me found new = new ≡ (by_service 0 (Known chunk found) (λ view. view) me.0, [])
+
+-- the chunk is looked at, after its page word was found
+pub record Looks (setup : Setup) (chunk word : ℕ) (me : Mine) (header : ℕ) (new : Mine) : Type 0 where
+  pub view : ServiceView
+  pub looks : LooksAt setup chunk word (unpacked header) (service_of me.0) view
+  pub new_is : new ≡ (by_service 0 Nothing (λ _. view) me.0, [])
+  pub seen : IsSeen view
+
+-- the service's view changes in a known way, and nothing is watched
+pub record Serves (step : ServiceView → ServiceView) (me new : Mine) : Type 0 where
+  pub new_is : new ≡ (by_service 0 Nothing step me.0, [])
+  pub seen : IsSeen (step (service_of me.0))
+
+-- The chunk is taken, whose page word and header were found: the slot is out with the service.
+pub record Takes (place chunk size word : ℕ) (header : ChunkHeader) (me new : Mine) : Type 0 where
+  pub content : Content
+  pub body : CommitBody
+  pub with_header : IsTakenWith place header.chunk_id size header content body
+  pub new_is : new ≡ (
+    by_service (hand_with chunk) (Lifted chunk place header.chunk_id content)
+        (λ view. takes_in (looks_at view chunk word (packed header) None) place chunk) me.0,
+    (chunk, Some body) ∷ [],
+  )
+
+-- a payload word of a chunk is loaded
+pub record Loads (chunk index size : ℕ) (me : Mine) (found : ℕ) (new : Mine) : Type 0 where
+  pub watch : Watch
+  pub tells : Tells chunk index size found (watch_of me.0) watch (service_of me.0)
+  pub new_is : new ≡ (by_service (hand_of me.0) watch (λ view. view) me.0, me.1)
+
+-- a chunk is read on, with the content that is watched: its payload words below this one have been loaded
+pub record ReadsOn (chunk index size : ℕ) (bytes : List ℕ) (watch : Watch) (view : ServiceView) : Type 0 where
+  pub place : ℕ
+  pub id : ℕ
+  pub content : Content
+  pub watches : watch ≡ Lifted chunk place id content
+  pub taken : id < (taken_of view place).count
+  pub known : (known : Content) → At (taken_of view place).contents id known → known ≡ content
+  pub whole : length content.image.payload ≡ size
+  pub bytes_are : (j : ℕ) → j < 8 * index → j < size → byte_in bytes j ≡ byte_in content.image.payload j
+
+-- What the payload words of a chunk below this one tell, once they were loaded into these bytes.
+pub record LoadsUpTo (chunk index size : ℕ) (bytes : List ℕ) (me new : Mine) : Type 0 where
+  pub watch : Watch
+  pub new_is : new ≡ (by_service (hand_of me.0) watch (λ view. view) me.0, me.1)
+  pub stays : (place id : ℕ) (content : Content) → watch_of me.0 ≡ Lifted chunk place id content → watch ≡ watch_of me.0
+  pub found : (n : ℕ) (look : Look) (found : Found) → At (service_of me.0).looks n look → look.chunk ≡ chunk → look.found ≡ Some found
+      → (taken_of (service_of me.0) found.place).count ≤ found.id → 0 < index
+      → (length found.sealed ≤ size) × ((j : ℕ) → j < 8 * index → j < length found.sealed → byte_in bytes j ≡ byte_in found.sealed j)
+  pub reading : 0 < times chunk (service_of me.0).reading → 0 < index → ∥ ReadsOn chunk index size bytes watch (service_of me.0) ∥₁
+
+-- a chunk was found complete, with this writer and id in its header
+pub record FindsReady (setup : Setup) (chunk writer id word : ℕ) (header : ChunkHeader) (me new : Mine) : Type 0 where
+  pub complete : HasState word (spot setup chunk).place Complete
+  pub writer_is : header.writer_id ≡ writer
+  pub id_is : header.chunk_id ≡ id
+  pub fields : unpacked (packed header) ≡ header
+  pub count_fits : header.count ≤ MAX_FRAGMENTS
+  pub flags_fit : header.flags ≤ MAX_FLAGS
+  pub new_is : new ≡ (by_service 0 (Known chunk (packed header)) (λ view. view) me.0, [])
+
+-- the content that the service watches
+abbrev pub watched : Watch → Content
+watched (Lifted chunk place id content) = content
+watched _ = no_content
+
+abbrev pub After : Move → Mine → ℕ → Mine → Type 0
+After (Claim chunk place) me found new = Claims chunk place me found new
+After (Stamp chunk payload_size) me found new = Stamps chunk payload_size me new
+After (Begin chunk payload_size) me found new = Begins chunk payload_size me new
+After (SetHeader chunk id count flags) me found new = SetsHeader chunk id (record { count = count; flags = flags }) me new
+After (Publish chunk id index word) me found new = Publishes chunk id index word me new
+After (Fetch chunk) me found new = Fetches chunk me new
+After (CompleteStep chunk id) me found new = IfSome (body_in me.1) (λ body. Completes chunk id body me new)
+After (CallStep call) me found new = Notes (call_of call) me new
+After (Peek chunk place) me found new = Peeks chunk place me found new
+After (Find layout chunk word) me found new = Looks layout.now chunk word me found new
+After (Know chunk) me found new = ReadsHeader chunk me found new
+After (Miss chunk word header) me found new = Serves (λ view. looks_at view chunk word (packed header) None) me new
+After (Take place chunk word header payload_size) me found new = Takes place chunk payload_size word header me new
+After (Load chunk index payload_size) me found new = Loads chunk index payload_size me found new
+After (Learn place) me found new = Serves (λ view. learns view place (watched (watch_of me.0))) me new
+After (Lift layout chunk) me found new = Lifts layout.now chunk me new
+After (Release chunk) me found new = Serves (λ view. lets_go view chunk) me new
+After (Event event) me found new = Serves (λ view. notes view (event_of event)) me new
+After (Commit header payload patches) me found new = Serves (λ view. notes_commit view (committed_of header payload.now patches.now)) me new

@@ -1,0 +1,34 @@
+-- Where the words of a table lie that threads share: the word of each page, then the header word of each chunk, then the payload words of the first
+-- chunk, of the next one, and so on.
+use Rattle.std.specs.Prelude.{ℕ, zero, suc, ◌+◌, ◌/◌, List, length, slice_index_or}
+use Rattle.chunk_plain.specs.declared.setup.Spot.{Spot}
+use Rattle.chunk_plain.specs.Setup.{Setup, spot, no_spot}
+
+-- how many words hold a payload of this size
+abbrev pub words_for : ℕ → ℕ
+words_for size = (size + 7) / 8
+
+-- how many payload words the first so many chunks have
+abbrev pub words_before : List Spot → ℕ → ℕ
+words_before spots zero = 0
+words_before spots (suc n) = words_before spots n + words_for (slice_index_or spots n no_spot).payload_size
+
+-- the words in front of all payload words
+abbrev pub front_count : Setup → ℕ
+front_count setup = setup.pages + length setup.spots
+
+-- the first payload word of a chunk
+abbrev pub payload_start : Setup → ℕ → ℕ
+payload_start setup chunk = front_count setup + words_before setup.spots chunk
+
+-- how many payload words a chunk has
+abbrev pub payload_words : Setup → ℕ → ℕ
+payload_words setup chunk = words_for (spot setup chunk).payload_size
+
+-- The last word is never stored: a seat that notes something loads it, and no other thread's steps are in its way.
+abbrev pub spare_place : Setup → ℕ
+spare_place setup = payload_start setup (length setup.spots)
+
+-- all words
+abbrev pub word_total : Setup → ℕ
+word_total setup = spare_place setup + 1

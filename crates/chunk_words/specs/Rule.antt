@@ -1,0 +1,122 @@
+-- What a table keeps that threads share, between any two atomic steps of any seats: its words and slots are those of a table of one thread that keeps
+-- its world owned, and each seat's view is its part of that world.
+use Rattle.std.specs.Prelude.{◌≡◌, ◌≢◌, ℕ, ◌+◌, ◌<◌, ◌≤◌, Option, List, [], length, slice_index_or}
+use mathlib.Core.Option.{some}
+use lib.ListN.{get_elem?}
+use Rattle.atomic_table.specs.Table.{State}
+use Rattle.commit_body.specs.declared.body.CommitBody.{CommitBody}
+use Rattle.chunk_plain.specs.Setup.{Setup, IsLaid}
+use Rattle.chunk_plain.specs.Views.{At, WriterView, newcomer}
+use Rattle.chunk_plain.specs.World.{World, Status, Claimed, Stamped, Writing, Ready, Reading, status, writer}
+use Rattle.chunk_plain.specs.Drafts.{head_of}
+use Rattle.chunk_plain.specs.Stored.{Stored, stored_at}
+use Rattle.chunk_plain.specs.Shows.{IsHeader}
+use Rattle.chunk_plain.specs.Plain.{IsKept, first_world}
+use Rattle.chunk_words.specs.Knows.{Watch, Nothing, Started, Full, Known, Lifted, Knows, Spent, Writer, Service, hand_with}
+use Rattle.chunk_words.specs.Places.{front_count, payload_start, payload_words, word_total}
+
+-- The words of the table are the page and header words in front, and behind them the payload words of each chunk.
+pub record HoldsWords (setup : Setup) (words front : List ℕ) (slots : List Stored) : Type 0 where
+  pub total : length words ≡ word_total setup
+  pub front_is : (index : ℕ) → index < front_count setup → slice_index_or words index 0 ≡ slice_index_or front index 0
+  pub count : (chunk : ℕ) → chunk < length setup.spots → length (stored_at slots chunk).words ≡ payload_words setup chunk
+  pub payload_is : (chunk index : ℕ) → chunk < length setup.spots → index < payload_words setup chunk
+      → slice_index_or words (payload_start setup chunk + index) 0 ≡ slice_index_or (stored_at slots chunk).words index 0
+
+-- Who sits where: the seat of each writer and of the service, whose slots are out with them, how many writers' seats were made, and how many of these the
+-- service took in again.
+pub record Roll : Type 0 where
+  pub seats : ℕ → ℕ
+  pub server : ℕ
+  pub hands : ℕ → ℕ
+  pub hand : ℕ
+  pub made : ℕ
+  pub joined : ℕ
+
+-- the slot of a chunk is with no seat
+pub record IsIn (roll : Roll) (chunk : ℕ) : Type 0 where
+  pub with_none : (place : ℕ) → roll.hands place ≢ hand_with chunk
+  pub not_service : roll.hand ≢ hand_with chunk
+
+-- each slot that is with no seat has the body that its chunk keeps
+pub record HoldsBodies (setup : Setup) (homes : List (mathlib.Core.Option.Option (Option CommitBody))) (slots : List Stored) (roll : Roll) : Type 0 where
+  pub count : length homes ≡ length setup.spots
+  pub home_is : (chunk : ℕ) → chunk < length setup.spots → IsIn roll chunk → get_elem? homes chunk ≡ some (some (stored_at slots chunk).body)
+
+-- the writer may have the slot of a chunk with this status
+abbrev pub IsOf : ℕ → Status → Type 0
+IsOf place (Claimed other) = other ≡ place
+IsOf place (Stamped other id) = other ≡ place
+IsOf place (Writing other id draft) = other ≡ place
+IsOf place _ = ⊥
+
+-- the service may have it
+abbrev pub IsRead : Status → Type 0
+IsRead (Reading place id content) = Unit {0}
+IsRead _ = ⊥
+
+-- a writer writes the chunk, or has completed it
+abbrev pub IsStarted : Status → Type 0
+IsStarted (Writing place id draft) = Unit {0}
+IsStarted (Ready place id content) = Unit {0}
+IsStarted _ = ⊥
+
+-- the chunk is complete
+abbrev pub IsFull : Status → Type 0
+IsFull (Ready place id content) = Unit {0}
+IsFull _ = ⊥
+
+-- the chunk is complete, and this is its header word
+abbrev pub HasHeader : Setup → ℕ → Status → Type 0
+HasHeader setup header (Ready place id content) = IsHeader setup header place id (head_of content)
+HasHeader setup header _ = ⊥
+
+-- what the service found is so still
+abbrev pub IsWatched : Setup → World → Watch → Type 0
+IsWatched setup world Nothing = Unit {0}
+IsWatched setup world (Started chunk) = IsStarted (status world chunk)
+IsWatched setup world (Full chunk) = IsFull (status world chunk)
+IsWatched setup world (Known chunk header) = HasHeader setup header (status world chunk)
+IsWatched setup world (Lifted chunk place id content) = status world chunk ≡ Reading place id content
+
+-- these are the views of the first writers, which have no slot
+pub record HasJoined (world : World) (roll : Roll) (joined : List WriterView) : Type 0 where
+  pub count : length joined ≡ roll.joined
+  pub each : (place : ℕ) (view : WriterView) → At joined place view → (view ≡ writer world place) × (roll.hands place ≡ 0)
+
+-- a seat knows its part of the world
+abbrev pub Fits : Setup → World → Roll → ℕ → Knows → Type 0
+Fits setup world roll seat Spent = Unit {0}
+Fits setup world roll seat (Writer place hand view) =
+    (view ≡ writer world place) × (roll.seats place ≡ seat) × (roll.hands place ≡ hand) × (place < roll.made) × (roll.joined ≤ place)
+Fits setup world roll seat (Service hand made joined watch view) =
+    (view ≡ world.service) × (roll.server ≡ seat) × (roll.hand ≡ hand) × (roll.made ≡ made) × HasJoined world roll joined × IsWatched setup world watch
+
+-- each writer and the service have one seat, which knows its part of the world
+pub record IsManned (setup : Setup) (world : World) (roll : Roll) (views : List Knows) : Type 0 where
+  pub most : roll.made ≤ length world.writers
+  pub least : roll.joined ≤ roll.made
+  -- a writer whose seat isn't made yet has done nothing
+  pub fresh : (place : ℕ) → roll.made ≤ place → (writer world place ≡ newcomer) × (roll.hands place ≡ 0)
+  pub seated : (place : ℕ) → roll.joined ≤ place → place < roll.made → At views (roll.seats place) (Writer place (roll.hands place) (writer world place))
+  pub staffed : (joined : List WriterView) × (watch : Watch) × At views roll.server (Service roll.hand roll.made joined watch world.service)
+  pub each : (seat : ℕ) (knows : Knows) → At views seat knows → Fits setup world roll seat knows
+  -- a slot that is out is that of a chunk which the seat has
+  pub handed : (place chunk : ℕ) → roll.hands place ≡ hand_with chunk → IsOf place (status world chunk)
+  pub lifted : (chunk : ℕ) → roll.hand ≡ hand_with chunk → IsRead (status world chunk)
+
+-- the rule of a table that threads share
+pub record IsShared (setup : Setup) (state : State (Option CommitBody) Knows) : Type 0 where
+  pub world : World
+  pub front : List ℕ
+  pub slots : List Stored
+  pub roll : Roll
+  pub laid : IsLaid setup
+  pub kept : IsKept setup front slots world
+  pub words : HoldsWords setup state.words front slots
+  pub bodies : HoldsBodies setup state.homes slots roll
+  pub manned : IsManned setup world roll state.views
+
+-- the service's seat, which is there first: it makes the others
+abbrev pub first_of : Setup → Knows
+first_of setup = Service 0 0 [] Nothing (first_world setup).service

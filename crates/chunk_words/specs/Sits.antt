@@ -1,0 +1,22 @@
+-- A seat is one of a table's, and between two calls.
+use Rattle.std.specs.Prelude.{◌≡◌, Option, Some, None}
+use Rattle.chunk_plain.specs.World.{World}
+use Rattle.chunk_words.specs.declared.host.HostTable.{HostTable}
+use Rattle.chunk_words.specs.declared.seats.WriterSeat.{WriterSeat}
+use Rattle.chunk_words.specs.declared.seats.ServiceSeat.{ServiceSeat}
+use Rattle.chunk_words.specs.Seats.{Rests, Waits}
+
+-- the writer's seat is one of the table's, and no call of it is going on
+pub record Sits (table : HostTable) (seat : WriterSeat) : Type 0 where
+  pub joined : seat.seat.table_id ≡ table.table.shared.table_id
+  pub rests : Rests table.layout seat.place seat.seat.me
+
+-- the service's seat is the table's, and no call of it is going on
+pub record Attends (table : HostTable) (seat : ServiceSeat) : Type 0 where
+  pub joined : seat.seat.table_id ≡ table.table.shared.table_id
+  pub waits : Waits table.layout seat.seat.me
+
+-- nothing is there
+abbrev pub IsNothing : Option World → Type 0
+IsNothing None = Unit {0}
+IsNothing (Some world) = ⊥

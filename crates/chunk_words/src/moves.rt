@@ -1,0 +1,99 @@
+//! What each atomic step does, as a value.
+use chunk_plain::{Layout, ServiceEvent, WriterCall};
+use commit_body::Patch;
+use page_geometry::ChunkHeader;
+
+/// A step with all that its seat keeps of it beside what it finds.
+#[derive(Clone, Copy)]
+pub enum Move<'a> {
+    Claim {
+        chunk: u32,
+        /// Its place in its page.
+        place: u8,
+    },
+    Stamp {
+        chunk: u32,
+        payload_size: u32,
+    },
+    Begin {
+        chunk: u32,
+        payload_size: u32,
+    },
+    SetHeader {
+        chunk: u32,
+        id: u32,
+        count: u16,
+        flags: u8,
+    },
+    Publish {
+        chunk: u32,
+        id: u32,
+        index: usize,
+        word: u64,
+    },
+    /// The writer takes the empty slot of a chunk that it holds.
+    Fetch {
+        chunk: u32,
+    },
+    Complete {
+        chunk: u32,
+        id: u32,
+    },
+    Call {
+        call: WriterCall<'a>,
+    },
+    /// The page word is read.
+    Peek {
+        chunk: u32,
+        place: u8,
+    },
+    /// The header word is read, and the look is noted.
+    Find {
+        layout: &'a Layout,
+        chunk: u32,
+        word: u64,
+    },
+    /// The header word of a complete chunk is read.
+    Know {
+        chunk: u32,
+    },
+    /// The look at a chunk that wasn't the one asked for is noted.
+    Miss {
+        chunk: u32,
+        word: u64,
+        header: ChunkHeader,
+    },
+    /// The service takes a chunk of the writer at this place.
+    Take {
+        writer: u16,
+        chunk: u32,
+        word: u64,
+        header: ChunkHeader,
+        payload_size: u32,
+    },
+    Load {
+        chunk: u32,
+        index: usize,
+        payload_size: u32,
+    },
+    /// The content of the chunk that was taken last joins the view.
+    Learn {
+        writer: u16,
+    },
+    /// The service takes the empty slot of a chunk that it reads.
+    Lift {
+        layout: &'a Layout,
+        chunk: u32,
+    },
+    Release {
+        chunk: u32,
+    },
+    Event {
+        event: ServiceEvent,
+    },
+    Commit {
+        header: ChunkHeader,
+        payload: &'a [u8],
+        patches: &'a [Patch],
+    },
+}

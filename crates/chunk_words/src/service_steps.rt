@@ -1,0 +1,261 @@
+//! The steps of the service's seat: each is one atomic step on the table.
+ghost use Rattle.std.specs.Prelude.{◌≡◌, ℕ, ◌+◌, ◌<◌, None, length, vec_len, IsSome, IfSome};
+ghost use Rattle.page_geometry.specs.Header.{packed, unpacked};
+ghost use Rattle.chunk_plain.specs.Setup.{spot};
+ghost use Rattle.chunk_plain.specs.Views.{taken_of};
+ghost use Rattle.chunk_plain.specs.Owned.{times};
+ghost use Rattle.chunk_plain.specs.Steps.{looks_at, learns, lets_go, notes, notes_commit};
+ghost use Rattle.chunk_plain.specs.Words.{event_of, committed_of};
+ghost use Rattle.chunk_words.specs.Knows.{Full, Known, Lifted, watch_of, service_of};
+ghost use Rattle.chunk_words.specs.Moves.{watch_for, watched, body_in, Peeks, Looks, ReadsHeader, Serves, Takes, Loads, Lifts};
+ghost use Rattle.chunk_words.specs.Places.{payload_words};
+ghost use Rattle.chunk_words.specs.Seats.{IsServiceIdle, IsService, HasLifted};
+
+use crate::host::HostTable;
+use crate::moves::Move;
+use crate::seats::ServiceSeat;
+use crate::steps::{make_and, make_load};
+use chunk_plain::ServiceEvent;
+use commit_body::Patch;
+use page_geometry::ChunkHeader;
+use page_geometry::masks::{release_mask, take_mask};
+
+impl HostTable {
+    /// Reads the page word of a chunk.
+    pub(crate) fn step_peek(&self, seat: &mut ServiceSeat, chunk: u32) -> u64
+        requires seat { seat.old.seat.table_id ≡ self.now.table.shared.table_id }
+        requires idle { IsServiceIdle seat.old.seat.me }
+        requires chunk { chunk < length self.now.layout.spots }
+        ensures seat { seat.new.seat.table_id ≡ seat.old.seat.table_id }
+        ensures me { Peeks chunk (spot self.now.layout chunk).place seat.old.seat.me result seat.new.seat.me }
+    {
+        let spot = self.layout.spot(chunk);
+        let step = Move::Peek {
+            chunk,
+            place: spot.place,
+        };
+        let table = &self.table;
+        make_load(&table.shared, &mut seat.seat, spot.page as usize, &step)
+    }
+
+    /// Reads the header word of a chunk whose page word was found, and notes the look.
+    pub(crate) fn step_find(&self, seat: &mut ServiceSeat, chunk: u32, word: u64) -> u64
+        requires seat { seat.old.seat.table_id ≡ self.now.table.shared.table_id }
+        requires idle { IsServiceIdle seat.old.seat.me }
+        requires chunk { chunk < length self.now.layout.spots }
+        requires watch { watch_of seat.old.seat.me.0 ≡ watch_for chunk word (spot self.now.layout chunk).place }
+        ensures seat { seat.new.seat.table_id ≡ seat.old.seat.table_id }
+        ensures me { Looks self.now.layout chunk word seat.old.seat.me result seat.new.seat.me }
+    {
+        let step = Move::Find {
+            layout: &self.layout,
+            chunk,
+            word,
+        };
+        let table = &self.table;
+        make_load(
+            &table.shared,
+            &mut seat.seat,
+            self.layout.header_index(chunk),
+            &step,
+        )
+    }
+
+    /// Reads the header word of a chunk that was found complete.
+    pub(crate) fn step_know(&self, seat: &mut ServiceSeat, chunk: u32) -> u64
+        requires seat { seat.old.seat.table_id ≡ self.now.table.shared.table_id }
+        requires idle { IsServiceIdle seat.old.seat.me }
+        requires chunk { chunk < length self.now.layout.spots }
+        requires watch { watch_of seat.old.seat.me.0 ≡ Full chunk }
+        ensures seat { seat.new.seat.table_id ≡ seat.old.seat.table_id }
+        ensures me { ReadsHeader chunk seat.old.seat.me result seat.new.seat.me }
+    {
+        let table = &self.table;
+        make_load(
+            &table.shared,
+            &mut seat.seat,
+            self.layout.header_index(chunk),
+            &Move::Know { chunk },
+        )
+    }
+
+    /// Notes the look at a complete chunk that wasn't the one asked for.
+    pub(crate) fn step_miss(
+        &self,
+        seat: &mut ServiceSeat,
+        chunk: u32,
+        word: u64,
+        header: ChunkHeader,
+    )
+        requires seat { seat.old.seat.table_id ≡ self.now.table.shared.table_id }
+        requires idle { IsServiceIdle seat.old.seat.me }
+        ensures seat { seat.new.seat.table_id ≡ seat.old.seat.table_id }
+        ensures me { Serves (λ view. looks_at view chunk word (packed header) None) seat.old.seat.me seat.new.seat.me }
+    {
+        let step = Move::Miss {
+            chunk,
+            word,
+            header,
+        };
+        let table = &self.table;
+        make_load(&table.shared, &mut seat.seat, self.spare, &step);
+    }
+
+    /// Takes a complete chunk whose header was found: its state is set, and its slot comes out.
+    pub(crate) fn step_take(
+        &self,
+        seat: &mut ServiceSeat,
+        writer: u16,
+        chunk: u32,
+        word: u64,
+        header: ChunkHeader,
+    )
+        requires seat { seat.old.seat.table_id ≡ self.now.table.shared.table_id }
+        requires idle { IsServiceIdle seat.old.seat.me }
+        requires chunk { chunk < length self.now.layout.spots }
+        requires writer { writer < length self.now.layout.writers }
+        requires watch { watch_of seat.old.seat.me.0 ≡ Known chunk (packed header) }
+        requires fields { unpacked (packed header) ≡ header }
+        requires writer_is { header.writer_id ≡ writer + 1 }
+        requires next { header.chunk_id ≡ (taken_of (service_of seat.old.seat.me.0) writer).count }
+        ensures seat { seat.new.seat.table_id ≡ seat.old.seat.table_id }
+        ensures me { Takes writer chunk (spot self.now.layout chunk).payload_size word header seat.old.seat.me seat.new.seat.me }
+    {
+        let spot = self.layout.spot(chunk);
+        let step = Move::Take {
+            writer,
+            chunk,
+            word,
+            header,
+            payload_size: spot.payload_size,
+        };
+        let table = &self.table;
+        make_and(
+            &table.shared,
+            &mut seat.seat,
+            spot.page as usize,
+            take_mask(spot.place),
+            &step,
+        );
+    }
+
+    /// Loads a payload word of a chunk.
+    pub(crate) fn step_load(&self, seat: &mut ServiceSeat, chunk: u32, index: usize) -> u64
+        requires seat { seat.old.seat.table_id ≡ self.now.table.shared.table_id }
+        requires service { IsService seat.old.seat.me }
+        requires chunk { chunk < length self.now.layout.spots }
+        requires index { index < payload_words self.now.layout chunk }
+        ensures seat { seat.new.seat.table_id ≡ seat.old.seat.table_id }
+        ensures me { Loads chunk index (spot self.now.layout chunk).payload_size seat.old.seat.me result seat.new.seat.me }
+    {
+        let spot = self.layout.spot(chunk);
+        let step = Move::Load {
+            chunk,
+            index,
+            payload_size: spot.payload_size,
+        };
+        let table = &self.table;
+        make_load(
+            &table.shared,
+            &mut seat.seat,
+            self.payload_index(chunk, index),
+            &step,
+        )
+    }
+
+    /// Notes the content of the chunk that was taken last of a writer, and puts its slot back.
+    pub(crate) fn step_learn(&self, seat: &mut ServiceSeat, writer: u16, chunk: u32)
+        requires seat { seat.old.seat.table_id ≡ self.now.table.shared.table_id }
+        requires writer { writer < length self.now.layout.writers }
+        requires out { HasLifted chunk (body_in seat.old.seat.me.1) seat.old.seat.me }
+        requires watch { watch_of seat.old.seat.me.0 ≡ Lifted chunk writer (length (taken_of (service_of seat.old.seat.me.0) writer).contents) (watched (watch_of seat.old.seat.me.0)) }
+        requires last { (taken_of (service_of seat.old.seat.me.0) writer).count ≡ length (taken_of (service_of seat.old.seat.me.0) writer).contents + 1 }
+        ensures seat { seat.new.seat.table_id ≡ seat.old.seat.table_id }
+        ensures me { Serves (λ view. learns view writer (watched (watch_of seat.old.seat.me.0))) seat.old.seat.me seat.new.seat.me }
+    {
+        let _ = chunk;
+        let table = &self.table;
+        make_load(
+            &table.shared,
+            &mut seat.seat,
+            self.spare,
+            &Move::Learn { writer },
+        );
+    }
+
+    /// Takes the slot of a chunk that the service reads.
+    pub(crate) fn step_lift(&self, seat: &mut ServiceSeat, chunk: u32)
+        requires seat { seat.old.seat.table_id ≡ self.now.table.shared.table_id }
+        requires idle { IsServiceIdle seat.old.seat.me }
+        requires reading { 0 < times chunk (service_of seat.old.seat.me.0).reading }
+        ensures seat { seat.new.seat.table_id ≡ seat.old.seat.table_id }
+        ensures me { Lifts self.now.layout chunk seat.old.seat.me seat.new.seat.me }
+    {
+        let step = Move::Lift {
+            layout: &self.layout,
+            chunk,
+        };
+        let table = &self.table;
+        make_load(&table.shared, &mut seat.seat, self.spare, &step);
+    }
+
+    /// Frees a chunk whose slot is out with a body in it, and puts the slot back.
+    pub(crate) fn step_release(&self, seat: &mut ServiceSeat, chunk: u32)
+        requires seat { seat.old.seat.table_id ≡ self.now.table.shared.table_id }
+        requires chunk { chunk < length self.now.layout.spots }
+        requires reading { 0 < times chunk (service_of seat.old.seat.me.0).reading }
+        requires body { IsSome (body_in seat.old.seat.me.1) }
+        requires size { IfSome (body_in seat.old.seat.me.1) (λ body. vec_len body.payload ≡ (spot self.now.layout chunk).payload_size) }
+        requires out { HasLifted chunk (body_in seat.old.seat.me.1) seat.old.seat.me }
+        ensures seat { seat.new.seat.table_id ≡ seat.old.seat.table_id }
+        ensures me { Serves (λ view. lets_go view chunk) seat.old.seat.me seat.new.seat.me }
+    {
+        let spot = self.layout.spot(chunk);
+        let table = &self.table;
+        make_and(
+            &table.shared,
+            &mut seat.seat,
+            spot.page as usize,
+            release_mask(spot.place),
+            &Move::Release { chunk },
+        );
+    }
+
+    /// Notes an event.
+    pub(crate) fn step_event(&self, seat: &mut ServiceSeat, event: ServiceEvent)
+        requires seat { seat.old.seat.table_id ≡ self.now.table.shared.table_id }
+        requires idle { IsServiceIdle seat.old.seat.me }
+        ensures seat { seat.new.seat.table_id ≡ seat.old.seat.table_id }
+        ensures me { Serves (λ view. notes view (event_of event)) seat.old.seat.me seat.new.seat.me }
+    {
+        let table = &self.table;
+        make_load(
+            &table.shared,
+            &mut seat.seat,
+            self.spare,
+            &Move::Event { event },
+        );
+    }
+
+    /// Notes a commit.
+    pub(crate) fn step_commit(
+        &self,
+        seat: &mut ServiceSeat,
+        header: ChunkHeader,
+        payload: &[u8],
+        patches: &[Patch],
+    )
+        requires seat { seat.old.seat.table_id ≡ self.now.table.shared.table_id }
+        requires idle { IsServiceIdle seat.old.seat.me }
+        ensures seat { seat.new.seat.table_id ≡ seat.old.seat.table_id }
+        ensures me { Serves (λ view. notes_commit view (committed_of header payload.now patches.now)) seat.old.seat.me seat.new.seat.me }
+    {
+        let step = Move::Commit {
+            header,
+            payload,
+            patches,
+        };
+        let table = &self.table;
+        make_load(&table.shared, &mut seat.seat, self.spare, &step);
+    }
+}

@@ -1,0 +1,155 @@
+//! The calls of a writer's seat. None tries again, waits or takes memory.
+ghost use Rattle.std.specs.Prelude.{◌≡◌, ℕ, ◌+◌, ◌*◌, ◌<◌, ◌≤◌, true, false, Some, None, length, vec_len, IfSome, IfNone};
+ghost use Rattle.trace_base.specs.declared.limits.TheConstants.{MAX_FRAGMENTS};
+ghost use Rattle.page_geometry.specs.declared.chunk_header.TheConstants.{MAX_FLAGS};
+ghost use Rattle.chunk_plain.specs.declared.tokens.TheConstants.{ID_LIMIT};
+ghost use Rattle.chunk_plain.specs.Setup.{spot, producer_of, IsChunkOf, id_at};
+ghost use Rattle.chunk_plain.specs.Payload.{sealed_to, HasFragments};
+ghost use Rattle.chunk_plain.specs.Drafts.{MayFollow, draft_at, head_at, published, ends_by, IsHolding};
+ghost use Rattle.chunk_plain.specs.Steps.{redrafts, with_head, completes, notes_call};
+ghost use Rattle.chunk_plain.specs.Words.{TriesClaim, HasClaimed, IsBegun, BeginsChunk, KeepsSealed, IsPublished, PublishesBytes, completed_content, call_of};
+ghost use Rattle.chunk_words.specs.Knows.{view_of};
+ghost use Rattle.chunk_words.specs.Moves.{Stores};
+ghost use Rattle.chunk_words.specs.Seats.{IsIdle};
+ghost use Rattle.chunk_words.specs.Sits.{Sits};
+
+use crate::host::HostTable;
+use crate::seats::WriterSeat;
+use chunk_plain::bytes::{pack, word_end};
+use chunk_plain::{Claimed, Held, WriterCall};
+use page_geometry::PageWord;
+
+impl HostTable {
+    /// None exactly where the page word that was found has the chunk's claim bit set.
+    pub fn claim_try(&self, seat: &mut WriterSeat, chunk: u32) -> Option<Claimed>
+        requires seat { Sits self.now seat.old }
+        requires chunk { IsChunkOf self.now.layout (producer_of self.now.layout seat.old.place) chunk }
+        ensures chunk { IfSome result (λ claimed. claimed.chunk ≡ chunk) }
+        ensures won { IfSome result (λ _. TriesClaim self.now.layout chunk true (view_of seat.old.seat.me.0) (view_of seat.new.seat.me.0)) }
+        ensures lost { IfNone result (TriesClaim self.now.layout chunk false (view_of seat.old.seat.me.0) (view_of seat.new.seat.me.0)) }
+        ensures seat { Sits self.now seat.new }
+        ensures place { seat.new.place ≡ seat.old.place }
+    {
+        let spot = self.layout.spot(chunk);
+        let found = self.step_claim(seat, chunk);
+        if PageWord(found).claimed(spot.place) {
+            None
+        } else {
+            Some(Claimed { chunk })
+        }
+    }
+
+    /// The header of the chunk is stored with count 0, and then its state is set.
+    pub fn begin(&self, seat: &mut WriterSeat, claimed: Claimed, id: u32) -> Held
+        requires seat { Sits self.now seat.old }
+        requires claimed { HasClaimed (view_of seat.old.seat.me.0) claimed.chunk }
+        requires id { id ≡ id_at self.now.layout seat.old.place (length (view_of seat.old.seat.me.0).begun) }
+        requires id_fits { id < ID_LIMIT }
+        ensures held { IsBegun self.now.layout claimed.chunk id result }
+        ensures view { BeginsChunk self.now.layout claimed.chunk (view_of seat.old.seat.me.0) (view_of seat.new.seat.me.0) }
+        ensures seat { Sits self.now seat.new }
+        ensures place { seat.new.place ≡ seat.old.place }
+    {
+        let Claimed { chunk } = claimed;
+        self.step_stamp(seat, chunk, id);
+        let mut body = self.body_out(&mut seat.seat, chunk);
+        self.step_begin(seat, chunk);
+        body.patches.clear();
+        Held { chunk, id, body }
+    }
+
+    /// Stores the header of a held chunk.
+    pub fn set_header(&self, seat: &mut WriterSeat, held: &mut Held, count: u16, flags: u8)
+        requires seat { Sits self.now seat.old }
+        requires held { IsHolding (view_of seat.old.seat.me.0) held.old.chunk held.old.id }
+        requires count_fits { count ≤ MAX_FRAGMENTS }
+        requires flags_fit { flags ≤ MAX_FLAGS }
+        requires follows { MayFollow (head_at (view_of seat.old.seat.me.0) held.old.id) (record { count = count; flags = flags }) }
+        requires reads { HasFragments (published (view_of seat.old.seat.me.0) held.old.id)
+            (ends_by (view_of seat.old.seat.me.0) held.old.id count) }
+        requires inside { sealed_to (ends_by (view_of seat.old.seat.me.0) held.old.id count)
+            ≤ (spot self.now.layout held.old.chunk).payload_size }
+        ensures held { held.new ≡ held.old }
+        ensures view { view_of seat.new.seat.me.0 ≡ redrafts (view_of seat.old.seat.me.0) held.old.chunk held.old.id
+            (with_head (draft_at (view_of seat.old.seat.me.0) held.old.id) (record { count = count; flags = flags })
+            (ends_by (view_of seat.old.seat.me.0) held.old.id count)) }
+        ensures seat { Sits self.now seat.new }
+        ensures place { seat.new.place ≡ seat.old.place }
+    {
+        self.step_header(seat, held.chunk, held.id, count, flags);
+    }
+
+    /// Stores each payload word that has a byte of this range of the held payload.
+    pub fn publish(&self, seat: &mut WriterSeat, held: &mut Held, from: u32, to: u32)
+        requires seat { Sits self.now seat.old }
+        requires held { IsHolding (view_of seat.old.seat.me.0) held.old.chunk held.old.id }
+        requires size { vec_len held.old.body.payload ≡ (spot self.now.layout held.old.chunk).payload_size }
+        requires order { from ≤ to }
+        requires inside { to ≤ (spot self.now.layout held.old.chunk).payload_size }
+        requires kept { KeepsSealed (view_of seat.old.seat.me.0) held.old.id held.old.body.payload.items }
+        ensures held { held.new ≡ held.old }
+        ensures view { PublishesBytes held.old.chunk held.old.id from to held.old.body.payload.items
+            (view_of seat.old.seat.me.0) (view_of seat.new.seat.me.0) }
+        ensures seat { Sits self.now seat.new }
+        ensures place { seat.new.place ≡ seat.old.place }
+    {
+        let first = from as usize / 8;
+        let end = word_end(from, to);
+        self.store_words(seat, held.chunk, held.id, first, end, &held.body.payload);
+    }
+
+    /// Stores the payload words of a held chunk from one place on, up to another one: a step for each.
+    fn store_words(
+        &self,
+        seat: &mut WriterSeat,
+        chunk: u32,
+        id: u32,
+        first: usize,
+        end: usize,
+        copy: &[u8],
+    )
+        requires seat { seat.old.seat.table_id ≡ self.now.table.shared.table_id }
+        requires idle { IsIdle seat.old.place seat.old.seat.me }
+        requires chunk { chunk < length self.now.layout.spots }
+        requires held { IsHolding (view_of seat.old.seat.me.0) chunk id }
+        requires size { length copy.now ≡ (spot self.now.layout chunk).payload_size }
+        requires order { first ≤ end }
+        requires inside { 8 * end < length copy.now + 8 }
+        requires kept { KeepsSealed (view_of seat.old.seat.me.0) id copy.now }
+        ensures seat { seat.new.seat.table_id ≡ seat.old.seat.table_id }
+        ensures place { seat.new.place ≡ seat.old.place }
+        ensures me { Stores chunk id first end copy.now seat.old.seat.me seat.new.seat.me }
+    {
+        for index in first..end {
+            let word = pack(copy, 8 * index);
+            self.step_publish(seat, chunk, id, index, word);
+        }
+    }
+
+    /// The body goes back into its slot, and then the state is set.
+    pub fn complete(&self, seat: &mut WriterSeat, held: Held)
+        requires seat { Sits self.now seat.old }
+        requires held { IsHolding (view_of seat.old.seat.me.0) held.chunk held.id }
+        requires size { vec_len held.body.payload ≡ (spot self.now.layout held.chunk).payload_size }
+        requires published { IsPublished (view_of seat.old.seat.me.0) held.id held.body.payload.items }
+        ensures view { view_of seat.new.seat.me.0 ≡ completes (view_of seat.old.seat.me.0) held.chunk held.id
+            (completed_content seat.old.place (view_of seat.old.seat.me.0) held) }
+        ensures seat { Sits self.now seat.new }
+        ensures place { seat.new.place ≡ seat.old.place }
+    {
+        let Held { chunk, id, body } = held;
+        self.step_fetch(seat, chunk, id);
+        self.body_in(&mut seat.seat, chunk, body);
+        self.step_complete(seat, chunk, id);
+    }
+
+    /// The call joins the view.
+    pub fn note_call(&self, seat: &mut WriterSeat, call: WriterCall<'_>)
+        requires seat { Sits self.now seat.old }
+        ensures view { view_of seat.new.seat.me.0 ≡ notes_call (view_of seat.old.seat.me.0) (call_of call.entry) }
+        ensures seat { Sits self.now seat.new }
+        ensures place { seat.new.place ≡ seat.old.place }
+    {
+        self.step_call(seat, call);
+    }
+}

@@ -1,0 +1,249 @@
+//! The steps of a writer's seat: each is one atomic step on the table.
+ghost use Rattle.std.specs.Prelude.{◌≡◌, ℕ, ◌+◌, ◌*◌, ◌<◌, ◌≤◌, Some, None, [], ◌∷◌, length, vec_len, IsSome, IfSome};
+ghost use Rattle.trace_base.specs.declared.limits.TheConstants.{MAX_FRAGMENTS};
+ghost use Rattle.page_geometry.specs.declared.chunk_header.TheConstants.{MAX_FLAGS};
+ghost use Rattle.chunk_plain.specs.declared.tokens.TheConstants.{ID_LIMIT};
+ghost use Rattle.chunk_plain.specs.Setup.{spot};
+ghost use Rattle.chunk_plain.specs.Payload.{sealed_to, HasFragments};
+ghost use Rattle.chunk_plain.specs.Drafts.{MayFollow, draft_at, head_at, published, ends_by, IsHolding};
+ghost use Rattle.chunk_plain.specs.Plain.{StandsWhole};
+ghost use Rattle.chunk_plain.specs.Words.{HasClaimed, call_of};
+ghost use Rattle.chunk_words.specs.Knows.{view_of};
+ghost use Rattle.chunk_words.specs.Moves.{Claims, Stamps, Begins, SetsHeader, Publishes, KeepsWord, Fetches, Completes, Notes, body_in};
+ghost use Rattle.chunk_words.specs.Places.{payload_words};
+ghost use Rattle.chunk_words.specs.Seats.{IsIdle, HasOut};
+
+use crate::host::HostTable;
+use crate::moves::Move;
+use crate::seats::WriterSeat;
+use crate::steps::{make_load, make_or, make_store};
+use chunk_plain::WriterCall;
+use page_geometry::ChunkHeader;
+use page_geometry::masks::{begin_mask, claim_mask, complete_mask};
+
+impl HostTable {
+    /// Sets the claim bit of a chunk, and the layout of its page.
+    pub(crate) fn step_claim(&self, seat: &mut WriterSeat, chunk: u32) -> u64
+        requires seat { seat.old.seat.table_id ≡ self.now.table.shared.table_id }
+        requires idle { IsIdle seat.old.place seat.old.seat.me }
+        requires chunk { chunk < length self.now.layout.spots }
+        ensures seat { seat.new.seat.table_id ≡ seat.old.seat.table_id }
+        ensures place { seat.new.place ≡ seat.old.place }
+        ensures me { Claims chunk (spot self.now.layout chunk).place seat.old.seat.me result seat.new.seat.me }
+    {
+        let spot = self.layout.spot(chunk);
+        let mask = claim_mask(spot.place, spot.layout);
+        let step = Move::Claim {
+            chunk,
+            place: spot.place,
+        };
+        let table = &self.table;
+        make_or(
+            &table.shared,
+            &mut seat.seat,
+            spot.page as usize,
+            mask,
+            &step,
+        )
+    }
+
+    /// Stores the header of a claimed chunk, with count 0, and takes its slot.
+    pub(crate) fn step_stamp(&self, seat: &mut WriterSeat, chunk: u32, id: u32)
+        requires seat { seat.old.seat.table_id ≡ self.now.table.shared.table_id }
+        requires idle { IsIdle seat.old.place seat.old.seat.me }
+        requires place { seat.old.place < length self.now.layout.writers }
+        requires chunk { chunk < length self.now.layout.spots }
+        requires claimed { HasClaimed (view_of seat.old.seat.me.0) chunk }
+        requires unstamped { (view_of seat.old.seat.me.0).stamped ≡ None }
+        requires id { id ≡ length (view_of seat.old.seat.me.0).begun }
+        requires id_fits { id < ID_LIMIT }
+        ensures seat { seat.new.seat.table_id ≡ seat.old.seat.table_id }
+        ensures place { seat.new.place ≡ seat.old.place }
+        ensures me { Stamps chunk (spot self.now.layout chunk).payload_size seat.old.seat.me seat.new.seat.me }
+    {
+        let spot = self.layout.spot(chunk);
+        let header = ChunkHeader {
+            chunk_id: id,
+            writer_id: seat.place + 1,
+            count: 0,
+            flags: 0,
+        };
+        let step = Move::Stamp {
+            chunk,
+            payload_size: spot.payload_size,
+        };
+        let table = &self.table;
+        make_store(
+            &table.shared,
+            &mut seat.seat,
+            self.layout.header_index(chunk),
+            header.pack(),
+            &step,
+        );
+    }
+
+    /// Begins a chunk whose header is stored and whose slot is out, and puts the slot back empty.
+    pub(crate) fn step_begin(&self, seat: &mut WriterSeat, chunk: u32)
+        requires seat { seat.old.seat.table_id ≡ self.now.table.shared.table_id }
+        requires out { HasOut seat.old.place chunk None seat.old.seat.me }
+        requires chunk { chunk < length self.now.layout.spots }
+        requires stamped { (view_of seat.old.seat.me.0).stamped ≡ Some (record { chunk = chunk; id = length (view_of seat.old.seat.me.0).begun }) }
+        ensures seat { seat.new.seat.table_id ≡ seat.old.seat.table_id }
+        ensures place { seat.new.place ≡ seat.old.place }
+        ensures me { Begins chunk (spot self.now.layout chunk).payload_size seat.old.seat.me seat.new.seat.me }
+    {
+        let spot = self.layout.spot(chunk);
+        let step = Move::Begin {
+            chunk,
+            payload_size: spot.payload_size,
+        };
+        let table = &self.table;
+        make_or(
+            &table.shared,
+            &mut seat.seat,
+            spot.page as usize,
+            begin_mask(spot.place),
+            &step,
+        );
+    }
+
+    /// Stores the header of a held chunk.
+    pub(crate) fn step_header(
+        &self,
+        seat: &mut WriterSeat,
+        chunk: u32,
+        id: u32,
+        count: u16,
+        flags: u8,
+    )
+        requires seat { seat.old.seat.table_id ≡ self.now.table.shared.table_id }
+        requires idle { IsIdle seat.old.place seat.old.seat.me }
+        requires place { seat.old.place < length self.now.layout.writers }
+        requires chunk { chunk < length self.now.layout.spots }
+        requires held { IsHolding (view_of seat.old.seat.me.0) chunk id }
+        requires count_fits { count ≤ MAX_FRAGMENTS }
+        requires flags_fit { flags ≤ MAX_FLAGS }
+        requires follows { MayFollow (head_at (view_of seat.old.seat.me.0) id) (record { count = count; flags = flags }) }
+        requires reads { HasFragments (published (view_of seat.old.seat.me.0) id) (ends_by (view_of seat.old.seat.me.0) id count) }
+        requires inside { sealed_to (ends_by (view_of seat.old.seat.me.0) id count) ≤ (spot self.now.layout chunk).payload_size }
+        ensures seat { seat.new.seat.table_id ≡ seat.old.seat.table_id }
+        ensures place { seat.new.place ≡ seat.old.place }
+        ensures me { SetsHeader chunk id (record { count = count; flags = flags }) seat.old.seat.me seat.new.seat.me }
+    {
+        let header = ChunkHeader {
+            chunk_id: id,
+            writer_id: seat.place + 1,
+            count,
+            flags,
+        };
+        let step = Move::SetHeader {
+            chunk,
+            id,
+            count,
+            flags,
+        };
+        let table = &self.table;
+        make_store(
+            &table.shared,
+            &mut seat.seat,
+            self.layout.header_index(chunk),
+            header.pack(),
+            &step,
+        );
+    }
+
+    /// Stores a payload word of a held chunk.
+    pub(crate) fn step_publish(
+        &self,
+        seat: &mut WriterSeat,
+        chunk: u32,
+        id: u32,
+        index: usize,
+        word: u64,
+    )
+        requires seat { seat.old.seat.table_id ≡ self.now.table.shared.table_id }
+        requires idle { IsIdle seat.old.place seat.old.seat.me }
+        requires chunk { chunk < length self.now.layout.spots }
+        requires held { IsHolding (view_of seat.old.seat.me.0) chunk id }
+        requires index { index < payload_words self.now.layout chunk }
+        requires kept { KeepsWord (draft_at (view_of seat.old.seat.me.0) id) index word }
+        ensures seat { seat.new.seat.table_id ≡ seat.old.seat.table_id }
+        ensures place { seat.new.place ≡ seat.old.place }
+        ensures me { Publishes chunk id index word seat.old.seat.me seat.new.seat.me }
+    {
+        let step = Move::Publish {
+            chunk,
+            id,
+            index,
+            word,
+        };
+        let table = &self.table;
+        make_store(
+            &table.shared,
+            &mut seat.seat,
+            self.payload_index(chunk, index),
+            word,
+            &step,
+        );
+    }
+
+    /// Takes the slot of a held chunk.
+    pub(crate) fn step_fetch(&self, seat: &mut WriterSeat, chunk: u32, id: u32)
+        requires seat { seat.old.seat.table_id ≡ self.now.table.shared.table_id }
+        requires idle { IsIdle seat.old.place seat.old.seat.me }
+        requires chunk { chunk < length self.now.layout.spots }
+        requires held { IsHolding (view_of seat.old.seat.me.0) chunk id }
+        ensures seat { seat.new.seat.table_id ≡ seat.old.seat.table_id }
+        ensures place { seat.new.place ≡ seat.old.place }
+        ensures me { Fetches chunk seat.old.seat.me seat.new.seat.me }
+    {
+        let _ = id;
+        let table = &self.table;
+        make_load(
+            &table.shared,
+            &mut seat.seat,
+            self.layout.header_index(chunk),
+            &Move::Fetch { chunk },
+        );
+    }
+
+    /// Completes a chunk whose slot is out with its body in it, and puts the slot back.
+    pub(crate) fn step_complete(&self, seat: &mut WriterSeat, chunk: u32, id: u32)
+        requires seat { seat.old.seat.table_id ≡ self.now.table.shared.table_id }
+        requires chunk { chunk < length self.now.layout.spots }
+        requires held { IsHolding (view_of seat.old.seat.me.0) chunk id }
+        requires body { IsSome (body_in seat.old.seat.me.1) }
+        requires out { HasOut seat.old.place chunk (body_in seat.old.seat.me.1) seat.old.seat.me }
+        requires whole { IfSome (body_in seat.old.seat.me.1) (λ body. StandsWhole (spot self.now.layout chunk).payload_size (view_of seat.old.seat.me.0) id body) }
+        ensures seat { seat.new.seat.table_id ≡ seat.old.seat.table_id }
+        ensures place { seat.new.place ≡ seat.old.place }
+        ensures me { IfSome (body_in seat.old.seat.me.1) (λ body. Completes chunk id body seat.old.seat.me seat.new.seat.me) }
+    {
+        let spot = self.layout.spot(chunk);
+        let table = &self.table;
+        make_or(
+            &table.shared,
+            &mut seat.seat,
+            spot.page as usize,
+            complete_mask(spot.place),
+            &Move::Complete { chunk, id },
+        );
+    }
+
+    /// Notes a call.
+    pub(crate) fn step_call(&self, seat: &mut WriterSeat, call: WriterCall<'_>)
+        requires seat { seat.old.seat.table_id ≡ self.now.table.shared.table_id }
+        requires idle { IsIdle seat.old.place seat.old.seat.me }
+        ensures seat { seat.new.seat.table_id ≡ seat.old.seat.table_id }
+        ensures place { seat.new.place ≡ seat.old.place }
+        ensures me { Notes (call_of call.entry) seat.old.seat.me seat.new.seat.me }
+    {
+        let table = &self.table;
+        make_load(
+            &table.shared,
+            &mut seat.seat,
+            self.spare,
+            &Move::Call { call },
+        );
+    }
+}
