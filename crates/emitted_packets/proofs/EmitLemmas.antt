@@ -343,7 +343,7 @@ finished_on account bytes ends opens h writing one = by_packets account.packets 
         by_levels packet older flushed w.level w.outer h unfinished one w.levels w.bytes_are w.places
 
 -- what a list holds once all of it was lent
-pub put_back : (items new : List ℕ) (count : ℕ) → count ≡ length items → length new ≡ length items → take count (new ++ drop (length new) items) ≡ new
+pub put_back : {A : Type 0} (items new : List A) (count : ℕ) → count ≡ length items → length new ≡ length items → take count (new ++ drop (length new) items) ≡ new
 put_back items new count all same =
-    ap (λ (xs : List ℕ). take count (new ++ xs)) (drop_all (length new) items (omega (arith, same)))
+    ap (λ xs. take count (new ++ xs)) (drop_all (length new) items (omega (arith, same)))
     ∙ ap (take count) (append-nil new) ∙ take_all count new (omega (arith, all, same))
