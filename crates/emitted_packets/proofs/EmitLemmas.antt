@@ -30,11 +30,11 @@ emitted-cons packet older =
     ∙ ap (map packet_encoding) (filter-append (λ (p : Packet). p.finished) (reverse older) (packet ∷ []))
     ∙ map-append packet_encoding (filter (λ (p : Packet). p.finished) (reverse older)) (cond packet.finished (packet ∷ []) [])
 
-emitted_open : (packet : Packet) (older : List Packet) → packet.finished ≡ false → Emitted (packet ∷ older) ≡ Emitted older
+pub emitted_open : (packet : Packet) (older : List Packet) → packet.finished ≡ false → Emitted (packet ∷ older) ≡ Emitted older
 emitted_open packet older e =
     emitted-cons packet older ∙ ap (λ (b : Bool). Emitted older ++ map packet_encoding (cond b (packet ∷ []) [])) e ∙ append-nil (Emitted older)
 
-emitted_more : (packet : Packet) (older : List Packet) → packet.finished ≡ true → Emitted (packet ∷ older) ≡ Emitted older ++ packet_encoding packet ∷ []
+pub emitted_more : (packet : Packet) (older : List Packet) → packet.finished ≡ true → Emitted (packet ∷ older) ≡ Emitted older ++ packet_encoding packet ∷ []
 emitted_more packet older e = emitted-cons packet older ∙ ap (λ (b : Bool). Emitted older ++ map packet_encoding (cond b (packet ∷ []) [])) e
 
 -- ---- a packet that goes on
@@ -269,7 +269,7 @@ flushed_on account bytes ends opens h = record {
 
 -- ---- a packet is finished
 
-pieces_append : (a b : List ℕ) (start : ℕ) (ends : List ℕ) → start ≤ length a → AreEnds (length a) start ends → pieces (a ++ b) start ends ≡ pieces a start ends
+pub pieces_append : (a b : List ℕ) (start : ℕ) (ends : List ℕ) → start ≤ length a → AreEnds (length a) start ends → pieces (a ++ b) start ends ≡ pieces a start ends
 pieces_append a b start [] low h = refl
 pieces_append a b start (end ∷ ends) low h =
     let here : take (end - start) (drop start (a ++ b)) ≡ take (end - start) (drop start a) =
@@ -343,7 +343,7 @@ finished_on account bytes ends opens h writing one = by_packets account.packets 
         by_levels packet older flushed w.level w.outer h unfinished one w.levels w.bytes_are w.places
 
 -- what a list holds once all of it was lent
-pub put_back : (items new : List ℕ) (count : ℕ) → count ≡ length items → length new ≡ length items → take count (new ++ drop (length new) items) ≡ new
+pub put_back : {A : Type 0} (items new : List A) (count : ℕ) → count ≡ length items → length new ≡ length items → take count (new ++ drop (length new) items) ≡ new
 put_back items new count all same =
-    ap (λ (xs : List ℕ). take count (new ++ xs)) (drop_all (length new) items (omega (arith, same)))
+    ap (λ xs. take count (new ++ xs)) (drop_all (length new) items (omega (arith, same)))
     ∙ ap (take count) (append-nil new) ∙ take_all count new (omega (arith, all, same))

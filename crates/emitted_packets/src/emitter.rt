@@ -65,6 +65,7 @@ fn push_nested(bytes: &mut Vec<u8>, field: u32) -> Result<u32, AllocError>
 impl Emitter {
     ghost use Rattle.std.specs.Prelude.{◌≡◌, ◌≢◌, ◌≤◌, ◌<◌, ◌+◌, ◌*◌, ◌^◌, [], List, length, true, false, OnOk};
     ghost use Rattle.trace_model.specs.Calls as calls;
+    ghost use Rattle.trace_model.specs.Encoding.{bytes_field, nested_tag, number_field};
     ghost use Rattle.trace_base.specs.declared.limits.TheConstants.{MAX_FIELD, MAX_OPEN_HOLES, MAX_PACKET_LEN};
     ghost use Rattle.trace_model.specs.Packets.{Account, is_writing, noted, nothing_yet, open_count};
     ghost use Rattle.emitted_packets.specs.Emitting.{IsEmitting};
@@ -72,7 +73,8 @@ impl Emitter {
     #[tactic(auto, using(crate::proofs::EmitLemmas::emitting_none))]
     /// A writer before its first call.
     pub fn new(alloc: Global) -> Self
-        ensures { IsEmitting nothing_yet result.bytes.items result.ends.items result.opens.items }
+        ensures emitting { IsEmitting nothing_yet result.bytes.items result.ends.items result.opens.items }
+        ensures empty { (result.bytes.items ≡ []) × (result.ends.items ≡ []) }
     {
         Emitter {
             bytes: Vec::new(alloc),
@@ -85,9 +87,11 @@ impl Emitter {
     #[tactic(auto, using(crate::proofs::EmitLemmas::number_on))]
     pub fn number(&mut self, field: u32, value: u64) -> Result<(), AllocError>
         requires field { (1 ≤ field) × (field ≤ MAX_FIELD) }
-        ensures { OnOk result ((account : Account)
+        ensures emitting { OnOk result ((account : Account)
             → IsEmitting account self.old.bytes.items self.old.ends.items self.old.opens.items → is_writing account.packets ≡ true
             → IsEmitting (noted account (calls.Number field value)) self.new.bytes.items self.new.ends.items self.new.opens.items) }
+        ensures long { OnOk result (length self.new.bytes.items ≡ length self.old.bytes.items + length (number_field field value)) }
+        ensures ends { OnOk result (self.new.ends.items ≡ self.old.ends.items) }
     {
         self.bytes
             .extend_from_slice(head_number(field, value).as_slice())
@@ -98,10 +102,12 @@ impl Emitter {
     pub fn bytes(&mut self, field: u32, text: &[u8], times: u32) -> Result<(), AllocError>
         requires field { (1 ≤ field) × (field ≤ MAX_FIELD) }
         requires most { times * length text.now ≤ MAX_PACKET_LEN }
-        ensures { OnOk result ((account : Account)
+        ensures emitting { OnOk result ((account : Account)
             → IsEmitting account self.old.bytes.items self.old.ends.items self.old.opens.items → is_writing account.packets ≡ true
             → IsEmitting (noted account
             (calls.Bytes field text.now times)) self.new.bytes.items self.new.ends.items self.new.opens.items) }
+        ensures long { OnOk result (length self.new.bytes.items ≡ length self.old.bytes.items + length (bytes_field field text.now times)) }
+        ensures ends { OnOk result (self.new.ends.items ≡ self.old.ends.items) }
     {
         push_field(&mut self.bytes, field, text, times)
     }
@@ -112,9 +118,11 @@ impl Emitter {
         requires field { (1 ≤ field) × (field ≤ MAX_FIELD) }
         requires short { length self.old.bytes.items ≤ 2 ^ 28 }
         requires room { length self.old.opens.items < MAX_OPEN_HOLES }
-        ensures { OnOk result ((account : Account)
+        ensures emitting { OnOk result ((account : Account)
             → IsEmitting account self.old.bytes.items self.old.ends.items self.old.opens.items → is_writing account.packets ≡ true
             → IsEmitting (noted account (calls.Nested field)) self.new.bytes.items self.new.ends.items self.new.opens.items) }
+        ensures long { OnOk result (length self.new.bytes.items ≡ length self.old.bytes.items + (length (nested_tag field) + 4)) }
+        ensures ends { OnOk result (self.new.ends.items ≡ self.old.ends.items) }
     {
         let place = push_nested(&mut self.bytes, field)?;
         self.opens.push(place);
@@ -127,9 +135,11 @@ impl Emitter {
         requires short { length self.old.bytes.items ≤ 2 ^ 28 }
         requires nested { self.old.opens.items ≢ [] }
         requires writing { (account : Account) × IsEmitting account self.old.bytes.items self.old.ends.items self.old.opens.items × (is_writing account.packets ≡ true) }
-        ensures { (account : Account) → IsEmitting account self.old.bytes.items self.old.ends.items self.old.opens.items
+        ensures emitting { (account : Account) → IsEmitting account self.old.bytes.items self.old.ends.items self.old.opens.items
             → is_writing account.packets ≡ true
             → IsEmitting (noted account calls.Ended) self.new.bytes.items self.new.ends.items self.new.opens.items }
+        ensures long { length self.new.bytes.items ≡ length self.old.bytes.items }
+        ensures ends { self.new.ends.items ≡ self.old.ends.items }
     {
         if let Some(offset) = self.opens.pop() {
             let place = offset as usize;
@@ -142,10 +152,12 @@ impl Emitter {
     #[tactic(auto, using(crate::proofs::EmitLemmas::finished_on))]
     pub fn finished(&mut self) -> Result<(), AllocError>
         requires { length self.old.bytes.items ≤ 2 ^ 28 }
-        ensures { OnOk result ((account : Account)
+        ensures emitting { OnOk result ((account : Account)
             → IsEmitting account self.old.bytes.items self.old.ends.items self.old.opens.items → is_writing account.packets ≡ true
             → open_count account.packets ≡ 1
             → IsEmitting (noted account calls.Finished) self.new.bytes.items self.new.ends.items self.new.opens.items) }
+        ensures long { OnOk result (length self.new.bytes.items ≡ length self.old.bytes.items) }
+        ensures ends { OnOk result (length self.new.ends.items ≡ length self.old.ends.items + 1) }
     {
         let end = self.bytes.len() as u32;
         match self.ends.push(end) {

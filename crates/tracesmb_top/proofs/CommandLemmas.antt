@@ -6,6 +6,7 @@ use Rattle.command_words.specs.declared.command.Command.{Command}
 use Rattle.command_words.specs.declared.command.Command.TheVariants.{Replay, Read, Check, Gen}
 use Rattle.tracesmb_top.specs.Words.{Ask, ReadsInput}
 use Rattle.tracesmb_top.specs.Commands.{IsGiven, Refuses, Writes}
+use Rattle.tracesmb_top.proofs.CheckLemmas.{checked_unrefused}
 use Rattle.tracesmb_top.proofs.DeliverLemmas.{delivery_unrefused}
 use Rattle.tracesmb_top.proofs.WordLemmas.{same_command}
 
@@ -15,7 +16,7 @@ written_unrefused Replay given bytes line delivery refused =
 written_unrefused Read given bytes line summary refusal =
     let once = traces_read_once 0 given summary.packets refusal.packets None (Some refusal.fault) summary.reads refusal.reads in
     let none : None ≡ Some refusal.fault = once.1 in cc
-written_unrefused Check given bytes line writes refused = refused
+written_unrefused Check given bytes line writes refused = checked_unrefused given bytes line writes refused
 written_unrefused (Gen number writers packets) given bytes line writes refused = refused
 
 -- a command that refuses reads the input

@@ -4,3 +4,4 @@ pub mod TraceLemmas
 pub mod DeliverLemmas
 pub mod WordLemmas
 pub mod CommandLemmas
+pub mod CheckLemmas

@@ -8,6 +8,7 @@ use Rattle.command_words.specs.declared.command.Command.{Command}
 use Rattle.command_words.specs.declared.command.Command.TheVariants.{Replay, Read, Check, Gen}
 use Rattle.tracesmb_top.specs.declared.commands.CommandFault.{CommandFault}
 use Rattle.tracesmb_top.specs.declared.commands.CommandFault.TheVariants.{OutOfMemory, Refused, WriteFault}
+use Rattle.tracesmb_top.specs.Checked.{IsChecked, IsCheckRefusal}
 use Rattle.tracesmb_top.specs.Refusals.{refusal_of, IsTraceRefusal}
 use Rattle.tracesmb_top.specs.Trace.{IsDelivery}
 use Rattle.tracesmb_top.specs.Words.{ReadsInput}
@@ -17,19 +18,21 @@ abbrev pub IsGiven : Command → Option (List ℕ) → List ℕ → Type 0
 IsGiven command left given = ReadsInput command → IfSome left (λ told. given ≡ told)
 
 -- The line says why the command refuses what it was given: `replay`, because of a scenario's first fault or its first line
--- that isn't built; `read`, because of a trace's first fault.
+-- that isn't built; `read`, because of a trace's first fault; `check`, because of its scenario's or its trace's, or since it
+-- has no trace.
 abbrev pub Refuses : Command → List ℕ → List ℕ → Type 0
 Refuses Replay given line = refusal_of given ≡ Some line
 Refuses Read given line = IsTraceRefusal given line
+Refuses Check given line = IsCheckRefusal given line
 Refuses other given line = ⊥
 
 -- The bytes are what the command writes for what it was given: `replay`, the trace of a scenario, by the delivery theorem;
--- `read`, the summary of a trace; `gen`, the workload of its numbers.
+-- `read`, the summary of a trace; `check`, the verdict on a trace by a scenario; `gen`, the workload of its numbers.
 abbrev pub Writes : Command → List ℕ → List ℕ → Type 0
 Writes Replay given bytes = IsDelivery given bytes
 Writes Read given bytes = IsSummaryOf given bytes
 Writes (Gen number writers packets) given bytes = bytes ≡ workload number writers packets
-Writes Check given bytes = ⊥
+Writes Check given bytes = IsChecked given bytes
 
 -- the trace took all that the command writes, and nothing else
 pub record Wrote (command : Command) (given : List ℕ) (old new : Intake) : Type 0 where

@@ -1,18 +1,12 @@
 -- The words that the program has a command for.
 use Rattle.std.specs.Prelude.{ℕ, List}
 use Rattle.command_words.specs.declared.command.Command.{Command}
-use Rattle.command_words.specs.declared.command.Command.TheVariants.{Check, Gen}
+use Rattle.command_words.specs.declared.command.Command.TheVariants.{Gen}
 use Rattle.command_words.specs.Commands.{Spells}
 
--- the command is built; `check` isn't yet
-abbrev pub IsBuilt : Command → Type 0
-IsBuilt Check = ⊥
-IsBuilt other = Unit {0}
-
--- the words ask for the command: they are its written form, and it is built
+-- the words ask for the command: they are its written form
 pub record Ask (words : List (List ℕ)) (command : Command) : Type 0 where
   pub spell : Spells words command
-  pub built : IsBuilt command
 
 -- the words ask for no command
 abbrev pub AskForNothing : List (List ℕ) → Type 0

@@ -2,13 +2,13 @@
 ghost use Rattle.std.specs.Prelude.{◌≡◌, ℕ, ◌≤◌, List, length, IfErr};
 ghost use Rattle.command_words.specs.Commands.{IsWithinLimits};
 ghost use Rattle.tracesmb_top.specs.Commands.{CountsWrites, Ended};
-ghost use Rattle.tracesmb_top.specs.Words.{IsBuilt};
 
+use crate::check::{CheckingFault, verdict_for, verdict_line};
 use crate::deliver::{DeliverFault, deliver};
 use crate::reading::{ReadingFault, read_built};
 use crate::say::trace_fault_line;
 use arrayvec::ArrayVec;
-use byte_io::put::WriteFault;
+use byte_io::put::{WriteFault, put_all};
 use byte_io::traits::Sink;
 use command_words::Command;
 use std::alloc::Global;
@@ -62,6 +62,23 @@ pub fn read<T: Sink>(alloc: Global, records: &[u8], out: &mut T) -> Result<(), C
     }
 }
 
+/// Checks a trace against a scenario, and writes the verdict.
+pub fn check<T: Sink>(alloc: Global, input: &[u8], out: &mut T) -> Result<(), CommandFault>
+    requires { length input.now ≤ MAX_INPUT }
+    ensures ends { Ended Command.Check input.now result (T.taken out.old) (T.taken out.new) }
+    ensures count { CountsWrites result (T.faults out.old) (T.faults out.new) }
+{
+    let verdict = match verdict_for(alloc, input) {
+        Ok(verdict) => verdict,
+        Err(CheckingFault::OutOfMemory) => return Err(CommandFault::OutOfMemory),
+        Err(CheckingFault::Refused { line }) => return Err(CommandFault::Refused { line }),
+    };
+    match put_all(out, &verdict_line(verdict)) {
+        Ok(()) => Ok(()),
+        Err(WriteFault) => Err(CommandFault::WriteFault),
+    }
+}
+
 /// Writes the workload of a number, whatever it is given. It takes no memory.
 pub fn generate<T: Sink>(
     number: u64,
@@ -87,7 +104,6 @@ pub fn perform<T: Sink>(
     given: &[u8],
     trace: &mut T,
 ) -> Result<(), CommandFault>
-    requires built { IsBuilt command }
     requires limits { IsWithinLimits command }
     requires short { length given.now ≤ MAX_INPUT }
     ensures ends { Ended command given.now result (T.taken trace.old) (T.taken trace.new) }
@@ -101,6 +117,6 @@ pub fn perform<T: Sink>(
             writers,
             packets,
         } => generate(number, writers, packets, trace),
-        Command::Check => unreachable!(),
+        Command::Check => check(alloc, given, trace),
     }
 }

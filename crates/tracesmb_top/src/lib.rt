@@ -4,6 +4,7 @@
 #![tactic(auto)]
 
 mod built;
+mod check;
 mod commands;
 mod deliver;
 mod input;

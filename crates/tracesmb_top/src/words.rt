@@ -6,17 +6,12 @@ ghost use Rattle.tracesmb_top.specs.Words.{Ask, AskForNothing, ReadsInput};
 use command_words::{Command, WordsFault, read_words};
 use std::alloc::Global;
 
-/// The command that the words ask for, of those that are built.
-#[tactic(auto, using(crate::proofs::WordLemmas::ask_built, crate::proofs::WordLemmas::check_alone))]
+/// The command that the words ask for.
 pub fn asked_command(alloc: Global, words: &[String]) -> Result<Command, WordsFault>
     ensures asked { IfOk result (λ command. Ask (map string_bytes words.now) command) }
     ensures unknown { result ≡ Err WordsFault.Unknown → AskForNothing (map string_bytes words.now) }
 {
-    match read_words(alloc, words) {
-        Ok(Command::Check) => Err(WordsFault::Unknown),
-        Ok(command) => Ok(command),
-        Err(fault) => Err(fault),
-    }
+    read_words(alloc, words)
 }
 
 /// Whether the command reads the input.

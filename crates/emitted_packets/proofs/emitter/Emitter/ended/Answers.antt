@@ -9,8 +9,8 @@ use Rattle.emitted_packets.specs.Emitting.{IsEmitting}
 use Rattle.emitted_packets.proofs.EmitLemmas.{ended_on, put_back}
 use Rattle.emitted_packets.proofs.emitter.Emitter.ended.Goals as goal
 
-pub returns-in-Some : goal.returns-in-Some
-returns-in-Some c = λ account h writing.
+pub returns-in-Some-clause-emitting : goal.returns-in-Some-clause-emitting
+returns-in-Some-clause-emitting c = λ account h writing.
     let self = c.args.self.now in
     let items = self.bytes.items in
     let ending = ended_on account items self.ends.items c.pop.new.self.items self.opens.items c.in-Some.offset c.in-Some.ensures.items h writing in

@@ -1,0 +1,8 @@
+pub mod CallLemmas
+pub mod KindLemmas
+pub mod ShortLemmas
+pub mod UnmarkedLemmas
+pub mod LineLemmas
+pub mod FinishLemmas
+pub mod AskedLemmas
+pub mod EmissionLemmas
