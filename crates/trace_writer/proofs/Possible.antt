@@ -126,7 +126,7 @@ places_long [] some = absurd (omega (arith, some))
 places_long (level ∷ []) some = omega arith
 places_long (level ∷ outer ∷ others) some = let rest = places_long (outer ∷ others) (omega arith) in omega (arith, rest)
 
-open_many : (calls : List Call) (packets : List Packet) → packets_of calls ≡ packets → is_writing packets ≡ true → open_count packets ≡ newest_depth packets + 1
+pub open_many : (calls : List Call) (packets : List Packet) → packets_of calls ≡ packets → is_writing packets ≡ true → open_count packets ≡ newest_depth packets + 1
 open_many calls [] is writes = absurd (true≢false (sym writes))
 open_many calls (packet ∷ older) is writes = places_long packet.text.levels (newest_open calls packet older is)
 
