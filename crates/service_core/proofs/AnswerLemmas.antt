@@ -1,10 +1,9 @@
 -- What the answer of a collect says: 0 that nothing was taken, and each other number that something was.
-use Rattle.std.proofs.Common.{◌≡◌, ◌≢◌, ◌∙◌, ℕ, zero, suc, ◌+◌, ◌≤◌, List, [], ◌∷◌, ◌++◌, length, set, refl, sym, ap, subst, arith, append-nil, length-append}
+use Rattle.std.proofs.Common.{◌≡◌, ◌≢◌, ◌∙◌, ℕ, suc, ◌+◌, ◌≤◌, List, [], ◌∷◌, ◌++◌, length, set, refl, ap, arith, append-nil, length-append}
 use Rattle.std.proofs.lemmas.List.{set-get_or}
-use Rattle.trace_model.specs.Images.{Patch}
 use Rattle.chunk_plain.specs.Setup.{Setup}
 use Rattle.chunk_plain.specs.Views.{Content, Noted, Taken, none_taken, ServiceView, taken_of}
-use Rattle.service_core.specs.Taking.{patched_where, takings, taken_more, took, TakesOf, Takes}
+use Rattle.service_core.specs.Taking.{patched_where, takings, taken_more, took, Takes}
 
 -- each chunk that was taken is noted
 takings_long : (sequence id : ℕ) (contents : List Content) → length contents ≤ length (takings sequence id contents)

@@ -12,7 +12,7 @@ use Rattle.service_core.specs.Taking.{patched_where, takings, looked, taken_more
 use Rattle.service_core.proofs.HistoryLemmas.{get_more}
 use Rattle.service_core.proofs.TakingLemmas.{taken_here}
 
-get_behind : {T : Type 0} → (xs ys : List T) (n : ℕ) (y : T) → slice_get ys n ≡ Some y → slice_get (xs ++ ys) (length xs + n) ≡ Some y
+pub get_behind : {T : Type 0} → (xs ys : List T) (n : ℕ) (y : T) → slice_get ys n ≡ Some y → slice_get (xs ++ ys) (length xs + n) ≡ Some y
 get_behind xs ys n y is =
     let low = slice_get_within ys n y is in
     let long = length-append xs ys in

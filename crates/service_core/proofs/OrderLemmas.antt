@@ -8,7 +8,7 @@ use Rattle.chunk_plain.specs.Histories.{content_at}
 use Rattle.world_model.specs.Accounts.{CommitsElsewhere}
 use Rattle.service_core.specs.Agreement.{AreKnownNotes}
 use Rattle.service_core.specs.Taking.{patched_where, takings}
-use Rattle.service_core.specs.Order.{Stage, LeadTo}
+use Rattle.service_core.specs.Order.{Stage, IsFoundPart, LeadTo}
 use Rattle.service_core.proofs.HistoryLemmas.{Grows}
 
 match_map : (b : Bool) (P Q R T : Type 0) → MatchBool b P Q → (P → R) → (Q → T) → MatchBool b R T
@@ -109,3 +109,12 @@ lead_closed view q come = (refl, match_true (q == q) _ _ (eq-eqb q q refl) (refl
 pub lead_closed_other : (view : ServiceView) (q other come : ℕ) (closed : Bool) → other ≢ q
     → LeadTo view q (record { come = come; closed = closed; due = [] }) (Closed other ∷ []) (record { come = come; closed = closed; due = [] })
 lead_closed_other view q other come closed differs = (refl, match_false (other == q) _ _ (ne_eqb other q differs) refl)
+
+-- a part of the sequence's next chunk, or of another sequence's
+pub lead_part : (view : ServiceView) (q id count : ℕ) → IsFoundPart view q id count
+    → LeadTo view q (record { come = id; closed = false; due = [] }) (Partial q id count ∷ []) (record { come = id; closed = false; due = [] })
+lead_part view q id count found = (refl, match_true (q == q) _ _ (eq-eqb q q refl) (refl, refl, found, refl))
+
+pub lead_part_other : (view : ServiceView) (q other id count come : ℕ) (closed : Bool) → other ≢ q
+    → LeadTo view q (record { come = come; closed = closed; due = [] }) (Partial other id count ∷ []) (record { come = come; closed = closed; due = [] })
+lead_part_other view q other id count come closed differs = (refl, match_false (other == q) _ _ (ne_eqb other q differs) refl)

@@ -8,11 +8,11 @@ use Rattle.trace_model.specs.Images.{Image, whole_chunk}
 use Rattle.trace_model.specs.Reading.{Reading, Fragments, Unreadable, reading_of}
 use Rattle.trace_model.specs.Sequences.{sequence_in, is_known}
 use Rattle.trace_model.specs.Buffers.{Buffer, empty_buffer}
-use Rattle.trace_model.specs.Arrivals.{with_arrival, with_image, once_read}
-use Rattle.trace_model.specs.History.{Event, Arrives, Committed, event_sequence, after, buffer_after, state_after, buffers_after}
+use Rattle.trace_model.specs.Arrivals.{with_arrival, with_partial_arrival, with_image, with_partial_image, once_read}
+use Rattle.trace_model.specs.History.{Event, Arrives, ArrivesInPart, Committed, event_sequence, after, buffer_after, state_after, buffers_after}
 use Rattle.chunk_plain.specs.Histories as histories
 use Rattle.delivery_laws.proofs.AskLemmas.{known_after}
-use Rattle.service_core.specs.Routing.{buffer_at, IsAt, is_closed_at, arrivals_of}
+use Rattle.service_core.specs.Routing.{buffer_at, IsAt, is_closed_at, arrivals_of, partial_arrivals_of}
 use Rattle.service_core.proofs.ShapeLemmas.{is_close, size_after, closed_after}
 
 -- Events one after another
@@ -119,6 +119,17 @@ image_at bs index size image at = by_reading (reading_of image.count image.paylo
         → set bs index (once_read (buffer_at bs index) (with_arrival (buffer_at bs index) image.sequence image.chunk_id) image.flags reading)
         ≡ buffers_after bs (histories.once_read (λ chunk. Arrives image.sequence image.chunk_id chunk) image.flags reading)
     by_reading (Fragments fragments) = event_at bs index size (Arrives image.sequence image.chunk_id (whole_chunk image.flags fragments)) at
+    by_reading (Unreadable number) = set-get_or bs index no_buffer ∙ sym (buffers_none bs)
+
+-- the first fragments of a chunk arrive
+pub part_at : (bs : List Buffer) (index size : ℕ) (image : Image) → IsAt bs index image.sequence size
+    → set bs index (with_partial_image (buffer_at bs index) image) ≡ buffers_after bs (partial_arrivals_of image)
+part_at bs index size image at = by_reading (reading_of image.count image.payload)
+  where
+    by_reading : (reading : Reading)
+        → set bs index (once_read (buffer_at bs index) (with_partial_arrival (buffer_at bs index) image.sequence image.chunk_id) image.flags reading)
+        ≡ buffers_after bs (histories.once_read (λ chunk. ArrivesInPart image.sequence image.chunk_id chunk) image.flags reading)
+    by_reading (Fragments fragments) = event_at bs index size (ArrivesInPart image.sequence image.chunk_id (whole_chunk image.flags fragments)) at
     by_reading (Unreadable number) = set-get_or bs index no_buffer ∙ sym (buffers_none bs)
 
 -- an image leaves which sequences the buffer has

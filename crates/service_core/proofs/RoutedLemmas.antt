@@ -128,3 +128,9 @@ closed_by_none setup view core done place events agrees buffers_are none inside 
     let index : ℕ = buffer_of setup place - 1 in
     let at = stands setup view core place agrees inside in
     ap (λ (xs : List Buffer). is_closed_at xs index (place + 2)) buffers_are ∙ open_after core.buffers.items index (place + 2) events at.inside none
+
+-- there are as many buffers as were asked for
+pub buffers_long : {S : Type 0} → (setup : Setup) (view : ServiceView) (core : ServiceCore S) → ServiceAgrees setup view core → length core.buffers.items ≡ length core.specs.items
+buffers_long setup view core agrees =
+    ap (λ (bs : List Buffer). length bs) agrees.buffers ∙ length_after (first_of setup core) (history_of view)
+    ∙ first_long setup 1 (map spec_value core.specs.items) ∙ length-map core.specs.items spec_value

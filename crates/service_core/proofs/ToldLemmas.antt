@@ -1,5 +1,5 @@
 -- The told world behind the service's steps.
-use Rattle.std.proofs.Common.{◌≡◌, ◌≢◌, ◌∙◌, ℕ, zero, suc, ◌+◌, ◌<◌, ◌≤◌, ◌⊎◌, List, [], ◌∷◌, length, get_or, set, Option, Some, refl, sym, ap, subst, arith, inl, inr, ⊎_elim}
+use Rattle.std.proofs.Common.{◌≡◌, ◌≢◌, ◌∙◌, ℕ, zero, suc, ◌+◌, ◌<◌, ◌≤◌, ◌⊎◌, List, [], ◌∷◌, length, get_or, set, Option, Some, refl, sym, ap, subst, arith, inl, inr}
 use Rattle.std.proofs.Math.Logic.{∥∥₁_elim, ∥∥₁_map}
 use Rattle.std.specs.Coded.{le_prop}
 use Rattle.std.proofs.lemmas.Bool.{cases_eq}
@@ -8,7 +8,7 @@ use Rattle.trace_base.specs.declared.policy.WriterSpec.{WriterSpec}
 use Rattle.chunk_plain.specs.declared.setup.ChunkRange.{ChunkRange}
 use Rattle.chunk_plain.specs.declared.tokens.TheConstants.{ID_LIMIT}
 use Rattle.chunk_plain.specs.Setup.{Setup, range_of, producer_of, IsChunkOf}
-use Rattle.chunk_plain.specs.Views.{At, Begun, Held, Completed, Content, Draft, WriterView, ServiceView, Taken, none_taken, taken_of}
+use Rattle.chunk_plain.specs.Views.{At, Begun, Held, Completed, Content, ServiceView, Taken, none_taken, taken_of}
 use Rattle.chunk_plain.specs.World.{World, Status, Unclaimed, Claimed, Stamped, Writing, Ready, Reading, status, writer}
 use Rattle.chunk_plain.specs.Steps.{served, serviced}
 use Rattle.chunk_plain.specs.Owned.{IsOwned}
@@ -278,7 +278,7 @@ not_ready : (old new : World) (chunk place id : ℕ) (content : Content) → (st
 not_ready old new chunk place id content (inl same) ready = sym same ∙ ready
 not_ready old new chunk place id content (inr free) ready = absurd (cc (ready, free))
 
-none_stays : (setup : Setup) (place : ℕ) (old new : World) (view : ServiceView) → NoneNext setup place old → StandsBehind old view new
+pub none_stays : (setup : Setup) (place : ℕ) (old new : World) (view : ServiceView) → NoneNext setup place old → StandsBehind old view new
     → (taken_of new.service place).count ≡ (taken_of old.service place).count → NoneNext setup place new
 none_stays setup place old new view none stands same chunk content is left ready =
     none chunk content is (omega (arith, same, left))

@@ -2,7 +2,9 @@ pub mod Agreement
 pub mod Closing
 pub mod Making
 pub mod Order
+pub mod OrderLaws
 pub mod Reading
 pub mod Routing
+pub mod Scraping
 pub mod Taking
 pub mod Told

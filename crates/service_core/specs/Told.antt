@@ -1,10 +1,9 @@
 -- What the service's calls leave where the table tells its world.
 use Rattle.std.specs.Prelude.{◌≡◌, ℕ, zero, suc, ◌+◌, ◌<◌, ◌≤◌, ◌⊎◌, length, Option, Some}
 use Rattle.chunk_plain.specs.declared.tokens.TheConstants.{ID_LIMIT}
-use Rattle.chunk_plain.specs.declared.setup.ChunkRange.{ChunkRange}
 use Rattle.chunk_plain.specs.Setup.{Setup, range_of, producer_of, IsChunkOf, id_at}
 use Rattle.chunk_plain.specs.Views.{At, Draft, Content, Held, Completed, WriterView, ServiceView, taken_of}
-use Rattle.chunk_plain.specs.World.{World, Status, Unclaimed, Claimed, Stamped, Writing, Ready, Reading, status, writer}
+use Rattle.chunk_plain.specs.World.{World, Status, Unclaimed, Ready, status, writer}
 use Rattle.chunk_plain.specs.Steps.{served, serviced}
 use Rattle.chunk_plain.specs.Words.{IsAtRest}
 

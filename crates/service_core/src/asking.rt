@@ -28,7 +28,8 @@ impl<S> ServiceCore<S> {
     /// What a buffer counts. Buffers count from 1.
     pub fn counts(&self, buffer: u8) -> BufferCounts
         requires least { 1 ≤ buffer }
-        requires most { buffer ≤ length self.now.buffers.items }
+        requires most { buffer ≤ length self.now.specs.items }
+        requires agrees { IsAgreeing self.now }
         ensures { (setup : Setup) (view : ServiceView) → ServiceAgrees setup view self.now
             → result ≡ counts_of (buffer_at (buffers_after (first_of setup self.now) (history_of view)) (buffer - 1)) }
     {

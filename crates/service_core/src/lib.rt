@@ -9,10 +9,13 @@ mod asking;
 mod closing;
 mod committing;
 mod flushes;
+pub mod laws;
 mod making;
 mod patching;
 mod reading;
+mod room;
 mod routing;
+mod scraping;
 mod service;
 mod taking;
 #[cfg(test)]

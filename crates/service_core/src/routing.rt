@@ -1,15 +1,15 @@
 //! Events on the buffer that has their sequence.
 ghost use Rattle.std.specs.Prelude.{◌≡◌, ℕ, ◌≤◌, false, [], ◌∷◌, length, map};
 ghost use Rattle.trace_base.specs.declared.limits.TheConstants.{MAX_FRAGMENTS};
-ghost use Rattle.page_geometry.specs.declared.chunk_header.TheConstants.{MAX_FLAGS};
+ghost use Rattle.page_geometry.specs.declared.chunk_header.TheConstants.{MAX_FLAGS, FIRST_CONTINUES};
 ghost use Rattle.page_geometry.specs.Sizes.{record_size};
 ghost use Rattle.chunk_image.specs.Values.{image_value};
 ghost use Rattle.commit_body.specs.Patches.{patch_value};
-ghost use Rattle.trace_model.specs.Arrivals.{image_arrival_of};
+ghost use Rattle.trace_model.specs.Arrivals.{image_arrival_of, partial_image_arrival_of};
 ghost use Rattle.trace_model.specs.History as model;
 ghost use Rattle.trace_model.specs.History.{buffers_after};
 ghost use Rattle.trace_buffer.specs.Answers.{arrived_value};
-ghost use Rattle.service_core.specs.Routing.{buffer_at, IsAt, is_closed_at, arrivals_of};
+ghost use Rattle.service_core.specs.Routing.{buffer_at, IsAt, is_closed_at, arrivals_of, partial_arrivals_of};
 
 use crate::patching::patch_all;
 use chunk_image::Image;
@@ -26,6 +26,22 @@ pub(crate) fn arrive_in(buffers: &mut Vec<TraceBuffer>, index: usize, image: &Im
     ensures after { buffers.new.items ≡ buffers_after buffers.old.items (arrivals_of (image_value image.now)) }
 {
     buffers[index].arrive(image)
+}
+
+/// The first fragments of a chunk that its writer holds arrive in the buffer with this index.
+pub(crate) fn arrive_part_in(
+    buffers: &mut Vec<TraceBuffer>,
+    index: usize,
+    image: &Image<'_>,
+) -> Arrived
+    requires at { IsAt buffers.old.items index image.now.sequence (record_size (length image.now.payload.now)) }
+    requires open { is_closed_at buffers.old.items index image.now.sequence ≡ false }
+    requires count { image.now.count ≤ MAX_FRAGMENTS }
+    requires flags { image.now.flags ≤ FIRST_CONTINUES }
+    ensures outcome { arrived_value result ≡ partial_image_arrival_of (buffer_at buffers.old.items index) (image_value image.now) }
+    ensures after { buffers.new.items ≡ buffers_after buffers.old.items (partial_arrivals_of (image_value image.now)) }
+{
+    buffers[index].arrive_partial(image)
 }
 
 /// The patches of a commit body are applied in the buffer with this index.

@@ -10,6 +10,7 @@ ghost use Rattle.service_core.specs.Agreement.{ServiceAgrees, IsRouted, is_close
 ghost use Rattle.service_core.specs.Making.{HaveSizes, RecordsFit, IsUnused};
 
 use crate::making::make_buffers;
+use crate::room::Room;
 use chunk_plain::{Layout, ProducerSpec};
 use session_core::Session;
 use std::alloc::{AllocError, Global};
@@ -29,6 +30,8 @@ pub struct ServiceCore<S> {
     /// How many chunks were taken of each writer.
     pub(crate) taken: Vec<u32>,
     pub(crate) session: Session,
+    /// Where the payload of a chunk is loaded that its writer holds.
+    pub(crate) room: Room,
 }
 
 impl<S: Drop> ServiceCore<S> {
@@ -69,6 +72,7 @@ impl<S: Drop> ServiceCore<S> {
             writers: writers.to_vec(alloc)?,
             taken: vec![in alloc; 0; writers.len()]?,
             session,
+            room: Room::make(alloc)?,
         })
     }
 }

@@ -1,4 +1,4 @@
-use Rattle.std.proofs.Common.{◌≡◌, ◌+◌, ◌∙◌, ◌<◌, ℕ, Some, List, length, subst, sym, refl, ap, arith}
+use Rattle.std.proofs.Common.{◌+◌, ◌∙◌, ◌<◌, ℕ, List, length, subst, sym, refl, ap, arith}
 use Rattle.chunk_plain.specs.Setup.{Setup}
 use Rattle.chunk_plain.proofs.SeatSteps.{services_follow, serves_on}
 use Rattle.service_core.specs.Agreement.{ServiceAgrees, KeepsRest}

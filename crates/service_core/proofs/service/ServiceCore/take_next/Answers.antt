@@ -1,4 +1,4 @@
-use Rattle.std.proofs.Common.{◌≡◌, ◌+◌, ◌<◌, ◌≤◌, ℕ, Some, subst, ap, arith}
+use Rattle.std.proofs.Common.{◌≡◌, ◌+◌, ℕ, subst, ap, arith}
 use Rattle.chunk_plain.specs.Views.{ServiceView, taken_of}
 use Rattle.service_core.specs.Told.{FreesOne, FreesNone}
 use Rattle.service_core.proofs.ToldLemmas.{frees_none_yet, frees_none_more, frees_none_all, frees_next}

@@ -1,0 +1,125 @@
+-- Notes that lead from the beginning to a stage are in order, as an account asks it.
+use Rattle.std.proofs.Common.{◌≡◌, ◌∙◌, ℕ, suc, ◌+◌, ◌-◌, Bool, true, false, ◌&&◌, List, [], ◌∷◌, length, Option, Some, None, refl, ap, subst, arith}
+use Rattle.std.specs.Prelude.{◌==◌, cond, MatchBool}
+use Rattle.std.proofs.lemmas.Bool.{eqb-true, and_parts, false≢true}
+use Rattle.trace_model.specs.Images.{Image, Patch}
+use Rattle.chunk_plain.specs.Views.{At, Begun, Held, Completed, Found, Look, Noted, Arrive, Partial, Patched, Closed, Read, Commit, ServiceView}
+use Rattle.chunk_plain.specs.World.{World, writer}
+use Rattle.chunk_plain.specs.Owned.{IsOwned}
+use Rattle.chunk_plain.specs.Drafts.{IsFound, StillHas}
+use Rattle.chunk_plain.specs.Histories.{is_scraped, found_among, content_at}
+use Rattle.world_model.specs.Accounts.{IsScraped, InOrder}
+use Rattle.world_model.proofs.FrontLemmas.{finds_are_fronts}
+use Rattle.service_core.specs.Order.{Stage, IsFoundPart, LeadTo}
+use Rattle.service_core.specs.OrderLaws.{HasImages, LeadsAreInOrder}
+
+-- the look behind what was found first
+record IsLooked (place id count : ℕ) (looks : List Look) (found : Found) : Type 0 where
+  number : ℕ
+  look : Look
+  at : At looks number look
+  found_is : look.found ≡ Some found
+  place_is : found.place ≡ place
+  id_is : found.id ≡ id
+
+looked : (place id count : ℕ) (looks : List Look) (found : Found) → found_among place id count looks ≡ Some found → IsLooked place id count looks found
+looked place id count [] found e = absurd (cc)
+looked place id count (look ∷ looks) found e = step (is_scraped place id count look.found) refl e (looked place id count looks found)
+  where
+    here : (o : Option Found) → is_scraped place id count o ≡ true → o ≡ Some found → (found.place ≡ place) × (found.id ≡ id)
+    here None s f = absurd (false≢true s)
+    here (Some one) s f =
+        let same : one ≡ found = cc in
+        let two = and_parts ((one.place == place) && (one.id == id)) (length one.ends == count) s in
+        let both = and_parts (one.place == place) (one.id == id) two.0 in
+        subst (λ (x : Found). (x.place ≡ place) × (x.id ≡ id)) same (eqb-true one.place place both.0, eqb-true one.id id both.1)
+
+    step : (b : Bool) → is_scraped place id count look.found ≡ b → cond b look.found (found_among place id count looks) ≡ Some found
+        → (found_among place id count looks ≡ Some found → IsLooked place id count looks found) → IsLooked place id count (look ∷ looks) found
+    step true s f rest = let is = here look.found s f in record { number = 0; look = look; at = refl; found_is = f; place_is = is.0; id_is = is.1 }
+    step false s f rest =
+        let h = rest f in
+        record { number = suc h.number; look = h.look; at = h.at; found_is = h.found_is; place_is = h.place_is; id_is = h.id_is }
+
+-- a part that was found is a front of its chunk's image
+scraped : (world : World) (place q id count : ℕ) (images : List Image) → q - 2 ≡ place → IsOwned world → HasImages (writer world place) images
+    → IsFoundPart world.service q id count → IsScraped images world.service q id count
+scraped world place q id count images place_is owned has part =
+    let l = looked (q - 2) id count world.service.looks part.found part.looked in
+    let is = owned.looks l.number l.look part.found l.at l.found_is in
+    let at : At (writer world place).begun id is.1.entry =
+    subst (λ (p : ℕ). At (writer world p).begun id is.1.entry) (l.place_is ∙ place_is) (subst (λ (i : ℕ). At (writer world part.found.place).begun i is.1.entry) l.id_is is.1.at) in
+    by_entry is.1.entry at l.look.chunk is.0 is.1.has
+  where
+    by_entry : (entry : Begun) → At (writer world place).begun id entry → (about : ℕ) → IsFound part.found → StillHas about part.found entry → IsScraped images world.service q id count
+    by_entry (Completed chunk content) at about is has_it = record {
+      found = part.found;
+      looked = part.looked;
+      image = content.image;
+      there = has.completed id chunk content at;
+      front = finds_are_fronts.completed about chunk part.found content is has_it part.some;
+    }
+    by_entry (Held chunk draft) at about is has_it =
+        let image = has.held id chunk draft at in
+        record {
+          found = part.found;
+          looked = part.looked;
+          image = image.0;
+          there = image.1;
+          front = finds_are_fronts.held about chunk part.found draft image.0 is has_it ((owned.counts place).drafts id chunk draft at) image.2 image.3 part.some;
+        }
+
+match_map : (b : Bool) (P Q R T : Type 0) → MatchBool b P Q → (P → R) → (Q → T) → MatchBool b R T
+match_map true P Q R T h same apart = same h
+match_map false P Q R T h same apart = apart h
+
+-- where no patches are due, none are due
+none_due : (images : List Image) (view : ServiceView) (q come : ℕ) (closed : Bool) (due : List Patch) (notes : List Noted) → due ≡ [] → InOrder images view q come closed due notes
+    → InOrder images view q come closed [] notes
+none_due images view q come closed due notes none order = subst (λ (ps : List Patch). InOrder images view q come closed ps notes) none order
+
+order_from : (images : List Image) (view : ServiceView) (q : ℕ) → ((id count : ℕ) → IsFoundPart view q id count → IsScraped images view q id count)
+    → (notes : List Noted) (stage last : Stage) → LeadTo view q stage notes last → last.due ≡ [] → InOrder images view q stage.come stage.closed stage.due notes
+order_from images view q parts [] stage last lead none = ap (λ (s : Stage). s.due) lead ∙ none
+order_from images view q parts (Arrive other id ∷ notes) stage last lead none = (
+  lead.0,
+  match_map (other == q) _ _ _ _ lead.1
+      (λ h. (
+        h.0,
+        h.1,
+        h.2,
+        subst (λ (i : ℕ). content_at view q i ≡ Some h.2) h.1 h.3,
+        order_from images view q parts notes (record { come = suc stage.come; closed = stage.closed; due = h.2.patches }) last h.4 none,
+      ))
+      (λ h. none_due images view q stage.come stage.closed stage.due notes lead.0 (order_from images view q parts notes stage last h none)),
+)
+order_from images view q parts (Partial other id count ∷ notes) stage last lead none = (
+  lead.0,
+  match_map (other == q) _ _ _ _ lead.1
+      (λ h. (
+        h.0,
+        h.1,
+        subst (λ (i : ℕ). IsScraped images view q i count) h.1 (parts id count h.2),
+        none_due images view q stage.come stage.closed stage.due notes lead.0 (order_from images view q parts notes stage last h.3 none),
+      ))
+      (λ h. none_due images view q stage.come stage.closed stage.due notes lead.0 (order_from images view q parts notes stage last h none)),
+)
+order_from images view q parts (Patched other id ∷ notes) stage last lead none =
+    match_map (other == q) _ _ _ _ lead
+    (λ h. (h.0, h.1, h.2, order_from images view q parts notes (record stage { due = [] }) last h.3 none))
+    (λ h. (h.0, none_due images view q stage.come stage.closed stage.due notes h.0 (order_from images view q parts notes stage last h.1 none)))
+order_from images view q parts (Closed other ∷ notes) stage last lead none = (
+  lead.0,
+  match_map (other == q) _ _ _ _ lead.1
+      (λ h. (h.0, none_due images view q stage.come true stage.due notes lead.0 (order_from images view q parts notes (record stage { closed = true }) last h.1 none)))
+      (λ h. none_due images view q stage.come stage.closed stage.due notes lead.0 (order_from images view q parts notes stage last h none)),
+)
+order_from images view q parts (Read other limit ∷ notes) stage last lead none =
+    (lead.0, none_due images view q stage.come stage.closed stage.due notes lead.0 (order_from images view q parts notes stage last lead.1 none))
+order_from images view q parts (Commit at ∷ notes) stage last lead none =
+    (lead.0, lead.1, none_due images view q stage.come stage.closed stage.due notes lead.0 (order_from images view q parts notes stage last lead.2 none))
+
+pub leads_are_in_order : LeadsAreInOrder
+leads_are_in_order world place images last owned has lead none =
+    order_from images world.service (place + 2) (λ id count part. scraped world place (place + 2) id count images (let back : place + 2 - 2 ≡ place = omega arith in back) owned has part)
+    world.service.events (record { come = 0; closed = false; due = [] }) last lead none

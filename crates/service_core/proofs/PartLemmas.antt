@@ -1,0 +1,134 @@
+-- Looks for parts of chunks, one after another.
+use Rattle.std.proofs.Common.{◌≡◌, ◌∙◌, ℕ, ◌+◌, ◌%◌, ◌<◌, ◌≤◌, ◌⊎◌, List, [], ◌∷◌, ◌++◌, length, refl, sym, ap, subst, arith, inl, inr, append_assoc, append-nil}
+use Rattle.std.proofs.lemmas.Bool.{cases_eq}
+use Rattle.page_geometry.specs.declared.chunk_state.ChunkState.TheVariants.{BeingWritten}
+use Rattle.page_geometry.specs.PageBits.{HasState}
+use Rattle.page_geometry.specs.Header.{packed}
+use Rattle.chunk_plain.specs.declared.tokens.Seen.{Seen}
+use Rattle.chunk_plain.specs.Setup.{Setup, spot, range_of, producer_of, id_at}
+use Rattle.chunk_plain.specs.Views.{At, Head, Look, Noted, Partial, ServiceView, taken_of}
+use Rattle.chunk_plain.specs.Steps.{taken_counts}
+use Rattle.chunk_plain.specs.Words.{LooksAt}
+use Rattle.service_core.specs.Order.{IsFoundPart}
+use Rattle.service_core.specs.Taking.{looked, noted_more, IsRange}
+use Rattle.service_core.specs.Scraping.{IsNoPart, SeesNoPart, ShowsNoPart, TakesPart, TakesNoPart, TakesNoPartOf, ScrapesOne, ScrapesEach, IsPart, PartLooked}
+use Rattle.service_core.proofs.HistoryLemmas.{get_more}
+use Rattle.service_core.proofs.ChainLemmas.{get_behind}
+use Rattle.service_core.proofs.TakingLemmas.{counts_at}
+
+-- What one look found
+
+at_end : {A : Type 0} (xs : List A) (x : A) → At (xs ++ x ∷ []) (length xs) x
+at_end [] x = refl
+at_end (y ∷ xs) x = at_end xs x
+
+pub part_looked : (setup : Setup) (old new : ServiceView) (place chunk : ℕ) (seen : Seen) (at writer id finished : ℕ) → LooksAt setup chunk seen.word.0 seen.header old new
+    → at ≡ (spot setup chunk).place → writer ≡ place + 1 → IsPart seen at writer id finished → PartLooked new chunk place id finished seen.header.flags
+part_looked setup old new place chunk seen at writer id finished looks at_is writer_is part =
+    let one = looks.finds.some (subst (λ (p : ℕ). HasState seen.word.0 p BeingWritten) at_is part.written) in
+    let look : Look = record { chunk = chunk; word = seen.word.0; header = packed seen.header; found = looks.found; taken = taken_counts old } in
+    let of = one.2 in
+    let count = ap (λ (h : Head). h.count) of.head_is in
+    let ends = of.finished.sealed.count in
+    let named = part.writer_is in
+    let counted = part.count in
+    let place_is = of.place_is in
+    record {
+      found = one.0;
+      number = length old.looks;
+      look = look;
+      at = subst (λ (v : ServiceView). At v.looks (length old.looks) look) (sym looks.view) (at_end old.looks look);
+      chunk_is = refl;
+      found_is = one.1;
+      place_is = omega (arith, place_is, named, writer_is);
+      id_is = of.id_is ∙ part.id_is;
+      count_is = omega (arith, ends, count, counted);
+      front = ap (λ (h : Head). h.flags % 2) of.head_is;
+      is = of.finished;
+    }
+
+pub no_part_seen : (setup : Setup) (old new : ServiceView) (place chunk : ℕ) (seen : Seen) (at writer id : ℕ) → LooksAt setup chunk seen.word.0 seen.header old new
+    → at ≡ (spot setup chunk).place → writer ≡ place + 1 → id ≡ (taken_of old place).count
+    → (HasState seen.word.0 at BeingWritten → seen.header.writer_id ≡ writer → seen.header.chunk_id ≡ id → seen.header.count < 2) → SeesNoPart setup place chunk old new
+no_part_seen setup old new place chunk seen at writer id looks at_is writer_is next none = record {
+  look = record { chunk = chunk; word = seen.word.0; header = packed seen.header; found = looks.found; taken = taken_counts old };
+  view = looks.view;
+  chunk_is = refl;
+  since = counts_at old place;
+  shows = record {
+    header = seen.header;
+    header_is = refl;
+    none = λ written named id_is. none (subst (λ (p : ℕ). HasState seen.word.0 p BeingWritten) (sym at_is) written) (named ∙ sym writer_is) (id_is ∙ sym next);
+  };
+}
+
+-- Chunk by chunk
+
+pub no_part_yet : (setup : Setup) (place first : ℕ) (view : ServiceView) → TakesNoPartOf setup place first first view view
+no_part_yet setup place first view = record {
+  looks = [];
+  view = ap (λ (l : List Look). record view { looks = l }) (sym (append-nil view.looks));
+  none = λ chunk least below. absurd (omega arith);
+}
+
+pub no_part_more : (setup : Setup) (place first chunk : ℕ) (old mid new : ServiceView) → TakesNoPartOf setup place first chunk old mid → SeesNoPart setup place chunk mid new
+    → TakesNoPartOf setup place first (chunk + 1) old new
+no_part_more setup place first chunk old mid new seen other =
+    let count_is : (taken_of mid place).count ≡ (taken_of old place).count = ap (λ (v : ServiceView). (taken_of v place).count) seen.view in
+    record {
+      looks = seen.looks ++ other.look ∷ [];
+      view = other.view ∙ ap (λ (v : ServiceView). looked v (other.look ∷ [])) seen.view
+          ∙ ap (λ (l : List Look). record old { looks = l }) (append_assoc old.looks seen.looks (other.look ∷ []));
+      none = λ c least below. by_chunk c least below count_is (cases_eq c chunk);
+    }
+  where
+    by_chunk : (c : ℕ) → first ≤ c → c < chunk + 1 → (taken_of mid place).count ≡ (taken_of old place).count → (c ≡ chunk) ⊎ (c ≡ chunk → ⊥)
+        → ShowsNoPart setup place (taken_of old place).count c (seen.looks ++ other.look ∷ [])
+    by_chunk c least below count_is (inl same) = record {
+      n = length seen.looks + 0;
+      look = other.look;
+      at = get_behind seen.looks (other.look ∷ []) 0 other.look refl;
+      chunk_is = other.chunk_is ∙ sym same;
+      since = other.since ∙ count_is;
+      shows = subst (λ (n : ℕ). IsNoPart setup place (id_at setup place n) other.look) count_is other.shows;
+    }
+    by_chunk c least below count_is (inr differs) =
+        let s = seen.none c least (omega (arith, below, differs)) in
+        record { n = s.n; look = s.look; at = get_more seen.looks (other.look ∷ []) s.n s.look s.at; chunk_is = s.chunk_is; since = s.since; shows = s.shows }
+
+pub no_part : (setup : Setup) (place first count last : ℕ) (old new : ServiceView) → IsRange (range_of setup (producer_of setup place)) first count → first + count ≤ last
+    → TakesNoPartOf setup place first last old new → TakesNoPart setup place old new
+no_part setup place first count last old new range all seen =
+    let low = range.first_is in
+    let many = range.count_is in
+    record {
+      looks = seen.looks;
+      view = seen.view;
+      none = λ chunk is. let least = is.least in let below = is.below in seen.none chunk (omega (arith, low, least)) (omega (arith, low, many, below, all));
+    }
+
+pub part_behind : (setup : Setup) (place first chunk : ℕ) (old mid new : ServiceView) → TakesNoPartOf setup place first chunk old mid → TakesPart place mid new → TakesPart place old new
+part_behind setup place first chunk old mid new seen part =
+    let count_is : (taken_of mid place).count ≡ (taken_of old place).count = ap (λ (v : ServiceView). (taken_of v place).count) seen.view in
+    let notes : List Noted = Partial (place + 2) (taken_of old place).count part.count ∷ [] in
+    record {
+      looks = seen.looks ++ part.looks;
+      count = part.count;
+      some = part.some;
+      view = part.view ∙ ap (λ (n : ℕ). noted_more (looked mid part.looks) (Partial (place + 2) n part.count ∷ [])) count_is
+          ∙ ap (λ (v : ServiceView). noted_more (looked v part.looks) notes) seen.view
+          ∙ ap (λ (l : List Look). noted_more (record old { looks = l }) notes) (append_assoc old.looks seen.looks part.looks);
+      found = subst (λ (n : ℕ). IsFoundPart new (place + 2) n part.count) count_is part.found;
+    }
+
+-- Writer by writer
+
+pub scrapes_add : (setup : Setup) (places : List ℕ) (place : ℕ) (old mid new : ServiceView) → ScrapesEach setup places old mid → ScrapesOne setup place mid new
+    → ScrapesEach setup (places ++ place ∷ []) old new
+scrapes_add setup [] place old mid new before one = (new, subst (λ (v : ServiceView). ScrapesOne setup place v new) before one, refl)
+scrapes_add setup (p ∷ places) place old mid new before one = (before.0, before.1, scrapes_add setup places place before.0 mid new before.2 one)
+
+-- what was taken stays
+pub scrape_takes_none : (setup : Setup) (place : ℕ) (old new : ServiceView) → ScrapesOne setup place old new → new.taken ≡ old.taken
+scrape_takes_none setup place old new (inl part) = ap (λ (v : ServiceView). v.taken) part.view
+scrape_takes_none setup place old new (inr none) = ap (λ (v : ServiceView). v.taken) none.view

@@ -1,0 +1,203 @@
+-- The service agrees with its seat's view again once finished fragments of a chunk arrived.
+use Rattle.std.proofs.Common.{◌≡◌, ◌∙◌, ℕ, zero, suc, ◌+◌, ◌-◌, ◌%◌, ◌<◌, ◌≤◌, ◌⊎◌, Bool, true, false, ◌&&◌, List, [], ◌∷◌, length, Option, Some, None, refl, sym, ap, subst, arith, inl, inr, append-nil}
+use Rattle.std.specs.Prelude.{cond, ◌==◌}
+use Rattle.std.specs.List.{flat_map}
+use Rattle.std.proofs.lemmas.Bool.{cases_eq, eqb-true, eq-eqb, and_parts, false≢true}
+use mathlib.Core.Option.{some-injective}
+use Rattle.trace_model.specs.Fragments.{drop_size}
+use Rattle.trace_model.specs.Images.{Image, Fragment, whole_chunk}
+use Rattle.trace_model.specs.Reading.{Reading, Fragments, Unreadable, reading_of}
+use Rattle.trace_model.specs.Sequences.{is_known}
+use Rattle.trace_model.specs.Buffers.{Buffer}
+use Rattle.trace_model.specs.Arrivals.{partial_arrival_of, settled}
+use Rattle.trace_model.specs.History as model
+use Rattle.trace_model.specs.History.{buffer_after, buffers_after}
+use Rattle.chunk_plain.specs.Setup.{Setup}
+use Rattle.chunk_plain.specs.Payload.{byte_in}
+use Rattle.chunk_plain.specs.Views.{At, Found, Look, Noted, Partial, ServiceView, taken_of}
+use Rattle.chunk_plain.specs.Drafts.{IsFound}
+use Rattle.chunk_plain.specs.Histories.{is_scraped, found_among, once_read, part_of, happened}
+use Rattle.chunk_plain.specs.Words.{LooksAgree, FoundAlike, ShowsFound}
+use Rattle.chunk_plain.proofs.Agreeing.{found_alike}
+use Rattle.service_core.specs.declared.service.ServiceCore.{ServiceCore}
+use Rattle.service_core.specs.Routing.{partial_arrivals_of}
+use Rattle.service_core.specs.Agreement.{ServiceAgrees, KeepsFields, KeepsRest, is_closed}
+use Rattle.service_core.specs.Order.{LeadTo, IsFoundPart}
+use Rattle.service_core.specs.Taking.{noted_more}
+use Rattle.service_core.specs.Scraping.{PartLooked}
+use Rattle.service_core.proofs.RouteLemmas.{NoCloses}
+use Rattle.service_core.proofs.RoutedLemmas.{closed_by_none}
+use Rattle.service_core.proofs.OrderLemmas.{lead_part, lead_part_other}
+use Rattle.service_core.proofs.CloseLemmas.{agrees_noted}
+use Rattle.service_core.proofs.FrontReading.{front_reads, begins}
+
+-- The first look that found so much
+
+-- the first look among these that found so many fragments
+pub record FirstFound (place id count : ℕ) (looks : List Look) : Type 0 where
+  pub found : Found
+  pub looked : found_among place id count looks ≡ Some found
+  pub number : ℕ
+  pub look : Look
+  pub at : At looks number look
+  pub found_is : look.found ≡ Some found
+  pub place_is : found.place ≡ place
+  pub id_is : found.id ≡ id
+  pub count_is : length found.ends ≡ count
+
+pub first_found : (place id count : ℕ) (looks : List Look) (n : ℕ) (look : Look) (found : Found) → At looks n look → look.found ≡ Some found
+    → found.place ≡ place → found.id ≡ id → length found.ends ≡ count → FirstFound place id count looks
+first_found place id count [] n look found at is place_is id_is count_is = absurd (cc)
+first_found place id count (first ∷ looks) zero look found at is place_is id_is count_is =
+    let same : first ≡ look = some-injective first look at in
+    let here : first.found ≡ Some found = ap (λ (l : Look). l.found) same ∙ is in
+    let test : is_scraped place id count first.found ≡ true =
+    ap (is_scraped place id count) here
+    ∙ (ap (λ (a : Bool). (a && (found.id == id)) && (length found.ends == count)) (eq-eqb found.place place place_is)
+    ∙ (ap (λ (b : Bool). (true && b) && (length found.ends == count)) (eq-eqb found.id id id_is)
+    ∙ ap (λ (c : Bool). (true && true) && c) (eq-eqb (length found.ends) count count_is))) in
+    record {
+      found = found;
+      looked = ap (λ (b : Bool). cond b first.found (found_among place id count looks)) test ∙ here;
+      number = 0;
+      look = first;
+      at = refl;
+      found_is = here;
+      place_is = place_is;
+      id_is = id_is;
+      count_is = count_is;
+    }
+first_found place id count (first ∷ looks) (suc n) look found at is place_is id_is count_is =
+    step (is_scraped place id count first.found) refl first.found refl (first_found place id count looks n look found at is place_is id_is count_is)
+  where
+    step : (b : Bool) → is_scraped place id count first.found ≡ b → (o : Option Found) → first.found ≡ o → FirstFound place id count looks → FirstFound place id count (first ∷ looks)
+    step false test o here rest = record {
+      found = rest.found;
+      looked = ap (λ (b : Bool). cond b first.found (found_among place id count looks)) test ∙ rest.looked;
+      number = suc rest.number;
+      look = rest.look;
+      at = rest.at;
+      found_is = rest.found_is;
+      place_is = rest.place_is;
+      id_is = rest.id_is;
+      count_is = rest.count_is;
+    }
+    step true test None here rest = absurd (false≢true (sym (ap (is_scraped place id count) here) ∙ test))
+    step true test (Some one) here rest =
+        let holds : ((one.place == place) && (one.id == id)) && (length one.ends == count) ≡ true = sym (ap (is_scraped place id count) here) ∙ test in
+        let two = and_parts ((one.place == place) && (one.id == id)) (length one.ends == count) holds in
+        let both = and_parts (one.place == place) (one.id == id) two.0 in
+        record {
+          found = one;
+          looked = ap (λ (b : Bool). cond b first.found (found_among place id count looks)) test ∙ here;
+          number = 0;
+          look = first;
+          at = refl;
+          found_is = here;
+          place_is = eqb-true one.place place both.0;
+          id_is = eqb-true one.id id both.1;
+          count_is = eqb-true (length one.ends) count two.1;
+        }
+
+-- What arrives
+
+-- of a part only flag 1 is looked at
+same_part : (b : Buffer) (q id one other : ℕ) (fragments : List Fragment) → one % 2 ≡ other % 2
+    → buffer_after b (model.ArrivesInPart q id (whole_chunk one fragments)) ≡ buffer_after b (model.ArrivesInPart q id (whole_chunk other fragments))
+same_part b q id one other fragments same =
+    ap (λ (n : ℕ). cond (is_known b.sequences q)
+    (settled (partial_arrival_of b q id (length fragments)) b q id (record { continues = n == 1; runs_on = false; awaits = false; partial = true; fragments = fragments })) b) same
+
+same_parts : (bs : List Buffer) (q id one other : ℕ) (reading : Reading) → one % 2 ≡ other % 2
+    → buffers_after bs (once_read (λ chunk. model.ArrivesInPart q id chunk) one reading) ≡ buffers_after bs (once_read (λ chunk. model.ArrivesInPart q id chunk) other reading)
+same_parts bs q id one other (Unreadable number) same = refl
+same_parts [] q id one other (Fragments fragments) same = refl
+same_parts (b ∷ bs) q id one other (Fragments fragments) same =
+    ap (λ (x : Buffer). x ∷ buffers_after bs (model.ArrivesInPart q id (whole_chunk one fragments) ∷ [])) (same_part b q id one other fragments same)
+    ∙ ap (λ (rest : List Buffer). buffer_after b (model.ArrivesInPart q id (whole_chunk other fragments)) ∷ rest) (same_parts bs q id one other (Fragments fragments) same)
+
+-- a loaded payload reads as the fragments that were found
+loaded_reads : (found : Found) (count : ℕ) (payload : List ℕ) → IsFound found → length found.ends ≡ count → length found.sealed ≤ length payload
+    → ((j : ℕ) → j < length found.sealed → byte_in payload j ≡ byte_in found.sealed j) → length payload < drop_size → reading_of count payload ≡ reading_of count found.sealed
+loaded_reads found count payload is count_is long same small =
+    let front = begins found.sealed payload long same in
+    let whole = is.whole in
+    ap (λ (n : ℕ). reading_of n payload) (sym count_is)
+    ∙ ap (reading_of (length found.ends)) front.is
+    ∙ front_reads found.sealed front.rest found.ends is.sealed.reads (omega (arith, whole)) (omega (arith, long, small))
+    ∙ ap (λ (n : ℕ). reading_of n found.sealed) count_is
+
+no_closes : (image : Image) → NoCloses (partial_arrivals_of image)
+no_closes image = by_reading (reading_of image.count image.payload)
+  where
+    by_reading : (reading : Reading) → NoCloses (once_read (λ chunk. model.ArrivesInPart image.sequence image.chunk_id chunk) image.flags reading)
+    by_reading (Fragments fragments) = (refl, tt)
+    by_reading (Unreadable number) = tt
+
+-- Finished fragments of a chunk arrived, of which a look found so many, and are noted.
+module _ {S : Type 0} (setup : Setup) (old : ServiceView) (core done : ServiceCore S) (place chunk id count flags front : ℕ) (payload : List ℕ)
+    (agrees : ServiceAgrees setup old core) (alike : LooksAgree old) (looked : PartLooked old chunk place id count flags) where
+  first : FirstFound (place + 2 - 2) id count old.looks
+  first = first_found (place + 2 - 2) id count old.looks looked.number looked.look looked.found looked.at looked.found_is (looked.place_is ∙ (let back : place ≡ place + 2 - 2 = omega arith in back)) looked.id_is looked.count_is
+
+  same : FoundAlike first.found looked.found
+  same = found_alike old alike first.number looked.number first.look looked.look first.found looked.found first.at first.found_is looked.at looked.found_is
+      (first.place_is ∙ (let back : place + 2 - 2 ≡ place = omega arith in back) ∙ sym looked.place_is) (first.id_is ∙ sym looked.id_is) (first.count_is ∙ sym looked.count_is)
+
+  pub part_found : 0 < count → IsFoundPart (noted_more old (Partial (place + 2) id count ∷ [])) (place + 2) id count
+  part_found some = record { found = first.found; looked = first.looked; some = let many = first.count_is in omega (arith, many, some) }
+
+  module _ (keeps : KeepsFields core done) (open_here : is_closed setup core place ≡ false) (next : id ≡ (taken_of old place).count) (some : 0 < count)
+      (front_is : front % 2 ≡ flags % 2) (shows : ShowsFound old chunk payload) (small : length payload < drop_size)
+      (buffers_are : let image : Image = record { sequence = place + 2; chunk_id = id; count = count; flags = front; payload = payload } in done.buffers.items ≡ buffers_after core.buffers.items (partial_arrivals_of image))
+      (taken_is : done.taken.items ≡ core.taken.items) where
+    -- what arrived is what the note says
+    part_happened : let image : Image = record { sequence = place + 2; chunk_id = id; count = count; flags = front; payload = payload } in
+        buffers_after core.buffers.items (partial_arrivals_of image)
+        ≡ buffers_after core.buffers.items (flat_map (happened (noted_more old (Partial (place + 2) id count ∷ []))) (Partial (place + 2) id count ∷ []))
+    part_happened =
+        let bs : List Buffer = core.buffers.items in
+        let found = looked.found in
+        let untaken : (taken_of old found.place).count ≤ found.id =
+        let counts : (taken_of old found.place).count ≡ (taken_of old place).count = ap (λ (p : ℕ). (taken_of old p).count) looked.place_is in
+        let is = looked.id_is in omega (arith, counts, is, next) in
+        let loaded = shows looked.number looked.look found looked.at looked.chunk_is looked.found_is untaken in
+        let reads = loaded_reads found count payload looked.is looked.count_is loaded.0 loaded.1 small in
+        let flag_is : front % 2 ≡ first.found.head.flags % 2 = front_is ∙ sym looked.front ∙ sym (same.front (let many = first.count_is in omega (arith, many, some))) in
+        ap (λ (r : Reading). buffers_after bs (once_read (λ chunk. model.ArrivesInPart (place + 2) id chunk) front r)) (reads ∙ ap (reading_of count) (sym same.sealed))
+        ∙ same_parts bs (place + 2) id front first.found.head.flags (reading_of count first.found.sealed) flag_is
+        ∙ ap (λ (o : Option Found). buffers_after bs (part_of (place + 2) id count o)) (sym first.looked)
+        ∙ ap (buffers_after bs) (sym (append-nil (part_of (place + 2) id count (found_among (place + 2 - 2) id count old.looks))))
+
+    stays : (other : ℕ) → other < length setup.writers → is_closed setup done other ≡ is_closed setup core other
+    stays other inside =
+        let image : Image = record { sequence = place + 2; chunk_id = id; count = count; flags = front; payload = payload } in
+        closed_by_none setup old core done other (partial_arrivals_of image) agrees buffers_are (no_closes image) inside
+
+    leads : (other : ℕ) → other < length setup.writers → (other ≡ place) ⊎ (other ≡ place → ⊥)
+        → LeadTo (noted_more old (Partial (place + 2) id count ∷ [])) (other + 2) (record { come = (taken_of old other).count; closed = is_closed setup core other; due = [] }) (Partial (place + 2) id count ∷ [])
+        (record { come = (taken_of old other).count; closed = is_closed setup done other; due = [] })
+    leads other inside (inl is) =
+        let v : ServiceView = noted_more old (Partial (place + 2) id count ∷ []) in
+        let notes : List Noted = Partial (place + 2) id count ∷ [] in
+        let was : is_closed setup core other ≡ false = ap (is_closed setup core) is ∙ open_here in
+        let now : is_closed setup done other ≡ false = stays other inside ∙ was in
+        let counts : id ≡ (taken_of old other).count = next ∙ ap (λ (p : ℕ). (taken_of old p).count) (sym is) in
+        subst (λ (b : Bool). LeadTo v (other + 2) (record { come = (taken_of old other).count; closed = is_closed setup core other; due = [] }) notes (record { come = (taken_of old other).count; closed = b; due = [] })) (sym now)
+        (subst (λ (b : Bool). LeadTo v (other + 2) (record { come = (taken_of old other).count; closed = b; due = [] }) notes (record { come = (taken_of old other).count; closed = false; due = [] })) (sym was)
+        (subst (λ (n : ℕ). LeadTo v (other + 2) (record { come = n; closed = false; due = [] }) notes (record { come = n; closed = false; due = [] })) counts
+        (subst (λ (p : ℕ). LeadTo v (p + 2) (record { come = id; closed = false; due = [] }) notes (record { come = id; closed = false; due = [] })) (sym is)
+        (lead_part v (place + 2) id count (part_found some)))))
+    leads other inside (inr differs) =
+        let v : ServiceView = noted_more old (Partial (place + 2) id count ∷ []) in
+        subst (λ (b : Bool). LeadTo v (other + 2) (record { come = (taken_of old other).count; closed = is_closed setup core other; due = [] }) (Partial (place + 2) id count ∷ []) (record { come = (taken_of old other).count; closed = b; due = [] }))
+        (sym (stays other inside))
+        (lead_part_other v (other + 2) (place + 2) id count (taken_of old other).count (is_closed setup core other) (λ e. differs (let is : other ≡ place = omega (arith, e) in is)))
+
+    pub agrees_part : ServiceAgrees setup (noted_more old (Partial (place + 2) id count ∷ [])) done
+    agrees_part =
+        agrees_noted setup old core done (Partial (place + 2) id count ∷ []) agrees keeps (buffers_are ∙ part_happened) taken_is ((first.found, first.looked), tt)
+        (λ other inside none. leads other inside (cases_eq other place))
+
+    pub keeps_part : KeepsRest setup core done
+    keeps_part = record { fields = keeps; closed = stays }

@@ -1,0 +1,94 @@
+use Rattle.std.proofs.Common.{◌≡◌, ◌∙◌, ◌+◌, ◌-◌, ◌%◌, ◌<◌, ℕ, List, [], ◌∷◌, length, subst, sym, refl, ap, arith}
+use Rattle.std.specs.Prelude.{bit_and}
+use Rattle.std.proofs.lemmas.List.{get_or_read}
+use Rattle.std.proofs.lemmas.Nat.{and_mask}
+use Rattle.trace_base.specs.declared.policy.WriterSpec.{WriterSpec}
+use Rattle.page_geometry.specs.Sizes.{record_size}
+use Rattle.trace_model.specs.Fragments.{drop_size}
+use Rattle.chunk_plain.specs.declared.setup.Spot.{Spot}
+use Rattle.chunk_plain.specs.Setup.{Setup, spot, producer_of}
+use Rattle.chunk_plain.specs.Words.{ShowsFound}
+use Rattle.chunk_plain.specs.Views.{Partial, ServiceView}
+use Rattle.service_core.specs.Routing.{IsAt}
+use Rattle.service_core.specs.Order.{IsFoundPart}
+use Rattle.service_core.specs.Agreement.{ServiceAgrees, spec_at, no_writer}
+use Rattle.service_core.specs.Taking.{noted_more}
+use Rattle.service_core.proofs.RoutedLemmas.{stands}
+use Rattle.service_core.proofs.ScrapeLemmas.{part_found, agrees_part, keeps_part}
+use Rattle.service_core.proofs.service.ServiceCore.put_part.Goals as goal
+
+pub arrive_part_in-requires-clause-at : goal.arrive_part_in-requires-clause-at
+arrive_part_in-requires-clause-at g c =
+    let setup = g.W.Words.means.setup c.args.table.now in
+    let view = g.W.Words.means.service_view c.args.table.now c.args.self.now.seat in
+    let core = c.args.self.now in
+    let place = c.args.place in
+    let laid = g.met.W.Words.laid c.args.table.now in
+    let inside = subst (λ (ws : List WriterSpec). place < length ws) (sym c.requires.agrees.writers) c.requires.place in
+    let read = get_or_read core.writers.items place c.index.result.now inside c.index.ensures no_writer ∙ ap (λ (ws : List WriterSpec). spec_at ws place) c.requires.agrees.writers in
+    let number = c.from-index.ensures ∙ ap (λ (w : WriterSpec). w.buffer) read in
+    let here = c.spot-size.ensures.spot ∙ ap (λ (s : Setup). spot s c.args.chunk) c.requires.agrees.layout in
+    let size_is = c.front.ensures.long ∙ ap (λ (s : Spot). s.payload_size) here ∙ laid.sizes (producer_of setup place) c.args.chunk c.requires.chunk in
+    subst (λ (n : ℕ). IsAt core.buffers.items (n - 1) (place + 2) (record_size (length c.front.result.now))) (sym number)
+    (subst (λ (n : ℕ). IsAt core.buffers.items ((spec_at setup.writers place).buffer - 1) (place + 2) (record_size n)) (sym size_is)
+    (stands setup view core place c.requires.agrees c.requires.place))
+
+pub returns-clause-agrees : goal.returns-clause-agrees
+returns-clause-agrees g c =
+    let setup = g.W.Words.means.setup c.args.table.now in
+    let old = g.W.Words.means.service_view c.args.table.now c.args.self.now.seat in
+    let core = c.args.self.now in
+    let done = record core { seat = c.note.new.seat; buffers = c.arrive_part_in.new.buffers; room = c.load.new.self } in
+    let place = c.args.place in
+    let laid = g.met.W.Words.laid c.args.table.now in
+    let range = laid.ranges (producer_of setup place) in
+    let own = c.requires.chunk in
+    let least = own.least in
+    let below = own.below in
+    let here = c.spot-size.ensures.spot ∙ ap (λ (s : Setup). spot s c.args.chunk) c.requires.agrees.layout in
+    let most = laid.most c.args.chunk (omega (arith, range, below)) in
+    let long = c.front.ensures.long ∙ ap (λ (s : Spot). s.payload_size) here in
+    let small : length c.front.result.now < drop_size = omega (arith, long, most) in
+    let shows = subst (λ (bytes : List ℕ). ShowsFound old c.args.chunk bytes) (sym c.front.ensures.bytes) c.load.ensures.found in
+    let mask : bit_and c.args.header.flags 1 ≡ c.args.header.flags % 2 = and_mask c.args.header.flags 1 in
+    let front : bit_and c.args.header.flags 1 % 2 ≡ c.args.header.flags % 2 = omega (arith, mask) in
+    subst (λ (v : ServiceView). ServiceAgrees setup v done) (sym (c.note.ensures.view ∙ (ap (λ (n : ℕ). noted_more (g.W.Words.means.service_view c.load.new.table c.load.new.seat) (Partial (place + 2) c.args.header.chunk_id n ∷ [])) c.from-limit.ensures
+    ∙ ap (λ (v : ServiceView). noted_more v (Partial (place + 2) c.args.header.chunk_id c.args.finished ∷ [])) c.load.ensures.view)))
+    (agrees_part setup old core done place c.args.chunk c.args.header.chunk_id c.args.finished c.args.header.flags (bit_and c.args.header.flags 1) c.front.result.now
+    c.requires.agrees (g.met.W.Words.looks_agree c.args.table.now core.seat c.requires.serves) c.requires.looked
+    (record { layout = refl; specs = refl; writers = refl; session = refl }) c.requires.open c.requires.id c.requires.some front shows small c.arrive_part_in.ensures.after refl)
+
+pub returns-clause-keeps : goal.returns-clause-keeps
+returns-clause-keeps g c =
+    let setup = g.W.Words.means.setup c.args.table.now in
+    let old = g.W.Words.means.service_view c.args.table.now c.args.self.now.seat in
+    let core = c.args.self.now in
+    let done = record core { seat = c.note.new.seat; buffers = c.arrive_part_in.new.buffers; room = c.load.new.self } in
+    let place = c.args.place in
+    let laid = g.met.W.Words.laid c.args.table.now in
+    let range = laid.ranges (producer_of setup place) in
+    let own = c.requires.chunk in
+    let least = own.least in
+    let below = own.below in
+    let here = c.spot-size.ensures.spot ∙ ap (λ (s : Setup). spot s c.args.chunk) c.requires.agrees.layout in
+    let most = laid.most c.args.chunk (omega (arith, range, below)) in
+    let long = c.front.ensures.long ∙ ap (λ (s : Spot). s.payload_size) here in
+    let small : length c.front.result.now < drop_size = omega (arith, long, most) in
+    let shows = subst (λ (bytes : List ℕ). ShowsFound old c.args.chunk bytes) (sym c.front.ensures.bytes) c.load.ensures.found in
+    let mask : bit_and c.args.header.flags 1 ≡ c.args.header.flags % 2 = and_mask c.args.header.flags 1 in
+    let front : bit_and c.args.header.flags 1 % 2 ≡ c.args.header.flags % 2 = omega (arith, mask) in
+    keeps_part setup old core done place c.args.chunk c.args.header.chunk_id c.args.finished c.args.header.flags (bit_and c.args.header.flags 1) c.front.result.now
+    c.requires.agrees (g.met.W.Words.looks_agree c.args.table.now core.seat c.requires.serves) c.requires.looked
+    (record { layout = refl; specs = refl; writers = refl; session = refl }) c.requires.open c.requires.id c.requires.some front shows small c.arrive_part_in.ensures.after refl
+
+pub returns-clause-part : goal.returns-clause-part
+returns-clause-part g c =
+    let setup = g.W.Words.means.setup c.args.table.now in
+    let old = g.W.Words.means.service_view c.args.table.now c.args.self.now.seat in
+    let core = c.args.self.now in
+    let place = c.args.place in
+    subst (λ (v : ServiceView). IsFoundPart v (place + 2) c.args.header.chunk_id c.args.finished)
+    (sym (c.note.ensures.view ∙ (ap (λ (n : ℕ). noted_more (g.W.Words.means.service_view c.load.new.table c.load.new.seat) (Partial (place + 2) c.args.header.chunk_id n ∷ [])) c.from-limit.ensures
+    ∙ ap (λ (v : ServiceView). noted_more v (Partial (place + 2) c.args.header.chunk_id c.args.finished ∷ [])) c.load.ensures.view)))
+    (part_found setup old core core place c.args.chunk c.args.header.chunk_id c.args.finished c.args.header.flags (bit_and c.args.header.flags 1) c.front.result.now
+    c.requires.agrees (g.met.W.Words.looks_agree c.args.table.now core.seat c.requires.serves) c.requires.looked c.requires.some)

@@ -1,0 +1,124 @@
+use Rattle.std.proofs.Common.{◌≡◌, ◌∙◌, ◌+◌, ◌<◌, ◌++◌, ℕ, List, [], ◌∷◌, length, subst, sym, refl, ap, arith}
+use Rattle.page_geometry.specs.Header.{packed}
+use Rattle.chunk_plain.specs.declared.setup.Spot.{Spot}
+use Rattle.chunk_plain.specs.Setup.{Setup, spot}
+use Rattle.chunk_plain.specs.Steps.{taken_counts}
+use Rattle.chunk_plain.specs.Views.{Look, Noted, Partial, ServiceView, taken_of}
+use Rattle.chunk_plain.proofs.SeatSteps.{services_follow}
+use Rattle.service_core.specs.Agreement.{ServiceAgrees, KeepsRest}
+use Rattle.service_core.specs.Scraping.{PartLooked, IsntPart}
+use Rattle.service_core.proofs.TakingLemmas.{read_count}
+use Rattle.service_core.proofs.AgreeLemmas.{agrees_looked}
+use Rattle.service_core.proofs.PartLemmas.{part_looked, no_part_seen}
+use Rattle.service_core.proofs.HeldLemmas.{HasRanges, part_is, isnt_part}
+use Rattle.service_core.proofs.service.ServiceCore.scrape_chunk.Goals as goal
+
+pub put_part-requires-clause-agrees : goal.put_part-requires-clause-agrees
+put_part-requires-clause-agrees g c =
+    let setup = g.W.Words.means.setup c.args.table.now in
+    let old = g.W.Words.means.service_view c.args.table.now c.args.self.now.seat in
+    let core = c.args.self.now in
+    let looks = c.look-seen.ensures.view in
+    let look : Look = record { chunk = c.args.chunk; word = c.look-seen.result.word.0; header = packed c.look-seen.result.header; found = looks.found; taken = taken_counts old } in
+    subst (λ (s : Setup). ServiceAgrees s (g.W.Words.means.service_view c.look-seen.new.self c.look-seen.new.seat) (record core { seat = c.look-seen.new.seat })) (sym c.look-seen.ensures.step.setup_stays)
+    (subst (λ (v : ServiceView). ServiceAgrees setup v (record core { seat = c.look-seen.new.seat })) (sym looks.view)
+    (agrees_looked setup old core (record core { seat = c.look-seen.new.seat }) (look ∷ []) c.requires.agrees
+    (record { layout = refl; specs = refl; writers = refl; session = refl }) refl refl))
+
+pub put_part-requires-clause-looked : goal.put_part-requires-clause-looked
+put_part-requires-clause-looked g c =
+    let setup = g.W.Words.means.setup c.args.table.now in
+    let old = g.W.Words.means.service_view c.args.table.now c.args.self.now.seat in
+    let new = g.W.Words.means.service_view c.look-seen.new.self c.look-seen.new.seat in
+    let place = c.args.place in
+    let here = ap (λ (s : Spot). s.place) (c.spot-at.ensures.spot ∙ ap (λ (s : Setup). spot s c.args.chunk) c.requires.agrees.layout) in
+    let looked = part_looked setup old new place c.args.chunk c.look-seen.result c.spot-at.result.place (place + 1) c.index.result.now c.in-Some.finished c.look-seen.ensures.view here refl c.in-Some.ensures.some in
+    let named = c.in-Some.ensures.some.id_is in
+    subst (λ (i : ℕ). PartLooked new c.args.chunk place i c.in-Some.finished c.look-seen.result.header.flags) (sym named) looked
+
+pub returns-in-Some-clause-keeps : goal.returns-in-Some-clause-keeps
+returns-in-Some-clause-keeps g c =
+    let keeps = subst (λ (s : Setup). KeepsRest s (record c.args.self.now { seat = c.look-seen.new.seat }) c.put_part.new.self) c.look-seen.ensures.step.setup_stays c.put_part.ensures.keeps in
+    record {
+      fields = record { layout = keeps.fields.layout; specs = keeps.fields.specs; writers = keeps.fields.writers; session = keeps.fields.session };
+      closed = keeps.closed;
+    }
+
+pub returns-in-Some-clause-step : goal.returns-in-Some-clause-step
+returns-in-Some-clause-step g c =
+    services_follow g.W.Words.means c.args.table.now c.args.self.now.seat c.look-seen.new.self c.look-seen.new.seat c.put_part.new.table c.put_part.new.self.seat c.look-seen.ensures.step c.put_part.ensures.step
+
+pub returns-in-Some-clause-told_part : goal.returns-in-Some-clause-told_part
+returns-in-Some-clause-told_part g c _ world is =
+    let setup = g.W.Words.means.setup c.args.table.now in
+    let old = g.W.Words.means.service_view c.args.table.now c.args.self.now.seat in
+    let mid = g.W.Words.means.service_view c.look-seen.new.self c.look-seen.new.seat in
+    let new = g.W.Words.means.service_view c.put_part.new.table c.put_part.new.self.seat in
+    let place = c.args.place in
+    let serving = g.met.W.Words.serving c.args.table.now c.args.self.now.seat c.requires.serves in
+    let many = serving.writers in
+    let below = c.requires.place in
+    let inside : place < length old.taken = omega (arith, many, below) in
+    let count = read_count old c.args.self.now.taken.items place c.index.result.now c.requires.agrees.taken inside c.index.ensures in
+    let here = ap (λ (s : Spot). s.place) (c.spot-at.ensures.spot ∙ ap (λ (s : Setup). spot s c.args.chunk) c.requires.agrees.layout) in
+    let seen = c.look-seen.result in
+    let most = c.look-seen.ensures.count_fits in
+    let most_flags = c.look-seen.ensures.flags_fit in
+    let ranges : HasRanges seen.header = record { word = c.part_in.ensures.fits; count = omega (arith, most); flags = omega (arith, most_flags) } in
+    let view_is = g.met.W.Words.told_service_view c.args.table.now c.args.self.now.seat world is c.requires.serves in
+    let next : c.index.result.now ≡ (taken_of world.service place).count = count ∙ ap (λ (v : ServiceView). (taken_of v place).count) view_is in
+    let held = part_is setup world place c.args.chunk c.spot-at.result.place (place + 1) c.index.result.now c.in-Some.finished seen (g.met.W.Words.told_owned c.args.table.now world is)
+    (c.look-seen.ensures.shown world is) here refl c.in-Some.ensures.some next ranges in
+    record {
+      told_is = c.put_part.ensures.told _ (c.look-seen.ensures.told world is);
+      events = ap (λ (v : ServiceView). v.events) c.put_part.ensures.view
+          ∙ (ap (λ (n : ℕ). mid.events ++ Partial (place + 2) n c.in-Some.finished ∷ []) c.in-Some.ensures.some.id_is
+          ∙ (ap (λ (v : ServiceView). v.events ++ Partial (place + 2) c.index.result.now c.in-Some.finished ∷ []) c.look-seen.ensures.view.view
+          ∙ ap (λ (l : List Noted). old.events ++ l) (sym held)));
+    }
+
+pub returns-in-None-clause-agrees : goal.returns-in-None-clause-agrees
+returns-in-None-clause-agrees g c =
+    let setup = g.W.Words.means.setup c.args.table.now in
+    let old = g.W.Words.means.service_view c.args.table.now c.args.self.now.seat in
+    let core = c.args.self.now in
+    let looks = c.look-seen.ensures.view in
+    let look : Look = record { chunk = c.args.chunk; word = c.look-seen.result.word.0; header = packed c.look-seen.result.header; found = looks.found; taken = taken_counts old } in
+    subst (λ (v : ServiceView). ServiceAgrees setup v (record core { seat = c.look-seen.new.seat })) (sym looks.view)
+    (agrees_looked setup old core (record core { seat = c.look-seen.new.seat }) (look ∷ []) c.requires.agrees
+    (record { layout = refl; specs = refl; writers = refl; session = refl }) refl refl)
+
+pub returns-in-None-clause-none : goal.returns-in-None-clause-none
+returns-in-None-clause-none g c _ =
+    let setup = g.W.Words.means.setup c.args.table.now in
+    let old = g.W.Words.means.service_view c.args.table.now c.args.self.now.seat in
+    let new = g.W.Words.means.service_view c.look-seen.new.self c.look-seen.new.seat in
+    let place = c.args.place in
+    let serving = g.met.W.Words.serving c.args.table.now c.args.self.now.seat c.requires.serves in
+    let many = serving.writers in
+    let below = c.requires.place in
+    let inside : place < length old.taken = omega (arith, many, below) in
+    let count = read_count old c.args.self.now.taken.items place c.index.result.now c.requires.agrees.taken inside c.index.ensures in
+    let here = ap (λ (s : Spot). s.place) (c.spot-at.ensures.spot ∙ ap (λ (s : Setup). spot s c.args.chunk) c.requires.agrees.layout) in
+    no_part_seen setup old new place c.args.chunk c.look-seen.result c.spot-at.result.place (place + 1) c.index.result.now c.look-seen.ensures.view here refl count c.in-None.ensures.none
+
+pub returns-in-None-clause-told_none : goal.returns-in-None-clause-told_none
+returns-in-None-clause-told_none g c _ world is =
+    let setup = g.W.Words.means.setup c.args.table.now in
+    let old = g.W.Words.means.service_view c.args.table.now c.args.self.now.seat in
+    let place = c.args.place in
+    let serving = g.met.W.Words.serving c.args.table.now c.args.self.now.seat c.requires.serves in
+    let many = serving.writers in
+    let below = c.requires.place in
+    let inside : place < length old.taken = omega (arith, many, below) in
+    let count = read_count old c.args.self.now.taken.items place c.index.result.now c.requires.agrees.taken inside c.index.ensures in
+    let here = ap (λ (s : Spot). s.place) (c.spot-at.ensures.spot ∙ ap (λ (s : Setup). spot s c.args.chunk) c.requires.agrees.layout) in
+    let seen = c.look-seen.result in
+    let most = c.look-seen.ensures.count_fits in
+    let most_flags = c.look-seen.ensures.flags_fit in
+    let ranges : HasRanges seen.header = record { word = c.part_in.ensures.fits; count = omega (arith, most); flags = omega (arith, most_flags) } in
+    record {
+      isnt = subst (λ (n : ℕ). IsntPart place n c.args.chunk world) count
+          (isnt_part setup world place c.args.chunk c.spot-at.result.place (place + 1) c.index.result.now seen (c.look-seen.ensures.shown world is) here refl ranges c.in-None.ensures.none);
+      told_is = c.look-seen.ensures.told world is;
+    }

@@ -1,0 +1,98 @@
+use Rattle.std.proofs.Common.{◌≡◌, ◌∙◌, ℕ, subst, ap, inl, inr}
+use Rattle.chunk_plain.specs.Setup.{Setup}
+use Rattle.chunk_plain.specs.Views.{ServiceView, taken_of}
+use Rattle.chunk_plain.proofs.SeatSteps.{services_follow, serves_on}
+use Rattle.service_core.specs.Agreement.{ServiceAgrees, KeepsRest}
+use Rattle.service_core.specs.Scraping.{SeesNoPart, FindsNoPart, FindsNoPartOf}
+use Rattle.service_core.proofs.AgreeLemmas.{keeps_same, keeps_both}
+use Rattle.service_core.proofs.ToldLemmas.{range_is}
+use Rattle.service_core.proofs.PartLemmas.{no_part_yet, no_part_more, no_part, part_behind}
+use Rattle.service_core.proofs.HeldLemmas.{finds_none_yet, finds_none_more, notes_behind, notes_none}
+use Rattle.service_core.proofs.service.ServiceCore.scrape_writer.Goals as goal
+
+pub loop-chunk-init : goal.loop-chunk-init
+loop-chunk-init g c =
+    let means = g.W.Words.means in
+    let setup = means.setup c.args.table.now in
+    let old = means.service_view c.args.table.now c.args.self.now.seat in
+    record {
+      agrees = c.requires.agrees;
+      keeps = keeps_same setup c.args.self.now;
+      step = serves_on means c.args.table.now c.args.self.now.seat c.requires.serves;
+      told = λ world is. finds_none_yet c.args.place (taken_of old c.args.place).count c.chunks_of-first.result.0 world (means.told c.args.table.now) old is
+          (g.met.W.Words.told_service_view c.args.table.now c.args.self.now.seat world is c.requires.serves);
+      seen = no_part_yet setup c.args.place c.chunks_of-first.result.0 old;
+    }
+
+pub loop-chunk-preserved : goal.loop-chunk-preserved
+loop-chunk-preserved g c =
+    let means = g.W.Words.means in
+    let i = c.loop-chunk.invariant in
+    let setup = means.setup c.args.table.now in
+    let place = c.args.place in
+    let first = c.chunks_of-first.result.0 in
+    let old = means.service_view c.args.table.now c.args.self.now.seat in
+    let mid = means.service_view c.loop-chunk.table c.loop-chunk.self.seat in
+    let new = means.service_view c.scrape_chunk.new.table c.scrape_chunk.new.self.seat in
+    let same = i.step.setup_stays in
+    record {
+      agrees = subst (λ (s : Setup). ServiceAgrees s new c.scrape_chunk.new.self) same c.scrape_chunk.ensures.agrees;
+      keeps = keeps_both setup c.args.self.now c.loop-chunk.self c.scrape_chunk.new.self i.keeps (subst (λ (s : Setup). KeepsRest s c.loop-chunk.self c.scrape_chunk.new.self) same c.scrape_chunk.ensures.keeps);
+      step = services_follow means c.args.table.now c.args.self.now.seat c.loop-chunk.table c.loop-chunk.self.seat c.scrape_chunk.new.table c.scrape_chunk.new.self.seat i.step c.scrape_chunk.ensures.step;
+      told = λ world is.
+          let count_is : (taken_of mid place).count ≡ (taken_of old place).count = ap (λ (v : ServiceView). (taken_of v place).count) i.seen.view in
+          finds_none_more place (taken_of old place).count first c.loop-chunk.chunk world (means.told c.loop-chunk.table) (means.told c.scrape_chunk.new.table) mid new (i.told world is)
+          (λ w e. subst (λ (n : ℕ). FindsNoPart place n c.loop-chunk.chunk w (means.told c.scrape_chunk.new.table) new) count_is (c.scrape_chunk.ensures.told_none c.if-scrape_chunk.false w e));
+      seen = no_part_more setup place first c.loop-chunk.chunk old mid new i.seen (subst (λ (s : Setup). SeesNoPart s place c.loop-chunk.chunk mid new) same (c.scrape_chunk.ensures.none c.if-scrape_chunk.false));
+    }
+
+pub returns-then-scrape_chunk-clause-scrapes : goal.returns-then-scrape_chunk-clause-scrapes
+returns-then-scrape_chunk-clause-scrapes g c =
+    let means = g.W.Words.means in
+    let i = c.loop-chunk.invariant in
+    let setup = means.setup c.args.table.now in
+    let old = means.service_view c.args.table.now c.args.self.now.seat in
+    let mid = means.service_view c.loop-chunk.table c.loop-chunk.self.seat in
+    let new = means.service_view c.scrape_chunk.new.table c.scrape_chunk.new.self.seat in
+    inl (part_behind setup c.args.place c.chunks_of-first.result.0 c.loop-chunk.chunk old mid new i.seen (c.scrape_chunk.ensures.part c.if-scrape_chunk.true))
+
+pub returns-then-scrape_chunk-clause-told : goal.returns-then-scrape_chunk-clause-told
+returns-then-scrape_chunk-clause-told g c world is own =
+    let means = g.W.Words.means in
+    let i = c.loop-chunk.invariant in
+    let place = c.args.place in
+    let old = means.service_view c.args.table.now c.args.self.now.seat in
+    let mid = means.service_view c.loop-chunk.table c.loop-chunk.self.seat in
+    let new = means.service_view c.scrape_chunk.new.table c.scrape_chunk.new.self.seat in
+    let view_is = g.met.W.Words.told_service_view c.args.table.now c.args.self.now.seat world is c.requires.serves in
+    notes_behind place (taken_of old place).count c.chunks_of-first.result.0 c.loop-chunk.chunk world (means.told c.loop-chunk.table) (means.told c.scrape_chunk.new.table) old mid new (i.told world is)
+    (ap (λ (v : ServiceView). v.events) i.seen.view) (ap (λ (v : ServiceView). v.taken) i.seen.view ∙ ap (λ (v : ServiceView). v.taken) view_is)
+    (c.scrape_chunk.ensures.told_part c.if-scrape_chunk.true)
+
+pub returns-clause-scrapes : goal.returns-clause-scrapes
+returns-clause-scrapes g c =
+    let means = g.W.Words.means in
+    let i = c.loop-chunk.invariant in
+    let setup = means.setup c.args.table.now in
+    let place = c.args.place in
+    let old = means.service_view c.args.table.now c.args.self.now.seat in
+    let new = means.service_view c.loop-chunk.table c.loop-chunk.self.seat in
+    let range = range_is setup c.args.self.now.layout c.args.self.now.writers.items place c.index.result.now c.chunks_of-first.result
+    c.requires.agrees.layout c.requires.agrees.writers c.requires.place c.index.ensures c.chunks_of-first.ensures in
+    inr (no_part setup place c.chunks_of-first.result.0 c.chunks_of-first.result.1 c.loop-chunk.chunk old new range c.loop-chunk-test.false i.seen)
+
+pub returns-clause-told : goal.returns-clause-told
+returns-clause-told g c world is own =
+    let means = g.W.Words.means in
+    let i = c.loop-chunk.invariant in
+    let setup = means.setup c.args.table.now in
+    let place = c.args.place in
+    let old = means.service_view c.args.table.now c.args.self.now.seat in
+    let new = means.service_view c.loop-chunk.table c.loop-chunk.self.seat in
+    let range = range_is setup c.args.self.now.layout c.args.self.now.writers.items place c.index.result.now c.chunks_of-first.result
+    c.requires.agrees.layout c.requires.agrees.writers c.requires.place c.index.ensures c.chunks_of-first.ensures in
+    let view_is = g.met.W.Words.told_service_view c.args.table.now c.args.self.now.seat world is c.requires.serves in
+    notes_none setup place c.chunks_of-first.result.0 c.chunks_of-first.result.1 c.loop-chunk.chunk world (means.told c.loop-chunk.table) old new
+    (g.met.W.Words.told_owned c.args.table.now world is) own range c.loop-chunk-test.false
+    (subst (λ (v : ServiceView). FindsNoPartOf place (taken_of v place).count c.chunks_of-first.result.0 c.loop-chunk.chunk world (means.told c.loop-chunk.table) new) view_is (i.told world is))
+    (ap (λ (v : ServiceView). v.events) i.seen.view)

@@ -1,0 +1,173 @@
+-- What a scrape notes.
+use Rattle.std.specs.Prelude.{◌≡◌, ℕ, ◌+◌, ◌-◌, ◌%◌, ◌^◌, ◌<◌, ◌≤◌, ◌⊎◌, nat_lt, List, [], ◌∷◌, ◌++◌, length, Option, Some, slice_get, slice_index_or, if◌then◌else◌}
+use Rattle.std.specs.List.{flat_map}
+use Rattle.trace_base.specs.declared.policy.WriterSpec.{WriterSpec}
+use Rattle.page_geometry.specs.declared.chunk_header.ChunkHeader.{ChunkHeader}
+use Rattle.page_geometry.specs.declared.chunk_state.ChunkState.TheVariants.{BeingWritten}
+use Rattle.page_geometry.specs.PageBits.{HasState}
+use Rattle.page_geometry.specs.Header.{packed}
+use Rattle.chunk_plain.specs.declared.tokens.Seen.{Seen}
+use Rattle.chunk_plain.specs.Setup.{Setup, spot, producer_of, IsChunkOf, id_at, sequence_of}
+use Rattle.chunk_plain.specs.Views.{At, Draft, no_draft, Begun, Held, Completed, Found, Look, Noted, Partial, ServiceView, taken_of}
+use Rattle.chunk_plain.specs.World.{World, Writing, status, writer}
+use Rattle.chunk_plain.specs.Steps.{serviced}
+use Rattle.chunk_plain.specs.Drafts.{IsFound}
+use Rattle.service_core.specs.Taking.{looked, noted_more, Takes, places_of}
+use Rattle.service_core.specs.Told.{StandsBehind, NoneLeft}
+use Rattle.service_core.specs.Order.{IsFoundPart}
+
+-- The look found the chunk in another state than being written, or with another writer, or with another id than this one, or with fewer than two
+-- fragments counted.
+pub record IsNoPart (setup : Setup) (place id : ℕ) (look : Look) : Type 0 where
+  pub header : ChunkHeader
+  pub header_is : look.header ≡ packed header
+  pub none : HasState look.word (spot setup look.chunk).place BeingWritten → header.writer_id ≡ place + 1 → header.chunk_id ≡ id → header.count < 2
+
+-- the chunk was looked at, and nothing of it comes as a part of the next chunk of the writer at this place
+pub record SeesNoPart (setup : Setup) (place chunk : ℕ) (old new : ServiceView) : Type 0 where
+  pub look : Look
+  pub view : new ≡ looked old (look ∷ [])
+  pub chunk_is : look.chunk ≡ chunk
+  pub since : slice_index_or look.taken place 0 ≡ (taken_of old place).count
+  pub shows : IsNoPart setup place (id_at setup place (taken_of old place).count) look
+
+-- one of these looks at the chunk shows that no part of the writer's next chunk comes from it, of which so many were taken then
+pub record ShowsNoPart (setup : Setup) (place count chunk : ℕ) (looks : List Look) : Type 0 where
+  pub n : ℕ
+  pub look : Look
+  pub at : slice_get looks n ≡ Some look
+  pub chunk_is : look.chunk ≡ chunk
+  pub since : slice_index_or look.taken place 0 ≡ count
+  pub shows : IsNoPart setup place (id_at setup place count) look
+
+-- Finished fragments of the writer's next chunk came, so many, and at least one; they are noted, and stand on a look.
+pub record TakesPart (place : ℕ) (old new : ServiceView) : Type 0 where
+  pub looks : List Look
+  pub count : ℕ
+  pub some : 0 < count
+  pub view : new ≡ noted_more (looked old looks) (Partial (sequence_of place) (taken_of old place).count count ∷ [])
+  pub found : IsFoundPart new (sequence_of place) (taken_of old place).count count
+
+-- no part of the writer's next chunk came: each chunk of the producer was looked at, and shows why
+pub record TakesNoPart (setup : Setup) (place : ℕ) (old new : ServiceView) : Type 0 where
+  pub looks : List Look
+  pub view : new ≡ looked old looks
+  pub none : (chunk : ℕ) → IsChunkOf setup (producer_of setup place) chunk → ShowsNoPart setup place (taken_of old place).count chunk looks
+
+-- the same of the chunks from one up to another
+pub record TakesNoPartOf (setup : Setup) (place first last : ℕ) (old new : ServiceView) : Type 0 where
+  pub looks : List Look
+  pub view : new ≡ looked old looks
+  pub none : (chunk : ℕ) → first ≤ chunk → chunk < last → ShowsNoPart setup place (taken_of old place).count chunk looks
+
+-- a part of the next chunk of the writer at this place came, or none
+abbrev pub ScrapesOne : Setup → (place : ℕ) → ServiceView → ServiceView → Type 0
+ScrapesOne setup place old new = TakesPart place old new ⊎ TakesNoPart setup place old new
+
+-- and of those at these places, one after another
+abbrev pub ScrapesEach : Setup → List ℕ → ServiceView → ServiceView → Type 0
+ScrapesEach setup [] old new = new ≡ old
+ScrapesEach setup (place ∷ places) old new = (between : ServiceView) × ScrapesOne setup place old between × ScrapesEach setup places between new
+
+-- The producer's complete chunks were taken, and then finished fragments of those that its writers hold.
+pub record TakesAndScrapes (setup : Setup) (producer taken : ℕ) (old new : ServiceView) : Type 0 where
+  pub between : ServiceView
+  pub takes : Takes setup (places_of producer 0 setup.writers) taken old between
+  pub scrapes : ScrapesEach setup (places_of producer 0 setup.writers) between new
+
+-- the same while these first writers are scraped
+pub record TakesAndScrapesSome (setup : Setup) (producer taken : ℕ) (writers : List WriterSpec) (old new : ServiceView) : Type 0 where
+  pub between : ServiceView
+  pub takes : Takes setup (places_of producer 0 setup.writers) taken old between
+  pub scrapes : ScrapesEach setup (places_of producer 0 writers) between new
+
+-- What a look found of a chunk
+
+-- the look found that the writer with this number is writing the chunk, under this id, with so many fragments finished
+pub record IsPart (seen : Seen) (at writer id finished : ℕ) : Type 0 where
+  pub written : HasState seen.word.0 at BeingWritten
+  pub writer_is : seen.header.writer_id ≡ writer
+  pub id_is : seen.header.chunk_id ≡ id
+  pub count : seen.header.count ≡ finished + 1
+  pub some : 1 ≤ finished
+
+-- the header's id and writer have their widths
+pub record FitsWord (header : ChunkHeader) : Type 0 where
+  pub id : header.chunk_id < 2 ^ 32
+  pub writer : header.writer_id < 2 ^ 16
+
+-- The view has a look at the chunk that found it being written by the writer at this place, under this id, with so many fragments finished and with
+-- this flag 1.
+pub record PartLooked (view : ServiceView) (chunk place id count flags : ℕ) : Type 0 where
+  pub found : Found
+  pub number : ℕ
+  pub look : Look
+  pub at : At view.looks number look
+  pub chunk_is : look.chunk ≡ chunk
+  pub found_is : look.found ≡ Some found
+  pub place_is : found.place ≡ place
+  pub id_is : found.id ≡ id
+  pub count_is : length found.ends ≡ count
+  pub front : found.head.flags % 2 ≡ flags % 2
+  pub is : IsFound found
+
+-- In told worlds
+
+-- the note of a chunk's finished fragments, where the writer holds it and there are any
+abbrev pub part_of_entry : (place id : ℕ) → Begun → List Noted
+part_of_entry place id (Completed chunk content) = []
+part_of_entry place id (Held chunk draft) = if nat_lt 1 draft.head.count then Partial (sequence_of place) id (draft.head.count - 1) ∷ [] else []
+
+-- what a scrape notes of the writer at this place, by its next chunk, which has the number taken of it as id; others that it holds are skipped
+abbrev pub part_held : World → (place : ℕ) → List Noted
+part_held world place =
+    part_of_entry place (taken_of world.service place).count
+    (slice_index_or (writer world place).begun (taken_of world.service place).count (Held 0 no_draft))
+
+-- and of the producer's writers, in rising number
+abbrev pub parts_held : Setup → (producer : ℕ) → World → List Noted
+parts_held setup producer world = flat_map (part_held world) (places_of producer 0 setup.writers)
+
+-- what the writer at this place holds are chunks of its producer
+abbrev pub HoldsOwn : Setup → (place : ℕ) → World → Type 0
+HoldsOwn setup place world = (id chunk : ℕ) (draft : Draft) → At (writer world place).begun id (Held chunk draft) → IsChunkOf setup (producer_of setup place) chunk
+
+-- the writer at this place holds no chunk of this number under this id with a finished fragment
+abbrev pub IsntPart : (place id chunk : ℕ) → World → Type 0
+IsntPart place id chunk world = (draft : Draft) → status world chunk ≡ Writing place id draft → draft.head.count < 2
+
+-- it doesn't, and nothing but the service's view has changed
+pub record FindsNoPart (place id chunk : ℕ) (old : World) (told : Option World) (view : ServiceView) : Type 0 where
+  pub isnt : IsntPart place id chunk old
+  pub told_is : told ≡ Some (serviced old view)
+
+-- the same of the chunks from one up to another
+pub record FindsNoPartOf (place id first last : ℕ) (old : World) (told : Option World) (view : ServiceView) : Type 0 where
+  pub isnt : (chunk : ℕ) → first ≤ chunk → chunk < last → IsntPart place id chunk old
+  pub told_is : told ≡ Some (serviced old view)
+
+-- what was noted of the writer at this place is what it holds
+pub record NotesPart (place : ℕ) (old : World) (told : Option World) (before view : ServiceView) : Type 0 where
+  pub told_is : told ≡ Some (serviced old view)
+  pub events : view.events ≡ before.events ++ part_held old place
+
+-- The told world behind a scrape: none that is complete is left, and of what the writers hold their finished fragments are noted.
+pub record ScrapesWorld (setup : Setup) (producer taken : ℕ) (old : World) (before : ServiceView) (told : Option World) (view : ServiceView) : Type 0 where
+  pub between : ServiceView
+  pub takes : Takes setup (places_of producer 0 setup.writers) taken before between
+  pub new : World
+  pub told_is : told ≡ Some new
+  pub stands : StandsBehind old view new
+  pub none_left : NoneLeft setup producer new
+  pub events : view.events ≡ between.events ++ parts_held setup producer new
+
+-- the same while these first writers are scraped
+pub record ScrapesWorldYet (setup : Setup) (producer taken : ℕ) (writers : List WriterSpec) (old : World) (before : ServiceView) (told : Option World) (view : ServiceView) : Type 0
+  where
+    pub between : ServiceView
+    pub takes : Takes setup (places_of producer 0 setup.writers) taken before between
+    pub new : World
+    pub told_is : told ≡ Some new
+    pub stands : StandsBehind old view new
+    pub none_left : NoneLeft setup producer new
+    pub events : view.events ≡ between.events ++ flat_map (part_held new) (places_of producer 0 writers)
