@@ -12,3 +12,4 @@ pub mod Loading
 pub mod TakingUp
 pub mod Making
 pub mod Owners
+pub mod Closing

@@ -1,5 +1,5 @@
 -- What a seat of a table that threads share knows: a view, and what it does with it in the middle of a call.
-use Rattle.std.specs.Prelude.{ℕ, ◌+◌, ◌==◌, List, [], if◌then◌else◌}
+use Rattle.std.specs.Prelude.{ℕ, ◌+◌, ◌==◌, ◌++◌, ◌∷◌, List, [], if◌then◌else◌}
 use Rattle.chunk_plain.specs.Views.{Content, WriterView, newcomer, ServiceView, newcomer_service}
 
 -- What the service found at one step of a call and relies on at the next one.
@@ -78,6 +78,11 @@ one_more knows = knows
 abbrev pub next_writer : Knows → Knows
 next_writer (Service hand made joined watch view) = Writer made 0 newcomer
 next_writer knows = Spent
+
+-- the service has taken in the seat of a writer
+abbrev pub takes_seat : Knows → Knows → Knows
+takes_seat (Service hand made joined watch view) (Writer place held known) = Service hand made (joined ++ known ∷ []) watch view
+takes_seat knows _ = knows
 
 -- a function that differs at one place
 abbrev pub put : (ℕ → ℕ) → ℕ → ℕ → ℕ → ℕ

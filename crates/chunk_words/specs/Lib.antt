@@ -6,3 +6,4 @@ pub mod Seats
 pub mod Sits
 pub mod Made
 pub mod Laws
+pub mod Closed

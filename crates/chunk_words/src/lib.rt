@@ -5,6 +5,7 @@
 //! service whole, as its writer completed it.
 #![tactic(auto)]
 
+mod close;
 mod host;
 pub mod laws;
 mod make;
@@ -18,6 +19,7 @@ mod steps;
 mod writer_calls;
 mod writer_steps;
 
+pub use close::ClosedTable;
 pub use host::HostTable;
 pub use seats::{ServiceSeat, WriterSeat};
 pub use shared::Shared;

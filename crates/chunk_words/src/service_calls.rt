@@ -29,7 +29,8 @@ impl HostTable {
         requires chunk { chunk < length self.now.layout.spots }
         ensures count_fits { result.header.count ≤ MAX_FRAGMENTS }
         ensures flags_fit { result.header.flags ≤ MAX_FLAGS }
-        ensures view { LooksAt self.now.layout chunk result.word.0 result.header (service_of seat.old.seat.me.0) (service_of seat.new.seat.me.0) }
+        ensures view { LooksAt self.now.layout chunk result.word.0 result.header (service_of seat.old.seat.me.0)
+            (service_of seat.new.seat.me.0) }
         ensures seat { Attends self.now seat.new }
     {
         let word = self.step_peek(seat, chunk);
@@ -84,8 +85,10 @@ impl HostTable {
         requires writer { 1 ≤ writer }
         requires writers { writer ≤ length self.now.layout.writers }
         requires id { id ≡ id_at self.now.layout (writer - 1) (taken_of (service_of seat.old.seat.me.0) (writer - 1)).count }
-        ensures taken { IfOk result (λ taken. TakesChunk self.now.layout chunk writer id taken (service_of seat.old.seat.me.0) (service_of seat.new.seat.me.0)) }
-        ensures other { IfErr result (λ found. FindsOther self.now.layout chunk writer id found (service_of seat.old.seat.me.0) (service_of seat.new.seat.me.0)) }
+        ensures taken { IfOk result (λ taken. TakesChunk self.now.layout chunk writer id taken (service_of seat.old.seat.me.0)
+            (service_of seat.new.seat.me.0)) }
+        ensures other { IfErr result (λ found. FindsOther self.now.layout chunk writer id found (service_of seat.old.seat.me.0)
+            (service_of seat.new.seat.me.0)) }
         ensures seat { Attends self.now seat.new }
     {
         let (word, header) = self.find_complete(seat, chunk, writer, id)?;
@@ -108,8 +111,10 @@ impl HostTable {
         requires seat { Attends self.now seat.old }
         requires chunk { chunk < length self.now.layout.spots }
         ensures joined { seat.new.seat.table_id ≡ seat.old.seat.table_id }
-        ensures ready { IfOk result (λ found. FindsReady self.now.layout chunk writer id found.0 found.1 seat.old.seat.me seat.new.seat.me) }
-        ensures other { IfErr result (λ found. FindsOther self.now.layout chunk writer id found (service_of seat.old.seat.me.0) (service_of seat.new.seat.me.0)) }
+        ensures ready { IfOk result (λ found. FindsReady self.now.layout chunk writer id found.0 found.1
+            seat.old.seat.me seat.new.seat.me) }
+        ensures other { IfErr result (λ found. FindsOther self.now.layout chunk writer id found (service_of seat.old.seat.me.0)
+            (service_of seat.new.seat.me.0)) }
         ensures seat { IfErr result (λ _. Attends self.now seat.new) }
     {
         let word = self.step_peek(seat, chunk);
@@ -198,7 +203,8 @@ impl HostTable {
         patches: &[Patch],
     )
         requires seat { Attends self.now seat.old }
-        ensures view { service_of seat.new.seat.me.0 ≡ notes_commit (service_of seat.old.seat.me.0) (committed_of header payload.now patches.now) }
+        ensures view { service_of seat.new.seat.me.0 ≡ notes_commit (service_of
+            seat.old.seat.me.0) (committed_of header payload.now patches.now) }
         ensures seat { Attends self.now seat.new }
     {
         self.step_commit(seat, header, payload, patches);

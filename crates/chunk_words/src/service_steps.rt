@@ -168,8 +168,10 @@ impl HostTable {
         requires seat { seat.old.seat.table_id ≡ self.now.table.shared.table_id }
         requires writer { writer < length self.now.layout.writers }
         requires out { HasLifted chunk (body_in seat.old.seat.me.1) seat.old.seat.me }
-        requires watch { watch_of seat.old.seat.me.0 ≡ Lifted chunk writer (length (taken_of (service_of seat.old.seat.me.0) writer).contents) (watched (watch_of seat.old.seat.me.0)) }
-        requires last { (taken_of (service_of seat.old.seat.me.0) writer).count ≡ length (taken_of (service_of seat.old.seat.me.0) writer).contents + 1 }
+        requires watch { watch_of seat.old.seat.me.0 ≡ Lifted chunk writer (length (taken_of (service_of
+            seat.old.seat.me.0) writer).contents) (watched (watch_of seat.old.seat.me.0)) }
+        requires last { (taken_of (service_of seat.old.seat.me.0) writer).count ≡ length (taken_of (service_of
+            seat.old.seat.me.0) writer).contents + 1 }
         ensures seat { seat.new.seat.table_id ≡ seat.old.seat.table_id }
         ensures me { Serves (λ view. learns view writer (watched (watch_of seat.old.seat.me.0))) seat.old.seat.me seat.new.seat.me }
     {

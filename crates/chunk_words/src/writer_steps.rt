@@ -37,14 +37,9 @@ impl HostTable {
             chunk,
             place: spot.place,
         };
+        let at = spot.page as usize;
         let table = &self.table;
-        make_or(
-            &table.shared,
-            &mut seat.seat,
-            spot.page as usize,
-            mask,
-            &step,
-        )
+        make_or(&table.shared, &mut seat.seat, at, mask, &step)
     }
 
     /// Stores the header of a claimed chunk, with count 0, and takes its slot.
@@ -87,7 +82,11 @@ impl HostTable {
         requires seat { seat.old.seat.table_id ≡ self.now.table.shared.table_id }
         requires out { HasOut seat.old.place chunk None seat.old.seat.me }
         requires chunk { chunk < length self.now.layout.spots }
-        requires stamped { (view_of seat.old.seat.me.0).stamped ≡ Some (record { chunk = chunk; id = length (view_of seat.old.seat.me.0).begun }) }
+        requires stamped { (view_of seat.old.seat.me.0).stamped ≡ Some (record {
+          chunk = chunk;
+          id = length (view_of
+              seat.old.seat.me.0).begun;
+        }) }
         ensures seat { seat.new.seat.table_id ≡ seat.old.seat.table_id }
         ensures place { seat.new.place ≡ seat.old.place }
         ensures me { Begins chunk (spot self.now.layout chunk).payload_size seat.old.seat.me seat.new.seat.me }
@@ -214,7 +213,8 @@ impl HostTable {
         requires held { IsHolding (view_of seat.old.seat.me.0) chunk id }
         requires body { IsSome (body_in seat.old.seat.me.1) }
         requires out { HasOut seat.old.place chunk (body_in seat.old.seat.me.1) seat.old.seat.me }
-        requires whole { IfSome (body_in seat.old.seat.me.1) (λ body. StandsWhole (spot self.now.layout chunk).payload_size (view_of seat.old.seat.me.0) id body) }
+        requires whole { IfSome (body_in seat.old.seat.me.1) (λ body. StandsWhole (spot self.now.layout chunk).payload_size (view_of
+            seat.old.seat.me.0) id body) }
         ensures seat { seat.new.seat.table_id ≡ seat.old.seat.table_id }
         ensures place { seat.new.place ≡ seat.old.place }
         ensures me { IfSome (body_in seat.old.seat.me.1) (λ body. Completes chunk id body seat.old.seat.me seat.new.seat.me) }

@@ -1,0 +1,55 @@
+use Rattle.std.proofs.Common.{◌≡◌, ◌∙◌, ◌+◌, ◌++◌, ◌∷◌, [], List, length, map, refl, sym, ap, subst, append_assoc, append-nil, arith}
+use Rattle.std.proofs.lemmas.List.{length-map, map-append}
+use Rattle.std.specs.Vec.Iter.{into_iter_items}
+use Rattle.chunk_words.specs.Closed.{views_of}
+use Rattle.chunk_words.specs.Knows.{Knows, Service, made_of, joined_of, watch_of, service_of, view_of}
+use Rattle.chunk_words.specs.declared.seats.WriterSeat.{WriterSeat}
+use Rattle.chunk_words.specs.Moves.{Mine}
+use Rattle.chunk_words.proofs.Closing.{next_seat}
+use Rattle.chunk_words.proofs.host.HostTable.join_all.Goals as goal
+
+nothing_left : (l : List WriterSeat) → length l ≡ 0 → l ≡ []
+nothing_left [] none = refl
+nothing_left (x ∷ xs) none = absurd (omega arith)
+
+pub join_one-requires-clause-joined : goal.join_one-requires-clause-joined
+join_one-requires-clause-joined c =
+    let at = c.loop-mine in let steps : into_iter_items at.mine-iterator ≡ c.in-Some.mine ∷ into_iter_items c.next.new.self = c.in-Some.ensures.steps.0 in
+    let all = ap (λ l. at.yielded ++ l) (sym steps) ∙ (at.invariant.all ∙ c.into_iter-mine-iterator.ensures.into_iter_gives.0) in
+    (next_seat c.args.self.now _ c.args.seats.items at.yielded _ c.in-Some.mine c.requires.seats all).1.joined
+
+pub join_one-requires-clause-rests : goal.join_one-requires-clause-rests
+join_one-requires-clause-rests c =
+    let at = c.loop-mine in let steps : into_iter_items at.mine-iterator ≡ c.in-Some.mine ∷ into_iter_items c.next.new.self = c.in-Some.ensures.steps.0 in
+    let all = ap (λ l. at.yielded ++ l) (sym steps) ∙ (at.invariant.all ∙ c.into_iter-mine-iterator.ensures.into_iter_gives.0) in
+    (next_seat c.args.self.now _ c.args.seats.items at.yielded _ c.in-Some.mine c.requires.seats all).1.rests.idle
+
+pub join_one-requires-clause-next : goal.join_one-requires-clause-next
+join_one-requires-clause-next c =
+    let at = c.loop-mine in let steps : into_iter_items at.mine-iterator ≡ c.in-Some.mine ∷ into_iter_items c.next.new.self = c.in-Some.ensures.steps.0 in
+    let all = ap (λ l. at.yielded ++ l) (sym steps) ∙ (at.invariant.all ∙ c.into_iter-mine-iterator.ensures.into_iter_gives.0) in
+    (next_seat c.args.self.now _ c.args.seats.items at.yielded _ c.in-Some.mine c.requires.seats all).0
+    ∙ sym (ap (λ (m : Mine). length (joined_of m.0)) at.invariant.me ∙ length-map at.yielded (λ (s : WriterSeat). view_of s.seat.me.0))
+
+pub loop-mine-preserved : goal.loop-mine-preserved
+loop-mine-preserved c =
+    let at = c.loop-mine in let mine = c.in-Some.mine in
+    let steps : into_iter_items at.mine-iterator ≡ mine ∷ into_iter_items c.next.new.self = c.in-Some.ensures.steps.0 in
+    let known = ap (λ (m : Mine). m.0) at.invariant.me in
+    record {
+      seat = c.join_one.ensures.seat ∙ at.invariant.seat;
+      me = c.join_one.ensures.me
+          ∙ (ap (λ (k : Knows). let m : Mine = (Service 0 (made_of k) (joined_of k ++ view_of mine.seat.me.0 ∷ []) (watch_of k) (service_of k), []) in m) known
+          ∙ ap (λ l. let m : Mine = (Service 0 (made_of c.args.service.now.seat.me.0) l (watch_of c.args.service.now.seat.me.0) (service_of c.args.service.now.seat.me.0), []) in m)
+          (sym (map-append (λ (s : WriterSeat). view_of s.seat.me.0) at.yielded (mine ∷ []))));
+      all = append_assoc at.yielded (mine ∷ []) _ ∙ rw (← steps) at.invariant.all;
+      count = let was = at.invariant.count in let gone = c.in-Some.ensures.steps.1 in let short = ap length steps in omega arith;
+    }
+
+pub returns-clause-me : goal.returns-clause-me
+returns-clause-me c =
+    let at = c.loop-mine in
+    let none = c.in-None.ensures.steps in
+    let empty : into_iter_items at.mine-iterator ≡ [] = nothing_left _ (at.invariant.count ∙ none.0) in
+    let all = sym (append-nil at.yielded) ∙ rw empty at at.invariant.all ∙ c.into_iter-mine-iterator.ensures.into_iter_gives.0 in
+    at.invariant.me ∙ ap (λ l. let m : Mine = (Service 0 (made_of c.args.service.now.seat.me.0) (views_of l) (watch_of c.args.service.now.seat.me.0) (service_of c.args.service.now.seat.me.0), []) in m) all

@@ -1,0 +1,105 @@
+//! A table that threads shared, once all its seats are back.
+ghost use Rattle.std.specs.Prelude.{◌≡◌, ℕ, ◌+◌, ◌<◌, ◌++◌, [], ◌∷◌, length};
+ghost use Rattle.std.specs.Mem.Slots.{slots_items, IsFull};
+ghost use Rattle.chunk_words.specs.Closed.{HasAllSeats, IsUnused, IsAccount, views_of};
+ghost use Rattle.chunk_words.specs.Knows.{Service, made_of, joined_of, watch_of, service_of, view_of};
+ghost use Rattle.chunk_words.specs.Seats.{IsServiceIdle, IsIdle};
+ghost use Rattle.chunk_words.specs.Sits.{Attends};
+
+use crate::host::HostTable;
+use crate::seats::{ServiceSeat, WriterSeat};
+use crate::steps::Knowledge;
+use atomic_table::{Closed, Join};
+use commit_body::CommitBody;
+use std::alloc::Global;
+
+/// The service takes in the seat of a writer.
+pub struct TakesSeat {}
+
+impl Join<Knowledge> for TakesSeat {
+    ghost use Rattle.chunk_words.specs.Knows.{Spent, takes_seat};
+
+    ghost both = { takes_seat };
+
+    ghost spent = { Spent };
+}
+
+/// The words and slots of a table that no thread shares any more.
+pub struct ClosedTable {
+    closed: Closed<Option<CommitBody>, Global>,
+    ghost full: { IsFull closed.words × IsFull closed.slots },
+}
+
+impl HostTable {
+    /// Takes all seats back. No chunk is used then, and the views that the seats had are the account
+    /// of all that was done.
+    pub fn close(self, seats: Vec<WriterSeat>, service: ServiceSeat) -> ClosedTable
+        requires seats { HasAllSeats self (service_of service.seat.me.0) seats.items }
+        requires service { Attends self service }
+        requires none_out { (service_of service.seat.me.0).reading ≡ [] }
+        ensures unused { (chunk : ℕ) → chunk < length self.layout.spots → IsUnused self.layout (slots_items result.closed.words) chunk }
+        ensures account { IsAccount (views_of seats.items) (service_of service.seat.me.0) }
+    {
+        let mut service = service;
+        self.join_all(&mut service, seats);
+        let HostTable {
+            layout: _,
+            starts: _,
+            spare: _,
+            table,
+        } = self;
+        ClosedTable {
+            closed: table.close_with(service.seat),
+        }
+    }
+
+    /// The service takes in the seats of all writers, one behind another.
+    fn join_all(&self, service: &mut ServiceSeat, seats: Vec<WriterSeat>)
+        requires seats { HasAllSeats self.now (service_of service.old.seat.me.0) seats.items }
+        requires service { Attends self.now service.old }
+        ensures seat { service.new.seat.table_id ≡ service.old.seat.table_id }
+        ensures me { service.new.seat.me
+            ≡ (
+              Service 0 (made_of service.old.seat.me.0) (views_of seats.items) (watch_of service.old.seat.me.0)
+                  (service_of service.old.seat.me.0),
+              [],
+            ) }
+    {
+        for mine in seats {
+            self.join_one(service, mine);
+        }
+    }
+
+    /// The service takes in the seat of the next writer.
+    fn join_one(&self, service: &mut ServiceSeat, mine: WriterSeat)
+        requires seat { service.old.seat.table_id ≡ self.now.table.shared.table_id }
+        requires idle { IsServiceIdle service.old.seat.me }
+        requires joined { mine.seat.table_id ≡ self.now.table.shared.table_id }
+        requires rests { IsIdle mine.place mine.seat.me }
+        requires next { mine.place ≡ length (joined_of service.old.seat.me.0) }
+        ensures seat { service.new.seat.table_id ≡ service.old.seat.table_id }
+        ensures me { service.new.seat.me
+            ≡ (
+              Service 0 (made_of service.old.seat.me.0) (joined_of service.old.seat.me.0 ++ view_of mine.seat.me.0 ∷ [])
+                  (watch_of service.old.seat.me.0) (service_of service.old.seat.me.0),
+              [],
+            ) }
+    {
+        let table = &self.table;
+        table
+            .shared
+            .join_seat::<TakesSeat>(&mut service.seat, mine.seat);
+    }
+}
+
+impl Drop for ClosedTable {
+    fn drop(self) {
+        let ClosedTable { mut closed } = self;
+        let mut i = 0;
+        while i < closed.slot_count() {
+            drop(closed.take(i));
+            i += 1;
+        }
+        closed.free();
+    }
+}
