@@ -38,6 +38,7 @@ pub(crate) enum FieldFault {
 }
 
 /// The varint in front, and how many bytes it has.
+#[inline(always)]
 fn read_varint(bytes: &[u8]) -> Result<(u64, usize), FieldFault>
     ensures varint { IfOk result (λ found. IsVarint (take found.1 bytes.now) found.0) }
     ensures within { IfOk result (λ found. found.1 ≤ length bytes.now) }
@@ -53,6 +54,7 @@ fn read_varint(bytes: &[u8]) -> Result<(u64, usize), FieldFault>
 
 /// The content in front, with its length before it, and how many bytes both have.
 #[tactic(auto, using(crate::proofs::FieldLemmas::too_little))]
+#[inline(always)]
 fn read_content(bytes: &[u8]) -> Result<(&[u8], usize), FieldFault>
     ensures value { IfOk result (λ found. IsValue (Content found.0.now) (take found.1 bytes.now)) }
     ensures within { IfOk result (λ found. found.1 ≤ length bytes.now) }
@@ -68,6 +70,7 @@ fn read_content(bytes: &[u8]) -> Result<(&[u8], usize), FieldFault>
 }
 
 /// A value of this wire type in front, and how many bytes it has.
+#[inline(always)]
 fn read_value(wire: u64, bytes: &[u8]) -> Result<(Value<'_>, usize), FieldFault>
     requires most { wire ≤ 5 }
     requires no_group { ¬ IsGroup wire }
@@ -101,6 +104,7 @@ fn read_value(wire: u64, bytes: &[u8]) -> Result<(Value<'_>, usize), FieldFault>
 }
 
 /// The field in front.
+#[inline(always)]
 fn first_field(bytes: &[u8]) -> Result<Field<'_>, FieldFault>
     ensures field { IfOk result (λ field. Spells (field_of field) (take field.len bytes.now)) }
     ensures some { IfOk result (λ field. 1 ≤ field.len) }
@@ -126,6 +130,7 @@ fn first_field(bytes: &[u8]) -> Result<Field<'_>, FieldFault>
 }
 
 /// The field at a place.
+#[inline(always)]
 pub(crate) fn field_at(bytes: &[u8], at: usize) -> Result<Field<'_>, FieldFault>
     requires { at ≤ length bytes.now }
     ensures field { IfOk result (λ field. Spells (field_of field) (take field.len (drop at bytes.now))) }

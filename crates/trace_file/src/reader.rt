@@ -18,6 +18,7 @@ const SEQUENCE_FIELD: u64 = 10;
 const DROPPED_FIELD: u64 = 42;
 
 /// A field's number, where it is the one that is wanted and says a number; and else the one before.
+#[inline(always)]
 fn number_at(wanted: u64, before: u64, number: u64, value: Value<'_>) -> u64
     ensures { result ≡ number_at wanted before number (value_of value.entry) }
 {
@@ -122,6 +123,7 @@ fn packet_at<'a>(at: usize, bytes: &'a [u8], content: &'a [u8]) -> Result<Packet
 }
 
 /// The content of a field of a trace, where it is a packet's record.
+#[inline(always)]
 fn record_content(number: u64, value: Value<'_>) -> Option<&[u8]>
     ensures found { IfSome result (λ content. record { number = number; value = value_of value.entry } ≡ record_field content.now) }
     ensures other { IfNone result (IsOther (record { number = number; value = value_of value.entry })) }

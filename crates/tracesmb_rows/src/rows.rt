@@ -255,10 +255,10 @@ static COMMANDS: [Command; 9] = [
         trace: b"",
         text: USAGE,
     },
-    // Not built yet.
+    // `run`, which isn't built yet.
     Command {
-        line: "check",
-        input: b"==\n",
+        line: "run",
+        input: b"",
         status: 2,
         trace: b"",
         text: USAGE,
