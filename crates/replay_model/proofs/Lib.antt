@@ -13,6 +13,7 @@ pub mod PigeonLemmas
 pub mod PlayLemmas
 pub mod PlayedLemmas
 pub mod ReadOutLemmas
+pub mod ReplayLemmas
 pub mod RoomLemmas
 pub mod ScrapedLemmas
 pub mod SortedLemmas
