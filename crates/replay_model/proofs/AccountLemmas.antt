@@ -15,7 +15,7 @@ use Rattle.trace_base.specs.declared.policy.WriterPolicy.TheVariants.{Drops}
 use Rattle.trace_base.specs.declared.policy.WriterSpec.{WriterSpec}
 use Rattle.trace_model.specs.Fragments.{drop_size}
 use Rattle.trace_model.specs.Images.{Image, Patch}
-use Rattle.trace_model.specs.Packets.{emissions_of}
+use Rattle.trace_model.specs.Packets.{packets_of, emissions_of}
 use Rattle.trace_model.specs.Sequences.{Sequence, fresh, sequence_in, is_known}
 use Rattle.trace_model.specs.Tells.{Tells}
 use Rattle.trace_model.specs.Delivery.{Delivered, IsFaithful, records_of}
@@ -30,7 +30,10 @@ use Rattle.chunk_plain.proofs.Lists.{at_inside, at_one, at_some}
 use Rattle.world_model.specs.FirstBuffers.{BufferSpec, payload_at, first_buffers}
 use Rattle.world_model.specs.FrontLaws.{StandsIn}
 use Rattle.world_model.specs.Accounts.{all_images, HasCut, IsScraped, InOrder, IsAccount}
+use Rattle.trace_model.specs.Cut.{newest_goes_on}
 use Rattle.delivery_laws.specs.DeliveryLaws.{IsAccountOf}
+use Rattle.delivery_laws.specs.Orders as orders
+use Rattle.delivery_laws.specs.WriterSheets.{sheets_of}
 use Rattle.delivery_laws.proofs.CompleteLemmas.{full_at}
 use Rattle.delivery_laws.proofs.WrittenPackets.{are_full}
 use Rattle.world_model.proofs.ProjectLemmas.{all_mine}
@@ -152,11 +155,11 @@ module _ (setup : Setup) (world : World) (owned : ∥ IsOwned world ∥₁) (pla
   abbrev images : List Image
   images = all_images (writer world place) wrote.held
 
-  named : (n chunk : ℕ) (content : Content) → At begun n (Completed chunk content) → content.image.chunk_id ≡ n
+  pub named : (n chunk : ℕ) (content : Content) → At begun n (Completed chunk content) → content.image.chunk_id ≡ n
   named n chunk content at = ∥∥₁_elim owned (ℕ_set _ _) (λ (is : IsOwned world). ((is.counts place).named n chunk content at).0)
 
   -- what the service learnt was completed
-  learnt : (n : ℕ) (content : Content) → At (taken_of world.service place).contents n content → (chunk : ℕ) × At begun n (Completed chunk content)
+  pub learnt : (n : ℕ) (content : Content) → At (taken_of world.service place).contents n content → (chunk : ℕ) × At begun n (Completed chunk content)
   learnt n content at = by_entry some.0 some.1
     where
       inside : n < length begun
@@ -178,7 +181,7 @@ module _ (setup : Setup) (world : World) (owned : ∥ IsOwned world ∥₁) (pla
           let contents : one ≡ content = cc in contents) in
           (chunk, subst (λ (c : Content). At begun n (Completed chunk c)) same there)
 
-  finds : (n : ℕ) (look : Look) (found : Found) → At world.service.looks n look → look.found ≡ Some found → IsFound found
+  pub finds : (n : ℕ) (look : Look) (found : Found) → At world.service.looks n look → look.found ≡ Some found → IsFound found
   finds n look found at is = ∥∥₁_elim owned (hlevel (ℕ_set, le_prop)) (λ (o : IsOwned world). (o.looks n look found at is).0)
 
   -- the image of a completed chunk stands at its id
@@ -336,6 +339,12 @@ module _ (setup : Setup) (world : World) (owned : ∥ IsOwned world ∥₁) (pla
       → Tells (emissions_of view.calls) (place + 2) (records_of (place + 2) (records_after (first_buffers setup 1 buffers) (history_of world.service)))
   tells_of sorted inside buffers spec get =
       told_of (payload_at setup place) place view wrote.held wrote.cut world.service learnt named finds setup buffers spec get (order_of sorted inside)
+
+  -- the pages come in order in the history
+  pub history_in_order : IsSorted setup world.service → place < length setup.writers
+      → orders.InOrder (sheets_of (newest_goes_on (packets_of view.calls)) wrote.cut.cut.pages) (place + 2) 0 false [] (history_of world.service)
+  history_in_order sorted inside =
+      order_events (payload_at setup place) place view wrote.held wrote.cut world.service learnt named finds world.service.events 0 false [] (order_of sorted inside)
 
   -- the account of the sequence, in a buffer that has it
   pub account_in : IsSorted setup world.service → place < length setup.writers → (sequences : List Sequence) (record_size : ℕ)

@@ -42,7 +42,7 @@ use Rattle.replay_model.proofs.PlayedLemmas.{played_stands, setup_writers, write
 
 -- ---- how many packets the lines begin
 
-abbrev begins : List Call → ℕ
+abbrev pub begins : List Call → ℕ
 begins [] = 0
 begins (Begun kept ∷ calls) = suc (begins calls)
 begins (Number field value ∷ calls) = begins calls
@@ -53,7 +53,7 @@ begins (GivenUp ∷ calls) = begins calls
 begins (Finished ∷ calls) = begins calls
 begins (Flushed ∷ calls) = begins calls
 
-begins_append : (xs ys : List Call) → begins (xs ++ ys) ≡ begins xs + begins ys
+pub begins_append : (xs ys : List Call) → begins (xs ++ ys) ≡ begins xs + begins ys
 begins_append [] ys = omega arith
 begins_append (Begun kept ∷ xs) ys = let rest = begins_append xs ys in omega (arith, rest)
 begins_append (Number field value ∷ xs) ys = begins_append xs ys
@@ -67,7 +67,7 @@ begins_append (Flushed ∷ xs) ys = begins_append xs ys
 abbrev account : List Packet → Bool → Account
 account packets flushed = record { packets = packets; flushed = flushed }
 
-many_begun : (calls : List Call) (packets : List Packet) (flushed : Bool) → length (fold noted (account packets flushed) calls).packets ≡ length packets + begins calls
+pub many_begun : (calls : List Call) (packets : List Packet) (flushed : Bool) → length (fold noted (account packets flushed) calls).packets ≡ length packets + begins calls
 many_begun [] packets flushed = omega arith
 many_begun (Begun kept ∷ calls) packets flushed =
     let rest = many_begun calls (begun_packet kept (account packets flushed) ∷ packets) false in omega (arith, rest)
@@ -85,7 +85,7 @@ many_begun (Finished ∷ calls) [] flushed = many_begun calls [] flushed
 many_begun (Finished ∷ calls) (packet ∷ packets) flushed = many_begun calls (finished_packet packet ∷ packets) flushed
 many_begun (Flushed ∷ calls) packets flushed = many_begun calls packets true
 
-nodes_begin_none : (nodes : List Shown) → begins (map node_call nodes) ≡ 0
+pub nodes_begin_none : (nodes : List Shown) → begins (map node_call nodes) ≡ 0
 unfolding node_call
 nodes_begin_none [] = refl
 nodes_begin_none ((node.Number field value, text) ∷ nodes) = nodes_begin_none nodes
@@ -130,7 +130,7 @@ asked_few number lines =
 
 -- ---- the buffer of a writer
 
-first_at : (setup : Setup) (n : ℕ) (specs : List BufferSpec) (i : ℕ) (spec : BufferSpec) → slice_get specs i ≡ Some spec
+pub first_at : (setup : Setup) (n : ℕ) (specs : List BufferSpec) (i : ℕ) (spec : BufferSpec) → slice_get specs i ≡ Some spec
     → buffer_at (first_buffers setup n specs) i ≡ empty_buffer spec.size spec.policy (sequences_from setup (n + i) 0 setup.writers)
 first_at setup n [] i spec get = absurd (cc)
 first_at setup n (first ∷ specs) zero spec get =
@@ -144,7 +144,7 @@ first_at setup n (first ∷ specs) (suc i) spec get =
     ∙ ap (λ (m : ℕ). empty_buffer spec.size spec.policy (sequences_from setup m 0 setup.writers)) at
 
 -- what a buffer comes to, at its place
-after_at : (buffers : List Buffer) (events : List Event) (i : ℕ) → i < length buffers → buffer_at (buffers_after buffers events) i ≡ state_after (buffer_at buffers i) events
+pub after_at : (buffers : List Buffer) (events : List Event) (i : ℕ) → i < length buffers → buffer_at (buffers_after buffers events) i ≡ state_after (buffer_at buffers i) events
 after_at [] events i low = absurd (omega (arith, low))
 after_at (buffer ∷ buffers) events zero low = refl
 after_at (buffer ∷ buffers) events (suc i) low = after_at buffers events i (omega (arith, low))
@@ -196,7 +196,7 @@ each_is P [] i x all get = absurd (cc)
 each_is P (y ∷ xs) zero x all get = let same : y ≡ x = cc in subst P same all.0
 each_is P (y ∷ xs) (suc i) x all get = each_is P xs i x all.1 get
 
-get_map : {A B : Type 0} (f : A → B) (xs : List A) (i : ℕ) (x : A) → slice_get xs i ≡ Some x → slice_get (map f xs) i ≡ Some (f x)
+pub get_map : {A B : Type 0} (f : A → B) (xs : List A) (i : ℕ) (x : A) → slice_get xs i ≡ Some x → slice_get (map f xs) i ≡ Some (f x)
 get_map f [] i x get = absurd (cc)
 get_map f (y ∷ xs) zero x get = let same : y ≡ x = cc in ap (λ a. Some (f a)) same
 get_map f (y ∷ xs) (suc i) x get = get_map f xs i x get
@@ -204,26 +204,26 @@ get_map f (y ∷ xs) (suc i) x get = get_map f xs i x get
 module _ (scenario : Parts) (setup : Setup) (world : World) (notes : List FlushNote) (played : IsPlayed scenario setup world notes)
     (few : length scenario.lines ≤ last_count) (place : ℕ) (spec : WriterSpec) (get : slice_get scenario.writers place ≡ Some spec)
     (is_writer : IsWriter scenario.buffers scenario.producers spec) where
-  abbrev index : ℕ
+  abbrev pub index : ℕ
   index = spec.buffer - 1
 
-  abbrev made : BufferSpec
+  abbrev pub made : BufferSpec
   made = record { size = is_writer.into_buffer.kb * 1024; policy = is_writer.into_buffer.policy }
 
-  abbrev first : Buffer
+  abbrev pub first : Buffer
   first = empty_buffer made.size made.policy (sequences_from setup spec.buffer 0 setup.writers)
 
-  there : slice_get (buffer_specs scenario) index ≡ Some made
+  pub there : slice_get (buffer_specs scenario) index ≡ Some made
   there = get_map (λ (line : BufferLine). record { size = line.kb * 1024; policy = line.policy }) scenario.buffers index is_writer.into_buffer is_writer.buffer_is
 
-  begins_as : buffer_at (buffers_of scenario setup) index ≡ first
+  pub begins_as : buffer_at (buffers_of scenario setup) index ≡ first
   begins_as =
       let least = is_writer.counts_buffer in
       let number : 1 + index ≡ spec.buffer = omega (arith, least) in
       first_at setup 1 (buffer_specs scenario) index made there
       ∙ ap (λ (m : ℕ). empty_buffer made.size made.policy (sequences_from setup m 0 setup.writers)) number
 
-  inside : index < length (buffers_of scenario setup)
+  pub inside : index < length (buffers_of scenario setup)
   inside =
       let low = slice_get_within (buffer_specs scenario) index made there in
       let long = first_long setup 1 (buffer_specs scenario) in
@@ -232,10 +232,10 @@ module _ (scenario : Parts) (setup : Setup) (world : World) (notes : List FlushN
   pub becomes : buffer_at (buffers_in scenario setup world) index ≡ state_after first (history_of world.service)
   becomes = after_at (buffers_of scenario setup) (history_of world.service) index inside ∙ ap (λ (b : Buffer). state_after b (history_of world.service)) begins_as
 
-  writer_there : slice_get setup.writers place ≡ Some spec
+  pub writer_there : slice_get setup.writers place ≡ Some spec
   writer_there = ap (λ (specs : List WriterSpec). slice_get specs place) (setup_writers scenario setup played.setup_is) ∙ get
 
-  within : place < length setup.writers
+  pub within : place < length setup.writers
   within = slice_get_within setup.writers place spec writer_there
 
   begun_few : begun_count (writer world place).calls ≤ last_count

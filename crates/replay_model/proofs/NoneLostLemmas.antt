@@ -133,7 +133,7 @@ module _ (scenario : Parts) (setup : Setup) (world : World) (notes : List FlushN
 
   -- ---- all writers of a producer
 
-  spec_there : (p : ℕ) → p < length setup.writers → slice_get scenario.writers p ≡ Some (spec_at setup.writers p)
+  pub spec_there : (p : ℕ) → p < length setup.writers → slice_get scenario.writers p ≡ Some (spec_at setup.writers p)
   spec_there p low =
       ap (λ (specs : List WriterSpec). slice_get specs p) (sym (setup_writers scenario setup played.setup_is))
       ∙ slice_get-get_or setup.writers p no_writer low

@@ -2,7 +2,7 @@
 use Rattle.std.specs.Prelude.{◌≡◌, ℕ, suc, ◌<◌, ◌≤◌, List, [], length}
 use Rattle.trace_model.specs.Buffers.{Buffer}
 use Rattle.trace_model.specs.Counts.{last_count}
-use Rattle.trace_model.specs.Delivery.{IsFaithful}
+use Rattle.trace_model.specs.Delivery.{IsFaithful, IsComplete}
 use Rattle.trace_model.specs.Packets.{packets_of}
 use Rattle.model_laws.specs.ChunkCounts.{lost_count}
 use Rattle.model_laws.specs.Losses.{Loses}
@@ -52,3 +52,8 @@ EveryReportIsBalanced = (scenario : Parts) (setup : Setup) (world : World) (note
 abbrev pub EnoughLosesNothing : Type 0
 EnoughLosesNothing = (scenario : Parts) (setup : Setup) (world : World) (notes : List FlushNote) → IsPlayed scenario setup world notes
     → IsPlayable scenario → HasEnough scenario → (place : ℕ) → place < length setup.writers → lost_count (packets_of (writer world place).calls) ≡ 0
+
+-- Where chunks and bytes are enough, no packet that the lines have writers emit is missing.
+abbrev pub EveryEnoughReplayIsComplete : Type 0
+EveryEnoughReplayIsComplete = (scenario : Parts) (setup : Setup) (world : World) (notes : List FlushNote) → IsPlayed scenario setup world notes
+    → IsPlayable scenario → HasEnough scenario → IsComplete (emitted_in scenario) (records_in scenario setup world)

@@ -6,7 +6,7 @@ use Rattle.trace_base.specs.declared.limits.TheConstants.{BYTES_PER_KB}
 use Rattle.trace_base.specs.declared.policy.WriterSpec.{WriterSpec}
 use Rattle.trace_model.specs.Balance.{PacketCounts, IsBalanced, counts_of}
 use Rattle.trace_model.specs.Buffers.{Buffer}
-use Rattle.trace_model.specs.Delivery.{Delivered, IsFaithful, trace_of}
+use Rattle.trace_model.specs.Delivery.{Delivered, IsFaithful, IsComplete, trace_of}
 use Rattle.trace_model.specs.History.{buffers_after, records_after}
 use Rattle.trace_model.specs.Packets.{emissions_of}
 use Rattle.trace_model.specs.Sequences.{sequence_in}
@@ -26,6 +26,7 @@ use Rattle.trace_buffer.specs.Answers as answers
 use Rattle.loss_report.specs.declared.counts.SequenceCounts.{SequenceCounts}
 use Rattle.loss_report.specs.Report.{report_text}
 use Rattle.service_core.specs.Routing.{buffer_at}
+use Rattle.replay_model.specs.Enough.{HasEnough}
 use Rattle.replay_model.specs.Flushes.{FlushNote, flush_sums}
 use Rattle.replay_model.specs.Plays.{Plays}
 use Rattle.replay_model.specs.Schedule.{schedule_of}
@@ -112,7 +113,8 @@ abbrev pub AreBalanced : List PacketCounts → Type 0
 AreBalanced counts = (place : ℕ) (one : PacketCounts) → slice_get counts place ≡ Some one → IsBalanced one
 
 -- The scenario was replayed: there is a world that its lines lead to. The trace has taken that world's records and nothing else, and the text is its
--- report. The records are faithful to what the scenario has its writers emit, and the report counts every packet once.
+-- report. The records are faithful to what the scenario has its writers emit, and the report counts every packet once. Where chunks and bytes are
+-- enough, by the lines alone, no packet is missing.
 pub record Replays (scenario : Parts) (old new : Intake) (text : List ℕ) : Type 0 where
   pub setup : Setup
   pub world : World
@@ -122,3 +124,4 @@ pub record Replays (scenario : Parts) (old new : Intake) (text : List ℕ) : Typ
   pub report : text ≡ report_of scenario setup world notes
   pub faithful : IsFaithful (emitted_in scenario) (records_in scenario setup world)
   pub balanced : AreBalanced (packet_counts scenario setup world)
+  pub complete : HasEnough scenario → IsComplete (emitted_in scenario) (records_in scenario setup world)

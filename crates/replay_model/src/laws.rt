@@ -1,6 +1,6 @@
 //! Laws on what acts make of a world, and on what a scenario's acts lead to: contracts of functions with
 //! nothing to do.
-ghost use Rattle.replay_model.specs.Laws.{NothingPlaysNothing, WritersWrote, WritersLose, ReplaysAreAccounts, EveryReplayIsFaithful, EveryReportIsBalanced, EnoughLosesNothing};
+ghost use Rattle.replay_model.specs.Laws.{NothingPlaysNothing, WritersWrote, WritersLose, ReplaysAreAccounts, EveryReplayIsFaithful, EveryReportIsBalanced, EnoughLosesNothing, EveryEnoughReplayIsComplete};
 
 /// No acts lead from a world to itself.
 pub fn nothing_plays_nothing()
@@ -36,4 +36,9 @@ pub fn every_report_is_balanced()
 /// Where chunks are enough, no writer drops or gives up a packet.
 pub fn enough_loses_nothing()
     ensures { EnoughLosesNothing }
+{}
+
+/// Where chunks and bytes are enough, no packet that the lines have writers emit is missing.
+pub fn every_enough_replay_is_complete()
+    ensures { EveryEnoughReplayIsComplete }
 {}
