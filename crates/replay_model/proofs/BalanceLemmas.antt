@@ -162,13 +162,13 @@ balanced_under Ring Discard calls state balanced = let sum = balanced.sum in rec
 balanced_under Discard Ring calls state balanced = let sum = balanced.sum in record { sum = omega (arith, sum) }
 balanced_under Discard Discard calls state balanced = balanced
 
-record IsCountOf (buffers : List Buffer) (world : World) (place i : ℕ) (specs : List WriterSpec) (counts : PacketCounts) : Type 0 where
-  spec : WriterSpec
-  get : slice_get specs i ≡ Some spec
-  is : counts ≡ counts_of (buffer_at buffers (spec.buffer - 1)).policy (writer world (place + i)).calls
+pub record IsCountOf (buffers : List Buffer) (world : World) (place i : ℕ) (specs : List WriterSpec) (counts : PacketCounts) : Type 0 where
+  pub spec : WriterSpec
+  pub get : slice_get specs i ≡ Some spec
+  pub is : counts ≡ counts_of (buffer_at buffers (spec.buffer - 1)).policy (writer world (place + i)).calls
       (sequence_in (buffer_at buffers (spec.buffer - 1)).sequences (sequence_of (place + i)))
 
-count_at : (buffers : List Buffer) (world : World) (place : ℕ) (specs : List WriterSpec) (i : ℕ) (counts : PacketCounts)
+pub count_at : (buffers : List Buffer) (world : World) (place : ℕ) (specs : List WriterSpec) (i : ℕ) (counts : PacketCounts)
     → slice_get (counts_from buffers world place specs) i ≡ Some counts → IsCountOf buffers world place i specs counts
 count_at buffers world place [] i counts get = absurd (cc)
 count_at buffers world place (spec ∷ specs) zero counts get =
@@ -238,7 +238,7 @@ module _ (scenario : Parts) (setup : Setup) (world : World) (notes : List FlushN
   pub within : place < length setup.writers
   within = slice_get_within setup.writers place spec writer_there
 
-  begun_few : begun_count (writer world place).calls ≤ last_count
+  pub begun_few : begun_count (writer world place).calls ≤ last_count
   begun_few =
       let same = (losses_change_no_shape (calls_asked (suc place) scenario.lines) (writer world place).calls (writers_lose scenario setup world notes played place)).begun in
       let asked = asked_few (suc place) scenario.lines in

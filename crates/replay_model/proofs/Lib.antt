@@ -2,6 +2,7 @@ pub mod AccountLemmas
 pub mod BalanceLemmas
 pub mod BytesLemmas
 pub mod CompleteLemmas
+pub mod CountLemmas
 pub mod EndLemmas
 pub mod FinishLemmas
 pub mod FirstLemmas

@@ -14,6 +14,7 @@ use Rattle.replay_model.specs.Flushes.{FlushNote}
 use Rattle.replay_model.specs.Played.{IsPlayed, Replays, records_in, report_of}
 use Rattle.replay_model.proofs.BalanceLemmas.{every_report_is_balanced}
 use Rattle.replay_model.proofs.CompleteLemmas.{every_enough_replay_is_complete}
+use Rattle.replay_model.proofs.CountLemmas.{every_report_counts_packets}
 use Rattle.replay_model.proofs.PlayedLemmas.{every_replay_is_faithful}
 
 -- what the grammar gives can be played
@@ -33,5 +34,6 @@ replays_of scenario setup world notes old new text played playable trace report 
   report = report;
   faithful = every_replay_is_faithful scenario setup world notes played;
   balanced = every_report_is_balanced scenario setup world notes played playable.few playable.set_up;
+  counted = every_report_counts_packets scenario setup world notes played playable.few playable.set_up;
   complete = every_enough_replay_is_complete scenario setup world notes played playable;
 }

@@ -1,5 +1,6 @@
 -- The laws of replay.
-use Rattle.std.specs.Prelude.{◌≡◌, ℕ, suc, ◌<◌, ◌≤◌, List, [], length}
+use Rattle.std.specs.Prelude.{◌≡◌, ℕ, suc, ◌<◌, ◌≤◌, List, [], length, Some, slice_get}
+use Rattle.trace_model.specs.Balance.{PacketCounts}
 use Rattle.trace_model.specs.Buffers.{Buffer}
 use Rattle.trace_model.specs.Counts.{last_count}
 use Rattle.trace_model.specs.Delivery.{IsFaithful, IsComplete}
@@ -16,7 +17,7 @@ use Rattle.replay_model.specs.Does.{Wrote}
 use Rattle.replay_model.specs.Enough.{HasEnough, IsPlayable}
 use Rattle.replay_model.specs.Flushes.{FlushNote}
 use Rattle.replay_model.specs.Plays.{Plays}
-use Rattle.replay_model.specs.Played.{IsPlayed, emitted_in, records_in, packet_counts, AreBalanced}
+use Rattle.replay_model.specs.Played.{IsPlayed, emitted_in, records_in, packet_counts, AreBalanced, CountsPackets}
 
 -- no acts lead from a world to itself
 abbrev pub NothingPlaysNothing : Type 0
@@ -57,3 +58,10 @@ EnoughLosesNothing = (scenario : Parts) (setup : Setup) (world : World) (notes :
 abbrev pub EveryEnoughReplayIsComplete : Type 0
 EveryEnoughReplayIsComplete = (scenario : Parts) (setup : Setup) (world : World) (notes : List FlushNote) → IsPlayed scenario setup world notes
     → IsPlayable scenario → HasEnough scenario → IsComplete (emitted_in scenario) (records_in scenario setup world)
+
+-- The report's counts are those of the packets' outcomes.
+abbrev pub EveryReportCountsPackets : Type 0
+EveryReportCountsPackets = (scenario : Parts) (setup : Setup) (world : World) (notes : List FlushNote) → IsPlayed scenario setup world notes
+    → length scenario.lines ≤ last_count → IsSetUp scenario.buffers scenario.producers scenario.writers
+    → (place : ℕ) (counts : PacketCounts) → slice_get (packet_counts scenario setup world) place ≡ Some counts
+    → CountsPackets scenario setup world place counts

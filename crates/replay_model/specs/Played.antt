@@ -4,11 +4,15 @@ use Rattle.std.specs.List.{AllZip}
 use Rattle.byte_io.specs.Bytes.{Intake, after_told}
 use Rattle.trace_base.specs.declared.limits.TheConstants.{BYTES_PER_KB}
 use Rattle.trace_base.specs.declared.policy.WriterSpec.{WriterSpec}
-use Rattle.trace_model.specs.Balance.{PacketCounts, IsBalanced, counts_of}
+use Rattle.trace_model.specs.Balance.{PacketCounts, IsBalanced, CountsOutcomes, counts_of, packet_outcomes}
 use Rattle.trace_model.specs.Buffers.{Buffer}
+use Rattle.trace_model.specs.Causes.{fixed_after}
+use Rattle.trace_model.specs.Counts.{raised}
+use Rattle.trace_model.specs.Cut.{CutsInto}
 use Rattle.trace_model.specs.Delivery.{Delivered, IsFaithful, IsComplete, trace_of}
 use Rattle.trace_model.specs.History.{buffers_after, records_after}
-use Rattle.trace_model.specs.Packets.{emissions_of}
+use Rattle.trace_model.specs.Packets.{packets_of, emissions_of, begun_count}
+use Rattle.trace_model.specs.Pages.{Page}
 use Rattle.trace_model.specs.Sequences.{sequence_in}
 use Rattle.scenario_text.specs.declared.scenario.BufferLine.{BufferLine}
 use Rattle.scenario_text.specs.declared.scenario.ProducerLine.{ProducerLine}
@@ -21,10 +25,11 @@ use Rattle.chunk_plain.specs.Laying.{setup_of}
 use Rattle.chunk_plain.specs.Plain.{first_world}
 use Rattle.chunk_plain.specs.World.{World, writer}
 use Rattle.chunk_plain.specs.Histories.{history_of}
-use Rattle.world_model.specs.FirstBuffers.{BufferSpec, first_buffers}
+use Rattle.world_model.specs.FirstBuffers.{BufferSpec, payload_at, first_buffers}
 use Rattle.trace_buffer.specs.Answers as answers
 use Rattle.loss_report.specs.declared.counts.SequenceCounts.{SequenceCounts}
 use Rattle.loss_report.specs.Report.{report_text}
+use Rattle.service_core.specs.Agreement.{spec_at}
 use Rattle.service_core.specs.Routing.{buffer_at}
 use Rattle.replay_model.specs.Enough.{HasEnough}
 use Rattle.replay_model.specs.Flushes.{FlushNote, flush_sums}
@@ -112,9 +117,22 @@ report_of scenario setup world notes =
 abbrev pub AreBalanced : List PacketCounts → Type 0
 AreBalanced counts = (place : ℕ) (one : PacketCounts) → slice_get counts place ≡ Some one → IsBalanced one
 
+-- the buffer of the writer at this place, at first
+abbrev pub first_buffer : Parts → Setup → (place : ℕ) → Buffer
+first_buffer scenario setup place = buffer_at (buffers_of scenario setup) ((spec_at scenario.writers place).buffer - 1)
+
+-- The report's counts of the writer at this place are those of its packets' outcomes: each packet that the lines begin is delivered, or absent under
+-- the one cause that the history fixed first.
+pub record CountsPackets (scenario : Parts) (setup : Setup) (world : World) (place : ℕ) (counts : PacketCounts) : Type 0 where
+  pub pages : List Page
+  pub cut : CutsInto (payload_at setup place) (packets_of (writer world place).calls) pages
+  pub begun : counts.begun ≡ raised 0 (begun_count (calls_asked (suc place) scenario.lines))
+  pub outcomes : CountsOutcomes (first_buffer scenario setup place).policy
+      (packet_outcomes (fixed_after (sequence_of place) (first_buffer scenario setup place) (history_of world.service)) (writer world place).calls pages) counts
+
 -- The scenario was replayed: there is a world that its lines lead to. The trace has taken that world's records and nothing else, and the text is its
--- report. The records are faithful to what the scenario has its writers emit, and the report counts every packet once. Where chunks and bytes are
--- enough, by the lines alone, no packet is missing.
+-- report. The records are faithful to what the scenario has its writers emit, and the report counts every packet once, under its cause. Where chunks
+-- and bytes are enough, by the lines alone, no packet is missing.
 pub record Replays (scenario : Parts) (old new : Intake) (text : List ℕ) : Type 0 where
   pub setup : Setup
   pub world : World
@@ -124,4 +142,6 @@ pub record Replays (scenario : Parts) (old new : Intake) (text : List ℕ) : Typ
   pub report : text ≡ report_of scenario setup world notes
   pub faithful : IsFaithful (emitted_in scenario) (records_in scenario setup world)
   pub balanced : AreBalanced (packet_counts scenario setup world)
+  pub counted : (place : ℕ) (counts : PacketCounts) → slice_get (packet_counts scenario setup world) place ≡ Some counts
+      → CountsPackets scenario setup world place counts
   pub complete : HasEnough scenario → IsComplete (emitted_in scenario) (records_in scenario setup world)

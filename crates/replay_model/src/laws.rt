@@ -1,6 +1,7 @@
 //! Laws on what acts make of a world, and on what a scenario's acts lead to: contracts of functions with
 //! nothing to do.
-ghost use Rattle.replay_model.specs.Laws.{NothingPlaysNothing, WritersWrote, WritersLose, ReplaysAreAccounts, EveryReplayIsFaithful, EveryReportIsBalanced, EnoughLosesNothing, EveryEnoughReplayIsComplete};
+ghost use Rattle.replay_model.specs.Laws.{NothingPlaysNothing, WritersWrote, WritersLose, ReplaysAreAccounts, EveryReplayIsFaithful};
+ghost use Rattle.replay_model.specs.Laws.{EveryReportIsBalanced, EveryReportCountsPackets, EnoughLosesNothing, EveryEnoughReplayIsComplete};
 
 /// No acts lead from a world to itself.
 pub fn nothing_plays_nothing()
@@ -41,4 +42,9 @@ pub fn enough_loses_nothing()
 /// Where chunks and bytes are enough, no packet that the lines have writers emit is missing.
 pub fn every_enough_replay_is_complete()
     ensures { EveryEnoughReplayIsComplete }
+{}
+
+/// The report's counts are those of the packets' outcomes.
+pub fn every_report_counts_packets()
+    ensures { EveryReportCountsPackets }
 {}

@@ -7,6 +7,7 @@
 mod laws;
 
 pub use laws::{
-    every_replay_is_faithful, every_report_is_balanced, nothing_plays_nothing,
+    enough_loses_nothing, every_enough_replay_is_complete, every_replay_is_faithful,
+    every_report_counts_packets, every_report_is_balanced, nothing_plays_nothing,
     replays_are_accounts, writers_lose, writers_wrote,
 };

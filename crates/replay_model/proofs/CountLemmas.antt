@@ -1,0 +1,141 @@
+-- The report of a replay counts the outcomes of its packets.
+use Rattle.std.proofs.Common.{◌≡◌, ◌∙◌, ℕ, zero, suc, ◌+◌, ◌-◌, ◌<◌, ◌≤◌, Bool, true, false, List, [], ◌∷◌, length, get_or, Some, refl, sym, ap, subst, arith, cond}
+use Rattle.std.specs.Prelude.{◌==◌, slice_get}
+use Rattle.std.proofs.lemmas.Bool.{eq-eqb}
+use Rattle.std.proofs.lemmas.Option.{get_or_from_slice_get}
+use Rattle.trace_base.specs.declared.policy.FullPolicy.{FullPolicy}
+use Rattle.trace_base.specs.declared.policy.WriterSpec.{WriterSpec}
+use Rattle.page_geometry.specs.Sizes.{record_size}
+use Rattle.trace_model.specs.Arrivals.{Arrived, Kept, Rewritten, Duplicate, Discarded, TooFar, BadChunk, settled, discarded_buffer, arrival_of, partial_arrival_of, makes_arrive, with_arrived, with_arrival, with_image, once_read}
+use Rattle.trace_model.specs.Balance.{PacketCounts, CountsOutcomes, counts_of, packet_outcomes}
+use Rattle.trace_model.specs.Buffers.{Buffer, empty_buffer}
+use Rattle.trace_model.specs.Causes.{Fixed, fixed_after}
+use Rattle.trace_model.specs.Counts.{raised, last_count}
+use Rattle.trace_model.specs.History.{Event, Arrives, ArrivesInPart, Patched, Committed, Closed, Read, after, buffer_after, event_sequence, state_after}
+use Rattle.trace_model.specs.Images.{Image, Chunk, Patch, complete_chunk, partial_chunk, whole_chunk}
+use Rattle.trace_model.specs.Packets.{begun_count}
+use Rattle.trace_model.specs.Patches.{with_patch, with_patches, closed_buffer}
+use Rattle.trace_model.specs.Reading.{Reading, Fragments, Unreadable, reading_of}
+use Rattle.trace_model.specs.Sequences.{Sequence, sequence_in, is_known, changed_at}
+use Rattle.model_laws.proofs.LossLemmas.{losses_change_no_shape}
+use Rattle.model_laws.proofs.ReportLemmas.{counts_are_of_outcomes}
+use Rattle.delivery_laws.proofs.ReportLemmas.{accounts_are_histories}
+use Rattle.chunk_plain.specs.Setup.{Setup, sequence_of, size_of}
+use Rattle.chunk_plain.specs.World.{World, writer}
+use Rattle.chunk_plain.specs.Histories.{history_of}
+use Rattle.world_model.specs.FirstBuffers.{sequences_from}
+use Rattle.world_model.proofs.MakingLemmas.{set_at}
+use Rattle.scenario_text.specs.Scenario.{Parts}
+use Rattle.scenario_text.specs.Accepted.{calls_asked}
+use Rattle.scenario_text.specs.Limits.{IsWriter}
+use Rattle.service_core.specs.Agreement.{spec_at, no_writer}
+use Rattle.service_core.specs.Routing.{buffer_at}
+use Rattle.replay_model.specs.Flushes.{FlushNote}
+use Rattle.replay_model.specs.Laws.{EveryReportCountsPackets}
+use Rattle.replay_model.specs.Played.{IsPlayed, buffers_of, buffers_in, first_buffer, CountsPackets}
+use Rattle.replay_model.proofs.AccountLemmas.{account_in}
+use Rattle.replay_model.proofs.BalanceLemmas as balance
+use Rattle.replay_model.proofs.BalanceLemmas.{count_at, each_is}
+use Rattle.replay_model.proofs.PlayedLemmas.{played_stands, writers_lose}
+
+-- ---- a buffer keeps its policy
+
+policy_settled : (outcome : Arrived) (b : Buffer) (q chunk_id : ℕ) (chunk : Chunk) → (settled outcome b q chunk_id chunk).policy ≡ b.policy
+policy_settled Kept b q chunk_id chunk = refl
+policy_settled Rewritten b q chunk_id chunk = refl
+policy_settled Duplicate b q chunk_id chunk = refl
+policy_settled Discarded b q chunk_id chunk = step chunk.partial
+  where
+    step : (x : Bool) → (cond x (record b { shut = true }) (discarded_buffer b q chunk_id chunk)).policy ≡ b.policy
+    step true = refl
+    step false = refl
+policy_settled TooFar b q chunk_id chunk = refl
+policy_settled (BadChunk fragment) b q chunk_id chunk = refl
+
+policy_arrival : (b : Buffer) (q chunk_id : ℕ) (chunk : Chunk) → (with_arrival b q chunk_id chunk).policy ≡ b.policy
+policy_arrival b q chunk_id chunk = policy_settled (arrival_of b q chunk_id) b q chunk_id (complete_chunk chunk)
+
+policy_patches : (b : Buffer) (q : ℕ) (patches : List Patch) → (with_patches b q patches).policy ≡ b.policy
+policy_patches b q [] = refl
+policy_patches b q (patch ∷ patches) = policy_patches (with_patch b q patch) q patches
+
+policy_image : (b : Buffer) (image : Image) → (with_image b image).policy ≡ b.policy
+policy_image b image = by_reading (reading_of image.count image.payload)
+  where
+    by_reading : (reading : Reading) → (once_read b (with_arrival b image.sequence image.chunk_id) image.flags reading).policy ≡ b.policy
+    by_reading (Fragments fragments) = policy_arrival b image.sequence image.chunk_id (whole_chunk image.flags fragments)
+    by_reading (Unreadable number) = refl
+
+policy_after : (b : Buffer) (event : Event) → (after b event).policy ≡ b.policy
+policy_after b (Arrives q chunk_id chunk) = policy_arrival b q chunk_id chunk
+policy_after b (ArrivesInPart q chunk_id chunk) = policy_settled (partial_arrival_of b q chunk_id (length chunk.fragments)) b q chunk_id (partial_chunk chunk)
+policy_after b (Patched q patches) = policy_patches b q patches
+policy_after b (Committed image patches) = policy_patches (with_image b image) image.sequence patches ∙ policy_image b image
+policy_after b (Closed q) = step (sequence_in b.sequences q).closed
+  where
+    step : (x : Bool) → (cond x b (closed_buffer b q)).policy ≡ b.policy
+    step true = refl
+    step false = refl
+policy_after b (Read q limit) = refl
+
+pub policy_stays : (events : List Event) (b : Buffer) → (state_after b events).policy ≡ b.policy
+policy_stays [] b = refl
+policy_stays (event ∷ events) b = policy_stays events (buffer_after b event) ∙ step (is_known b.sequences (event_sequence event))
+  where
+    step : (x : Bool) → (cond x (after b event) b).policy ≡ b.policy
+    step true = policy_after b event
+    step false = refl
+
+-- ---- the counts of one writer
+
+module _ (scenario : Parts) (setup : Setup) (world : World) (notes : List FlushNote) (played : IsPlayed scenario setup world notes)
+    (few : length scenario.lines ≤ last_count) (place : ℕ) (spec : WriterSpec) (get : slice_get scenario.writers place ≡ Some spec)
+    (is_writer : IsWriter scenario.buffers scenario.producers spec) where
+  abbrev own : Buffer
+  own = balance.first scenario setup world notes played few place spec get is_writer
+
+  first_is : first_buffer scenario setup place ≡ own
+  first_is =
+      ap (λ (s : WriterSpec). buffer_at (buffers_of scenario setup) (s.buffer - 1)) (get_or_from_slice_get scenario.writers place spec no_writer get)
+      ∙ balance.begins_as scenario setup world notes played few place spec get is_writer
+
+  counted : (counts : PacketCounts)
+      → counts ≡ counts_of (buffer_at (buffers_in scenario setup world) (spec.buffer - 1)).policy (writer world place).calls
+      (sequence_in (buffer_at (buffers_in scenario setup world) (spec.buffer - 1)).sequences (sequence_of place))
+      → CountsPackets scenario setup world place counts
+  counted counts is =
+      let h = played_stands scenario setup world notes played in
+      let inside = balance.within scenario setup world notes played few place spec get is_writer in
+      let wrote = h.0.wrote place inside in
+      let there = balance.writer_there scenario setup world notes played few place spec get is_writer in
+      let set = set_at setup place spec there spec.buffer in
+      let named = eq-eqb spec.buffer spec.buffer refl in
+      let sequences : List Sequence = sequences_from setup spec.buffer 0 setup.writers in
+      let size : ℕ = record_size (size_of setup spec.producer) in
+      let history : List Event = history_of world.service in
+      let account = account_in setup world h.1 place wrote h.0.sorted inside sequences size (set.known ∙ named) (set.start named) in
+      let histories = accounts_are_histories _ (writer world place).calls wrote.cut.cut.pages sequences (place + 2) size history account
+      (balance.begun_few scenario setup world notes played few place spec get is_writer) in
+      let outcomes = counts_are_of_outcomes _ (writer world place).calls wrote.cut.cut.pages own.room own.policy sequences (place + 2) size history histories in
+      let becomes = balance.becomes scenario setup world notes played few place spec get is_writer in
+      let same : counts ≡ counts_of own.policy (writer world place).calls (sequence_in (state_after own history).sequences (place + 2)) =
+      is
+      ∙ ap (λ (b : Buffer). counts_of b.policy (writer world place).calls (sequence_in b.sequences (sequence_of place))) becomes
+      ∙ ap (λ (p : FullPolicy). counts_of p (writer world place).calls (sequence_in (state_after own history).sequences (place + 2))) (policy_stays history own) in
+      let shape = losses_change_no_shape (calls_asked (suc place) scenario.lines) (writer world place).calls (writers_lose scenario setup world notes played place) in
+      record {
+        pages = wrote.cut.cut.pages;
+        cut = wrote.cut.cut.cut;
+        begun = ap (λ (c : PacketCounts). c.begun) same ∙ ap (λ (n : ℕ). raised 0 n) shape.begun;
+        outcomes = subst (λ (b : Buffer). CountsOutcomes b.policy (packet_outcomes (fixed_after (sequence_of place) b history) (writer world place).calls wrote.cut.cut.pages) counts) (sym first_is)
+            (subst (CountsOutcomes own.policy (packet_outcomes (fixed_after (place + 2) own history) (writer world place).calls wrote.cut.cut.pages)) (sym same) outcomes);
+      }
+
+pub every_report_counts_packets : EveryReportCountsPackets
+every_report_counts_packets scenario setup world notes played few is_set_up place counts get =
+    let count = count_at (buffers_in scenario setup world) world 0 scenario.writers place counts get in
+    let is_writer = each_is (IsWriter scenario.buffers scenario.producers) scenario.writers place count.spec is_set_up.are_writers count.get in
+    let at : 0 + place ≡ place = omega arith in
+    counted scenario setup world notes played few place count.spec count.get is_writer counts
+    (count.is ∙ ap (λ (p : ℕ). counts_of (buffer_at (buffers_in scenario setup world) (count.spec.buffer - 1)).policy (writer world p).calls
+    (sequence_in (buffer_at (buffers_in scenario setup world) (count.spec.buffer - 1)).sequences (sequence_of p))) at)
