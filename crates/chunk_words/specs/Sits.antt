@@ -4,6 +4,9 @@ use Rattle.chunk_plain.specs.World.{World}
 use Rattle.chunk_words.specs.declared.host.HostTable.{HostTable}
 use Rattle.chunk_words.specs.declared.seats.WriterSeat.{WriterSeat}
 use Rattle.chunk_words.specs.declared.seats.ServiceSeat.{ServiceSeat}
+use Rattle.chunk_plain.specs.Setup.{Setup}
+use Rattle.chunk_plain.specs.Views.{WriterView}
+use Rattle.chunk_words.specs.Knows.{view_of}
 use Rattle.chunk_words.specs.Seats.{Rests, Waits}
 
 -- the writer's seat is one of the table's, and no call of it is going on
@@ -20,3 +23,11 @@ pub record Attends (table : HostTable) (seat : ServiceSeat) : Type 0 where
 abbrev pub IsNothing : Option World → Type 0
 IsNothing None = Unit {0}
 IsNothing (Some world) = ⊥
+
+-- how the table is laid out
+abbrev pub setup_in : HostTable → Setup
+setup_in table = table.layout
+
+-- what the writer's seat knows
+abbrev pub known_by : WriterSeat → WriterView
+known_by seat = view_of seat.seat.me.0

@@ -86,9 +86,8 @@ impl HostTable {
             ) }
     {
         let table = &self.table;
-        table
-            .shared
-            .join_seat::<TakesSeat>(&mut service.seat, mine.seat);
+        let shared = &table.shared;
+        shared.join_seat::<TakesSeat>(&mut service.seat, mine.seat);
     }
 }
 

@@ -21,6 +21,7 @@ use page_geometry::ChunkHeader;
 
 /// A table that threads share, lent to one of them. It tells no world: between two calls of one
 /// thread the others may have made any steps.
+#[derive(Drop)]
 pub struct Shared<'t> {
     pub table: &'t HostTable,
 }
