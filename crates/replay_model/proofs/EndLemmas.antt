@@ -26,7 +26,8 @@ use Rattle.service_core.specs.Closing.{closes_of}
 use Rattle.service_core.specs.Taking.{TakesOf, Takes, places_of}
 use Rattle.service_core.proofs.TakingLemmas.{taken_here, taken_other}
 use Rattle.replay_model.specs.Acts.{Act, Ask}
-use Rattle.replay_model.specs.Does.{Collects, Closes, Reads, Asks, Notes, NoneReady, Wrote, is_shut}
+use Rattle.service_core.specs.Told.{NoneLeft}
+use Rattle.replay_model.specs.Does.{Collects, Closes, Reads, Asks, Notes, Wrote, is_shut}
 use Rattle.replay_model.specs.Flushes.{FlushNote, flush_notes}
 use Rattle.replay_model.specs.Plays.{Plays}
 use Rattle.replay_model.specs.Schedule.{open_places, open_producers}
@@ -193,7 +194,7 @@ held_or_completed begun i (Held chunk draft) at = inl (chunk, draft, at)
 held_or_completed begun i (Completed chunk content) at = inr (chunk, content, at)
 
 -- where a writer holds nothing and nothing of it is complete, all its chunks are taken
-all_taken : (setup : Setup) (place : ℕ) (world : World) → IsOwned world → place < length setup.writers → NoneReady setup (producer_of setup place) world
+all_taken : (setup : Setup) (place : ℕ) (world : World) → IsOwned world → place < length setup.writers → NoneLeft setup (producer_of setup place) world
     → Wrote setup place (writer world place) → held_count (writer world place).begun ≡ 0 → length (writer world place).begun ≤ ID_LIMIT
     → length (writer world place).begun ≤ (taken_of world.service place).count
 all_taken setup place world owned inside none wrote empty few = by_order (cases_lt (taken_of world.service place).count (length (writer world place).begun))

@@ -8,11 +8,10 @@ use Rattle.trace_model.specs.Calls.{Call, Begun, Flushed}
 use Rattle.trace_model.specs.History.{buffers_after}
 use Rattle.trace_model.specs.Images.{Image}
 use Rattle.trace_model.specs.Packets.{packets_of, account_of, is_writing}
-use Rattle.chunk_plain.specs.declared.tokens.TheConstants.{ID_LIMIT}
-use Rattle.chunk_plain.specs.Setup.{Setup, range_of, producer_of, sequence_of, IsChunkOf, id_at}
+use Rattle.chunk_plain.specs.Setup.{Setup, range_of, producer_of, sequence_of}
 use Rattle.chunk_plain.specs.Views as views
-use Rattle.chunk_plain.specs.Views.{Content, Draft, Held, Completed, Look, Noted, Partial, Closed, ServiceView, WriterView, taken_of}
-use Rattle.chunk_plain.specs.World.{World, Ready, status, writer}
+use Rattle.chunk_plain.specs.Views.{Draft, Held, Completed, Look, Noted, Partial, Closed, ServiceView, WriterView, taken_of}
+use Rattle.chunk_plain.specs.World.{World, writer}
 use Rattle.chunk_plain.specs.Histories.{completed_images, history_of}
 use Rattle.claim_arbiter.specs.Claiming.{NoneFree}
 use Rattle.world_model.specs.FirstBuffers.{payload_at}
@@ -25,6 +24,7 @@ use Rattle.service_core.specs.Agreement.{spec_at, AreKnownNotes}
 use Rattle.service_core.specs.Closing.{TakesAndCloses}
 use Rattle.service_core.specs.Reading.{reads_in, noted_read}
 use Rattle.service_core.specs.Taking.{Takes, places_of, looked, noted_more}
+use Rattle.service_core.specs.Told.{NoneLeft}
 use Rattle.replay_model.specs.Acts.{Act, Ask, Request, Answer, Collect, Scrape, CloseProducer, ReadAll}
 
 -- ---- the service
@@ -43,19 +43,13 @@ abbrev pub AreOpen : Setup → (producer : ℕ) → ServiceView → Type 0
 AreOpen setup producer service =
     (place : ℕ) → place < length setup.writers → producer_of setup place ≡ producer → is_shut (sequence_of place) service.events ≡ false
 
--- no chunk of the producer waits as the next one of any of its writers, as long as the writer has an id left for one
-abbrev pub NoneReady : Setup → (producer : ℕ) → World → Type 0
-NoneReady setup producer world = (place : ℕ) → place < length setup.writers → producer_of setup place ≡ producer
-    → (chunk : ℕ) (content : Content) → IsChunkOf setup (producer_of setup place) chunk → (taken_of world.service place).count < ID_LIMIT
-    → status world chunk ≡ Ready place (id_at setup place (taken_of world.service place).count) content → ⊥
-
 -- The producer's complete chunks are taken, so many: writer by writer in rising number, each one's in rising id. None is complete behind it.
 pub record Collects (setup : Setup) (producer : ℕ) (old new : World) : Type 0 where
   pub opened : AreOpen setup producer old.service
   pub writers : new.writers ≡ old.writers
   pub taken : ℕ
   pub takes : Takes setup (places_of producer 0 setup.writers) taken old.service new.service
-  pub none_left : NoneReady setup producer new
+  pub none_left : NoneLeft setup producer new
 
 -- the note of the part of a chunk with this id, where it is held and one of its fragments is finished
 abbrev pub part_of_held : (sequence id : ℕ) → Option views.Begun → List Noted
@@ -82,7 +76,7 @@ pub record Scrapes (setup : Setup) (producer : ℕ) (old new : World) : Type 0 w
   pub looks : List Look
   pub notes : new.service ≡ noted_more (looked between looks) (parts_held setup producer new)
   pub found : AreKnownNotes new.service (parts_held setup producer new)
-  pub none_left : NoneReady setup producer new
+  pub none_left : NoneLeft setup producer new
 
 -- the producer's complete chunks are taken, and then its sequences closed
 pub record Closes (setup : Setup) (producer : ℕ) (old new : World) : Type 0 where
@@ -90,7 +84,7 @@ pub record Closes (setup : Setup) (producer : ℕ) (old new : World) : Type 0 wh
   pub writers : new.writers ≡ old.writers
   pub taken : ℕ
   pub closes : TakesAndCloses setup producer taken old.service new.service
-  pub none_left : NoneReady setup producer new
+  pub none_left : NoneLeft setup producer new
 
 -- the buffer's sequences are read in rising id, each with what is left of the limit
 pub record Reads (setup : Setup) (buffers : List Buffer) (buffer limit : ℕ) (old new : World) : Type 0 where
