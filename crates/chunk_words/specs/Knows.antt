@@ -30,22 +30,27 @@ hand_with chunk = chunk + 1
 abbrev pub no_content : Content
 no_content = record { image = record { sequence = 0; chunk_id = 0; count = 0; flags = 0; payload = [] }; patches = []; target = 0 }
 
+-- the view of a writer's seat
 abbrev pub view_of : Knows → WriterView
 view_of (Writer place hand view) = view
 view_of _ = newcomer
 
+-- the writer's place in the set-up, of its seat
 abbrev pub place_of : Knows → ℕ
 place_of (Writer place hand view) = place
 place_of _ = 0
 
+-- the view of the service's seat
 abbrev pub service_of : Knows → ServiceView
 service_of (Service hand made joined watch view) = view
 service_of _ = newcomer_service
 
+-- what the service's seat watches
 abbrev pub watch_of : Knows → Watch
 watch_of (Service hand made joined watch view) = watch
 watch_of _ = Nothing
 
+-- whose slot is out with a seat: 0 for none, else the chunk's number and 1
 abbrev pub hand_of : Knows → ℕ
 hand_of (Writer place hand view) = hand
 hand_of (Service hand made joined watch view) = hand

@@ -87,6 +87,7 @@ pub record Begins (chunk size : ℕ) (me new : Mine) : Type 0 where
   pub room : size ≤ 8 * length words
   pub new_is : new ≡ (by_writer 0 (λ view. begins view chunk words) me.0, [])
 
+-- a held chunk has this head
 abbrev pub SetsHeader : (chunk id : ℕ) → Head → Mine → Mine → Type 0
 SetsHeader chunk id head me new =
     new ≡ (by_writer 0 (λ view. redrafts view chunk id (with_head (draft_at view id) head (ends_by view id head.count))) me.0, [])
@@ -199,6 +200,7 @@ abbrev pub watched : Watch → Content
 watched (Lifted chunk place id content) = content
 watched _ = no_content
 
+-- what a seat knows behind a move that found this word
 abbrev pub After : Move → Mine → ℕ → Mine → Type 0
 After (Claim chunk place) me found new = Claims chunk place me found new
 After (Stamp chunk payload_size) me found new = Stamps chunk payload_size me new
