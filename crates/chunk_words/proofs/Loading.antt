@@ -109,9 +109,11 @@ loads_next chunk index size word old new me mid next so_far step puts many =
 
 -- ---- all words
 
-pub loaded_found : (chunk size : ℕ) (bytes : List ℕ) (me new : Mine) → LoadsUpTo chunk ((size + 7) / 8) size bytes me new → 0 < size → ShowsFound (service_of me.0) chunk bytes
-loaded_found chunk size bytes me new loads some n look found at about same untaken j below =
-    let all = loads.found n look found at about same untaken (omega arith) in let inside = all.0 in all.1 j (omega arith) below
+pub loaded_found : (chunk size : ℕ) (bytes : List ℕ) (me new : Mine) → LoadsUpTo chunk ((size + 7) / 8) size bytes me new → length bytes ≡ size → 0 < size
+    → ShowsFound (service_of me.0) chunk bytes
+loaded_found chunk size bytes me new loads many some n look found at about same untaken =
+    let all = loads.found n look found at about same untaken (omega arith) in
+    let inside = all.0 in (omega (arith, many, inside), λ j below. all.1 j (omega (arith, inside)) below)
 
 pub loaded_read : (setup : Setup) (chunk size : ℕ) (bytes : List ℕ) (me new : Mine) → LoadsUpTo chunk ((size + 7) / 8) size bytes me new → length bytes ≡ size → 0 < size
     → IsServing setup (service_of me.0) → 0 < times chunk (service_of me.0).reading → ∥ IsTakenPayload (service_of me.0) bytes ∥₁

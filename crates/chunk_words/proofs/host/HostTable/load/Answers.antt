@@ -9,7 +9,7 @@ pub returns-clause-found : goal.returns-clause-found
 returns-clause-found c =
     let self = c.args.self.now in let bytes = c.load_words.new.into in
     let some : 0 < length bytes = let least = self.laid.least c.args.chunk c.requires.chunk in let size = c.requires.size in let same = c.load_words.ensures.size in omega arith in
-    loaded_found c.args.chunk (length bytes) bytes c.args.seat.now.seat.me c.load_words.new.seat.seat.me c.load_words.ensures.me some
+    loaded_found c.args.chunk (length bytes) bytes c.args.seat.now.seat.me c.load_words.new.seat.seat.me c.load_words.ensures.me refl some
 
 pub returns-clause-read : goal.returns-clause-read
 returns-clause-read c =
