@@ -33,7 +33,12 @@ fn put_fragments(held: &mut Held)
 
 /// Claims and begins a chunk and writes two fragments, of two bytes and of one; the header counts
 /// both, so the first one is finished. None where the chunk was claimed.
-fn write<W: Words>(table: &mut W, seat: &mut W::Writer, chunk: u32, id: u32) -> Option<Held>
+pub(crate) fn write<W: Words>(
+    table: &mut W,
+    seat: &mut W::Writer,
+    chunk: u32,
+    id: u32,
+) -> Option<Held>
     requires seat { W.means.sits table.old seat.old }
     requires chunk { IsChunkOf (W.means.setup table.old) (producer_of (W.means.setup table.old) (W.means.place seat.old)) chunk }
     requires few { held_count (W.means.view table.old seat.old).begun < MAX_HELD }
@@ -55,7 +60,7 @@ fn write<W: Words>(table: &mut W, seat: &mut W::Writer, chunk: u32, id: u32) -> 
 }
 
 /// Publishes the whole payload and completes the chunk.
-fn finish<W: Words>(table: &mut W, seat: &mut W::Writer, mut held: Held)
+pub(crate) fn finish<W: Words>(table: &mut W, seat: &mut W::Writer, mut held: Held)
     requires seat { W.means.sits table.old seat.old }
     requires holding { IsHolding (W.means.view table.old seat.old) held.chunk held.id }
     requires size { vec_len held.body.payload ≡ (spot (W.means.setup table.old) held.chunk).payload_size }

@@ -1,0 +1,92 @@
+//! A round of the service beside a writer, by code that knows nothing but the trait: a chunk is
+//! scraped and read while it is written, and comes whole later.
+ghost use Rattle.std.specs.Prelude.{◌≡◌, ℕ, ◌<◌, false, [], length};
+ghost use Rattle.chunk_plain.specs.Setup.{producer_of, IsChunkOf};
+ghost use Rattle.service_core.specs.Agreement.{ServiceAgrees, is_closed};
+
+use crate::rounds::{finish, write};
+use byte_io::memory::MemSink;
+use byte_io::traits::Sink;
+use chunk_plain::{PlainTable, PlainWriter, ProducerSpec, Words};
+use page_geometry::Geometry;
+use service_core::ServiceCore;
+use std::alloc::Global;
+use std::test::Fail;
+use trace_base::policy::{FullPolicy, WriterPolicy, WriterSpec};
+use trace_buffer::BufferSpec;
+
+/// What a round took and delivered, in its order.
+#[derive(Clone, Copy, Debug, PartialEq, Eq)]
+struct Round {
+    taken: u64,
+    delivered: Option<u64>,
+    taken_later: u64,
+    delivered_later: Option<u64>,
+}
+
+/// The service scrapes and reads while the writer holds its first chunk; then the chunk is completed,
+/// collected and read.
+fn play<W: Words, O: Sink>(
+    service: &mut ServiceCore<W::Service>,
+    table: &mut W,
+    seat: &mut W::Writer,
+    out: &mut O,
+) -> Option<Round>
+    requires serves { W.means.serves table.old service.old.seat }
+    requires agrees { ServiceAgrees (W.means.setup table.old) (W.means.service_view table.old service.old.seat) service.old }
+    requires open { (place : ℕ) → place < length (W.means.setup table.old).writers → is_closed (W.means.setup table.old) service.old place ≡ false }
+    requires reads { W.means.takes_reads table.old service.old.seat }
+    requires seat { W.means.sits table.old seat.old }
+    requires chunk { IsChunkOf (W.means.setup table.old) (producer_of (W.means.setup table.old) (W.means.place seat.old)) 0 }
+    requires begun { (W.means.view table.old seat.old).begun ≡ [] }
+{
+    let held = write(table, seat, 0, 0)?;
+    let taken = service.scrape(table, 1);
+    let delivered = service.read_buffer(table, 1, 5, out).ok();
+    finish(table, seat, held);
+    let taken_later = service.collect(table, 1);
+    let delivered_later = service.read_buffer(table, 1, 5, out).ok();
+    Some(Round {
+        taken,
+        delivered,
+        taken_later,
+        delivered_later,
+    })
+}
+
+fn played_round(alloc: Global, out: &mut MemSink) -> Result<Option<Round>, Fail> {
+    let geometry = Geometry::new(4096, 14)?;
+    let producers = [ProducerSpec { pages: 1, geometry }];
+    let writers = [WriterSpec {
+        producer: 1,
+        buffer: 1,
+        policy: WriterPolicy::Drops,
+    }];
+    let buffers = [BufferSpec {
+        size: 4096,
+        policy: FullPolicy::Ring,
+    }];
+    let (mut table, _seats, seat) = PlainTable::make(alloc, &producers, &writers)?;
+    let mut service = ServiceCore::make(alloc, &buffers, &producers, &writers, seat)?;
+    let mut first = PlainWriter { place: 0 };
+    Ok(play(&mut service, &mut table, &mut first, out))
+}
+
+#[test]
+fn delivers_a_scraped_packet_once(rt: HostRuntime) -> Result<(), Fail> {
+    let mut sink = MemSink::with_room(rt.alloc(), 100)?;
+    let round = Round {
+        taken: 0,
+        delivered: Some(1),
+        taken_later: 1,
+        delivered_later: Some(1),
+    };
+    assert_eq!(rt; played_round(rt.alloc(), &mut sink)?, Some(round));
+    // A packet of two bytes and one of one byte, each with its sequence; the first one of a sequence
+    // says that what came before is unknown.
+    assert_eq!(rt;
+        sink.taken(),
+        b"\x0A\x07\x07\x08\x50\x02\xD0\x02\x01\x0A\x03\x09\x50\x02".as_slice()
+    );
+    Ok(())
+}
