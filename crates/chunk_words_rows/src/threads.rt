@@ -1,0 +1,125 @@
+//! Writers on threads of their own: each asks for every chunk of one page, and fills what it wins.
+ghost use Rattle.std.specs.Prelude.{◌≡◌, ℕ, ◌+◌, ◌<◌, ◌≤◌, length, IfOk, IfSome};
+ghost use Rattle.chunk_plain.specs.declared.tokens.TheConstants.{ID_LIMIT};
+ghost use Rattle.chunk_plain.specs.Setup.{producer_of, IsChunkOf};
+ghost use Rattle.chunk_plain.specs.Views.{newcomer};
+ghost use Rattle.chunk_plain.specs.Owned.{held_count};
+ghost use Rattle.chunk_plain.specs.Meaning.{IsWriterStep};
+ghost use Rattle.chunk_words.specs.Made.{HasWriterSeats};
+ghost use Rattle.chunk_words.specs.Sits.{Sits, Attends, setup_in, known_by};
+ghost use Rattle.chunk_words_rows.specs.Fresh.{IsFreshSeat};
+
+use chunk_plain::{ProducerSpec, Words};
+use chunk_words::{HostTable, ServiceSeat, Shared, WriterSeat};
+use page_geometry::{Geometry, PageWord};
+use std::alloc::Global;
+use std::test::Fail;
+use std::thread::{Threads, join};
+use trace_base::policy::{WriterPolicy, WriterSpec};
+
+/// A writer's way with one chunk: fills it, unless it was claimed. Answers the writer's next id.
+fn fill<W: Words>(table: &mut W, seat: &mut W::Writer, chunk: u32, id: u32) -> u32
+    requires seat { W.means.sits table.old seat.old }
+    requires chunk { IsChunkOf (W.means.setup table.old) (producer_of (W.means.setup table.old) (W.means.place seat.old)) chunk }
+    requires none_held { held_count (W.means.view table.old seat.old).begun ≡ 0 }
+    requires id { id ≡ length (W.means.view table.old seat.old).begun }
+    requires id_fits { id < ID_LIMIT }
+    ensures next { result ≡ length (W.means.view table.new seat.new).begun }
+    ensures most { result ≤ id + 1 }
+    ensures none_held { held_count (W.means.view table.new seat.new).begun ≡ 0 }
+    ensures step { IsWriterStep W.means table.old seat.old table.new seat.new }
+{
+    let Some(claimed) = table.claim_try(seat, chunk) else {
+        return id;
+    };
+    let mut held = table.begin(seat, claimed, id);
+    let size = held.body.payload.len() as u32;
+    table.publish(seat, &mut held, 0, size);
+    table.complete(seat, held);
+    id + 1
+}
+
+/// Asks for each of the first so many chunks; answers how many it filled.
+fn fill_all<W: Words>(table: &mut W, seat: &mut W::Writer, chunks: u32) -> u32
+    requires seat { W.means.sits table.old seat.old }
+    requires chunks { (chunk : ℕ) → chunk < chunks
+        → IsChunkOf (W.means.setup table.old) (producer_of (W.means.setup table.old) (W.means.place seat.old)) chunk }
+    requires fresh { W.means.view table.old seat.old ≡ newcomer }
+    requires few { chunks < ID_LIMIT }
+    ensures most { result ≤ chunks }
+{
+    let mut won = 0;
+    for chunk in 0..chunks {
+        won = fill(table, seat, chunk, won);
+    }
+    won
+}
+
+/// Asks for each chunk of the page.
+fn fill_page(host: &HostTable, mut seat: WriterSeat) -> u32
+    requires seat { Sits host.now seat }
+    requires fresh { known_by seat ≡ newcomer }
+    requires chunks { (chunk : ℕ) → chunk < 14 → IsChunkOf (setup_in host.now) (producer_of (setup_in host.now) seat.place) chunk }
+    ensures most { result ≤ 14 }
+{
+    let mut shared = Shared { table: host };
+    fill_all(&mut shared, &mut seat, 14)
+}
+
+fn make(alloc: Global) -> Result<(HostTable, Vec<WriterSeat>, ServiceSeat), Fail>
+    ensures seats { IfOk result (λ made. HasWriterSeats made.0 2 made.1.items) }
+    ensures service { IfOk result (λ made. Attends made.0 made.2) }
+    ensures chunks { IfOk result (λ made. (chunk place : ℕ) → place < 2 → chunk < 14
+        → IsChunkOf (setup_in made.0) (producer_of (setup_in made.0) place) chunk) }
+{
+    let geometry = Geometry::new(4096, 14)?;
+    let producers = [ProducerSpec { pages: 1, geometry }];
+    let spec = WriterSpec {
+        producer: 1,
+        buffer: 1,
+        policy: WriterPolicy::Drops,
+    };
+    Ok(HostTable::make(alloc, &producers, &[spec; 2])?)
+}
+
+/// The seats of the two writers, out of their list.
+fn both(host: &HostTable, mut seats: Vec<WriterSeat>) -> Option<(WriterSeat, WriterSeat)>
+    requires { HasWriterSeats host.now 2 seats.items }
+    ensures first { IfSome result (λ pair. IsFreshSeat host.now 0 pair.0) }
+    ensures second { IfSome result (λ pair. IsFreshSeat host.now 1 pair.1) }
+{
+    let (Some(second), Some(first)) = (seats.pop(), seats.pop()) else {
+        return None;
+    };
+    Some((first, second))
+}
+
+/// Each writer asks for each chunk of the page, on a thread of its own; answers how many each filled.
+fn on_two_threads(
+    rt: &impl Threads,
+    host: &HostTable,
+    first: WriterSeat,
+    second: WriterSeat,
+) -> (u32, u32)
+    requires first { IsFreshSeat host.now 0 first }
+    requires second { IsFreshSeat host.now 1 second }
+    requires chunks { (chunk place : ℕ) → place < 2 → chunk < 14
+        → IsChunkOf (setup_in host.now) (producer_of (setup_in host.now) place) chunk }
+    ensures first { result.0 ≤ 14 }
+    ensures second { result.1 ≤ 14 }
+{
+    let (one, two) = join(rt, || fill_page(host, first), || fill_page(host, second));
+    (one, two)
+}
+
+#[test]
+fn two_threads_fill_each_chunk_once(rt: HostRuntime) -> Result<(), Fail> {
+    let (host, seats, mut service) = make(rt.alloc())?;
+    let Some((first, second)) = both(&host, seats) else {
+        return Err(Fail::new("a writer has no seat"));
+    };
+    let (one, two) = on_two_threads(&rt, &host, first, second);
+    assert_eq!(rt; one + two, 14);
+    assert_eq!(rt; host.look(&mut service, 0).word, PageWord(0x3fff_5fff_ffff));
+    Ok(())
+}
