@@ -32,6 +32,7 @@ pub record IsPassed (state : State) (form : Form) : Type 0 where
   pub buffer : lacks_buffer state form ≡ false
   pub writer : lacks_writer state form ≡ false
   pub larger : has_larger_chunks state form ≡ false
+  pub opened : has_closed_producer state form ≡ false
   pub none_begun : meets_packet state form ≡ false
   pub begun : lacks_packet state form ≡ false
   pub nested : lacks_nesting state form ≡ false
@@ -59,6 +60,7 @@ passed state form none =
       buffer = five.0;
       writer = six.0;
       larger = seven.0;
+      opened = eight.0;
       none_begun = nine.0;
       begun = ten.0;
       nested = eleven.0;

@@ -16,3 +16,4 @@ pub mod AcceptedFields
 pub mod AcceptedCalls
 pub mod AcceptedLines
 pub mod AcceptedLemmas
+pub mod ReachLemmas

@@ -43,7 +43,7 @@ all_map : {X : Type 0} (P Q : X → Type 0) (xs : List X) → ((x : X) → P x �
 all_map P Q [] f all = tt
 all_map P Q (x ∷ xs) f all = (f x all.0, all_map P Q xs f all.1)
 
-get_more : {X : Type 0} (xs ys : List X) (i : ℕ) (x : X) → slice_get xs i ≡ Some x → slice_get (xs ++ ys) i ≡ Some x
+pub get_more : {X : Type 0} (xs ys : List X) (i : ℕ) (x : X) → slice_get xs i ≡ Some x → slice_get (xs ++ ys) i ≡ Some x
 get_more [] ys i x is = cc
 get_more (y ∷ xs) ys zero x is = is
 get_more (y ∷ xs) ys (suc i) x is = get_more xs ys i x is
@@ -106,11 +106,11 @@ more_writer buffers producers writers writer keeps room is = record {
 
 -- ---- what the tests of a line say
 
-record IsNamed {X : Type 0} (things : List X) (number : Numeral) : Type 0 where
-  thing : X
-  counted : 1 ≤ value number
-  is : slice_get things (value number - 1) ≡ Some thing
-  item_is : item things number ≡ Some thing
+pub record IsNamed {X : Type 0} (things : List X) (number : Numeral) : Type 0 where
+  pub thing : X
+  pub counted : 1 ≤ value number
+  pub is : slice_get things (value number - 1) ≡ Some thing
+  pub item_is : item things number ≡ Some thing
 
 named_at : {X : Type 0} (is_zero : Bool) (things : List X) (n : ℕ) (found : Option X) → nat_eq n 0 ≡ is_zero
     → item things (Fits n) ≡ found → cond is_zero None (slice_get things (n - 1)) ≡ found → is_none found ≡ false → IsNamed things (Fits n)
@@ -121,7 +121,7 @@ named_at false things n None zero_is whole is some = absurd cc
 named_at false things n (Some x) zero_is whole is some =
     record { thing = x; counted = grind (arith, common_steps, zero_is); is = is; item_is = whole }
 
-named : {X : Type 0} (things : List X) (number : Numeral) → is_none (item things number) ≡ false → IsNamed things number
+pub named : {X : Type 0} (things : List X) (number : Numeral) → is_none (item things number) ≡ false → IsNamed things number
 unfolding item
 named things (Fits n) some = named_at (nat_eq n 0) things n _ refl refl refl some
 named things TooLarge some = absurd cc

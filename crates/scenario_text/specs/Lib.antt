@@ -12,6 +12,7 @@ pub mod Scenario
 pub mod Limits
 pub mod Answers
 pub mod Accepted
+pub mod Reach
 pub mod Additions
 pub mod Texts
 pub mod Trees

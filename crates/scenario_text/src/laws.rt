@@ -1,6 +1,7 @@
 //! What holds of every scenario, as functions that do nothing and ensure it.
 ghost use Rattle.scenario_text.specs.Accepted.{ScenariosAreAccepted};
 ghost use Rattle.scenario_text.specs.Limits.{ScenariosAreSetUp};
+ghost use Rattle.scenario_text.specs.Reach.{ScenariosAreInReach};
 ghost use Rattle.scenario_text.specs.Trees.{ScenariosGiveTrees};
 
 #[tactic(auto, using(crate::proofs::LimitLemmas::scenario_is_set_up))]
@@ -15,4 +16,8 @@ pub fn scenarios_give_trees()
 
 pub fn scenarios_are_accepted()
     ensures { ScenariosAreAccepted }
+{}
+
+pub fn scenarios_are_in_reach()
+    ensures { ScenariosAreInReach }
 {}

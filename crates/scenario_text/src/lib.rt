@@ -24,7 +24,9 @@ mod reason;
 mod refusals;
 mod scenario;
 
-pub use laws::{scenarios_are_accepted, scenarios_are_set_up, scenarios_give_trees};
+pub use laws::{
+    scenarios_are_accepted, scenarios_are_in_reach, scenarios_are_set_up, scenarios_give_trees,
+};
 pub use lines::read_scenario;
 pub use printing::refusal_line;
 pub use reason::{Reason, ScenarioFault};

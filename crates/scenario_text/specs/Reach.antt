@@ -1,0 +1,57 @@
+-- What the played lines of a scenario name: writers, producers and buffers that are there, and no producer that a line before
+-- has closed, nor a writer of one.
+use Rattle.std.specs.Prelude.{◌≡◌, ◌-◌, ℕ, ◌≤◌, false, List, ◌∷◌, ◌++◌, length, Some, slice_get}
+use Rattle.trace_base.specs.declared.policy.WriterSpec.{WriterSpec}
+use Rattle.scenario_text.specs.declared.scenario.BufferLine.{BufferLine}
+use Rattle.scenario_text.specs.declared.scenario.ProducerLine.{ProducerLine}
+use Rattle.scenario_text.specs.declared.scenario.LineKind.{LineKind}
+use Rattle.scenario_text.specs.declared.scenario.LineKind.TheVariants.{Packet, Begin, Add, Nest, Unnest, End, Flush, Collect, Scrape, Close, Read, Request}
+use Rattle.scenario_text.specs.declared.scenario.NumberedLine.{NumberedLine}
+use Rattle.scenario_text.specs.declared.scenario.Scenario.{Scenario}
+use Rattle.scenario_text.specs.Scenario.{IsScenario}
+use Rattle.scenario_text.specs.Accepted.{is_closed_by}
+
+-- there is a writer with this number, counted from 1, and no line before has closed its producer
+pub record NamesWriter (writers : List WriterSpec) (before : List NumberedLine) (number : ℕ) : Type 0 where
+  pub least : 1 ≤ number
+  pub spec : WriterSpec
+  pub there : slice_get writers (number - 1) ≡ Some spec
+  pub opened : is_closed_by before spec.producer ≡ false
+
+-- there is a producer with this number, counted from 1, and no line before has closed it
+pub record NamesProducer (producers : List ProducerLine) (before : List NumberedLine) (number : ℕ) : Type 0 where
+  pub least : 1 ≤ number
+  pub most : number ≤ length producers
+  pub opened : is_closed_by before number ≡ false
+
+-- there is a buffer with this number, counted from 1, and at least one packet is read, and no more than can be counted
+pub record ReadsBuffer (buffers : List BufferLine) (number limit : ℕ) : Type 0 where
+  pub least : 1 ≤ number
+  pub most : number ≤ length buffers
+  pub some_packets : 1 ≤ limit
+  pub counted : limit ≤ 18446744073709551615
+
+-- what a line names is there, behind these lines
+abbrev pub IsInReach : List BufferLine → List ProducerLine → List WriterSpec → List NumberedLine → LineKind → Type 0
+IsInReach buffers producers writers before (Packet writer fields) = NamesWriter writers before writer
+IsInReach buffers producers writers before (Begin writer) = NamesWriter writers before writer
+IsInReach buffers producers writers before (Add writer fields) = NamesWriter writers before writer
+IsInReach buffers producers writers before (Nest writer field) = NamesWriter writers before writer
+IsInReach buffers producers writers before (Unnest writer) = NamesWriter writers before writer
+IsInReach buffers producers writers before (End writer) = NamesWriter writers before writer
+IsInReach buffers producers writers before (Flush writer) = NamesWriter writers before writer
+IsInReach buffers producers writers before (Collect producer) = NamesProducer producers before producer
+IsInReach buffers producers writers before (Scrape producer) = NamesProducer producers before producer
+IsInReach buffers producers writers before (Close producer) = NamesProducer producers before producer
+IsInReach buffers producers writers before (Read buffer limit) = ReadsBuffer buffers buffer limit
+IsInReach buffers producers writers before Request = Unit {0}
+
+-- what each line names is there, behind the lines before it
+abbrev pub AreInReach : List BufferLine → List ProducerLine → List WriterSpec → List NumberedLine → Type 0
+AreInReach buffers producers writers lines = (before : List NumberedLine) (line : NumberedLine) (after : List NumberedLine)
+    → lines ≡ before ++ line ∷ after → IsInReach buffers producers writers before line.what
+
+-- the lines of each value that the grammar gives name what is there
+abbrev pub ScenariosAreInReach : Type 0
+ScenariosAreInReach = (scenario : Scenario) → IsScenario scenario
+    → AreInReach scenario.buffers.items scenario.producers.items scenario.writers.items scenario.lines.items
