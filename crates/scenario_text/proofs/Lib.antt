@@ -17,3 +17,4 @@ pub mod AcceptedCalls
 pub mod AcceptedLines
 pub mod AcceptedLemmas
 pub mod ReachLemmas
+pub mod PossibleLemmas
