@@ -15,7 +15,7 @@ use Rattle.gap_check.specs.Taken.{AreFew}
 use Rattle.gap_check.specs.Verdicts.{AreUnmarked}
 use Rattle.scenario_check.specs.Emissions.{emissions_asked, emissions_from, scenario_emissions, AreAsked}
 use Rattle.scenario_check.specs.Progress.{HaveTaken, MayCome}
-use Rattle.scenario_check.proofs.ShortLemmas.{scenario_is_short}
+use Rattle.scenario_text.proofs.ShortLemmas.{scenario_is_short}
 use Rattle.scenario_check.proofs.UnmarkedLemmas.{asked_unmarked}
 
 asked_from : (lines : List NumberedLine) (writers : List WriterSpec) (number : ℕ) (emitted : List (List (List ℕ))) → length emitted ≡ length writers

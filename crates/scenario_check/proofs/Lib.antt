@@ -1,6 +1,5 @@
 pub mod CallLemmas
 pub mod KindLemmas
-pub mod ShortLemmas
 pub mod UnmarkedLemmas
 pub mod LineLemmas
 pub mod FinishLemmas

@@ -1,3 +1,2 @@
 pub mod Emissions
-pub mod Lengths
 pub mod Progress

@@ -10,7 +10,7 @@ use Rattle.scenario_text.specs.declared.scenario.LineKind.{LineKind}
 use Rattle.scenario_text.specs.declared.scenario.LineKind.TheVariants.{Packet, Begin, Add, Nest, Unnest, End, Flush}
 use Rattle.scenario_text.specs.declared.scenario.NumberedLine.{NumberedLine}
 use Rattle.scenario_text.specs.Accepted.{node_call, calls_asked, AreAccepted}
-use Rattle.scenario_check.specs.Lengths.{lines_len}
+use Rattle.scenario_text.specs.Lengths.{lines_len}
 
 -- ---- one writer
 

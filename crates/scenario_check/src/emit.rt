@@ -4,7 +4,7 @@ ghost use Rattle.trace_model.specs.Calls as call;
 ghost use Rattle.emitted_packets.specs.declared.emitter.Emitter.{Emitter};
 ghost use Rattle.field_tree.specs.Judged.{node_len, nodes_len};
 ghost use Rattle.scenario_text.specs.Accepted.{node_call};
-ghost use Rattle.scenario_check.specs.Lengths.{line_len};
+ghost use Rattle.scenario_text.specs.Lengths.{line_len};
 ghost use Rattle.scenario_check.specs.Progress.{MayTake, Takes, named_calls};
 
 use emitted_packets::Emitter;

@@ -10,4 +10,4 @@ mod emit;
 mod laws;
 
 pub use check::check_run;
-pub use laws::{scenarios_are_short, scenarios_are_unmarked};
+pub use laws::scenarios_are_unmarked;

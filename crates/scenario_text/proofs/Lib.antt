@@ -18,3 +18,4 @@ pub mod AcceptedLines
 pub mod AcceptedLemmas
 pub mod ReachLemmas
 pub mod PossibleLemmas
+pub mod ShortLemmas

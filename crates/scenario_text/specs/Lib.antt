@@ -10,6 +10,7 @@ pub mod Effects
 pub mod Grammar
 pub mod Scenario
 pub mod Limits
+pub mod Lengths
 pub mod Answers
 pub mod Accepted
 pub mod Reach

@@ -1,5 +1,6 @@
 //! What holds of every scenario, as functions that do nothing and ensure it.
 ghost use Rattle.scenario_text.specs.Accepted.{ScenariosAreAccepted};
+ghost use Rattle.scenario_text.specs.Lengths.{ScenariosAreShort};
 ghost use Rattle.scenario_text.specs.Limits.{ScenariosAreSetUp};
 ghost use Rattle.scenario_text.specs.Reach.{ScenariosAreInReach};
 ghost use Rattle.scenario_text.specs.Trees.{ScenariosGiveTrees};
@@ -20,4 +21,9 @@ pub fn scenarios_are_accepted()
 
 pub fn scenarios_are_in_reach()
     ensures { ScenariosAreInReach }
+{}
+
+#[tactic(auto, using(crate::proofs::ShortLemmas::scenario_is_short))]
+pub fn scenarios_are_short()
+    ensures { ScenariosAreShort }
 {}

@@ -25,7 +25,8 @@ mod refusals;
 mod scenario;
 
 pub use laws::{
-    scenarios_are_accepted, scenarios_are_in_reach, scenarios_are_set_up, scenarios_give_trees,
+    scenarios_are_accepted, scenarios_are_in_reach, scenarios_are_set_up, scenarios_are_short,
+    scenarios_give_trees,
 };
 pub use lines::read_scenario;
 pub use printing::refusal_line;

@@ -30,7 +30,7 @@ use Rattle.scenario_text.specs.Grammar.{unless, after_form, says_nothing, after_
 use Rattle.scenario_text.specs.Scenario.{Parts, parts_of, parts_said, said, scenario_of, IsScenario}
 use Rattle.scenario_text.proofs.StateLemmas.{first_none, scenario_holds}
 use Rattle.scenario_text.proofs.TreeLemmas.{within}
-use Rattle.scenario_check.specs.Lengths.{line_len, lines_len, AreShort}
+use Rattle.scenario_text.specs.Lengths.{line_len, lines_len, AreShort}
 
 -- ---- how long packets are
 
