@@ -147,7 +147,7 @@ nests account packet field b may =
     }
 
 -- a message that ends leaves the length as it was
-ended_len : (level outer : List ℕ) (others : List (List ℕ))
+pub ended_len : (level outer : List ℕ) (others : List (List ℕ))
     → length (flat open_length ((outer ++ redundant (length level) ++ level) ∷ others)) ≡ length (flat open_length (level ∷ outer ∷ others))
 ended_len level outer others =
     let four = redundant (length level) in

@@ -19,3 +19,4 @@ pub mod AcceptedLemmas
 pub mod ReachLemmas
 pub mod PossibleLemmas
 pub mod ShortLemmas
+pub mod ChunksAskedLemmas
