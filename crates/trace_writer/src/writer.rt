@@ -54,6 +54,7 @@ impl<S> WriterCore<S> {
         ensures spec { (route_of result).spec ≡ spec }
         ensures arbiter { (route_of result).arbiter ≡ arbiter }
         ensures none_held { holds_chunk result ≡ false }
+        ensures going { is_stalled result ≡ false }
         ensures agrees { (setup : Setup) (place : ℕ) → slice_get setup.writers place ≡ Some spec
             → HasProducer setup spec.producer → range_of setup (producer_of setup place) ≡ range_in arbiter
             → ((chunk : ℕ) → IsChunkOf setup (producer_of setup place) chunk → (spot setup chunk).payload_size ≡ payload_size geometry.page_size geometry.chunks)
