@@ -1,8 +1,10 @@
 //! Reading a buffer.
-ghost use Rattle.std.specs.Prelude.{◌<◌, length, IfOk, OnErr};
+ghost use Rattle.std.specs.Prelude.{◌≡◌, ◌<◌, Some, length, IfOk, OnErr};
 ghost use Rattle.byte_io.specs.Bytes.{CountsFaults};
 ghost use Rattle.chunk_plain.specs.Meaning.{IsServiceStep};
 ghost use Rattle.chunk_plain.specs.Setup.{sequence_of};
+ghost use Rattle.chunk_plain.specs.World.{World};
+ghost use Rattle.chunk_plain.specs.Steps.{serviced};
 ghost use Rattle.service_core.specs.Agreement.{ServiceAgrees, KeepsRest};
 ghost use Rattle.service_core.specs.Reading.{ReadsAll, FailsAmong, ReadsOne, FailsOne};
 
@@ -36,6 +38,8 @@ impl<S> ServiceCore<S> {
         ensures fails { OnErr result (FailsOne self.old (sequence_of place) limit
             (W.means.service_view table.old self.old.seat) (W.means.service_view table.new self.new.seat)
             (O.taken out.old) (O.taken out.new)) }
+        ensures told { (world : World) → W.means.told table.old ≡ Some world
+            → W.means.told table.new ≡ Some (serviced world (W.means.service_view table.new self.new.seat)) }
         ensures count { CountsFaults (O.faults out.old) (O.faults out.new) result }
     {
         let sequence = place as u32 + FIRST_SEQUENCE;
@@ -77,6 +81,8 @@ impl<S> ServiceCore<S> {
         ensures fails { OnErr result (FailsAmong (W.means.setup table.old) self.old buffer limit
             (W.means.service_view table.old self.old.seat) (W.means.service_view table.new self.new.seat)
             (O.taken out.old) (O.taken out.new)) }
+        ensures told { (world : World) → W.means.told table.old ≡ Some world
+            → W.means.told table.new ≡ Some (serviced world (W.means.service_view table.new self.new.seat)) }
         ensures count { CountsFaults (O.faults out.old) (O.faults out.new) result }
     {
         let mut left = limit;

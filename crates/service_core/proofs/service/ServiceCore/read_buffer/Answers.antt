@@ -1,8 +1,10 @@
-use Rattle.std.proofs.Common.{◌+◌, ◌-◌, ◌∙◌, ◌<◌, ◌≤◌, ℕ, List, length, subst, sym, ap, refl, arith}
+use Rattle.std.proofs.Common.{◌+◌, ◌-◌, ◌∙◌, ◌<◌, ◌≤◌, ℕ, List, Some, length, subst, sym, ap, refl, arith}
 use Rattle.std.proofs.lemmas.List.{get_or_read}
 use Rattle.trace_base.specs.declared.policy.WriterSpec.{WriterSpec}
 use Rattle.page_geometry.specs.Sizes.{record_size}
 use Rattle.chunk_plain.specs.Setup.{Setup, size_of, producer_of}
+use Rattle.chunk_plain.specs.Views.{ServiceView}
+use Rattle.chunk_plain.specs.Steps.{serviced}
 use Rattle.chunk_plain.proofs.SeatSteps.{serves_on, services_follow}
 use Rattle.service_core.specs.Routing.{IsAt}
 use Rattle.service_core.specs.Agreement.{ServiceAgrees, KeepsRest, spec_at, no_writer}
@@ -22,6 +24,8 @@ loop-place-init g c =
       keeps = keeps_same setup c.args.self.now;
       step = serves_on means c.args.table.now c.args.self.now.seat c.requires.serves;
       reads = reads_begin setup c.args.self.now c.args.buffer c.args.limit (means.service_view c.args.table.now c.args.self.now.seat) (g.O.Sink.taken c.args.out.now);
+      told = λ world is. is
+          ∙ ap (λ (v : ServiceView). Some (serviced world v)) (sym (g.met.W.Words.told_service_view c.args.table.now c.args.self.now.seat world is c.requires.serves));
       faults = refl;
     }
 
@@ -45,6 +49,7 @@ loop-place-preserved-then-index-buffer g c =
       step = i.step;
       reads = reads_skip setup c.args.self.now c.args.buffer c.args.limit old (g.O.Sink.taken c.args.out.now) c.loop-place.self place c.loop-place.left between (g.O.Sink.taken c.loop-place.out)
           i.reads low (λ same. c.if-index-buffer.true (ap (λ (w : WriterSpec). w.buffer) read ∙ same));
+      told = i.told;
       faults = i.faults;
     }
 
@@ -74,6 +79,7 @@ loop-place-preserved g c =
       step = services_follow means c.args.table.now c.args.self.now.seat c.loop-place.table mid.seat c.read_writer.new.table c.read_writer.new.self.seat i.step c.in_ok-left.ensures.step;
       reads = reads_add setup c.args.self.now c.args.buffer c.args.limit old (g.O.Sink.taken c.args.out.now) mid place c.loop-place.left size between (g.O.Sink.taken c.loop-place.out)
           i.reads low same at i.agrees.known c.read_writer.new.self new (g.O.Sink.taken c.read_writer.new.out) c.in_ok-left.field-0 c.in_ok-left.ensures.reads;
+      told = λ world is. c.in_ok-left.ensures.told (serviced world between) (i.told world is);
       faults = c.in_ok-left.ensures.count ∙ i.faults;
     }
 

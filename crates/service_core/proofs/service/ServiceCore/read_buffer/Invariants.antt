@@ -1,4 +1,6 @@
-use Rattle.std.proofs.Common.{◌≡◌}
+use Rattle.std.proofs.Common.{◌≡◌, Some}
+use Rattle.chunk_plain.specs.World.{World}
+use Rattle.chunk_plain.specs.Steps.{serviced}
 use Rattle.chunk_plain.specs.Meaning.{IsServiceStep}
 use Rattle.service_core.specs.Agreement.{ServiceAgrees, KeepsRest}
 use Rattle.service_core.specs.Reading.{ReadsSome}
@@ -11,5 +13,7 @@ invariant-loop-place g l = record {
   step : IsServiceStep g.W.Words.means l.fn.table l.fn.self.seat l.table l.self.seat;
   reads : ReadsSome (g.W.Words.means.setup l.fn.table) l.fn.self l.self l.buffer l.limit l.place l.left
       (g.W.Words.means.service_view l.fn.table l.fn.self.seat) (g.W.Words.means.service_view l.table l.self.seat) (g.O.Sink.taken l.fn.out) (g.O.Sink.taken l.out);
+  told : (world : World) → g.W.Words.means.told l.fn.table ≡ Some world
+      → g.W.Words.means.told l.table ≡ Some (serviced world (g.W.Words.means.service_view l.table l.self.seat));
   faults : g.O.Sink.faults l.out ≡ g.O.Sink.faults l.fn.out;
 }
