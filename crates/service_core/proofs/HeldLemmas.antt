@@ -31,7 +31,8 @@ use Rattle.chunk_plain.proofs.States.{writing_status}
 use Rattle.chunk_plain.proofs.KeptService.{header_reads}
 use Rattle.service_core.specs.Taking.{IsRange, Takes, places_of}
 use Rattle.service_core.specs.Told.{LeavesNone}
-use Rattle.service_core.specs.Scraping.{IsPart, FitsWord, part_of_entry, part_held, HoldsOwn, IsntPart, FindsNoPart, FindsNoPartOf, NotesPart, ScrapesWorld, ScrapesWorldYet}
+use Rattle.service_core.specs.Scraping.{IsPart, FitsWord, ScrapesOne, ScrapesEach, part_of_entry, part_held, HoldsOwn, IsntPart, FindsNoPart, FindsNoPartOf, NotesPart, ScrapesWorld, ScrapesWorldYet}
+use Rattle.service_core.proofs.PartLemmas.{scrapes_add, scrape_takes_none}
 use Rattle.service_core.proofs.ToldLemmas.{behind_serviced, none_stays}
 
 noted_set : IsSet (List Noted)
@@ -195,6 +196,7 @@ pub world_yet : (setup : Setup) (producer taken : ℕ) (old : World) (before : S
 world_yet setup producer taken old before told view leaves takes = record {
   between = view;
   takes = takes;
+  each = refl;
   new = leaves.new;
   told_is = leaves.told_is;
   stands = leaves.stands;
@@ -208,6 +210,7 @@ pub world_skip : (setup : Setup) (producer taken : ℕ) (writers more : List Wri
 world_skip setup producer taken writers more old before told view places yet = record {
   between = yet.between;
   takes = yet.takes;
+  each = subst (λ (ps : List ℕ). ScrapesEach setup ps yet.between view) (sym places) yet.each;
   new = yet.new;
   told_is = yet.told_is;
   stands = yet.stands;
@@ -221,15 +224,17 @@ own_stays setup place old new writers own = subst (λ (l : List WriterView). (id
 
 pub world_add : (setup : Setup) (producer taken place : ℕ) (writers more : List WriterSpec) (old : World) (before mid_view view : ServiceView) (mid told : Option World)
     → places_of producer 0 more ≡ places_of producer 0 writers ++ place ∷ [] → ScrapesWorldYet setup producer taken writers old before mid mid_view → HoldsOwn setup place old
-    → view.taken ≡ mid_view.taken → ((world : World) → mid ≡ Some world → HoldsOwn setup place world → NotesPart place world told mid_view view)
+    → ScrapesOne setup place mid_view view → ((world : World) → mid ≡ Some world → HoldsOwn setup place world → NotesPart place world told mid_view view)
     → ScrapesWorldYet setup producer taken more old before told view
-world_add setup producer taken place writers more old before mid_view view mid told places yet own same notes =
+world_add setup producer taken place writers more old before mid_view view mid told places yet own one notes =
     let note = notes yet.new yet.told_is (own_stays setup place old yet.new yet.stands.writers own) in
     let new : World = serviced yet.new view in
-    let taken_is : new.service.taken ≡ yet.new.service.taken = same ∙ sym (ap (λ (v : ServiceView). v.taken) yet.stands.service) in
+    let taken_is : new.service.taken ≡ yet.new.service.taken = scrape_takes_none setup place mid_view view one ∙ sym (ap (λ (v : ServiceView). v.taken) yet.stands.service) in
     record {
       between = yet.between;
       takes = yet.takes;
+      each = subst (λ (ps : List ℕ). ScrapesEach setup ps yet.between view) (sym places)
+          (scrapes_add setup (places_of producer 0 writers) place yet.between mid_view view yet.each one);
       new = new;
       told_is = note.told_is;
       stands = behind_serviced old yet.new mid_view view yet.stands;
@@ -250,6 +255,7 @@ pub world_all : (setup : Setup) (producer taken : ℕ) (writers : List WriterSpe
 world_all setup producer taken writers old before told view all yet = record {
   between = yet.between;
   takes = yet.takes;
+  each = subst (λ (ws : List WriterSpec). ScrapesEach setup (places_of producer 0 ws) yet.between view) all yet.each;
   new = yet.new;
   told_is = yet.told_is;
   stands = yet.stands;

@@ -155,6 +155,7 @@ pub record NotesPart (place : ℕ) (old : World) (told : Option World) (before v
 pub record ScrapesWorld (setup : Setup) (producer taken : ℕ) (old : World) (before : ServiceView) (told : Option World) (view : ServiceView) : Type 0 where
   pub between : ServiceView
   pub takes : Takes setup (places_of producer 0 setup.writers) taken before between
+  pub each : ScrapesEach setup (places_of producer 0 setup.writers) between view
   pub new : World
   pub told_is : told ≡ Some new
   pub stands : StandsBehind old view new
@@ -166,6 +167,7 @@ pub record ScrapesWorldYet (setup : Setup) (producer taken : ℕ) (writers : Lis
   where
     pub between : ServiceView
     pub takes : Takes setup (places_of producer 0 setup.writers) taken before between
+    pub each : ScrapesEach setup (places_of producer 0 writers) between view
     pub new : World
     pub told_is : told ≡ Some new
     pub stands : StandsBehind old view new

@@ -8,7 +8,7 @@ use Rattle.service_core.specs.Taking.{places_of}
 use Rattle.service_core.specs.Scraping.{ScrapesOne, ScrapesEach, HoldsOwn}
 use Rattle.service_core.proofs.AgreeLemmas.{keeps_both}
 use Rattle.service_core.proofs.ChainLemmas.{places_add, places_skip}
-use Rattle.service_core.proofs.PartLemmas.{scrapes_add, scrape_takes_none}
+use Rattle.service_core.proofs.PartLemmas.{scrapes_add}
 use Rattle.service_core.proofs.HeldLemmas.{world_yet, world_skip, world_add, world_all}
 use Rattle.service_core.proofs.service.ServiceCore.scrape.Goals as goal
 
@@ -72,7 +72,7 @@ loop-place-preserved g c =
       };
       told = λ world is own.
           world_add setup c.args.producer c.collect-count.result place (take place setup.writers) (take (place + 1) setup.writers) world old mid new (means.told c.loop-place.table) (means.told c.scrape_writer.new.table)
-          places (i.told world is own) (own place low same) (scrape_takes_none setup place mid new one)
+          places (i.told world is own) (own place low same) one
           (λ w e holds. c.scrape_writer.ensures.told w e (subst (λ (s : Setup). HoldsOwn s place w) (sym stays) holds));
     }
 
