@@ -1,11 +1,11 @@
 -- The parts of chunks that a scrape finds are those of the chunks that come next.
-use Rattle.std.proofs.Common.{◌≡◌, ◌∙◌, ℕ, zero, suc, ◌+◌, ◌-◌, ◌<◌, ◌≤◌, ◌⊎◌, Bool, true, false, ◌||◌, List, [], ◌∷◌, ◌++◌, length, refl, sym, ap, subst, arith, inl, inr, cond}
-use Rattle.std.specs.Prelude.{◌==◌, nat_le, Option, Some, None, slice_get, MatchBool}
+use Rattle.std.proofs.Common.{◌≡◌, ◌∙◌, ℕ, zero, suc, ◌+◌, ◌-◌, ◌<◌, ◌≤◌, ◌⊎◌, Bool, true, false, ◌||◌, List, [], ◌∷◌, ◌++◌, length, get_or, refl, sym, ap, subst, arith, inl, inr, cond}
+use Rattle.std.specs.Prelude.{◌==◌, nat_lt, MatchBool}
 use Rattle.std.specs.List.{flat_map}
-use Rattle.std.proofs.lemmas.Bool.{eq-eqb, ne_eqb, leb-true, cases_eq}
+use Rattle.std.proofs.lemmas.Bool.{eq-eqb, ne_eqb, ltb-true, cases_eq}
 use Rattle.trace_model.specs.Images.{Image}
 use Rattle.chunk_plain.specs.Setup.{Setup, sequence_of}
-use Rattle.chunk_plain.specs.Views.{At, Begun, Held, Completed, Draft, Look, Noted, Partial, ServiceView, taken_of, WriterView}
+use Rattle.chunk_plain.specs.Views.{At, Begun, Held, Completed, Draft, no_draft, Look, Noted, Partial, ServiceView, taken_of, WriterView}
 use Rattle.chunk_plain.specs.World.{World, writer}
 use Rattle.chunk_plain.specs.Histories.{completed_images}
 use Rattle.chunk_plain.specs.Owned.{held_count}
@@ -15,7 +15,8 @@ use Rattle.service_core.specs.Order.{IsFoundPart, LeadTo}
 use Rattle.service_core.specs.Taking.{places_of, looked, noted_more}
 use Rattle.service_core.proofs.HistoryLemmas.{Grows, found_more}
 use Rattle.service_core.proofs.OrderLemmas.{lead_both}
-use Rattle.replay_model.specs.Does.{Scrapes, Wrote, part_of_held, part_held, parts_held, is_shut}
+use Rattle.service_core.specs.Scraping.{part_of_entry, part_held, parts_held}
+use Rattle.replay_model.specs.Does.{Scrapes, Wrote, is_shut}
 use Rattle.replay_model.proofs.SortedLemmas.{at_stage, IsSorted, Among, or_none, shut_append, sorted_more, sorted_takes, open_places_fit}
 
 -- ---- what a writer holds
@@ -60,20 +61,19 @@ record IsPart (q id : ℕ) (notes : List Noted) : Type 0 where
   some : 1 ≤ count
   is : notes ≡ Partial q id count ∷ []
 
-part_is : (q id : ℕ) (one : Option Begun) → (part_of_held q id one ≡ []) ⊎ IsPart q id (part_of_held q id one)
-part_is q id None = inl refl
-part_is q id (Some (Completed chunk content)) = inl refl
-part_is q id (Some (Held chunk draft)) = step (nat_le 2 draft.head.count) refl
+part_is : (place id : ℕ) (one : Begun) → (part_of_entry place id one ≡ []) ⊎ IsPart (sequence_of place) id (part_of_entry place id one)
+part_is place id (Completed chunk content) = inl refl
+part_is place id (Held chunk draft) = step (nat_lt 1 draft.head.count) refl
   where
-    step : (b : Bool) → nat_le 2 draft.head.count ≡ b
-        → (part_of_held q id (Some (Held chunk draft)) ≡ []) ⊎ IsPart q id (part_of_held q id (Some (Held chunk draft)))
-    step false is = inl (ap (λ (b : Bool). cond b (Partial q id (draft.head.count - 1) ∷ []) []) is)
+    step : (b : Bool) → nat_lt 1 draft.head.count ≡ b
+        → (part_of_entry place id (Held chunk draft) ≡ []) ⊎ IsPart (sequence_of place) id (part_of_entry place id (Held chunk draft))
+    step false is = inl (ap (λ (b : Bool). cond b (Partial (sequence_of place) id (draft.head.count - 1) ∷ []) []) is)
     step true is =
-        let most = leb-true 2 draft.head.count is in
+        let most = ltb-true 1 draft.head.count is in
         inr (record {
           count = draft.head.count - 1;
           some = omega (arith, most);
-          is = ap (λ (b : Bool). cond b (Partial q id (draft.head.count - 1) ∷ []) []) is;
+          is = ap (λ (b : Bool). cond b (Partial (sequence_of place) id (draft.head.count - 1) ∷ []) []) is;
         })
 
 -- ---- all parts of a scrape
@@ -124,14 +124,14 @@ shut_parts q notes [] none = refl
 shut_parts q notes (place ∷ places) none =
     shut_append q (notes place) (flat_map notes places) ∙ ap (λ (b : Bool). b || is_shut q (flat_map notes places)) (none place) ∙ shut_parts q notes places none
 
-shut_part : (q s id : ℕ) (one : Option Begun) → is_shut q (part_of_held s id one) ≡ false
-shut_part q s id one = by_part (part_is s id one)
+shut_part : (q place id : ℕ) (one : Begun) → is_shut q (part_of_entry place id one) ≡ false
+shut_part q place id one = by_part (part_is place id one)
   where
-    by_part : (part_of_held s id one ≡ []) ⊎ IsPart s id (part_of_held s id one) → is_shut q (part_of_held s id one) ≡ false
+    by_part : (part_of_entry place id one ≡ []) ⊎ IsPart (sequence_of place) id (part_of_entry place id one) → is_shut q (part_of_entry place id one) ≡ false
     by_part (inl none) = ap (is_shut q) none
     by_part (inr part) = ap (is_shut q) part.is
 
-known_right : (view : ServiceView) (xs ys : List Noted) → AreKnownNotes view (xs ++ ys) → AreKnownNotes view ys
+pub known_right : (view : ServiceView) (xs ys : List Noted) → AreKnownNotes view (xs ++ ys) → AreKnownNotes view ys
 known_right view [] ys known = known
 known_right view (x ∷ xs) ys known = known_right view xs ys known.1
 
@@ -177,7 +177,11 @@ module _ (setup : Setup) (producer : ℕ) (old new : World) (sorted : IsSorted s
 
   -- the note of one writer
   abbrev note_of : ℕ → List Noted
-  note_of p = part_held p new
+  note_of p = part_held new p
+
+  -- the chunk that comes next of it
+  abbrev next_of : ℕ → Begun
+  next_of p = get_or (writer new p).begun (taken_of new.service p).count (Held 0 no_draft)
 
   by_part : (target p : ℕ) → is_shut (sequence_of p) between.events ≡ false → AreKnownNotes view (note_of p)
       → (note_of p ≡ []) ⊎ IsPart (sequence_of p) (taken_of new.service p).count (note_of p)
@@ -205,7 +209,7 @@ module _ (setup : Setup) (producer : ℕ) (old new : World) (sorted : IsSorted s
   fits target p among =
       by_part target p (mid.1 (sequence_of p) ∙ (open_places_fit setup producer old.service scrapes.opened p among).1)
       (known_among view note_of places p among known)
-      (part_is (sequence_of p) (taken_of new.service p).count (slice_get (writer new p).begun (taken_of new.service p).count))
+      (part_is p (taken_of new.service p).count (next_of p))
 
   leads : (target : ℕ) → LeadTo view (sequence_of target) (at_stage (taken_of between target).count (is_shut (sequence_of target) between.events)) notes
       (at_stage (taken_of view target).count (is_shut (sequence_of target) between.events || is_shut (sequence_of target) notes))
@@ -214,7 +218,7 @@ module _ (setup : Setup) (producer : ℕ) (old new : World) (sorted : IsSorted s
       let n : ℕ = (taken_of between target).count in
       let closed : Bool = is_shut q between.events in
       let none = shut_parts q note_of places
-      (λ p. shut_part q (sequence_of p) (taken_of new.service p).count (slice_get (writer new p).begun (taken_of new.service p).count)) in
+      (λ p. shut_part q p (taken_of new.service p).count (next_of p)) in
       let same : closed ≡ (closed || is_shut q notes) = sym (ap (λ (b : Bool). closed || b) none ∙ or_none closed) in
       subst (λ (b : Bool). LeadTo view q (at_stage n closed) notes (at_stage n b)) same
       (lead_parts view target n closed note_of places (fits target))

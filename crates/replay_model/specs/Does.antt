@@ -1,5 +1,5 @@
 -- What each act makes of a world. Looks of the service are free, and what each chunk is used for follows from the views by ownership.
-use Rattle.std.specs.Prelude.{◌≡◌, ◌≢◌, ℕ, ◌+◌, ◌-◌, ◌<◌, ◌⊎◌, nat_le, ◌==◌, Bool, true, false, List, [], ◌∷◌, ◌++◌, length, slice_get, Option, Some, MatchBool, if◌then◌else◌}
+use Rattle.std.specs.Prelude.{◌≡◌, ◌≢◌, ℕ, ◌+◌, ◌<◌, ◌⊎◌, ◌==◌, Bool, true, false, List, [], ◌∷◌, ◌++◌, length, MatchBool}
 use Rattle.std.specs.List.{flat_map, list_any}
 use Rattle.trace_base.specs.declared.policy.WriterPolicy.{WriterPolicy}
 use Rattle.trace_base.specs.declared.policy.WriterPolicy.TheVariants.{Drops, Stalls}
@@ -9,8 +9,7 @@ use Rattle.trace_model.specs.History.{buffers_after}
 use Rattle.trace_model.specs.Images.{Image}
 use Rattle.trace_model.specs.Packets.{packets_of, account_of, is_writing}
 use Rattle.chunk_plain.specs.Setup.{Setup, range_of, producer_of, sequence_of}
-use Rattle.chunk_plain.specs.Views as views
-use Rattle.chunk_plain.specs.Views.{Draft, Held, Completed, Look, Noted, Partial, Closed, ServiceView, WriterView, taken_of}
+use Rattle.chunk_plain.specs.Views.{Look, Noted, Closed, ServiceView, WriterView}
 use Rattle.chunk_plain.specs.World.{World, writer}
 use Rattle.chunk_plain.specs.Histories.{completed_images, history_of}
 use Rattle.claim_arbiter.specs.Claiming.{NoneFree}
@@ -23,6 +22,7 @@ use Rattle.trace_writer.specs.Laws.{IsHeldImage}
 use Rattle.service_core.specs.Agreement.{spec_at, AreKnownNotes}
 use Rattle.service_core.specs.Closing.{TakesAndCloses}
 use Rattle.service_core.specs.Reading.{reads_in, noted_read}
+use Rattle.service_core.specs.Scraping.{parts_held}
 use Rattle.service_core.specs.Taking.{Takes, places_of, looked, noted_more}
 use Rattle.service_core.specs.Told.{NoneLeft}
 use Rattle.replay_model.specs.Acts.{Act, Ask, Request, Answer, Collect, Scrape, CloseProducer, ReadAll}
@@ -50,21 +50,6 @@ pub record Collects (setup : Setup) (producer : ℕ) (old new : World) : Type 0 
   pub taken : ℕ
   pub takes : Takes setup (places_of producer 0 setup.writers) taken old.service new.service
   pub none_left : NoneLeft setup producer new
-
--- the note of the part of a chunk with this id, where it is held and one of its fragments is finished
-abbrev pub part_of_held : (sequence id : ℕ) → Option views.Begun → List Noted
-part_of_held sequence id (Some (Held chunk draft)) =
-    if nat_le 2 draft.head.count then Partial sequence id (draft.head.count - 1) ∷ [] else []
-part_of_held sequence id other = []
-
--- the part of the chunk that is to be taken next of the writer at this place, where the writer holds it
-abbrev pub part_held : (place : ℕ) → World → List Noted
-part_held place world =
-    part_of_held (sequence_of place) (taken_of world.service place).count (slice_get (writer world place).begun (taken_of world.service place).count)
-
--- the parts of chunks that the producer's writers hold, in rising place
-abbrev pub parts_held : Setup → (producer : ℕ) → World → List Noted
-parts_held setup producer world = flat_map (λ place. part_held place world) (places_of producer 0 setup.writers)
 
 -- The producer's complete chunks are taken, and then the finished fragments of those that its writers hold. Each part was found by a look.
 pub record Scrapes (setup : Setup) (producer : ℕ) (old new : World) : Type 0 where
