@@ -9,6 +9,7 @@ mod asking;
 mod closing;
 mod committing;
 mod flushes;
+mod ids;
 pub mod laws;
 mod making;
 mod patching;
