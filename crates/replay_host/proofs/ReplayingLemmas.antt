@@ -1,0 +1,196 @@
+-- What was played of a scenario, from its first world on, is its replay; or it stopped at an act.
+use Rattle.std.proofs.Common.{◌≡◌, ◌∙◌, ℕ, vec_len, Some, List, [], length, sym, ap, subst, append-nil, arith}
+use Rattle.byte_io.specs.Bytes.{Intake, after_told}
+use Rattle.trace_base.specs.declared.policy.WriterSpec.{WriterSpec}
+use Rattle.trace_model.specs.Buffers.{Buffer}
+use Rattle.trace_model.specs.Delivery.{trace_of}
+use Rattle.trace_model.specs.History.{records_after}
+use Rattle.trace_buffer.specs.declared.answers.BufferCounts.{BufferCounts}
+use Rattle.scenario_text.specs.declared.scenario.Scenario.{Scenario}
+use Rattle.scenario_text.specs.Scenario.{Parts, IsScenario, parts_of}
+use Rattle.scenario_text.proofs.AcceptedLemmas.{scenario_is_accepted}
+use Rattle.scenario_text.proofs.LimitLemmas.{scenario_is_set_up}
+use Rattle.scenario_text.proofs.ReachLemmas.{scenario_is_in_reach}
+use Rattle.scenario_text.proofs.ShortLemmas.{scenario_is_short}
+use Rattle.chunk_plain.specs.Histories.{history_of}
+use Rattle.chunk_plain.specs.Meaning.{Meaning}
+use Rattle.chunk_plain.specs.Plain.{first_world}
+use Rattle.chunk_plain.specs.Setup.{Setup}
+use Rattle.chunk_plain.specs.Views.{ServiceView}
+use Rattle.chunk_plain.specs.World.{World}
+use Rattle.service_core.specs.Agreement.{first_of}
+use Rattle.loss_report.specs.declared.counts.SequenceCounts.{SequenceCounts}
+use Rattle.loss_report.specs.Report.{report_text}
+use Rattle.replay_model.specs.Acts.{Act, Ask, Request, Answer, Collect, Scrape, CloseProducer, ReadAll}
+use Rattle.replay_model.specs.Enough.{IsPlayable}
+use Rattle.replay_model.specs.Flushes.{FlushNote}
+use Rattle.replay_model.specs.Played.{IsSetupOf, IsPlayed, buffers_of, Replays}
+use Rattle.replay_model.specs.Plays.{Plays}
+use Rattle.replay_model.specs.Schedule.{acts_from, last_acts, schedule_of}
+use Rattle.replay_model.proofs.PlayedLemmas.{setup_writers}
+use Rattle.replay_model.proofs.ReplayLemmas.{replays_of, scenario_is_playable}
+use Rattle.replay_host.specs.declared.fault.HostFault.{HostFault}
+use Rattle.replay_host.specs.declared.fault.HostFault.TheVariants.{OutOfMemory, WriteFault, Stalled}
+use Rattle.replay_host.specs.declared.flushes.Flushes.{Flushes}
+use Rattle.replay_host.specs.declared.host.Host.{Host}
+use Rattle.replay_host.specs.Counting.{CountsAll}
+use Rattle.replay_host.specs.Ending.{IsOver, HasEnded}
+use Rattle.replay_host.specs.Making.{IsMade}
+use Rattle.replay_host.specs.Playing.{HasDone}
+use Rattle.replay_host.specs.Replaying.{HasStopped, EndsEarly}
+use Rattle.replay_host.specs.Stopping.{Halts, StopsAt, StopsIn}
+use Rattle.replay_host.specs.Tally.{IsTally}
+use Rattle.replay_host.specs.Whole.{Begins, HavePlayed}
+use Rattle.replay_host.proofs.CountingLemmas.{report_is, specs_many}
+use Rattle.replay_host.proofs.GoingLemmas.{done_both}
+use Rattle.replay_host.proofs.MadeLemmas.{made_trace}
+use Rattle.replay_host.proofs.RowLemmas.{AreLaws}
+use Rattle.replay_host.proofs.StopLemmas.{stopped_later, stopped_more}
+
+-- ---- a fault
+
+-- no act halts since memory ran out
+has_memory : (setup : Setup) (buffers : List Buffer) (act : Act) (world : World) (start left : Intake)
+    → Halts setup buffers act world OutOfMemory start left → ⊥
+has_memory setup buffers (Ask place call) world start left halts = halts
+has_memory setup buffers Request world start left halts = halts
+has_memory setup buffers (Answer place) world start left halts = halts
+has_memory setup buffers (Collect producer) world start left halts = halts
+has_memory setup buffers (Scrape producer) world start left halts = halts
+has_memory setup buffers (CloseProducer producer) world start left halts = halts
+has_memory setup buffers (ReadAll number limit) world start left halts = halts
+
+-- acts that stopped end a replay early
+ends_early : (scenario : Parts) (fault : HostFault) (old new : Intake) → HasStopped scenario fault old new → EndsEarly scenario fault old new
+ends_early scenario OutOfMemory old new stopped =
+    absurd (has_memory stopped.setup (buffers_of scenario stopped.setup) stopped.stops.act stopped.stops.world old new stopped.stops.halts)
+ends_early scenario WriteFault old new stopped = stopped
+ends_early scenario (Stalled writer) old new stopped = stopped
+
+-- ---- from the first line on
+
+-- the grammar gives what can be played
+pub is_playable : (scenario : Scenario) → IsScenario scenario → IsPlayable (parts_of scenario)
+is_playable scenario is =
+    let few = (scenario_is_short scenario is).few in
+    scenario_is_playable scenario is (omega (arith, few)) scenario_is_set_up scenario_is_accepted
+
+module _ {T W S : Type 0} (means : Meaning T W S) (scenario : Scenario) (is : IsScenario scenario) (old : Host T W S)
+    (made : IsMade means (parts_of scenario) old) (taken : Intake) where
+  pub begins : Begins means (parts_of scenario) old
+  begins = record { at = made.at; reach = scenario_is_in_reach scenario is }
+
+  abbrev lines : List Act
+  lines = acts_from (parts_of scenario) [] scenario.lines.items
+
+  abbrev ends : List Act
+  ends = last_acts (parts_of scenario)
+
+  -- the first buffers are the scenario's
+  first : first_of (means.setup old.table) old.helper.service ≡ buffers_of (parts_of scenario) (means.setup old.table)
+  first = made.at.going.kept.first
+
+  stopped : (fault : HostFault) (left : Intake) → StopsIn means (schedule_of (parts_of scenario)) old taken fault left
+      → EndsEarly (parts_of scenario) fault taken left
+  stopped fault left stops = ends_early (parts_of scenario) fault taken left (record {
+    setup = means.setup old.table;
+    setup_is = made.at.going.kept.laid;
+    stops = subst (λ (buffers : List Buffer). StopsAt (means.setup old.table) buffers (schedule_of (parts_of scenario))
+        (first_world (means.setup old.table)) fault taken left) first
+        (stops (first_world (means.setup old.table)) made.told taken (made_trace means (parts_of scenario) old made taken));
+  })
+
+  -- the lines stopped
+  pub lines_stopped : (fault : HostFault) (left : Intake)
+      → StopsIn means (acts_from (parts_of scenario) [] scenario.lines.items) old taken fault left
+      → EndsEarly (parts_of scenario) fault taken left
+  lines_stopped fault left stops = stopped fault left (stopped_more means lines ends old taken fault left stops)
+
+  module _ (mid : Host T W S) (between : Intake) (played : HavePlayed means (parts_of scenario) old taken mid between) where
+    abbrev pub over : IsOver means mid
+    over = record { scenario = parts_of scenario; notes = played.notes; going = played.at.going }
+
+    -- the end stopped
+    pub end_stopped : (fault : HostFault) (left : Intake) → StopsIn means (last_acts (parts_of scenario)) mid between fault left
+        → EndsEarly (parts_of scenario) fault taken left
+    end_stopped fault left stops =
+        stopped fault left (stopped_later means lines ends played.notes old mid taken between fault left played.done stops)
+
+    module _ (laws : AreLaws means) (new : Host T W S) (left : Intake) (ended : HasEnded means (last_acts (parts_of scenario)) mid between new left)
+      where
+        all : HasDone means (schedule_of (parts_of scenario)) played.notes old taken new left
+        all = subst (λ (notes : List FlushNote). HasDone means (schedule_of (parts_of scenario)) notes old taken new left)
+            (append-nil played.notes)
+            (done_both means lines ends played.notes [] old mid new taken between left played.done ended.done)
+
+        same : means.setup new.table ≡ means.setup old.table
+        same = all.setup_is
+
+        reached : (world : World) × (means.told new.table ≡ Some world)
+            × Plays (means.setup old.table) (first_of (means.setup old.table) old.helper.service) (schedule_of (parts_of scenario))
+            (first_world (means.setup old.table)) world played.notes
+        reached = all.plays (first_world (means.setup old.table)) made.told
+
+        is_played : IsPlayed (parts_of scenario) (means.setup old.table) reached.0 played.notes
+        is_played = record {
+          setup_is = made.at.going.kept.laid;
+          plays = subst (λ (buffers : List Buffer). Plays (means.setup old.table) buffers (schedule_of (parts_of scenario))
+              (first_world (means.setup old.table)) reached.0 played.notes) first reached.2;
+        }
+
+        first_new : first_of (means.setup old.table) new.helper.service ≡ buffers_of (parts_of scenario) (means.setup old.table)
+        first_new = all.first ∙ first
+
+        -- the first buffers are the scenario's still
+        ended_first : first_of (means.setup new.table) new.helper.service ≡ buffers_of (parts_of scenario) (means.setup new.table)
+        ended_first = subst (λ (setup : Setup). first_of setup new.helper.service ≡ buffers_of (parts_of scenario) setup) (sym same) first_new
+
+        -- and so are its writers
+        named : length (means.setup new.table).writers ≡ length scenario.writers.items
+        named = ap (λ (specs : List WriterSpec). length specs) (setup_writers (parts_of scenario) (means.setup new.table)
+            (subst (λ (setup : Setup). IsSetupOf (parts_of scenario) setup) (sym same) made.at.going.kept.laid))
+
+        pub ended_writers : length new.writers.items ≡ length scenario.writers.items
+        ended_writers = ended.host.stands.many ∙ named
+
+        pub ended_buffers : length new.helper.service.specs.items ≡ length scenario.buffers.items
+        ended_buffers = specs_many (parts_of scenario) (means.setup new.table) new.helper.service ended_first
+
+        ended_tally : IsTally played.notes (length scenario.writers.items) new.flushes
+        ended_tally = subst (λ (flushes : Flushes). IsTally played.notes (length scenario.writers.items) flushes) (sym ended.flushes)
+            played.at.going.kept.tally
+
+        pub ended_noted : (notes : List FlushNote) × IsTally notes (length (means.setup new.table).writers) new.flushes
+        ended_noted = (played.notes, subst (λ (writers : ℕ). IsTally played.notes writers new.flushes) (sym named) ended_tally)
+
+        -- the sink has taken the trace of the world that is reached
+        traced : left ≡ after_told taken (trace_of (records_after (buffers_of (parts_of scenario) (means.setup old.table)) (history_of reached.0.service)))
+        traced =
+            all.writes taken (made_trace means (parts_of scenario) old made taken)
+            ∙ ap (λ (buffers : List Buffer). after_told taken (trace_of (records_after buffers
+            (history_of (means.service_view new.table new.helper.service.seat))))) first
+            ∙ ap (λ (view : ServiceView). after_told taken (trace_of (records_after (buffers_of (parts_of scenario) (means.setup old.table))
+            (history_of view))))
+            (laws.told_service_view new.table new.helper.service.seat reached.0 reached.1 ended.host.stands.served.serves)
+
+        -- What was counted is the report of the replay.
+        pub all_replayed : (buffers : List BufferCounts) (sequences : List SequenceCounts) (flushes : Flushes)
+            → CountsAll means new buffers sequences flushes → flushes.made ≡ new.flushes.made
+            → vec_len flushes.chunks ≡ vec_len new.flushes.chunks
+            → Replays (parts_of scenario) taken left (report_text buffers sequences flushes.chunks.items)
+        all_replayed buffers sequences flushes counts same_made same_room =
+            let parts : Parts = parts_of scenario in
+            let playable = is_playable scenario is in
+            let counted = counts parts played.notes reached.0 reached.1
+            (subst (λ (setup : Setup). IsPlayed parts setup reached.0 played.notes) (sym same) is_played) playable ended_first ended_tally in
+            let room = played.at.going.room in
+            let ended_made : new.flushes.made ≡ mid.flushes.made = ap (λ (f : Flushes). f.made) ended.flushes in
+            let ended_room : vec_len new.flushes.chunks ≡ vec_len mid.flushes.chunks = ap (λ (f : Flushes). vec_len f.chunks) ended.flushes in
+            let report = report_is parts (means.setup new.table) reached.0 played.notes buffers sequences flushes counted
+            (omega (arith, same_made, same_room, room, ended_made, ended_room)) in
+            replays_of parts (means.setup new.table) reached.0 played.notes taken left
+            (report_text buffers sequences flushes.chunks.items)
+            (subst (λ (setup : Setup). IsPlayed parts setup reached.0 played.notes) (sym same) is_played) playable
+            (subst (λ (setup : Setup). left ≡ after_told taken (trace_of (records_after (buffers_of parts setup) (history_of reached.0.service))))
+            (sym same) traced)
+            report

@@ -1,0 +1,44 @@
+-- A taking of chunks is one act of the service.
+use Rattle.std.proofs.Common.{◌∙◌, refl}
+use Rattle.chunk_plain.specs.Setup.{Setup}
+use Rattle.chunk_plain.specs.Views.{ServiceView}
+use Rattle.service_core.specs.Taking.{places_of}
+use Rattle.replay_host.proofs.RowLemmas.{AreLaws}
+use Rattle.replay_host.proofs.ServedLemmas.{served_stands, served_is, opened_still, collect_done}
+use Rattle.replay_host.proofs.TakenLemmas.{open_is, takes_own}
+use Rattle.replay_host.proofs.serving.Host+W+W+Writer+W+Service.collect.Goals as goal
+
+pub returns-clause-host : goal.returns-clause-host
+returns-clause-host g c =
+    let means = g.W.Words.means in
+    let was = c.requires.host in
+    let setup : Setup = means.setup c.args.self.now.table in
+    let step = c.collect.ensures.step in
+    let own = takes_own setup (places_of c.args.producer 0 setup.writers) c.collect.result _ _ c.collect.ensures.takes ∙ was.stands.served.own in
+    let served = served_is means c.args.self.now.table c.collect.new.table c.args.self.now.helper.service c.collect.new.self was.stands.served step c.collect.ensures.agrees own in
+    let stands = served_stands means c.args.self.now.table c.collect.new.table c.args.self.now.writers.items c.args.self.now.helper.service c.collect.new.self was.stands step served in
+    opened_still means c.args.self.now _ was stands step.setup_stays c.collect.ensures.keeps refl refl
+
+pub returns-clause-writers : goal.returns-clause-writers
+returns-clause-writers g c = record {
+  writers = refl;
+  flushes = refl;
+  specs = refl;
+  views = λ place core at. (c.collect.ensures.step.writers_stay core.seat (c.requires.host.stands.seated place core at).sits).1;
+}
+
+pub returns-clause-done : goal.returns-clause-done
+returns-clause-done g c intake =
+    let means = g.W.Words.means in
+    let laws : AreLaws means = record {
+      told_view = g.met.W.Words.told_view;
+      told_service_view = g.met.W.Words.told_service_view;
+      told_writers = g.met.W.Words.told_writers;
+      told_owned = g.met.W.Words.told_owned;
+    } in
+    let was = c.requires.host in
+    let old = c.args.self.now in
+    let setup : Setup = means.setup old.table in
+    let view : ServiceView = means.service_view old.table old.helper.service.seat in
+    let opened = open_is setup view old.helper.service c.args.producer was.stands.served.agrees was.stands.served.own (was.opened c.args.producer c.requires.producer c.requires.open) in
+    collect_done means laws c.args.producer c.collect.result old _ was.stands.served c.collect.ensures.step c.collect.ensures.keeps opened c.collect.ensures.takes c.collect.ensures.told intake

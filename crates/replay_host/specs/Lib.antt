@@ -1,0 +1,15 @@
+pub mod Answering
+pub mod Asking
+pub mod Asks
+pub mod Counting
+pub mod Ending
+pub mod Helping
+pub mod Lines
+pub mod Making
+pub mod Playing
+pub mod Replaying
+pub mod Serving
+pub mod Standing
+pub mod Stopping
+pub mod Tally
+pub mod Whole

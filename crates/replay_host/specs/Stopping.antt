@@ -1,0 +1,100 @@
+-- Why a scenario isn't played to its end, and what the sink has taken then.
+use Rattle.std.specs.Prelude.{◌≡◌, ◌≢◌, ℕ, suc, List, ◌∷◌, ◌++◌, Some}
+use Rattle.std.specs.List.{flat_map}
+use Rattle.byte_io.specs.Bytes.{Intake, after_told, TakesPart}
+use Rattle.trace_base.specs.declared.policy.WriterPolicy.TheVariants as policies
+use Rattle.trace_model.specs.Buffers.{Buffer}
+use Rattle.trace_model.specs.Calls.{Call}
+use Rattle.trace_model.specs.Delivery.{trace_of}
+use Rattle.trace_model.specs.History.{buffers_after, records_after}
+use Rattle.chunk_plain.specs.Histories.{history_of}
+use Rattle.chunk_plain.specs.Meaning.{Meaning}
+use Rattle.chunk_plain.specs.Setup.{Setup, IsChunkOf, producer_of}
+use Rattle.chunk_plain.specs.Views.{Draft, ServiceView}
+use Rattle.chunk_plain.specs.World.{World, Writing, status}
+use Rattle.service_core.specs.Agreement.{first_of}
+use Rattle.service_core.specs.Reading.{reads_in, noted_read}
+use Rattle.service_core.specs.Taking.{noted_more}
+use Rattle.replay_model.specs.Acts.{Act, Ask, ReadAll}
+use Rattle.replay_model.specs.Does.{Works, LeavesRest, IsFull, Collects, Reads, policy_of}
+use Rattle.replay_model.specs.Flushes.{FlushNote}
+use Rattle.replay_model.specs.Plays.{Plays}
+use Rattle.replay_host.specs.declared.fault.HostFault.{HostFault}
+use Rattle.replay_host.specs.declared.fault.HostFault.TheVariants.{WriteFault, Stalled}
+use Rattle.replay_host.specs.declared.host.Host.{Host}
+use Rattle.replay_host.specs.Asking.{MayStall}
+use Rattle.replay_host.specs.Playing.{IsTraceOf}
+
+-- ---- a writer that stalls
+
+-- each chunk of the producer is being written by another writer than the one at this place
+abbrev pub AreOthers : Setup → (producer place : ℕ) → World → Type 0
+AreOthers setup producer place world = (chunk : ℕ) → IsChunkOf setup producer chunk
+    → (other id : ℕ) × (draft : Draft) × (status world chunk ≡ Writing other id draft) × (other ≢ place)
+
+-- The writer stalls in the call that it was asked for: it has the policy to, and asks for a last help where no chunk of its producer is free. The
+-- help takes nothing, and each of these chunks is being written by other writers then.
+pub record StallsIn (setup : Setup) (place : ℕ) (call : Call) (old new : World) : Type 0 where
+  pub may : MayStall call
+  pub policy_is : policy_of setup place ≡ policies.Stalls
+  pub asking : World
+  pub kept : World
+  pub works : Works setup place old asking
+  pub full : IsFull setup (producer_of setup place) asking
+  pub collects : Collects setup (producer_of setup place) asking kept
+  pub none : collects.taken ≡ 0
+  pub own : LeavesRest place kept new
+  pub stuck : AreOthers setup (producer_of setup place) place new
+
+-- the writer at this place stalled in a call: the fault says so, and no record was written
+pub record Stalls {T W S : Type 0} (means : Meaning T W S) (place : ℕ) (call : Call) (old new : Host T W S) (fault : HostFault) : Type 0 where
+  pub fault_is : fault ≡ Stalled (suc place)
+  pub may : MayStall call
+  pub serves : means.serves new.table new.helper.service.seat
+  pub quiet : (buffers : List Buffer) → records_after buffers (history_of (means.service_view new.table new.helper.service.seat))
+      ≡ records_after buffers (history_of (means.service_view old.table old.helper.service.seat))
+  pub told : (was : World) → means.told old.table ≡ Some was
+      → (is : World) × (means.told new.table ≡ Some is) × StallsIn (means.setup old.table) place call was is
+
+-- ---- a read in which a write failed
+
+-- what the service has noted where the buffer with this number is read whole
+abbrev pub with_reads : Setup → List Buffer → (number limit : ℕ) → ServiceView → ServiceView
+with_reads setup buffers number limit view =
+    noted_more view (flat_map noted_read (reads_in setup (buffers_after buffers (history_of view)) number limit))
+
+-- a write failed in the reading of a buffer: the sink took a front part of the trace that is written where it is read whole
+pub record FailsReading {T W S : Type 0} (means : Meaning T W S) (number limit : ℕ) (old : Host T W S) (taken left : Intake) (fault : HostFault) : Type 0 where
+  pub fault_is : fault ≡ WriteFault
+  pub part : (start : Intake) → IsTraceOf start (first_of (means.setup old.table) old.helper.service) (means.service_view old.table old.helper.service.seat) taken
+      → TakesPart start left (trace_of (records_after (first_of (means.setup old.table) old.helper.service)
+      (history_of (with_reads (means.setup old.table) (first_of (means.setup old.table) old.helper.service) number limit (means.service_view old.table old.helper.service.seat)))))
+
+-- ---- where the acts stop
+
+-- the act wasn't done in this world: the writer that it asks stalled, or a write failed in its read; what the sink has taken since the start
+abbrev pub Halts : Setup → List Buffer → Act → World → HostFault → (start left : Intake) → Type 0
+Halts setup buffers (Ask place call) world (Stalled writer) start left =
+    (writer ≡ suc place) × (last : World) × StallsIn setup place call world last
+    × (left ≡ after_told start (trace_of (records_after buffers (history_of last.service))))
+Halts setup buffers (ReadAll number limit) world WriteFault start left =
+    (last : World) × Reads setup buffers number limit world last × TakesPart start left (trace_of (records_after buffers (history_of last.service)))
+Halts setup buffers act world fault start left = ⊥
+
+-- the acts before one were played, and it halted
+pub record StopsAt (setup : Setup) (buffers : List Buffer) (acts : List Act) (first : World) (fault : HostFault) (start left : Intake) : Type 0 where
+  pub done : List Act
+  pub act : Act
+  pub rest : List Act
+  pub cut : acts ≡ done ++ act ∷ rest
+  pub notes : List FlushNote
+  pub world : World
+  pub plays : Plays setup buffers done first world notes
+  pub halts : Halts setup buffers act world fault start left
+
+-- in the world that was told they stopped so, where the sink had taken the trace
+abbrev pub StopsIn : {T W S : Type 0} → Meaning T W S → List Act → Host T W S → (taken : Intake) → HostFault → (left : Intake) → Type 0
+StopsIn means acts old taken fault left =
+    (was : World) → means.told old.table ≡ Some was → (start : Intake)
+    → IsTraceOf start (first_of (means.setup old.table) old.helper.service) (means.service_view old.table old.helper.service.seat) taken
+    → StopsAt (means.setup old.table) (first_of (means.setup old.table) old.helper.service) acts was fault start left

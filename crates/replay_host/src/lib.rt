@@ -1,0 +1,30 @@
+//! Playing a scenario on one thread: its lines in their order, on writers, a table of chunks and a
+//! service, and then the end.
+//! A layer above may rely on this: the sink takes the records of what was played, and nothing else.
+//! All memory is taken before the first line is played.
+#![tactic(auto)]
+
+mod asking;
+mod counting;
+mod ending;
+mod fault;
+mod fields;
+mod flushes;
+mod helper;
+mod host;
+mod ids;
+mod lines;
+mod making;
+mod playing;
+mod replaying;
+mod requests;
+mod serving;
+
+pub use asking::ask_one;
+pub use counting::make_done;
+pub use fault::HostFault;
+pub use flushes::Flushes;
+pub use helper::Collecting;
+pub use host::Host;
+pub use making::make_host;
+pub use replaying::replay;

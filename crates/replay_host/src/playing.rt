@@ -1,0 +1,38 @@
+//! A scenario, played whole.
+ghost use Rattle.std.specs.Prelude.{◌≡◌, [], OnOk, IfErr};
+ghost use Rattle.scenario_text.specs.Scenario.{Parts};
+ghost use Rattle.replay_model.specs.Schedule.{acts_from};
+ghost use Rattle.replay_host.specs.Replaying.{CountsStop};
+
+use crate::fault::HostFault;
+use crate::host::Host;
+use byte_io::traits::Sink;
+use chunk_plain::Words;
+use scenario_text::NumberedLine;
+use std::sync::ledger::Ledger;
+use trace_base::steps::Steps;
+
+impl<W: Words> Host<W, W::Writer, W::Service> {
+    ghost use Rattle.replay_host.specs.Stopping.{StopsIn};
+    ghost use Rattle.replay_host.specs.Whole.{Begins, HavePlayed};
+
+    /// Plays all lines of a scenario.
+    pub(crate) fn play_lines<O: Sink, L: Ledger>(
+        &mut self,
+        steps: &mut Steps<L>,
+        lines: &[NumberedLine],
+        out: &mut O,
+    ) -> Result<(), HostFault>
+        requires begins { (scenario : Parts) × (scenario.lines ≡ lines.now) × Begins W.means scenario self.old }
+        ensures played { OnOk result ((scenario : Parts) → scenario.lines ≡ lines.now → Begins W.means scenario self.old
+            → HavePlayed W.means scenario self.old (O.taken out.old) self.new (O.taken out.new)) }
+        ensures stops { IfErr result (λ fault. (scenario : Parts) → scenario.lines ≡ lines.now → Begins W.means scenario self.old
+            → StopsIn W.means (acts_from scenario [] scenario.lines) self.old (O.taken out.old) fault (O.taken out.new)) }
+        ensures count { CountsStop (O.faults out.old) (O.faults out.new) result }
+    {
+        for i in 0..lines.len() {
+            self.play_line(steps, &lines[i].what, out)?;
+        }
+        Ok(())
+    }
+}

@@ -1,0 +1,116 @@
+//! The replay of a whole scenario.
+ghost use Rattle.std.specs.Prelude.{◌≡◌, ◌<◌, length, IfOk, OnOk, IfErr, vec_len};
+ghost use Rattle.loss_report.specs.Report.{report_text};
+ghost use Rattle.replay_model.specs.Played.{Replays};
+ghost use Rattle.scenario_text.specs.Scenario.{IsScenario, parts_of};
+ghost use Rattle.replay_host.specs.Making.{IsMade};
+ghost use Rattle.replay_host.specs.Replaying.{HasReplayed, EndsEarly, CountsStop};
+
+use crate::counting::make_done;
+use crate::fault::HostFault;
+use crate::flushes::Flushes;
+use crate::host::Host;
+use crate::making::make_host;
+use byte_io::traits::Sink;
+use chunk_plain::{PlainService, PlainTable, PlainWriter, Words};
+use loss_report::Done;
+use scenario_text::Scenario;
+use std::alloc::Global;
+use std::marker::Brand;
+use std::sync::ledger::{Blank, Ledger};
+use trace_base::steps::Steps;
+
+impl<W: Words> Host<W, W::Writer, W::Service> {
+    /// Plays the lines and the end, and counts what became of packets and chunks.
+    fn play<O: Sink, L: Ledger>(
+        &mut self,
+        steps: &mut Steps<L>,
+        scenario: &Scenario,
+        done: &mut Done,
+        out: &mut O,
+    ) -> Result<(), HostFault>
+        requires scenario { IsScenario scenario.now }
+        requires made { IsMade W.means (parts_of scenario.now) self.old }
+        requires buffers { vec_len done.old.buffers ≡ vec_len scenario.now.buffers }
+        requires sequences { vec_len done.old.sequences ≡ vec_len scenario.now.writers }
+        ensures played { OnOk result (Replays (parts_of scenario.now) (O.taken out.old) (O.taken out.new)
+            (report_text done.new.buffers.items done.new.sequences.items self.new.flushes.chunks.items)) }
+        ensures stops { IfErr result (λ fault. EndsEarly (parts_of scenario.now) fault (O.taken out.old) (O.taken out.new)) }
+        ensures count { CountsStop (O.faults out.old) (O.faults out.new) result }
+    {
+        self.play_lines(steps, &scenario.lines, out)?;
+        self.play_end(scenario.buffers.len(), out)?;
+        self.count(done);
+        Ok(())
+    }
+}
+
+impl Host<PlainTable, PlainWriter, PlainService> {
+    /// Lets the writers go, with what they still hold.
+    fn dismiss(self) -> Flushes
+        ensures { result ≡ self.flushes }
+    {
+        let Host {
+            table: _,
+            mut writers,
+            helper: _,
+            flushes,
+            specs: _,
+            open_producers: _,
+        } = self;
+        while let Some(writer) = writers.pop() {
+            let _ = writer.give_up();
+        }
+        writers.destroy_empty();
+        flushes
+    }
+}
+
+/// Plays a scenario with what was made for it, on a ledger of its own.
+fn play_made<T: Sink, L: Ledger>(
+    made: Host<PlainTable, PlainWriter, PlainService>,
+    room: Done,
+    scenario: &Scenario,
+    blank: Blank,
+    out: &mut T,
+) -> Result<Done, HostFault>
+    requires scenario { IsScenario scenario.now }
+    requires made { IsMade ⟦<PlainTable as Words>⟧.means (parts_of scenario.now) made }
+    requires buffers { vec_len room.buffers ≡ vec_len scenario.now.buffers }
+    requires sequences { vec_len room.sequences ≡ vec_len scenario.now.writers }
+    requires name { blank.name ≡ L.name }
+    requires parts { blank.parts ≡ L.parts }
+    requires some_part { 0 < L.parts }
+    ensures done { IfOk result (λ done. HasReplayed (parts_of scenario.now) (T.taken out.old) (T.taken out.new) done) }
+    ensures stops { IfErr result (λ fault. EndsEarly (parts_of scenario.now) fault (T.taken out.old) (T.taken out.new)) }
+    ensures count { CountsStop (T.faults out.old) (T.faults out.new) result }
+{
+    let mut host = made;
+    let mut done = room;
+    let mut steps = Steps::<L>::new(blank);
+    let played = host.play(&mut steps, scenario, &mut done, out);
+    done.flushes = host.dismiss().chunks;
+    match played {
+        Ok(()) => Ok(done),
+        Err(fault) => Err(fault),
+    }
+}
+
+/// Plays a scenario into a sink, and answers what became of its packets, its chunks and its flush
+/// requests. Where it stops early, the sink has taken a front part of the trace.
+pub fn replay<T: Sink>(alloc: Global, scenario: &Scenario, out: &mut T) -> Result<Done, HostFault>
+    requires { IsScenario scenario.now }
+    ensures done { IfOk result (λ done. HasReplayed (parts_of scenario.now) (T.taken out.old) (T.taken out.new) done) }
+    ensures stops { IfErr result (λ fault. EndsEarly (parts_of scenario.now) fault (T.taken out.old) (T.taken out.new)) }
+    ensures count { CountsStop (T.faults out.old) (T.faults out.new) result }
+{
+    let buffers = scenario.buffers.len();
+    let writers = scenario.writers.len();
+    let Ok(room) = make_done(alloc, buffers, writers) else {
+        return Err(HostFault::OutOfMemory);
+    };
+    let Ok(made) = make_host(alloc, scenario) else {
+        return Err(HostFault::OutOfMemory);
+    };
+    play_made::<T, Brand>(made, room, scenario, Blank::new(1), out)
+}
