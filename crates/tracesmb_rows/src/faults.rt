@@ -8,6 +8,9 @@ const INPUT: &[u8] = b"buffer 64 ring\nproducer 1 4096 14\nwriter 1 1 drop\np 1 
 
 const TRACE: &[u8] = b"\x0A\x07\x40\x01\x50\x02\xD0\x02\x01\x0A\x04\x40\x02\x50\x02";
 
+const REPORT: &[u8] =
+    b"buffer 1 ring bytes 65536 placed 1 rewritten 0 overwritten 0 discarded 0 unpatched 0 padding 0\nsequence 2 begun 2 delivered 2 dropped 0 overwritten 0 discarded 0 cut 0\n";
+
 const NOTHING: &[u8] = b"";
 
 /// Calls that are more than any run here makes.
@@ -70,6 +73,32 @@ fn a_full_trace_holds_a_front_part(rt: HostRuntime) -> Result<(), Fail> {
         assert_eq!(rt; trace.taken(), &TRACE[..room]);
         assert_eq!(rt; text.taken(), b"write fault\n".as_slice());
     }
+    Ok(())
+}
+
+// The trace is whole before the report begins, and a line stands behind what the text took of it.
+#[test]
+fn each_failing_write_of_the_report_is_a_write_fault(rt: HostRuntime) -> Result<(), Fail> {
+    let line = b"write fault\n".as_slice();
+    let mut passed = false;
+    for call in 1..MANY {
+        let failing = vec![in rt.alloc(); call]?;
+        let mut input = MemSource::new(INPUT.to_vec(rt.alloc())?);
+        let mut trace = MemSink::with_room(rt.alloc(), AMPLE)?;
+        let mut text = ScriptSink::with_room(rt.alloc(), AMPLE, failing)?;
+        let status = status_of(&rt, &["replay"], &mut input, &mut trace, &mut text)?;
+        assert_eq!(rt; trace.taken(), TRACE);
+        if status == 0 {
+            assert_eq!(rt; text.taken(), REPORT);
+            passed = true;
+            break;
+        }
+        assert_eq!(rt; status, 5);
+        assert!(rt; text.taken().ends_with(line));
+        let part = text.taken().len().saturating_sub(line.len());
+        assert!(rt; REPORT.starts_with(&text.taken()[..part]));
+    }
+    assert!(rt; passed);
     Ok(())
 }
 

@@ -1,39 +1,81 @@
--- What a command writes for is never refused, and what follows for the words that ask for it.
-use Rattle.std.proofs.Common.{◌≡◌, ℕ, ◌≤◌, List, length, Option, Some, None, IfSome, subst, sym, ◌∙◌}
+-- What a command did for what it was given: it isn't refused, and what follows for the words that ask for it.
+use Rattle.std.proofs.Common.{◌≡◌, ℕ, ◌≤◌, List, [], length, Option, Some, None, Ok, IfSome, subst, sym, ap, ◌∙◌}
+use Rattle.byte_io.specs.Bytes.{Intake}
 use Rattle.trace_base.specs.declared.limits.TheConstants.{MAX_INPUT}
 use Rattle.trace_file.proofs.WholeLemmas.{traces_read_once}
 use Rattle.command_words.specs.declared.command.Command.{Command}
 use Rattle.command_words.specs.declared.command.Command.TheVariants.{Replay, Read, Check, Gen}
-use Rattle.tracesmb_top.specs.Words.{Ask, ReadsInput}
-use Rattle.tracesmb_top.specs.Commands.{IsGiven, Refuses, Writes}
+use Rattle.scenario_text.specs.Scenario.{Parts, scenario_of}
+use Rattle.tracesmb_top.specs.Words.{Ask, ReadsInput, IsReplay}
+use Rattle.tracesmb_top.specs.Commands.{IsGiven, Refuses, Writes, Wrote, WrotePart, HasStalled}
+use Rattle.tracesmb_top.specs.Refusals.{refusal_by, refusal_of}
 use Rattle.tracesmb_top.proofs.CheckLemmas.{checked_unrefused}
-use Rattle.tracesmb_top.proofs.DeliverLemmas.{delivery_unrefused}
 use Rattle.tracesmb_top.proofs.WordLemmas.{same_command}
 
-pub written_unrefused : (command : Command) (given bytes line : List ℕ) → Writes command given bytes → Refuses command given line → ⊥
-written_unrefused Replay given bytes line delivery refused =
-    let none : None ≡ Some line = sym (delivery_unrefused given bytes delivery) ∙ refused in cc
-written_unrefused Read given bytes line summary refusal =
+-- ---- what is done isn't refused
+
+-- a text that is a scenario isn't
+said_unrefused : (given line : List ℕ) (parts : Parts) → scenario_of given ≡ Ok parts → refusal_of given ≡ Some line → ⊥
+unfolding refusal_of refusal_by
+said_unrefused given line parts is refused = let none : None ≡ Some line = sym (ap refusal_by is) ∙ refused in cc
+
+bytes_unrefused : (command : Command) (given bytes line : List ℕ) → Writes command given bytes → Refuses command given line → ⊥
+bytes_unrefused Read given bytes line summary refusal =
     let once = traces_read_once 0 given summary.packets refusal.packets None (Some refusal.fault) summary.reads refusal.reads in
     let none : None ≡ Some refusal.fault = once.1 in cc
-written_unrefused Check given bytes line writes refused = checked_unrefused given bytes line writes refused
-written_unrefused (Gen number writers packets) given bytes line writes refused = refused
+bytes_unrefused Check given bytes line writes refused = checked_unrefused given bytes line writes refused
+bytes_unrefused (Gen number writers packets) given bytes line writes refused = refused
+bytes_unrefused Replay given bytes line writes refused = writes
 
--- a command that refuses reads the input
+-- A command that did something with what it was given: all that it does, a part of it, or all up to a stall.
+pub data IsTried (command : Command) (given : List ℕ) (old new : Intake) : Type 0 where
+  wrote : (report : List ℕ) → Wrote command given old new report → IsTried command given old new
+  wrote_part : WrotePart command given old new → IsTried command given old new
+  has_stalled : (writer : ℕ) → HasStalled command given writer old new → IsTried command given old new
+
+tried_unrefused : (command : Command) (given line : List ℕ) (old new : Intake) → IsTried command given old new
+    → Refuses command given line → ⊥
+tried_unrefused Replay given line old new (wrote report is) refused = said_unrefused given line is.parts is.scenario_is refused
+tried_unrefused Replay given line old new (wrote_part is) refused = said_unrefused given line is.parts is.scenario_is refused
+tried_unrefused Replay given line old new (has_stalled writer is) refused = said_unrefused given line is.parts is.scenario_is refused
+tried_unrefused Read given line old new (wrote report is) refused = bytes_unrefused Read given is.0.bytes line is.0.writes refused
+tried_unrefused Read given line old new (wrote_part is) refused = bytes_unrefused Read given is.bytes line is.writes refused
+tried_unrefused Read given line old new (has_stalled writer is) refused = is
+tried_unrefused Check given line old new (wrote report is) refused = bytes_unrefused Check given is.0.bytes line is.0.writes refused
+tried_unrefused Check given line old new (wrote_part is) refused = bytes_unrefused Check given is.bytes line is.writes refused
+tried_unrefused Check given line old new (has_stalled writer is) refused = is
+tried_unrefused (Gen number writers packets) given line old new tried refused = refused
+
+-- ---- a command that refuses or stalls reads the input
+
 pub refused_reads : (command : Command) (given line : List ℕ) → Refuses command given line → ReadsInput command
 refused_reads Replay given line refused = tt
 refused_reads Read given line refused = tt
 refused_reads Check given line refused = tt
 refused_reads (Gen number writers packets) given line refused = refused
 
+pub replay_reads : (command : Command) → IsReplay command → ReadsInput command
+replay_reads Replay is = tt
+replay_reads Read is = tt
+replay_reads Check is = tt
+replay_reads (Gen number writers packets) is = is
+
+-- a command that isn't `replay` has no report
+pub reports_nothing : (command : Command) (given : List ℕ) (old new : Intake) (report : List ℕ) → (IsReplay command → ⊥)
+    → Wrote command given old new report → report ≡ []
+reports_nothing Replay given old new report other did = absurd (other tt)
+reports_nothing Read given old new report other did = did.1
+reports_nothing Check given old new report other did = did.1
+reports_nothing (Gen number writers packets) given old new report other did = did.1
+
 -- ---- of words that ask for a command, and an input with so much left
 
-pub never_refused : (P : Type 0) (words : List (List ℕ)) (command other : Command) (left : Option (List ℕ)) (given bytes : List ℕ)
-    → Ask words command → Ask words other → IsGiven command left given → Writes command given bytes
+pub never_refused : (P : Type 0) (words : List (List ℕ)) (command other : Command) (left : Option (List ℕ)) (given : List ℕ) (old new : Intake)
+    → Ask words command → Ask words other → IsGiven command left given → IsTried command given old new
     → IfSome left (λ told. length told ≤ MAX_INPUT → (line : List ℕ) → Refuses other told line → P)
-never_refused P words command other None given bytes first second is_given writes = tt
-never_refused P words command other (Some told) given bytes first second is_given writes = λ short line refuses.
+never_refused P words command other None given old new first second is_given tried = tt
+never_refused P words command other (Some told) given old new first second is_given tried = λ short line refuses.
     let same : other ≡ command = same_command words other command second first in
     let refused : Refuses command told line = subst (λ (c : Command). Refuses c told line) same refuses in
     let is : given ≡ told = is_given (refused_reads command told line refused) in
-    absurd (written_unrefused command told bytes line (subst (λ (g : List ℕ). Writes command g bytes) is writes) refused)
+    absurd (tried_unrefused command told line old new (subst (λ (g : List ℕ). IsTried command g old new) is tried) refused)

@@ -1,50 +1,66 @@
 -- What a command does with what it is given: the line that refuses it, or the bytes that are written.
-use Rattle.std.specs.Prelude.{◌≡◌, ℕ, ◌≤◌, List, Option, Some, Result, Ok, Err, length, IfSome}
+use Rattle.std.specs.Prelude.{◌≡◌, ℕ, ◌≤◌, List, [], Option, Some, None, Result, Ok, Err, length, IfSome}
 use Rattle.byte_io.specs.Bytes.{Intake, after_told, Faulted, TakesPart}
 use Rattle.trace_base.specs.declared.limits.TheConstants.{MAX_INPUT}
 use Rattle.trace_summary.specs.Counts.{IsSummaryOf}
 use Rattle.workload_gen.specs.Workload.{workload}
 use Rattle.command_words.specs.declared.command.Command.{Command}
 use Rattle.command_words.specs.declared.command.Command.TheVariants.{Replay, Read, Check, Gen}
+use Rattle.loss_report.specs.declared.counts.Done.{Done}
 use Rattle.tracesmb_top.specs.declared.commands.CommandFault.{CommandFault}
-use Rattle.tracesmb_top.specs.declared.commands.CommandFault.TheVariants.{OutOfMemory, Refused, WriteFault}
+use Rattle.tracesmb_top.specs.declared.commands.CommandFault.TheVariants.{OutOfMemory, Refused, WriteFault, Stalled}
 use Rattle.tracesmb_top.specs.Checked.{IsChecked, IsCheckRefusal}
 use Rattle.tracesmb_top.specs.Refusals.{refusal_of, IsTraceRefusal}
-use Rattle.tracesmb_top.specs.Trace.{IsDelivery}
-use Rattle.tracesmb_top.specs.Words.{ReadsInput}
+use Rattle.tracesmb_top.specs.Replayed.{IsReplayed, IsStalled, IsCutShort, report_of}
+use Rattle.tracesmb_top.specs.Words.{ReadsInput, IsReplay}
 
 -- a command that reads the input is given all of it, where the input tells what it has
 abbrev pub IsGiven : Command → Option (List ℕ) → List ℕ → Type 0
 IsGiven command left given = ReadsInput command → IfSome left (λ told. given ≡ told)
 
--- The line says why the command refuses what it was given: `replay`, because of a scenario's first fault or its first line
--- that isn't built; `read`, because of a trace's first fault; `check`, because of its scenario's or its trace's, or since it
--- has no trace.
+-- The line says why the command refuses what it was given: `replay`, because of a scenario's first fault; `read`, because of a
+-- trace's; `check`, because of its scenario's or its trace's, or since it has no trace.
 abbrev pub Refuses : Command → List ℕ → List ℕ → Type 0
 Refuses Replay given line = refusal_of given ≡ Some line
 Refuses Read given line = IsTraceRefusal given line
 Refuses Check given line = IsCheckRefusal given line
 Refuses other given line = ⊥
 
--- The bytes are what the command writes for what it was given: `replay`, the trace of a scenario, by the delivery theorem;
--- `read`, the summary of a trace; `check`, the verdict on a trace by a scenario; `gen`, the workload of its numbers.
+-- The bytes are what a command other than `replay` writes for what it was given: `read`, the summary of a trace; `check`, the verdict
+-- on a trace by a scenario; `gen`, the workload of its numbers.
 abbrev pub Writes : Command → List ℕ → List ℕ → Type 0
-Writes Replay given bytes = IsDelivery given bytes
 Writes Read given bytes = IsSummaryOf given bytes
 Writes (Gen number writers packets) given bytes = bytes ≡ workload number writers packets
 Writes Check given bytes = IsChecked given bytes
+Writes Replay given bytes = ⊥
 
--- the trace took all that the command writes, and nothing else
-pub record Wrote (command : Command) (given : List ℕ) (old new : Intake) : Type 0 where
+-- the trace took these bytes, and nothing else
+pub record WroteBytes (command : Command) (given : List ℕ) (old new : Intake) : Type 0 where
   pub bytes : List ℕ
   pub writes : Writes command given bytes
   pub taken : new ≡ after_told old bytes
 
--- the trace took a front part of what the command writes
-pub record WrotePart (command : Command) (given : List ℕ) (old new : Intake) : Type 0 where
+-- the trace took a front part of them
+pub record WroteFront (command : Command) (given : List ℕ) (old new : Intake) : Type 0 where
   pub bytes : List ℕ
   pub writes : Writes command given bytes
   pub part : TakesPart old new bytes
+
+-- The trace took all that the command writes, and nothing else, and this is its report: for `replay`, by the delivery theorem. No other
+-- command has one.
+abbrev pub Wrote : Command → (given : List ℕ) → (old new : Intake) → (report : List ℕ) → Type 0
+Wrote Replay given old new report = IsReplayed given old new report
+Wrote other given old new report = WroteBytes other given old new × (report ≡ [])
+
+-- a write of the trace failed, and it took a front part of what the command writes
+abbrev pub WrotePart : Command → (given : List ℕ) → (old new : Intake) → Type 0
+WrotePart Replay given old new = IsCutShort given old new
+WrotePart other given old new = WroteFront other given old new
+
+-- a writer stalled in the replay, and the trace took the records of the reads before
+abbrev pub HasStalled : Command → (given : List ℕ) → (writer : ℕ) → (old new : Intake) → Type 0
+HasStalled Replay given writer old new = IsStalled given writer old new
+HasStalled other given writer old new = ⊥
 
 -- The command can do with an input that has so much left: the input tells it, it isn't too long, and no line refuses it.
 pub record Accepts (command : Command) (left : Option (List ℕ)) : Type 0 where
@@ -53,14 +69,17 @@ pub record Accepts (command : Command) (left : Option (List ℕ)) : Type 0 where
   pub short : length told ≤ MAX_INPUT
   pub unrefused : (line : List ℕ) → Refuses command told line → ⊥
 
--- what the trace took of a command that was given this and ended so; memory is free to run out, before the first byte
-abbrev pub Ended : Command → List ℕ → Result (Unit {0}) CommandFault → Intake → Intake → Type 0
-Ended command given (Ok done) old new = Wrote command given old new
+-- What the trace took of a command that was given this and ended so, and what it leaves for its report; memory is free to run out,
+-- before the first byte.
+abbrev pub Ended : Command → List ℕ → Result (Option Done) CommandFault → Intake → Intake → Type 0
+Ended command given (Ok None) old new = Wrote command given old new []
+Ended command given (Ok (Some done)) old new = IsReplay command × Wrote command given old new (report_of done)
 Ended command given (Err OutOfMemory) old new = new ≡ old
 Ended command given (Err (Refused line)) old new = Refuses command given line.items × (new ≡ old)
+Ended command given (Err (Stalled writer)) old new = HasStalled command given writer old new
 Ended command given (Err WriteFault) old new = WrotePart command given old new
 
 -- the trace's faults rose where a command ended because of them, and nowhere else
-abbrev pub CountsWrites : Result (Unit {0}) CommandFault → ℕ → ℕ → Type 0
+abbrev pub CountsWrites : Result (Option Done) CommandFault → ℕ → ℕ → Type 0
 CountsWrites (Err WriteFault) old new = (old ≤ new) × Faulted old new
 CountsWrites other old new = new ≡ old

@@ -1,8 +1,6 @@
 pub mod Answers
-pub mod Built
 pub mod Checked
 pub mod Commands
-pub mod Played
 pub mod Refusals
-pub mod Trace
+pub mod Replayed
 pub mod Words

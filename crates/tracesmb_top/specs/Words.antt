@@ -1,7 +1,7 @@
 -- The words that the program has a command for.
 use Rattle.std.specs.Prelude.{ℕ, List}
 use Rattle.command_words.specs.declared.command.Command.{Command}
-use Rattle.command_words.specs.declared.command.Command.TheVariants.{Gen}
+use Rattle.command_words.specs.declared.command.Command.TheVariants.{Gen, Replay}
 use Rattle.command_words.specs.Commands.{Spells}
 
 -- the words ask for the command: they are its written form
@@ -20,3 +20,8 @@ ReadsInput other = Unit {0}
 -- the words ask for no command that reads the input
 abbrev pub AskForNoInput : List (List ℕ) → Type 0
 AskForNoInput words = (command : Command) → Ask words command → ReadsInput command → ⊥
+
+-- the command is `replay`, which alone leaves a report
+abbrev pub IsReplay : Command → Type 0
+IsReplay Replay = Unit {0}
+IsReplay other = ⊥

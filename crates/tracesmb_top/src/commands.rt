@@ -4,13 +4,15 @@ ghost use Rattle.command_words.specs.Commands.{IsWithinLimits};
 ghost use Rattle.tracesmb_top.specs.Commands.{CountsWrites, Ended};
 
 use crate::check::{CheckingFault, verdict_for, verdict_line};
-use crate::deliver::{DeliverFault, deliver};
-use crate::reading::{ReadingFault, read_built};
+use crate::gather::play;
 use crate::say::trace_fault_line;
 use arrayvec::ArrayVec;
 use byte_io::put::{WriteFault, put_all};
 use byte_io::traits::Sink;
 use command_words::Command;
+use loss_report::Done;
+use replay_host::HostFault;
+use scenario_text::{ScenarioFault, read_scenario, refusal_line};
 use std::alloc::Global;
 use trace_base::limits::MAX_INPUT;
 use trace_summary::{SummaryFault, put_summary, summarize};
@@ -19,31 +21,47 @@ use trace_summary::{SummaryFault, put_summary, summarize};
 #[derive(Drop)]
 pub enum CommandFault {
     OutOfMemory,
-    /// What it was given isn't in its grammar, or isn't built, as this line says.
+    /// What it was given isn't in its grammar, as this line says.
     Refused { line: ArrayVec<u8, 64> },
     WriteFault,
+    /// A writer of the replay stalled. Writers count from 1.
+    Stalled { writer: u16 },
 }
 
-/// Plays a scenario, and writes its trace.
-pub fn replay<T: Sink>(alloc: Global, text: &[u8], trace: &mut T) -> Result<(), CommandFault>
+/// Plays a scenario, and writes its trace; its report is left to be written.
+#[tactic(auto, unfolding(crate::specs::Refusals::refusal_of, crate::specs::Refusals::refusal_by))]
+pub fn replay<T: Sink>(
+    alloc: Global,
+    text: &[u8],
+    trace: &mut T,
+) -> Result<Option<Done>, CommandFault>
     requires { length text.now ≤ MAX_INPUT }
     ensures ends { Ended Command.Replay text.now result (T.taken trace.old) (T.taken trace.new) }
     ensures count { CountsWrites result (T.faults trace.old) (T.faults trace.new) }
 {
-    let scenario = match read_built(alloc, text) {
+    let scenario = match read_scenario(alloc, text) {
         Ok(scenario) => scenario,
-        Err(ReadingFault::OutOfMemory) => return Err(CommandFault::OutOfMemory),
-        Err(ReadingFault::Refused { line }) => return Err(CommandFault::Refused { line }),
+        Err(ScenarioFault::OutOfMemory) => return Err(CommandFault::OutOfMemory),
+        Err(ScenarioFault::Bad { line, reason }) => {
+            return Err(CommandFault::Refused {
+                line: refusal_line(line, reason),
+            });
+        }
     };
-    match deliver(alloc, trace, &scenario.lines) {
-        Ok(()) => Ok(()),
-        Err(DeliverFault::OutOfMemory) => Err(CommandFault::OutOfMemory),
-        Err(DeliverFault::WriteFault) => Err(CommandFault::WriteFault),
+    match play(alloc, &scenario, trace) {
+        Ok(done) => Ok(Some(done)),
+        Err(HostFault::OutOfMemory) => Err(CommandFault::OutOfMemory),
+        Err(HostFault::WriteFault) => Err(CommandFault::WriteFault),
+        Err(HostFault::Stalled { writer }) => Err(CommandFault::Stalled { writer }),
     }
 }
 
 /// Reads a trace, and writes what it has of each sequence.
-pub fn read<T: Sink>(alloc: Global, records: &[u8], out: &mut T) -> Result<(), CommandFault>
+pub fn read<T: Sink>(
+    alloc: Global,
+    records: &[u8],
+    out: &mut T,
+) -> Result<Option<Done>, CommandFault>
     ensures ends { Ended Command.Read records.now result (T.taken out.old) (T.taken out.new) }
     ensures count { CountsWrites result (T.faults out.old) (T.faults out.new) }
 {
@@ -57,13 +75,17 @@ pub fn read<T: Sink>(alloc: Global, records: &[u8], out: &mut T) -> Result<(), C
         }
     };
     match put_summary(out, &summary) {
-        Ok(()) => Ok(()),
+        Ok(()) => Ok(None),
         Err(WriteFault) => Err(CommandFault::WriteFault),
     }
 }
 
 /// Checks a trace against a scenario, and writes the verdict.
-pub fn check<T: Sink>(alloc: Global, input: &[u8], out: &mut T) -> Result<(), CommandFault>
+pub fn check<T: Sink>(
+    alloc: Global,
+    input: &[u8],
+    out: &mut T,
+) -> Result<Option<Done>, CommandFault>
     requires { length input.now ≤ MAX_INPUT }
     ensures ends { Ended Command.Check input.now result (T.taken out.old) (T.taken out.new) }
     ensures count { CountsWrites result (T.faults out.old) (T.faults out.new) }
@@ -74,7 +96,7 @@ pub fn check<T: Sink>(alloc: Global, input: &[u8], out: &mut T) -> Result<(), Co
         Err(CheckingFault::Refused { line }) => return Err(CommandFault::Refused { line }),
     };
     match put_all(out, &verdict_line(verdict)) {
-        Ok(()) => Ok(()),
+        Ok(()) => Ok(None),
         Err(WriteFault) => Err(CommandFault::WriteFault),
     }
 }
@@ -85,25 +107,25 @@ pub fn generate<T: Sink>(
     writers: u8,
     packets: u32,
     out: &mut T,
-) -> Result<(), CommandFault>
+) -> Result<Option<Done>, CommandFault>
     requires { IsWithinLimits (Command.Gen number writers packets) }
     ensures ends { (given : List ℕ) → Ended (Command.Gen number writers packets) given result (T.taken out.old) (T.taken out.new) }
     ensures count { CountsWrites result (T.faults out.old) (T.faults out.new) }
     ensures memory { IfErr result (λ fault. fault ≡ CommandFault.WriteFault) }
 {
     match workload_gen::generate(number, writers, packets, out) {
-        Ok(()) => Ok(()),
+        Ok(()) => Ok(None),
         Err(WriteFault) => Err(CommandFault::WriteFault),
     }
 }
 
-/// Does a command with what it was given, and writes on the trace. All memory is taken before the first byte.
+/// Does a command with what it was given, and writes on the trace; `replay` leaves its report. All memory is taken before the first byte.
 pub fn perform<T: Sink>(
     alloc: Global,
     command: Command,
     given: &[u8],
     trace: &mut T,
-) -> Result<(), CommandFault>
+) -> Result<Option<Done>, CommandFault>
     requires limits { IsWithinLimits command }
     requires short { length given.now ≤ MAX_INPUT }
     ensures ends { Ended command given.now result (T.taken trace.old) (T.taken trace.new) }

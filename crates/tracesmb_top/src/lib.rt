@@ -3,13 +3,10 @@
 //! other status, and what the trace and the text hold afterwards.
 #![tactic(auto)]
 
-mod built;
 mod check;
 mod commands;
-mod deliver;
+mod gather;
 mod input;
-mod packet;
-mod reading;
 mod say;
 mod top;
 mod words;

@@ -1,11 +1,15 @@
 //! The lines that the top call writes on its text, each with the status that it stands for.
-ghost use Rattle.std.specs.Prelude.{◌≡◌, ◌≤◌, length};
-ghost use Rattle.tracesmb_top.specs.Answers.{Says, usage_line, memory_line, read_line, write_line, long_line};
+ghost use Rattle.std.specs.Prelude.{◌≡◌, ◌≤◌, ◌⊎◌, length};
+ghost use Rattle.byte_io.specs.Bytes.{after_told};
+ghost use Rattle.tracesmb_top.specs.Answers as answers;
+ghost use Rattle.tracesmb_top.specs.Answers.{Says, SaysBehind, usage_line, memory_line, read_line, write_line, long_line};
 ghost use Rattle.tracesmb_top.specs.Refusals as refusals;
+ghost use Rattle.tracesmb_top.specs.Replayed.{report_of};
 
 use arrayvec::ArrayVec;
 use byte_io::put::{WriteFault, put_all};
 use byte_io::traits::Sink;
+use loss_report::{Done, put_report};
 use trace_file::TraceFault;
 
 /// Writes a line. A fault in writing it changes nothing else: it shows in the sink's count alone.
@@ -75,17 +79,39 @@ pub fn say_refusal<O: Sink>(text: &mut O, line: &[u8]) -> u8
     3
 }
 
-/// `line L: not built`, with its line feed.
-#[tactic(auto, unfolding(crate::specs::Refusals::not_built_line))]
-pub fn not_built_line(line: u32) -> ArrayVec<u8, 64>
-    ensures { result.items ≡ refusals.not_built_line line }
+/// `stalled: writer W`, with its line feed.
+#[tactic(auto, unfolding(crate::specs::Answers::stalled_line))]
+fn stalled_line(writer: u16) -> ArrayVec<u8, 64>
+    ensures { result.items ≡ answers.stalled_line writer }
 {
     let mut digits = itoa::Buffer::new();
     let mut bytes = ArrayVec::new();
-    let _ = bytes.try_extend_from_slice(b"line ");
-    let _ = bytes.try_extend_from_slice(digits.format(line).as_bytes());
-    let _ = bytes.try_extend_from_slice(b": not built\n");
+    let _ = bytes.try_extend_from_slice(b"stalled: writer ");
+    let _ = bytes.try_extend_from_slice(digits.format(writer).as_bytes());
+    let _ = bytes.try_extend_from_slice(b"\n");
     bytes
+}
+
+pub fn say_stalled<O: Sink>(text: &mut O, writer: u16) -> u8
+    ensures status { result ≡ 6 }
+    ensures says { Says (O.taken text.old) (O.taken text.new) (O.faults text.old) (O.faults text.new) (answers.stalled_line writer) }
+{
+    say(text, &stalled_line(writer));
+    6
+}
+
+/// Writes the report of what a replay left.
+pub fn say_report<O: Sink>(text: &mut O, done: &Done) -> u8
+    ensures status { (result ≡ 0) ⊎ (result ≡ 5) }
+    ensures all { result ≡ 0 → O.taken text.new ≡ after_told (O.taken text.old) (report_of done.now) }
+    ensures steady { result ≡ 0 → O.faults text.new ≡ O.faults text.old }
+    ensures part { result ≡ 5 → SaysBehind (O.taken text.old) (O.taken text.new) (O.faults text.old) (O.faults text.new) (report_of done.now) write_line }
+    ensures later { O.faults text.old ≤ O.faults text.new }
+{
+    match put_report(text, &done.buffers, &done.sequences, &done.flushes) {
+        Ok(()) => 0,
+        Err(WriteFault) => say_write_fault(text),
+    }
 }
 
 /// `offset N: REASON`, with its line feed.

@@ -1,16 +1,18 @@
 //! The top call.
 ghost use Rattle.std.specs.Prelude.{◌≡◌, ◌≢◌, ℕ, ◌+◌, ◌<◌, ◌≤◌, ◌⊎◌, List, [], length, map, IfSome};
 ghost use Rattle.std.specs.String.{string_bytes};
-ghost use Rattle.byte_io.specs.Bytes.{Faulted, GivesAtMost, NoFault};
+ghost use Rattle.byte_io.specs.Bytes.{after_told, Faulted, GivesAtMost, NoFault};
 ghost use Rattle.command_words.specs.declared.command.Command.{Command};
-ghost use Rattle.tracesmb_top.specs.Words.{Ask, AskForNothing, AskForNoInput, ReadsInput};
-ghost use Rattle.tracesmb_top.specs.Commands.{Accepts, IsGiven, Refuses, Wrote, WrotePart};
-ghost use Rattle.tracesmb_top.specs.Answers.{Says, usage_line, memory_line, read_line, write_line, long_line};
+ghost use Rattle.command_words.specs.declared.command.Command.TheVariants.{Replay};
+ghost use Rattle.tracesmb_top.specs.Words.{Ask, AskForNothing, AskForNoInput, IsReplay, ReadsInput};
+ghost use Rattle.tracesmb_top.specs.Commands.{Accepts, HasStalled, IsGiven, Refuses, Wrote, WrotePart};
+ghost use Rattle.tracesmb_top.specs.Answers.{Says, SaysBehind, usage_line, memory_line, read_line, write_line, stalled_line, long_line};
 
 use crate::commands::{CommandFault, perform};
 use crate::input::take_input;
 use crate::say::{
-    say_out_of_memory, say_read_fault, say_refusal, say_too_long, say_usage, say_write_fault,
+    say_out_of_memory, say_read_fault, say_refusal, say_report, say_stalled, say_too_long,
+    say_usage, say_write_fault,
 };
 use crate::words::asked_command;
 use byte_io::fill::FillFault;
@@ -25,14 +27,15 @@ use trace_base::limits::MAX_INPUT;
 ///
 /// | status | comes | on `text` |
 /// |---|---|---|
-/// | 0 | the trace has taken what the command writes | nothing |
+/// | 0 | the trace has taken what the command writes | the report for `replay`, else nothing |
 /// | 1 | memory ran out, before anything was written | `out of memory` |
 /// | 2 | the words ask for no command | the usage |
-/// | 3 | the input is refused, by its first fault or its first line that isn't built | `line L: REASON`, `offset N: REASON` |
+/// | 3 | the input is refused, by its first fault | `line L: REASON`, `offset N: REASON` |
 /// | 4 | the input failed | `read fault` |
-/// | 5 | the trace failed; it holds a front part of what it would have | `write fault` |
+/// | 5 | the trace failed, and holds a front part of what it would have; or the text failed in the report | `write fault`, maybe behind a front part of the report |
+/// | 6 | a writer of the replay stalled; the trace holds the records of the reads before | `stalled: writer W` |
 /// | 7 | the input has more than 67,108,864 bytes | `input too long` |
-#[tactic(auto, using(crate::proofs::WordLemmas::same_reads, crate::proofs::CommandLemmas::refused_reads))]
+#[tactic(auto, using(crate::proofs::WordLemmas::same_reads, crate::proofs::CommandLemmas::refused_reads, crate::proofs::CommandLemmas::replay_reads))]
 pub fn trace_top<R: Threads + Wait + Sync, S: Source, T: Sink + Send, O: Sink, G: Gate + Sync>(
     _rt: &R,
     alloc: Global,
@@ -42,14 +45,17 @@ pub fn trace_top<R: Threads + Wait + Sync, S: Source, T: Sink + Send, O: Sink, G
     text: &mut O,
     _gate: &G,
 ) -> u8
-    ensures known { (result ≤ 5) ⊎ (result ≡ 7) }
+    ensures known { result ≤ 7 }
 
-    // Status 0: the trace took what the command writes for what it was given, the input was read whole, and nothing failed.
-    ensures writes { result ≡ 0 → (command : Command) × (given : List ℕ) × Ask (map string_bytes words.now) command
-        × IsGiven command (S.left input.old) given × Wrote command given (T.taken trace.old) (T.taken trace.new) }
-    ensures read { (result ≡ 0) ⊎ (result ≡ 3) → (command : Command) → Ask (map string_bytes words.now) command
+    // Status 0: the trace took what the command writes for what it was given, and the text its report; the input was read
+    // whole, and nothing failed. No command but `replay` has a report.
+    ensures writes { result ≡ 0 → (command : Command) × (given report : List ℕ) × Ask (map string_bytes words.now) command
+        × IsGiven command (S.left input.old) given × Wrote command given (T.taken trace.old) (T.taken trace.new) report
+        × (O.taken text.new ≡ after_told (O.taken text.old) report) }
+    ensures read { (result ≡ 0) ⊎ (result ≡ 3) ⊎ (result ≡ 6) → (command : Command) → Ask (map string_bytes words.now) command
         → ReadsInput command → IfSome (S.left input.new) (λ left. left ≡ []) }
-    ensures quiet { result ≡ 0 → O.taken text.new ≡ O.taken text.old }
+    ensures quiet { result ≡ 0 → (command : Command) → Ask (map string_bytes words.now) command → (IsReplay command → ⊥)
+        → O.taken text.new ≡ O.taken text.old }
     ensures steady_input { result ≡ 0 → S.faults input.new ≡ S.faults input.old }
     ensures steady_trace { result ≡ 0 → T.faults trace.new ≡ T.faults trace.old }
     ensures steady_text { result ≡ 0 → O.faults text.new ≡ O.faults text.old }
@@ -81,12 +87,23 @@ pub fn trace_top<R: Threads + Wait + Sync, S: Source, T: Sink + Send, O: Sink, G
     ensures read_within { result ≡ 4 → GivesAtMost MAX_INPUT (S.left input.old) (S.left input.new) }
     ensures says_read { result ≡ 4 → Says (O.taken text.old) (O.taken text.new) (O.faults text.old) (O.faults text.new) read_line }
 
-    // Status 5: only where the trace's faults rose, and always where they rose. It holds a front part then.
-    ensures write_fault { result ≡ 5 → Faulted (T.faults trace.old) (T.faults trace.new) }
+    // Status 5: only where the trace's faults rose, and always where they rose; or where the text's rose in the report. The trace
+    // holds a front part then, or else all that the command writes, and the text a front part of the report.
+    ensures write_fault { result ≡ 5 → Faulted (T.faults trace.old) (T.faults trace.new) ⊎ Faulted (O.faults text.old) (O.faults text.new) }
+    ensures write_alone { result ≡ 5 → (command : Command) → Ask (map string_bytes words.now) command → (IsReplay command → ⊥)
+        → Faulted (T.faults trace.old) (T.faults trace.new) }
     ensures trace_fault { T.faults trace.old < T.faults trace.new → result ≡ 5 }
     ensures part { result ≡ 5 → (command : Command) × (given : List ℕ) × Ask (map string_bytes words.now) command
-        × IsGiven command (S.left input.old) given × WrotePart command given (T.taken trace.old) (T.taken trace.new) }
-    ensures says_write { result ≡ 5 → Says (O.taken text.old) (O.taken text.new) (O.faults text.old) (O.faults text.new) write_line }
+        × IsGiven command (S.left input.old) given
+        × ((WrotePart command given (T.taken trace.old) (T.taken trace.new) × Faulted (T.faults trace.old) (T.faults trace.new)
+        × Says (O.taken text.old) (O.taken text.new) (O.faults text.old) (O.faults text.new) write_line)
+        ⊎ (IsReplay command × (report : List ℕ) × Wrote command given (T.taken trace.old) (T.taken trace.new) report
+        × SaysBehind (O.taken text.old) (O.taken text.new) (O.faults text.old) (O.faults text.new) report write_line)) }
+
+    // Status 6: a writer stalled in `replay`. The trace has the records of the reads before.
+    ensures stalled { result ≡ 6 → (given : List ℕ) × (writer : ℕ) × Ask (map string_bytes words.now) Replay
+        × IsGiven Replay (S.left input.old) given × HasStalled Replay given writer (T.taken trace.old) (T.taken trace.new)
+        × Says (O.taken text.old) (O.taken text.new) (O.faults text.old) (O.faults text.new) (stalled_line writer) }
 
     // Status 7: exactly where more bytes came than an input may have.
     ensures too_long { result ≡ 7 → IfSome (S.left input.old) (λ told. MAX_INPUT < length told) }
@@ -95,16 +112,17 @@ pub fn trace_top<R: Threads + Wait + Sync, S: Source, T: Sink + Send, O: Sink, G
         → IfSome (S.left input.old) (λ told. MAX_INPUT < length told → (result ≡ 7) ⊎ (result ≡ 1)) }
     ensures says_long { result ≡ 7 → Says (O.taken text.old) (O.taken text.new) (O.faults text.old) (O.faults text.new) long_line }
 
-    // At most one byte more than an input may have is read. The trace is as it was, but under 0 and 5; no count falls; and
+    // At most one byte more than an input may have is read. The trace is as it was, but under 0, 5 and 6; no count falls; and
     // what can be done is done.
     ensures taken { GivesAtMost (MAX_INPUT + 1) (S.left input.old) (S.left input.new) }
-    ensures untouched { result ≢ 0 → result ≢ 5 → T.taken trace.new ≡ T.taken trace.old }
+    ensures untouched { result ≢ 0 → result ≢ 5 → result ≢ 6 → T.taken trace.new ≡ T.taken trace.old }
     ensures later_input { S.faults input.old ≤ S.faults input.new }
     ensures later_trace { T.faults trace.old ≤ T.faults trace.new }
     ensures later_text { O.faults text.old ≤ O.faults text.new }
     ensures complete { (command : Command) → Ask (map string_bytes words.now) command
         → NoFault (S.faults input.old) (S.faults input.new) → NoFault (T.faults trace.old) (T.faults trace.new)
-        → (ReadsInput command → Accepts command (S.left input.old)) → (result ≡ 0) ⊎ (result ≡ 1) }
+        → (IsReplay command → NoFault (O.faults text.old) (O.faults text.new))
+        → (ReadsInput command → Accepts command (S.left input.old)) → (result ≡ 0) ⊎ (result ≡ 1) ⊎ (IsReplay command × (result ≡ 6)) }
 {
     let command = match asked_command(alloc, words) {
         Ok(command) => command,
@@ -118,9 +136,11 @@ pub fn trace_top<R: Threads + Wait + Sync, S: Source, T: Sink + Send, O: Sink, G
         Err(FillFault::TooLong) => return say_too_long(text),
     };
     match perform(alloc, command, &given, trace) {
-        Ok(()) => 0,
+        Ok(None) => 0,
+        Ok(Some(done)) => say_report(text, &done),
         Err(CommandFault::OutOfMemory) => say_out_of_memory(text),
         Err(CommandFault::Refused { line }) => say_refusal(text, &line),
         Err(CommandFault::WriteFault) => say_write_fault(text),
+        Err(CommandFault::Stalled { writer }) => say_stalled(text, writer),
     }
 }

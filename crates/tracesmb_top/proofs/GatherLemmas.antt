@@ -1,0 +1,212 @@
+-- A replay whose trace gathers short writes into long ones: what the trace has taken in the end.
+use Rattle.std.proofs.Common.{◌≡◌, ℕ, List, [], ◌∷◌, ◌++◌, length, take, refl, sym, ap, subst, ◌∙◌, append-nil, inl, inr, Result, Ok, Err, IfOk}
+use Rattle.std.specs.Prelude.{IfErr}
+use Rattle.byte_io.specs.Bytes.{Intake, Loan, told, untold, after_told, lent_by, told_bytes, TakesPart, TakesUpTo, HandsOn}
+use Rattle.byte_io.proofs.Lent.{lent_part, handed_on}
+use Rattle.byte_io.proofs.Told.{up_to_end, after_told_nothing}
+use Rattle.trace_model.specs.Buffers.{Buffer}
+use Rattle.trace_model.specs.Delivery.{trace_of}
+use Rattle.trace_model.specs.History.{records_after}
+use Rattle.chunk_plain.specs.Histories.{history_of}
+use Rattle.chunk_plain.specs.Setup.{Setup}
+use Rattle.chunk_plain.specs.World.{World}
+use Rattle.scenario_text.specs.Scenario.{Parts}
+use Rattle.replay_model.specs.Acts.{Act, Ask, Request, Answer, Collect, Scrape, CloseProducer, ReadAll}
+use Rattle.replay_model.specs.Played.{Replays, records_in}
+use Rattle.replay_host.specs.declared.fault.HostFault.{HostFault}
+use Rattle.replay_host.specs.declared.fault.HostFault.TheVariants.{OutOfMemory, WriteFault, Stalled}
+use Rattle.loss_report.specs.declared.counts.Done.{Done}
+use Rattle.replay_host.specs.Replaying.{HasReplayed, HasStopped, EndsEarly}
+use Rattle.replay_host.specs.Stopping.{Halts}
+use Rattle.tracesmb_top.specs.Replayed.{TakesSome, Gathers, report_of}
+
+-- ---- a stop writes the same bytes, whatever the trace had taken before
+
+-- the trace took the bytes where a writer stalled, and some of them where a write failed
+abbrev TookBy : HostFault → (old new : Intake) → List ℕ → Type 0
+TookBy WriteFault old new bytes = TakesPart old new bytes
+TookBy other old new bytes = new ≡ after_told old bytes
+
+record HaltsBy (setup : Setup) (buffers : List Buffer) (act : Act) (world : World) (fault : HostFault) (old new : Intake) : Type 0 where
+  bytes : List ℕ
+  took : TookBy fault old new bytes
+  again : (start left : Intake) → TookBy fault start left bytes → Halts setup buffers act world fault start left
+
+halts_by : (setup : Setup) (buffers : List Buffer) (act : Act) (world : World) (fault : HostFault) (old new : Intake)
+    → Halts setup buffers act world fault old new → HaltsBy setup buffers act world fault old new
+halts_by setup buffers (Ask place call) world (Stalled writer) old new halts = record {
+  bytes = trace_of (records_after buffers (history_of halts.1.service));
+  took = halts.3;
+  again = λ start left took. (halts.0, halts.1, halts.2, took);
+}
+halts_by setup buffers (ReadAll number limit) world WriteFault old new halts = record {
+  bytes = trace_of (records_after buffers (history_of halts.0.service));
+  took = halts.2;
+  again = λ start left took. (halts.0, halts.1, took);
+}
+halts_by setup buffers (Ask place call) world WriteFault old new halts = absurd halts
+halts_by setup buffers (Ask place call) world OutOfMemory old new halts = absurd halts
+halts_by setup buffers (ReadAll number limit) world OutOfMemory old new halts = absurd halts
+halts_by setup buffers (ReadAll number limit) world (Stalled writer) old new halts = absurd halts
+halts_by setup buffers Request world fault old new halts = absurd halts
+halts_by setup buffers (Answer place) world fault old new halts = absurd halts
+halts_by setup buffers (Collect producer) world fault old new halts = absurd halts
+halts_by setup buffers (Scrape producer) world fault old new halts = absurd halts
+halts_by setup buffers (CloseProducer producer) world fault old new halts = absurd halts
+
+-- the same of a scenario
+record StopsBy (scenario : Parts) (fault : HostFault) (old new : Intake) : Type 0 where
+  bytes : List ℕ
+  took : TookBy fault old new bytes
+  again : (start left : Intake) → TookBy fault start left bytes → HasStopped scenario fault start left
+
+stops_by : (scenario : Parts) (fault : HostFault) (old new : Intake) → HasStopped scenario fault old new → StopsBy scenario fault old new
+stops_by scenario fault old new has =
+    let at = has.stops in
+    let by = halts_by has.setup _ at.act at.world fault old new at.halts in
+    record {
+      bytes = by.bytes;
+      took = by.took;
+      again = λ start left took. record {
+        setup = has.setup;
+        setup_is = has.setup_is;
+        stops = record {
+          done = at.done;
+          act = at.act;
+          rest = at.rest;
+          cut = at.cut;
+          notes = at.notes;
+          world = at.world;
+          plays = at.plays;
+          halts = by.again start left took;
+        };
+      };
+    }
+
+-- ---- what the trace behind an adapter took
+
+-- where an adapter took all of some bytes, the sink that it was lent took them but for those that wait
+lent_all : (loan loan' : Loan) (old new : Intake) (waits bytes : List ℕ)
+    → take (length loan'.start) (told_bytes new) ≡ loan'.start → loan.start ≡ told_bytes old
+    → lent_by loan' (after_told new waits) ≡ after_told (lent_by loan (after_told old [])) bytes → HandsOn old new bytes waits
+lent_all loan loan' (told first loans) (told second loans') waits bytes grown started same =
+    let same_told : told (second ++ waits) (loan' ∷ loans') ≡ told ((first ++ []) ++ bytes) (loan ∷ loans) = same in
+    let same_loan : loan' ≡ loan = cc in
+    let same_loans : loans' ≡ loans = cc in
+    let all : second ++ waits ≡ (first ++ []) ++ bytes = ap told_bytes same_told in
+    let whole : second ++ waits ≡ first ++ bytes = all ∙ ap (λ front. front ++ bytes) (append-nil first) in
+    let start_is : loan'.start ≡ first = ap (λ l. l.start) same_loan ∙ started in
+    let P : List ℕ → Type 0 = λ start. take (length start) second ≡ start in
+    record { all = cc; grown = subst P start_is grown }
+lent_all loan loan' (untold loans) (untold loans') waits bytes grown started same =
+    let same_told : untold (loan' ∷ loans') ≡ untold (loan ∷ loans) = same in
+    record { all = cc; grown = refl }
+lent_all loan loan' (told first loans) (untold loans') waits bytes grown started same =
+    let same_told : untold (loan' ∷ loans') ≡ told ((first ++ []) ++ bytes) (loan ∷ loans) = same in absurd cc
+lent_all loan loan' (untold loans) (told second loans') waits bytes grown started same =
+    let same_told : told (second ++ waits) (loan' ∷ loans') ≡ untold (loan ∷ loans) = same in absurd cc
+
+-- all of some bytes is a part of them
+all_part : (old : Intake) (bytes : List ℕ) → TakesPart old (after_told old bytes) bytes
+all_part old bytes = record { part = bytes; rest = []; cut = sym (append-nil bytes); taken = refl }
+
+-- nothing is a part of nothing
+front_none : (part rest : List ℕ) → part ++ rest ≡ [] → part ≡ []
+front_none [] rest is = refl
+front_none (byte ∷ part) rest is = absurd cc
+
+-- a sink that took a part of nothing is as it was
+none_part : (old new : Intake) → TakesPart old new [] → new ≡ old
+none_part old new took =
+    let none : took.part ≡ [] = front_none took.part took.rest (sym took.cut) in
+    took.taken ∙ ap (λ bytes. after_told old bytes) none ∙ after_told_nothing old
+
+-- a replay is one whatever the trace had taken before
+replays_again : (scenario : Parts) (old new start left : Intake) (report : List ℕ) (replays : Replays scenario old new report)
+    → left ≡ after_told start (trace_of (records_in scenario replays.setup replays.world)) → Replays scenario start left report
+replays_again scenario old new start left report replays taken = record {
+  setup = replays.setup;
+  world = replays.world;
+  notes = replays.notes;
+  played = replays.played;
+  trace = taken;
+  report = replays.report;
+  faithful = replays.faithful;
+  balanced = replays.balanced;
+  counted = replays.counted;
+  complete = replays.complete;
+}
+
+gathered_of : (scenario : Parts) (result : Result Done HostFault) (loan loan' : Loan) (old new : Intake) (waits : List ℕ)
+    → take (length loan'.start) (told_bytes new) ≡ loan'.start → loan.start ≡ told_bytes old
+    → IfOk result (λ done. HasReplayed scenario (lent_by loan (after_told old [])) (lent_by loan' (after_told new waits)) done)
+    → IfErr result (λ fault. EndsEarly scenario fault (lent_by loan (after_told old [])) (lent_by loan' (after_told new waits)))
+    → Gathers scenario result old new waits
+gathered_of scenario (Ok done) loan loan' old new waits grown started replays early =
+    let handed = lent_all loan loan' old new waits _ grown started replays.trace in
+    (replays_again scenario _ _ old (after_told new waits) (report_of done) replays handed.all, handed.grown)
+gathered_of scenario (Err OutOfMemory) loan loan' old new waits grown started replays early =
+    let lent = lent_by loan (after_told old []) in
+    none_part old new (lent_part loan loan' old new waits [] started grown
+    (record { part = []; rest = []; cut = refl; taken = early ∙ sym (after_told_nothing lent) }))
+gathered_of scenario (Err WriteFault) loan loan' old new waits grown started replays early =
+    let by = stops_by scenario WriteFault _ _ early in
+    record {
+      bytes = by.bytes;
+      would = inr (WriteFault, by.again old (after_told old by.bytes) (all_part old by.bytes));
+      part = lent_part loan loan' old new waits by.bytes started grown by.took;
+    }
+gathered_of scenario (Err (Stalled writer)) loan loan' old new waits grown started replays early =
+    let by = stops_by scenario (Stalled writer) _ _ early in
+    let handed = lent_all loan loan' old new waits by.bytes grown started by.took in
+    (by.again old (after_told new waits) handed.all, handed.grown)
+
+pub gathered : (scenario : Parts) (result : Result Done HostFault) (loan loan' : Loan) (lent old new : Intake) (waits : List ℕ)
+    → lent ≡ lent_by loan (after_told old []) → take (length loan'.start) (told_bytes new) ≡ loan'.start → loan.start ≡ told_bytes old
+    → IfOk result (λ done. HasReplayed scenario lent (lent_by loan' (after_told new waits)) done)
+    → IfErr result (λ fault. EndsEarly scenario fault lent (lent_by loan' (after_told new waits)))
+    → Gathers scenario result old new waits
+gathered scenario result loan loan' lent old new waits is grown started replays early =
+    let after = lent_by loan' (after_told new waits) in
+    gathered_of scenario result loan loan' old new waits grown started
+    (subst (λ (from : Intake). IfOk result (λ done. HasReplayed scenario from after done)) is replays)
+    (subst (λ (from : Intake). IfErr result (λ fault. EndsEarly scenario fault from after)) is early)
+
+-- ---- what waited is passed on
+
+-- all that waited was passed on
+up_to_all : (new left : Intake) (waits rest : List ℕ) → TakesUpTo new left waits rest → rest ≡ [] → left ≡ after_told new waits
+up_to_all new left waits rest passed none = up_to_end new left waits (subst (λ (bytes : List ℕ). TakesUpTo new left waits bytes) none passed)
+
+pub passed_all : (scenario : Parts) (done : Done) (old new left : Intake) (waits rest : List ℕ)
+    → Gathers scenario (Ok done) old new waits → TakesUpTo new left waits rest → rest ≡ [] → HasReplayed scenario old left done
+passed_all scenario done old new left waits rest gathers passed none =
+    subst (λ (intake : Intake). HasReplayed scenario old intake done) (sym (up_to_all new left waits rest passed none)) gathers.0
+
+pub passed_stall : (scenario : Parts) (writer : ℕ) (old new left : Intake) (waits rest : List ℕ)
+    → Gathers scenario (Err (Stalled writer)) old new waits → TakesUpTo new left waits rest → rest ≡ []
+    → HasStopped scenario (Stalled writer) old left
+passed_stall scenario writer old new left waits rest gathers passed none =
+    subst (λ (intake : Intake). HasStopped scenario (Stalled writer) old intake) (sym (up_to_all new left waits rest passed none)) gathers.0
+
+-- only a part of it
+pub passed_part : (scenario : Parts) (done : Done) (old new left : Intake) (waits rest : List ℕ)
+    → Gathers scenario (Ok done) old new waits → TakesUpTo new left waits rest → TakesSome scenario old left
+passed_part scenario done old new left waits rest gathers passed =
+    let replays = gathers.0 in
+    let bytes = trace_of (records_in scenario replays.setup replays.world) in
+    record {
+      bytes = bytes;
+      would = inl (report_of done, replays_again scenario _ _ old (after_told old bytes) (report_of done) replays refl);
+      part = handed_on old new left bytes waits rest (record { all = replays.trace; grown = gathers.1 }) passed;
+    }
+
+pub passed_stall_part : (scenario : Parts) (writer : ℕ) (old new left : Intake) (waits rest : List ℕ)
+    → Gathers scenario (Err (Stalled writer)) old new waits → TakesUpTo new left waits rest → TakesSome scenario old left
+passed_stall_part scenario writer old new left waits rest gathers passed =
+    let by = stops_by scenario (Stalled writer) _ _ gathers.0 in
+    record {
+      bytes = by.bytes;
+      would = inr (Stalled writer, by.again old (after_told old by.bytes) refl);
+      part = handed_on old new left by.bytes waits rest (record { all = by.took; grown = gathers.1 }) passed;
+    }

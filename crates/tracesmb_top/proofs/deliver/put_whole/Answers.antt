@@ -1,6 +1,0 @@
-use Rattle.std.proofs.Common.{arith}
-use Rattle.byte_io.proofs.Lent.{handed_on}
-use Rattle.tracesmb_top.proofs.deliver.put_whole.Goals as goal
-
-pub returns-in-Ok-clause-part : goal.returns-in-Ok-clause-part
-returns-in-Ok-clause-part g c = grind (arith, handed_on _ _ _ _ _ _ c.in-Ok.ensures.handed c.pass_on.ensures.passed)

@@ -1,0 +1,61 @@
+-- What becomes of a text that is a scenario where it is replayed.
+use Rattle.std.specs.Prelude.{◌≡◌, ℕ, ◌⊎◌, List, Result, Ok, Err}
+use Rattle.byte_io.specs.Bytes.{Intake, after_told, IsGrown, TakesPart}
+use Rattle.loss_report.specs.declared.counts.Done.{Done}
+use Rattle.loss_report.specs.Report.{report_text}
+use Rattle.scenario_text.specs.Scenario.{Parts, scenario_of}
+use Rattle.replay_model.specs.Played.{Replays}
+use Rattle.replay_host.specs.declared.fault.HostFault.{HostFault}
+use Rattle.replay_host.specs.declared.fault.HostFault.TheVariants as stops
+use Rattle.replay_host.specs.Replaying.{HasReplayed, HasStopped}
+
+-- The text is a scenario, and was replayed to its end: the trace took the records of its lines and nothing else, and these bytes are its
+-- report. The delivery theorem is in `Replays`: the records are faithful to what the writers emitted, the report counts each packet once,
+-- and where chunks and bytes are enough, none is missing.
+pub record IsReplayed (text : List ℕ) (old new : Intake) (report : List ℕ) : Type 0 where
+  pub parts : Parts
+  pub scenario_is : scenario_of text ≡ Ok parts
+  pub replays : Replays parts old new report
+
+-- The text is a scenario, and its replay stopped where a writer stalled: the trace took the records of the reads before.
+pub record IsStalled (text : List ℕ) (writer : ℕ) (old new : Intake) : Type 0 where
+  pub parts : Parts
+  pub scenario_is : scenario_of text ≡ Ok parts
+  pub stops : HasStopped parts (stops.Stalled writer) old new
+
+-- what the trace takes of a scenario's replay: all to its end, or all up to a stop
+abbrev pub TakesReplay : Parts → (old new : Intake) → Type 0
+TakesReplay scenario old new =
+    ((report : List ℕ) × Replays scenario old new report) ⊎ ((fault : HostFault) × HasStopped scenario fault old new)
+
+-- the trace took a front part of that
+pub record TakesSome (scenario : Parts) (old new : Intake) : Type 0 where
+  pub bytes : List ℕ
+  pub would : TakesReplay scenario old (after_told old bytes)
+  pub part : TakesPart old new bytes
+
+-- The text is a scenario, and a write of its trace failed.
+pub record IsCutShort (text : List ℕ) (old new : Intake) : Type 0 where
+  pub parts : Parts
+  pub scenario_is : scenario_of text ≡ Ok parts
+  pub takes : TakesSome parts old new
+
+-- the report of what a replay left
+abbrev pub report_of : Done → List ℕ
+report_of done = report_text done.buffers.items done.sequences.items done.flushes.items
+
+-- ---- a trace that gathers short writes into long ones
+
+-- What was replayed was handed to the trace, but for the bytes that still wait; after a fault of the trace, some of it was.
+abbrev pub Gathers : Parts → Result Done HostFault → (old new : Intake) → (waits : List ℕ) → Type 0
+Gathers scenario (Ok done) old new waits = HasReplayed scenario old (after_told new waits) done × IsGrown old new
+Gathers scenario (Err stops.OutOfMemory) old new waits = new ≡ old
+Gathers scenario (Err stops.WriteFault) old new waits = TakesSome scenario old new
+Gathers scenario (Err (stops.Stalled writer)) old new waits = HasStopped scenario (stops.Stalled writer) old (after_told new waits) × IsGrown old new
+
+-- what was handed on of a replay in the end
+abbrev pub HasPlayed : Parts → Result Done HostFault → (old new : Intake) → Type 0
+HasPlayed scenario (Ok done) old new = HasReplayed scenario old new done
+HasPlayed scenario (Err stops.OutOfMemory) old new = new ≡ old
+HasPlayed scenario (Err stops.WriteFault) old new = TakesSome scenario old new
+HasPlayed scenario (Err (stops.Stalled writer)) old new = HasStopped scenario (stops.Stalled writer) old new
