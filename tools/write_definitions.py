@@ -78,6 +78,8 @@ def entries(path):
         if line and inside is not None and depth > inside:
             continue
         if line.startswith('--'):
+            if comment and comment[-1].startswith('-- ----'):
+                comment = []  # a heading tells of an entry only where it has no comment of its own
             comment.append(line)
             continue
         define = DEFINES.match(line)
