@@ -1,11 +1,14 @@
 -- What was played of a scenario, from its first world on, is its replay; or it stopped at an act.
-use Rattle.std.proofs.Common.{◌≡◌, ◌∙◌, ℕ, vec_len, Some, List, [], length, sym, ap, subst, append-nil, arith}
+use Rattle.std.proofs.Common.{◌≡◌, ◌∙◌, ℕ, ◌≤◌, vec_len, Option, Some, List, [], ◌∷◌, ◌++◌, length, refl, sym, ap, subst, append-nil, arith}
 use Rattle.byte_io.specs.Bytes.{Intake, after_told}
+use Rattle.trace_base.specs.declared.limits.TheConstants.{MAX_BUFFERS, MAX_INPUT}
 use Rattle.trace_base.specs.declared.policy.WriterSpec.{WriterSpec}
 use Rattle.trace_model.specs.Buffers.{Buffer}
+use Rattle.trace_model.specs.Counts.{last_count}
 use Rattle.trace_model.specs.Delivery.{trace_of}
 use Rattle.trace_model.specs.History.{records_after}
 use Rattle.trace_buffer.specs.declared.answers.BufferCounts.{BufferCounts}
+use Rattle.scenario_text.specs.declared.scenario.NumberedLine.{NumberedLine}
 use Rattle.scenario_text.specs.declared.scenario.Scenario.{Scenario}
 use Rattle.scenario_text.specs.Scenario.{Parts, IsScenario, parts_of}
 use Rattle.scenario_text.proofs.AcceptedLemmas.{scenario_is_accepted}
@@ -19,12 +22,13 @@ use Rattle.chunk_plain.specs.Setup.{Setup}
 use Rattle.chunk_plain.specs.Views.{ServiceView}
 use Rattle.chunk_plain.specs.World.{World}
 use Rattle.service_core.specs.Agreement.{first_of}
+use Rattle.loss_report.specs.declared.counts.Done.{Done}
 use Rattle.loss_report.specs.declared.counts.SequenceCounts.{SequenceCounts}
 use Rattle.loss_report.specs.Report.{report_text}
 use Rattle.replay_model.specs.Acts.{Act, Ask, Request, Answer, Collect, Scrape, CloseProducer, ReadAll}
 use Rattle.replay_model.specs.Enough.{IsPlayable}
 use Rattle.replay_model.specs.Flushes.{FlushNote}
-use Rattle.replay_model.specs.Played.{IsSetupOf, IsPlayed, buffers_of, Replays}
+use Rattle.replay_model.specs.Played.{IsPlayed, buffers_of, Replays}
 use Rattle.replay_model.specs.Plays.{Plays}
 use Rattle.replay_model.specs.Schedule.{acts_from, last_acts, schedule_of}
 use Rattle.replay_model.proofs.PlayedLemmas.{setup_writers}
@@ -36,7 +40,7 @@ use Rattle.replay_host.specs.declared.host.Host.{Host}
 use Rattle.replay_host.specs.Counting.{CountsAll}
 use Rattle.replay_host.specs.Ending.{IsOver, HasEnded}
 use Rattle.replay_host.specs.Making.{IsMade}
-use Rattle.replay_host.specs.Playing.{HasDone}
+use Rattle.replay_host.specs.Playing.{IsHost, HasDone}
 use Rattle.replay_host.specs.Replaying.{HasStopped, EndsEarly}
 use Rattle.replay_host.specs.Stopping.{Halts, StopsAt, StopsIn}
 use Rattle.replay_host.specs.Tally.{IsTally}
@@ -61,7 +65,8 @@ has_memory setup buffers (CloseProducer producer) world start left halts = halts
 has_memory setup buffers (ReadAll number limit) world start left halts = halts
 
 -- acts that stopped end a replay early
-ends_early : (scenario : Parts) (fault : HostFault) (old new : Intake) → HasStopped scenario fault old new → EndsEarly scenario fault old new
+ends_early : (scenario : Parts) (fault : HostFault) (old new : Intake) → HasStopped scenario fault old new
+    → EndsEarly scenario fault old new
 ends_early scenario OutOfMemory old new stopped =
     absurd (has_memory stopped.setup (buffers_of scenario stopped.setup) stopped.stops.act stopped.stops.world old new stopped.stops.halts)
 ends_early scenario WriteFault old new stopped = stopped
@@ -77,14 +82,14 @@ is_playable scenario is =
 
 module _ {T W S : Type 0} (means : Meaning T W S) (scenario : Scenario) (is : IsScenario scenario) (old : Host T W S)
     (made : IsMade means (parts_of scenario) old) (taken : Intake) where
-  pub begins : Begins means (parts_of scenario) old
+  begins : Begins means (parts_of scenario) old
   begins = record { at = made.at; reach = scenario_is_in_reach scenario is }
 
-  abbrev lines : List Act
-  lines = acts_from (parts_of scenario) [] scenario.lines.items
+  abbrev line_acts : List Act
+  line_acts = acts_from (parts_of scenario) [] scenario.lines.items
 
-  abbrev ends : List Act
-  ends = last_acts (parts_of scenario)
+  abbrev end_acts : List Act
+  end_acts = last_acts (parts_of scenario)
 
   -- the first buffers are the scenario's
   first : first_of (means.setup old.table) old.helper.service ≡ buffers_of (parts_of scenario) (means.setup old.table)
@@ -100,97 +105,138 @@ module _ {T W S : Type 0} (means : Meaning T W S) (scenario : Scenario) (is : Is
         (stops (first_world (means.setup old.table)) made.told taken (made_trace means (parts_of scenario) old made taken));
   })
 
-  -- the lines stopped
-  pub lines_stopped : (fault : HostFault) (left : Intake)
-      → StopsIn means (acts_from (parts_of scenario) [] scenario.lines.items) old taken fault left
-      → EndsEarly (parts_of scenario) fault taken left
-  lines_stopped fault left stops = stopped fault left (stopped_more means lines ends old taken fault left stops)
+  -- the lines as they are passed on
+  module _ (lines : List NumberedLine) (seen : lines ≡ scenario.lines.items) where
+    pub may_begin : (parts : Parts) × (parts.lines ≡ lines) × Begins means parts old
+    may_begin = (parts_of scenario, sym seen, begins)
 
-  module _ (mid : Host T W S) (between : Intake) (played : HavePlayed means (parts_of scenario) old taken mid between) where
-    abbrev pub over : IsOver means mid
-    over = record { scenario = parts_of scenario; notes = played.notes; going = played.at.going }
-
-    -- the end stopped
-    pub end_stopped : (fault : HostFault) (left : Intake) → StopsIn means (last_acts (parts_of scenario)) mid between fault left
+    pub lines_stopped : (fault : HostFault) (left : Intake)
+        → ((parts : Parts) → parts.lines ≡ lines → Begins means parts old
+        → StopsIn means (acts_from parts [] parts.lines) old taken fault left)
         → EndsEarly (parts_of scenario) fault taken left
-    end_stopped fault left stops =
-        stopped fault left (stopped_later means lines ends played.notes old mid taken between fault left played.done stops)
+    lines_stopped fault left stops =
+        stopped fault left (stopped_more means line_acts end_acts old taken fault left (stops (parts_of scenario) (sym seen) begins))
 
-    module _ (laws : AreLaws means) (new : Host T W S) (left : Intake) (ended : HasEnded means (last_acts (parts_of scenario)) mid between new left)
-      where
-        all : HasDone means (schedule_of (parts_of scenario)) played.notes old taken new left
-        all = subst (λ (notes : List FlushNote). HasDone means (schedule_of (parts_of scenario)) notes old taken new left)
-            (append-nil played.notes)
-            (done_both means lines ends played.notes [] old mid new taken between left played.done ended.done)
+    -- they were played, and so many buffers are to be read at the end
+    module _ (mid : Host T W S) (between : Intake)
+        (plays : (parts : Parts) → parts.lines ≡ lines → Begins means parts old → HavePlayed means parts old taken mid between)
+        (count : ℕ) (many : count ≡ vec_len scenario.buffers) where
+      played : HavePlayed means (parts_of scenario) old taken mid between
+      played = plays (parts_of scenario) (sym seen) begins
 
-        same : means.setup new.table ≡ means.setup old.table
-        same = all.setup_is
+      abbrev over : IsOver means mid
+      over = record { scenario = parts_of scenario; notes = played.notes; going = played.at.going }
 
-        reached : (world : World) × (means.told new.table ≡ Some world)
-            × Plays (means.setup old.table) (first_of (means.setup old.table) old.helper.service) (schedule_of (parts_of scenario))
-            (first_world (means.setup old.table)) world played.notes
-        reached = all.plays (first_world (means.setup old.table)) made.told
+      all_read : length scenario.buffers.items ≡ count
+      all_read = let joined = scenario.buffers.ok.0 in omega (arith, many, joined)
 
-        is_played : IsPlayed (parts_of scenario) (means.setup old.table) reached.0 played.notes
-        is_played = record {
-          setup_is = made.at.going.kept.laid;
-          plays = subst (λ (buffers : List Buffer). Plays (means.setup old.table) buffers (schedule_of (parts_of scenario))
-              (first_world (means.setup old.table)) reached.0 played.notes) first reached.2;
-        }
+      pub is_over : (one : IsOver means mid) × (length one.scenario.buffers ≡ count)
+      is_over = (over, all_read)
 
-        first_new : first_of (means.setup old.table) new.helper.service ≡ buffers_of (parts_of scenario) (means.setup old.table)
-        first_new = all.first ∙ first
+      pub few_read : count ≤ MAX_BUFFERS
+      few_read = let few = (scenario_is_set_up scenario is).few_buffers in let same = all_read in omega (arith, few, same)
 
-        -- the first buffers are the scenario's still
-        ended_first : first_of (means.setup new.table) new.helper.service ≡ buffers_of (parts_of scenario) (means.setup new.table)
-        ended_first = subst (λ (setup : Setup). first_of setup new.helper.service ≡ buffers_of (parts_of scenario) setup) (sym same) first_new
+      pub end_stopped : (fault : HostFault) (left : Intake)
+          → ((one : IsOver means mid) → length one.scenario.buffers ≡ count → StopsIn means (last_acts one.scenario) mid between fault left)
+          → EndsEarly (parts_of scenario) fault taken left
+      end_stopped fault left stops = stopped fault left
+          (stopped_later means line_acts end_acts played.notes old mid taken between fault left played.done (stops over all_read))
 
-        -- and so are its writers
-        named : length (means.setup new.table).writers ≡ length scenario.writers.items
-        named = ap (λ (specs : List WriterSpec). length specs) (setup_writers (parts_of scenario) (means.setup new.table)
-            (subst (λ (setup : Setup). IsSetupOf (parts_of scenario) setup) (sym same) made.at.going.kept.laid))
+      -- the end was played
+      module _ (laws : AreLaws means) (new : Host T W S) (left : Intake)
+          (finishes : (one : IsOver means mid) → length one.scenario.buffers ≡ count
+          → HasEnded means (last_acts one.scenario) mid between new left)
+        where
+          ended : HasEnded means (last_acts (parts_of scenario)) mid between new left
+          ended = finishes over all_read
 
-        pub ended_writers : length new.writers.items ≡ length scenario.writers.items
-        ended_writers = ended.host.stands.many ∙ named
+          pub ended_host : IsHost means new
+          ended_host = ended.host
 
-        pub ended_buffers : length new.helper.service.specs.items ≡ length scenario.buffers.items
-        ended_buffers = specs_many (parts_of scenario) (means.setup new.table) new.helper.service ended_first
+          all : HasDone means (schedule_of (parts_of scenario)) played.notes old taken new left
+          all = subst (λ (notes : List FlushNote). HasDone means (schedule_of (parts_of scenario)) notes old taken new left)
+              (append-nil played.notes)
+              (done_both means line_acts end_acts played.notes [] old mid new taken between left played.done ended.done)
 
-        ended_tally : IsTally played.notes (length scenario.writers.items) new.flushes
-        ended_tally = subst (λ (flushes : Flushes). IsTally played.notes (length scenario.writers.items) flushes) (sym ended.flushes)
-            played.at.going.kept.tally
+          same : means.setup new.table ≡ means.setup old.table
+          same = all.setup_is
 
-        pub ended_noted : (notes : List FlushNote) × IsTally notes (length (means.setup new.table).writers) new.flushes
-        ended_noted = (played.notes, subst (λ (writers : ℕ). IsTally played.notes writers new.flushes) (sym named) ended_tally)
+          reached : (world : World) × (means.told new.table ≡ Some world)
+              × Plays (means.setup old.table) (first_of (means.setup old.table) old.helper.service) (schedule_of (parts_of scenario))
+              (first_world (means.setup old.table)) world played.notes
+          reached = all.plays (first_world (means.setup old.table)) made.told
 
-        -- the sink has taken the trace of the world that is reached
-        traced : left ≡ after_told taken (trace_of (records_after (buffers_of (parts_of scenario) (means.setup old.table)) (history_of reached.0.service)))
-        traced =
-            all.writes taken (made_trace means (parts_of scenario) old made taken)
-            ∙ ap (λ (buffers : List Buffer). after_told taken (trace_of (records_after buffers
-            (history_of (means.service_view new.table new.helper.service.seat))))) first
-            ∙ ap (λ (view : ServiceView). after_told taken (trace_of (records_after (buffers_of (parts_of scenario) (means.setup old.table))
-            (history_of view))))
-            (laws.told_service_view new.table new.helper.service.seat reached.0 reached.1 ended.host.stands.served.serves)
+          is_played : IsPlayed (parts_of scenario) (means.setup new.table) reached.0 played.notes
+          is_played = subst (λ (setup : Setup). IsPlayed (parts_of scenario) setup reached.0 played.notes) (sym same) (record {
+            setup_is = made.at.going.kept.laid;
+            plays = subst (λ (buffers : List Buffer). Plays (means.setup old.table) buffers (schedule_of (parts_of scenario))
+                (first_world (means.setup old.table)) reached.0 played.notes) first reached.2;
+          })
 
-        -- What was counted is the report of the replay.
-        pub all_replayed : (buffers : List BufferCounts) (sequences : List SequenceCounts) (flushes : Flushes)
-            → CountsAll means new buffers sequences flushes → flushes.made ≡ new.flushes.made
-            → vec_len flushes.chunks ≡ vec_len new.flushes.chunks
-            → Replays (parts_of scenario) taken left (report_text buffers sequences flushes.chunks.items)
-        all_replayed buffers sequences flushes counts same_made same_room =
-            let parts : Parts = parts_of scenario in
-            let playable = is_playable scenario is in
-            let counted = counts parts played.notes reached.0 reached.1
-            (subst (λ (setup : Setup). IsPlayed parts setup reached.0 played.notes) (sym same) is_played) playable ended_first ended_tally in
-            let room = played.at.going.room in
-            let ended_made : new.flushes.made ≡ mid.flushes.made = ap (λ (f : Flushes). f.made) ended.flushes in
-            let ended_room : vec_len new.flushes.chunks ≡ vec_len mid.flushes.chunks = ap (λ (f : Flushes). vec_len f.chunks) ended.flushes in
-            let report = report_is parts (means.setup new.table) reached.0 played.notes buffers sequences flushes counted
-            (omega (arith, same_made, same_room, room, ended_made, ended_room)) in
-            replays_of parts (means.setup new.table) reached.0 played.notes taken left
-            (report_text buffers sequences flushes.chunks.items)
-            (subst (λ (setup : Setup). IsPlayed parts setup reached.0 played.notes) (sym same) is_played) playable
-            (subst (λ (setup : Setup). left ≡ after_told taken (trace_of (records_after (buffers_of parts setup) (history_of reached.0.service))))
-            (sym same) traced)
-            report
+          first_new : first_of (means.setup old.table) new.helper.service ≡ buffers_of (parts_of scenario) (means.setup old.table)
+          first_new = all.first ∙ first
+
+          -- the first buffers are the scenario's still
+          ended_first : first_of (means.setup new.table) new.helper.service ≡ buffers_of (parts_of scenario) (means.setup new.table)
+          ended_first = subst (λ (setup : Setup). first_of setup new.helper.service ≡ buffers_of (parts_of scenario) setup) (sym same)
+              first_new
+
+          -- and there are as many writers
+          named : length (means.setup new.table).writers ≡ length scenario.writers.items
+          named = ap (λ (specs : List WriterSpec). length specs)
+              (setup_writers (parts_of scenario) (means.setup new.table) is_played.setup_is)
+
+          -- there is room for each count
+          pub sequences_room : (done : Done) → vec_len done.sequences ≡ vec_len scenario.writers
+              → vec_len done.sequences ≡ length new.writers.items
+          sequences_room done room =
+              let joined = scenario.writers.ok.0 in
+              let cores = ended.host.stands.many in
+              let specs = named in
+              omega (arith, room, joined, cores, specs)
+
+          pub buffers_room : (done : Done) → vec_len done.buffers ≡ vec_len scenario.buffers
+              → vec_len done.buffers ≡ length new.helper.service.specs.items
+          buffers_room done room =
+              let joined = scenario.buffers.ok.0 in
+              let specs = specs_many (parts_of scenario) (means.setup new.table) new.helper.service ended_first in
+              omega (arith, room, joined, specs)
+
+          ended_tally : IsTally played.notes (length scenario.writers.items) new.flushes
+          ended_tally = subst (λ (flushes : Flushes). IsTally played.notes (length scenario.writers.items) flushes) (sym ended.flushes)
+              played.at.going.kept.tally
+
+          pub ended_noted : (notes : List FlushNote) × IsTally notes (length (means.setup new.table).writers) new.flushes
+          ended_noted = (played.notes, subst (λ (writers : ℕ). IsTally played.notes writers new.flushes) (sym named) ended_tally)
+
+          -- the sink has taken the trace of the world that is reached
+          traced : left ≡ after_told taken (trace_of (records_after (buffers_of (parts_of scenario) (means.setup old.table))
+              (history_of reached.0.service)))
+          traced =
+              all.writes taken (made_trace means (parts_of scenario) old made taken)
+              ∙ ap (λ (buffers : List Buffer). after_told taken (trace_of (records_after buffers
+              (history_of (means.service_view new.table new.helper.service.seat))))) first
+              ∙ ap (λ (view : ServiceView). after_told taken (trace_of (records_after (buffers_of (parts_of scenario) (means.setup old.table))
+              (history_of view))))
+              (laws.told_service_view new.table new.helper.service.seat reached.0 reached.1 ended.host.stands.served.serves)
+
+          -- What was counted is the report of the replay.
+          pub all_replayed : (buffers : List BufferCounts) (sequences : List SequenceCounts) (flushes : Flushes)
+              → CountsAll means new buffers sequences flushes → flushes.made ≡ new.flushes.made
+              → vec_len flushes.chunks ≡ vec_len new.flushes.chunks
+              → Replays (parts_of scenario) taken left (report_text buffers sequences flushes.chunks.items)
+          all_replayed buffers sequences flushes counts same_made same_room =
+              let parts : Parts = parts_of scenario in
+              let playable = is_playable scenario is in
+              let counted = counts parts played.notes reached.0 reached.1 is_played playable ended_first ended_tally in
+              let room = played.at.going.room in
+              let ended_made : new.flushes.made ≡ mid.flushes.made = ap (λ (f : Flushes). f.made) ended.flushes in
+              let ended_room : vec_len new.flushes.chunks ≡ vec_len mid.flushes.chunks =
+              ap (λ (f : Flushes). vec_len f.chunks) ended.flushes in
+              let report = report_is parts (means.setup new.table) reached.0 played.notes buffers sequences flushes counted
+              (omega (arith, same_made, same_room, room, ended_made, ended_room)) in
+              replays_of parts (means.setup new.table) reached.0 played.notes taken left
+              (report_text buffers sequences flushes.chunks.items) is_played playable
+              (subst (λ (setup : Setup). left ≡ after_told taken (trace_of (records_after (buffers_of parts setup)
+              (history_of reached.0.service)))) (sym same) traced)
+              report
