@@ -3,7 +3,7 @@ use Rattle.std.proofs.Common.{◌≡◌, ◌≢◌, ◌∙◌, ℕ, suc, ◌+◌
 use Rattle.std.specs.Prelude.{slice_get, Some, cond, ◌==◌}
 use Rattle.std.proofs.lemmas.List.{set-set, set-get_or, get_or-append-add, take_more}
 use Rattle.std.proofs.lemmas.Option.{slice_get_within, slice_get-get_or, get_or_from_slice_get}
-use Rattle.std.proofs.lemmas.Bool.{cases_eq, eq-eqb, ne_eqb}
+use Rattle.std.proofs.lemmas.Bool.{cases_eq, cases_lt, eq-eqb, ne_eqb}
 use Rattle.trace_base.specs.declared.policy.WriterSpec.{WriterSpec}
 use Rattle.chunk_plain.specs.Setup.{Setup, range_of, producer_of, id_at}
 use Rattle.chunk_plain.specs.Views.{Content, Look, Taken, none_taken, Noted, Arrive, ServiceView, taken_of}
@@ -78,6 +78,33 @@ sees_none setup place first count old new range seen =
       view = seen.view;
       none = λ chunk is. let least = is.least in let below = is.below in seen.none chunk (omega (arith, low, least)) (omega (arith, low, many, below));
     }
+
+-- one stretch of chunks behind another
+pub sees_none_both : (setup : Setup) (place first middle last : ℕ) (old mid new : ServiceView) → SeesNoneOf setup place middle last old mid → SeesNoneOf setup place first middle mid new
+    → SeesNoneOf setup place first last old new
+sees_none_both setup place first middle last old mid new high low =
+    let count_is : (taken_of mid place).count ≡ (taken_of old place).count = ap (λ (v : ServiceView). (taken_of v place).count) high.view in
+    record {
+      looks = high.looks ++ low.looks;
+      view = low.view ∙ ap (λ (v : ServiceView). looked v low.looks) high.view ∙ ap (λ (l : List Look). record old { looks = l }) (append_assoc old.looks high.looks low.looks);
+      none = λ chunk least below. by_place chunk least below count_is (cases_lt chunk middle);
+    }
+  where
+    by_place : (chunk : ℕ) → first ≤ chunk → chunk < last → (taken_of mid place).count ≡ (taken_of old place).count → (chunk < middle) ⊎ (middle ≤ chunk)
+        → ShowsOther setup place (taken_of old place).count chunk (high.looks ++ low.looks)
+    by_place chunk least below count_is (inr behind) =
+        shows_left setup place (taken_of old place).count chunk high.looks low.looks (high.none chunk behind below)
+    by_place chunk least below count_is (inl before) =
+        shows_right setup place (taken_of old place).count chunk high.looks low.looks
+        (subst (λ (n : ℕ). ShowsOther setup place n chunk low.looks) count_is (low.none chunk least before))
+
+pub takes_behind : (setup : Setup) (place first last : ℕ) (old mid new : ServiceView) → SeesNoneOf setup place first last old mid → TakesNext place mid new → TakesNext place old new
+takes_behind setup place first last old mid new seen next = record {
+  looks = seen.looks ++ next.looks;
+  content = next.content;
+  view = next.view ∙ ap (λ (v : ServiceView). took v place next.looks (next.content ∷ [])) seen.view
+      ∙ ap (λ (l : List Look). record (took old place [] (next.content ∷ [])) { looks = l }) (append_assoc old.looks seen.looks next.looks);
+}
 
 -- Chunks of one writer
 

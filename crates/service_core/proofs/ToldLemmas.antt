@@ -2,7 +2,7 @@
 use Rattle.std.proofs.Common.{◌≡◌, ◌≢◌, ◌∙◌, ℕ, zero, suc, ◌+◌, ◌<◌, ◌≤◌, ◌⊎◌, List, [], ◌∷◌, length, get_or, set, Option, Some, refl, sym, ap, subst, arith, inl, inr}
 use Rattle.std.proofs.Math.Logic.{∥∥₁_elim, ∥∥₁_map}
 use Rattle.std.specs.Coded.{le_prop}
-use Rattle.std.proofs.lemmas.Bool.{cases_eq}
+use Rattle.std.proofs.lemmas.Bool.{cases_eq, cases_lt}
 use Rattle.std.proofs.lemmas.List.{get_or-set_other, get_or_read, set-set}
 use Rattle.trace_base.specs.declared.policy.WriterSpec.{WriterSpec}
 use Rattle.chunk_plain.specs.declared.setup.ChunkRange.{ChunkRange}
@@ -158,17 +158,32 @@ pub frees_none_all : (place id first last more : ℕ) (old : World) (told : Opti
 frees_none_all place id first last more old told view most none =
     record { isnt = λ chunk least below. none.isnt chunk least (omega (arith, below, most)); told_is = none.told_is }
 
--- one is found
-pub frees_next : (setup : Setup) (place id first chunk count : ℕ) (old : World) (mid told : Option World) (before view : ServiceView) → FreesNoneOf place id first chunk old mid before
-    → first ≡ (range_of setup (producer_of setup place)).first → count ≡ (range_of setup (producer_of setup place)).count → first ≤ chunk → chunk < first + count
-    → ((world : World) → mid ≡ Some world → FreesOne place id chunk world told view) → FreesNext setup place id old told view
-frees_next setup place id first chunk count old mid told before view none first_is count_is least below more =
-    let next = more (serviced old before) none.told_is in
+-- one stretch of chunks behind another
+pub frees_none_both : (place id first middle last : ℕ) (old : World) (mid told : Option World) (before view : ServiceView) → FreesNoneOf place id middle last old mid before
+    → ((world : World) → mid ≡ Some world → FreesNoneOf place id first middle world told view) → FreesNoneOf place id first last old told view
+frees_none_both place id first middle last old mid told before view high more =
+    let low = more (serviced old before) high.told_is in
     record {
-      chunk = chunk;
-      is = record { least = omega (arith, first_is, least); below = omega (arith, first_is, count_is, below) };
-      frees = record { ready = next.ready; told_is = next.told_is };
+      isnt = λ chunk least below. by_place chunk least below (cases_lt chunk middle);
+      told_is = low.told_is;
     }
+  where
+    by_place : (chunk : ℕ) → first ≤ chunk → chunk < last → (chunk < middle) ⊎ (middle ≤ chunk) → Isnt place id chunk old
+    by_place chunk least below (inr behind) = high.isnt chunk behind below
+    by_place chunk least below (inl under) = (more (serviced old before) high.told_is).isnt chunk least under
+
+pub frees_behind : (setup : Setup) (place id first last : ℕ) (old : World) (mid told : Option World) (before view : ServiceView) → FreesNoneOf place id first last old mid before
+    → ((world : World) → mid ≡ Some world → FreesNext setup place id world told view) → FreesNext setup place id old told view
+frees_behind setup place id first last old mid told before view none more =
+    let next = more (serviced old before) none.told_is in
+    record { chunk = next.chunk; is = next.is; frees = record { ready = next.frees.ready; told_is = next.frees.told_is } }
+
+-- one is found
+pub frees_next : (setup : Setup) (place id first chunk : ℕ) (old : World) (mid told : Option World) (before view : ServiceView) → FreesNoneOf place id first chunk old mid before
+    → IsChunkOf setup (producer_of setup place) chunk → ((world : World) → mid ≡ Some world → FreesOne place id chunk world told view) → FreesNext setup place id old told view
+frees_next setup place id first chunk old mid told before view none is more =
+    let next = more (serviced old before) none.told_is in
+    record { chunk = chunk; is = is; frees = record { ready = next.ready; told_is = next.told_is } }
 
 -- Chunks of one writer
 

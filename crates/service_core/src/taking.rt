@@ -1,5 +1,5 @@
 //! Taking complete chunks.
-ghost use Rattle.std.specs.Prelude.{◌≡◌, ℕ, ◌+◌, ◌-◌, ◌*◌, ◌<◌, ◌≤◌, true, false, Some, List, [], ◌∷◌, length, vec_len, map, slice_set, slice_index_or};
+ghost use Rattle.std.specs.Prelude.{◌≡◌, ℕ, ◌+◌, ◌-◌, ◌*◌, ◌<◌, ◌≤◌, true, false, Some, None, IfSome, IsSome, List, [], ◌∷◌, length, vec_len, map, slice_set, slice_index_or};
 ghost use Rattle.trace_base.specs.declared.limits.TheConstants.{MAX_FRAGMENTS, MAX_WRITERS, FIRST_SEQUENCE};
 ghost use Rattle.chunk_plain.specs.declared.tokens.TheConstants.{ID_LIMIT};
 ghost use Rattle.page_geometry.specs.declared.chunk_header.TheConstants.{MAX_FLAGS};
@@ -16,7 +16,7 @@ ghost use Rattle.chunk_plain.specs.Words.{taken_content};
 ghost use Rattle.chunk_plain.specs.Meaning.{IsServiceStep};
 ghost use Rattle.service_core.specs.Routing.{IsAt, is_closed_at, arrivals_of};
 ghost use Rattle.service_core.specs.Agreement.{ServiceAgrees, KeepsFields, KeepsRest, IsOpen, is_closed, spec_at};
-ghost use Rattle.service_core.specs.Taking.{patched_where, takings, noted_more, TakesOne, SeesOther, IsRange, TakesNext, SeesNone, TakesOf, Takes, places_of};
+ghost use Rattle.service_core.specs.Taking.{patched_where, takings, noted_more, TakesOne, SeesOther, IsRange, TakesNext, SeesNone, SeesNoneOf, TakesOf, Takes, places_of};
 ghost use Rattle.service_core.specs.Told.{FreesOne, FreesNone, FreesNext, FreesNoneOf, LeavesNext, LeavesNone};
 
 use crate::routing::{arrive_in, patch_in};
@@ -126,38 +126,78 @@ impl<S> ServiceCore<S> {
 }
 
 impl<S> ServiceCore<S> {
-    /// Takes the next chunk of the writer at this place, where one is complete.
+    /// Takes the next chunk of the writer at this place, where it is one of those from one up to
+    /// another. Answers which.
+    fn take_among<W: Words<Service = S>>(
+        &mut self,
+        table: &mut W,
+        place: usize,
+        first: u32,
+        last: u32,
+    ) -> Option<u32>
+        requires serves { W.means.serves table.old self.old.seat }
+        requires agrees { ServiceAgrees (W.means.setup table.old) (W.means.service_view table.old self.old.seat) self.old }
+        requires place { place < length (W.means.setup table.old).writers }
+        requires range { (chunk : ℕ) → first ≤ chunk → chunk < last → IsChunkOf (W.means.setup table.old) (producer_of (W.means.setup table.old) place) chunk }
+        requires order { first ≤ last }
+        requires open { is_closed (W.means.setup table.old) self.old place ≡ false }
+        requires id { (taken_of (W.means.service_view table.old self.old.seat) place).count < ID_LIMIT }
+        ensures agrees { ServiceAgrees (W.means.setup table.old) (W.means.service_view table.new self.new.seat) self.new }
+        ensures keeps { KeepsRest (W.means.setup table.old) self.old self.new }
+        ensures step { IsServiceStep W.means table.old self.old.seat table.new self.new.seat }
+        ensures inside { IfSome result (λ chunk. (first ≤ chunk) × (chunk < last)) }
+        ensures taken { IsSome result → TakesNext place (W.means.service_view table.old self.old.seat) (W.means.service_view table.new self.new.seat) }
+        ensures none { result ≡ None → SeesNoneOf (W.means.setup table.old) place first last (W.means.service_view table.old self.old.seat) (W.means.service_view table.new self.new.seat) }
+        ensures told_taken { IsSome result → (world : World) → W.means.told table.old ≡ Some world
+            → FreesNext (W.means.setup table.old) place (taken_of (W.means.service_view table.old self.old.seat) place).count world
+            (W.means.told table.new) (W.means.service_view table.new self.new.seat) }
+        ensures told_none { result ≡ None → (world : World) → W.means.told table.old ≡ Some world
+            → FreesNoneOf place (taken_of (W.means.service_view table.old self.old.seat) place).count first last world
+            (W.means.told table.new) (W.means.service_view table.new self.new.seat) }
+    {
+        for chunk in first..last {
+            if self.try_take(table, place, chunk) {
+                return Some(chunk);
+            }
+        }
+        None
+    }
+
+    /// Takes the next chunk of the writer at this place, where one is complete, and answers which. It
+    /// looks from one of them on first: a writer claims its chunks in rising order, so that its next
+    /// one mostly stands behind the one before.
     fn take_next<W: Words<Service = S>>(
         &mut self,
         table: &mut W,
         place: usize,
         first: u32,
         count: u32,
-    ) -> bool
+        from: u32,
+    ) -> Option<u32>
         requires serves { W.means.serves table.old self.old.seat }
         requires agrees { ServiceAgrees (W.means.setup table.old) (W.means.service_view table.old self.old.seat) self.old }
         requires place { place < length (W.means.setup table.old).writers }
         requires range { IsRange (range_of (W.means.setup table.old) (producer_of (W.means.setup table.old) place)) first count }
+        requires from { (first ≤ from) × (from ≤ first + count) }
         requires open { is_closed (W.means.setup table.old) self.old place ≡ false }
         requires id { (taken_of (W.means.service_view table.old self.old.seat) place).count < ID_LIMIT }
         ensures agrees { ServiceAgrees (W.means.setup table.old) (W.means.service_view table.new self.new.seat) self.new }
         ensures keeps { KeepsRest (W.means.setup table.old) self.old self.new }
         ensures step { IsServiceStep W.means table.old self.old.seat table.new self.new.seat }
-        ensures taken { result ≡ true → TakesNext place (W.means.service_view table.old self.old.seat) (W.means.service_view table.new self.new.seat) }
-        ensures none { result ≡ false → SeesNone (W.means.setup table.old) place (W.means.service_view table.old self.old.seat) (W.means.service_view table.new self.new.seat) }
-        ensures told_taken { result ≡ true → (world : World) → W.means.told table.old ≡ Some world
+        ensures inside { IfSome result (λ chunk. (first ≤ chunk) × (chunk < first + count)) }
+        ensures taken { IsSome result → TakesNext place (W.means.service_view table.old self.old.seat) (W.means.service_view table.new self.new.seat) }
+        ensures none { result ≡ None → SeesNone (W.means.setup table.old) place (W.means.service_view table.old self.old.seat) (W.means.service_view table.new self.new.seat) }
+        ensures told_taken { IsSome result → (world : World) → W.means.told table.old ≡ Some world
             → FreesNext (W.means.setup table.old) place (taken_of (W.means.service_view table.old self.old.seat) place).count world
             (W.means.told table.new) (W.means.service_view table.new self.new.seat) }
-        ensures told_none { result ≡ false → (world : World) → W.means.told table.old ≡ Some world
+        ensures told_none { result ≡ None → (world : World) → W.means.told table.old ≡ Some world
             → FreesNoneOf place (taken_of (W.means.service_view table.old self.old.seat) place).count first (first + count) world
             (W.means.told table.new) (W.means.service_view table.new self.new.seat) }
     {
-        for chunk in first..first + count {
-            if self.try_take(table, place, chunk) {
-                return true;
-            }
+        match self.take_among(table, place, from, first + count) {
+            Some(chunk) => Some(chunk),
+            None => self.take_among(table, place, first, from),
         }
-        false
     }
 
     /// Takes the complete chunks of the writer at this place, at most as many as its producer has.
@@ -175,12 +215,14 @@ impl<S> ServiceCore<S> {
             → LeavesNext (W.means.setup table.old) place world (W.means.told table.new) (W.means.service_view table.new self.new.seat) }
     {
         let (first, count) = self.layout.chunks_of(self.writers[place].producer);
+        let mut from = first;
         for taken in 0..count {
             if self.taken[place] == ID_LIMIT {
                 return taken;
             }
-            if !self.take_next(table, place, first, count) {
-                return taken;
+            match self.take_next(table, place, first, count, from) {
+                Some(chunk) => from = chunk + 1,
+                None => return taken,
             }
         }
         count

@@ -22,6 +22,7 @@ loop-taken-init g c =
       step = serves_on means c.args.table.now c.args.self.now.seat c.requires.serves;
       told = λ world is. frees_some_yet (means.setup c.args.table.now) c.args.place world (means.told c.args.table.now) (means.service_view c.args.table.now c.args.self.now.seat) is
           (g.met.W.Words.told_service_view c.args.table.now c.args.self.now.seat world is c.requires.serves);
+      from = (omega arith, omega arith);
       some = takes_none_yet (means.service_view c.args.table.now c.args.self.now.seat) c.args.place;
     }
 
@@ -45,11 +46,12 @@ loop-taken-preserved g c =
       step = services_follow means c.args.table.now c.args.self.now.seat c.loop-taken.table c.loop-taken.self.seat c.take_next.new.table c.take_next.new.self.seat i.step c.take_next.ensures.step;
       told = λ world is. frees_some_more setup place c.loop-taken.taken (taken_of mid place).count world (means.told c.loop-taken.table) (means.told c.take_next.new.table) mid new (i.told world is)
           (λ w e. subst (λ (s : Setup). FreesNext s place (taken_of mid place).count w (means.told c.take_next.new.table) new) same (c.take_next.ensures.told_taken (search rules) w e));
+      from = search rules;
       some = takes_more place c.loop-taken.taken old mid new inside i.some took;
     }
 
-pub returns-then-not-take_next-clause-takes : goal.returns-then-not-take_next-clause-takes
-returns-then-not-take_next-clause-takes g c =
+pub returns-in-None-clause-takes : goal.returns-in-None-clause-takes
+returns-in-None-clause-takes g c =
     let means = g.W.Words.means in
     let i = c.loop-taken.invariant in
     let setup = means.setup c.args.table.now in
@@ -60,8 +62,8 @@ returns-then-not-take_next-clause-takes g c =
     let none = c.take_next.ensures.none (search rules) in
     takes_until setup place c.loop-taken.taken old mid new i.some (subst (λ (s : Setup). SeesNone s place mid new) i.step.setup_stays none)
 
-pub returns-then-not-take_next-clause-told : goal.returns-then-not-take_next-clause-told
-returns-then-not-take_next-clause-told g c world is =
+pub returns-in-None-clause-told : goal.returns-in-None-clause-told
+returns-in-None-clause-told g c world is =
     let means = g.W.Words.means in
     let i = c.loop-taken.invariant in
     let setup = means.setup c.args.table.now in

@@ -1,4 +1,4 @@
-use Rattle.std.proofs.Common.{◌≡◌, Some}
+use Rattle.std.proofs.Common.{◌≡◌, ◌≤◌, ◌+◌, Some}
 use Rattle.chunk_plain.specs.World.{World}
 use Rattle.service_core.specs.Told.{FreesSome}
 use Rattle.chunk_plain.specs.Meaning.{IsServiceStep}
@@ -13,5 +13,6 @@ invariant-loop-taken g l = record {
   step : IsServiceStep g.W.Words.means l.fn.table l.fn.self.seat l.table l.self.seat;
   told : (world : World) → g.W.Words.means.told l.fn.table ≡ Some world
       → FreesSome (g.W.Words.means.setup l.fn.table) l.place l.taken world (g.W.Words.means.told l.table) (g.W.Words.means.service_view l.table l.self.seat);
+  from : (l.first ≤ l.from) × (l.from ≤ l.first + l.count);
   some : TakesSome l.place l.taken (g.W.Words.means.service_view l.fn.table l.fn.self.seat) (g.W.Words.means.service_view l.table l.self.seat);
 }

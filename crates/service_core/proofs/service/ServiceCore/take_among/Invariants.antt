@@ -5,7 +5,7 @@ use Rattle.service_core.specs.Told.{FreesNoneOf}
 use Rattle.chunk_plain.specs.Meaning.{IsServiceStep}
 use Rattle.service_core.specs.Agreement.{ServiceAgrees, KeepsRest}
 use Rattle.service_core.specs.Taking.{SeesNoneOf}
-use Rattle.service_core.proofs.service.ServiceCore.take_next.Given as goal
+use Rattle.service_core.proofs.service.ServiceCore.take_among.Given as goal
 
 abbrev pub invariant-loop-chunk : goal.invariant-loop-chunk
 invariant-loop-chunk g l = record {

@@ -1,0 +1,74 @@
+use Rattle.std.proofs.Common.{◌≡◌, ℕ, sym, subst, ap, arith}
+use Rattle.chunk_plain.specs.Views.{ServiceView, taken_of}
+use Rattle.service_core.specs.Told.{FreesOne, FreesNone}
+use Rattle.service_core.proofs.ToldLemmas.{frees_none_yet, frees_none_more, frees_none_all, frees_next}
+use Rattle.chunk_plain.specs.Setup.{Setup, producer_of, IsChunkOf}
+use Rattle.chunk_plain.proofs.SeatSteps.{services_follow, serves_on}
+use Rattle.service_core.specs.Agreement.{ServiceAgrees, KeepsRest}
+use Rattle.service_core.specs.Taking.{SeesOther}
+use Rattle.service_core.proofs.AgreeLemmas.{keeps_same, keeps_both}
+use Rattle.service_core.proofs.ChainLemmas.{sees_none_yet, sees_more}
+use Rattle.service_core.proofs.service.ServiceCore.take_among.Goals as goal
+
+pub loop-chunk-preserved : goal.loop-chunk-preserved
+loop-chunk-preserved g c =
+    let means = g.W.Words.means in
+    let i = c.loop-chunk.invariant in
+    let setup = means.setup c.args.table.now in
+    let place = c.args.place in
+    let old = means.service_view c.args.table.now c.args.self.now.seat in
+    let mid = means.service_view c.loop-chunk.table c.loop-chunk.self.seat in
+    let new = means.service_view c.try_take.new.table c.try_take.new.self.seat in
+    let same = i.step.setup_stays in
+    record {
+      agrees = subst (λ (s : Setup). ServiceAgrees s new c.try_take.new.self) same c.try_take.ensures.agrees;
+      keeps = keeps_both setup c.args.self.now c.loop-chunk.self c.try_take.new.self i.keeps (subst (λ (s : Setup). KeepsRest s c.loop-chunk.self c.try_take.new.self) same c.try_take.ensures.keeps);
+      step = services_follow means c.args.table.now c.args.self.now.seat c.loop-chunk.table c.loop-chunk.self.seat c.try_take.new.table c.try_take.new.self.seat i.step c.try_take.ensures.step;
+      told = λ world is.
+          let count_is : (taken_of mid place).count ≡ (taken_of old place).count = ap (λ (v : ServiceView). (taken_of v place).count) i.seen.view in
+          frees_none_more place (taken_of old place).count c.args.first c.loop-chunk.chunk world (means.told c.loop-chunk.table) (means.told c.try_take.new.table) mid new (i.told world is)
+          (λ w e. subst (λ (n : ℕ). FreesNone place n c.loop-chunk.chunk w (means.told c.try_take.new.table) new) count_is (c.try_take.ensures.told_other c.if-try_take.false w e));
+      seen = sees_more setup place c.args.first c.loop-chunk.chunk (means.service_view c.args.table.now c.args.self.now.seat) mid new i.seen
+          (subst (λ (s : Setup). SeesOther s place c.loop-chunk.chunk mid new) same (c.try_take.ensures.other c.if-try_take.false));
+    }
+
+pub loop-chunk-init : goal.loop-chunk-init
+loop-chunk-init g c =
+    let means = g.W.Words.means in
+    let setup = means.setup c.args.table.now in
+    let old = means.service_view c.args.table.now c.args.self.now.seat in
+    record {
+      agrees = c.requires.agrees;
+      keeps = keeps_same setup c.args.self.now;
+      step = serves_on means c.args.table.now c.args.self.now.seat c.requires.serves;
+      told = λ world is. frees_none_yet c.args.place (taken_of old c.args.place).count c.args.first world (means.told c.args.table.now) old is
+          (g.met.W.Words.told_service_view c.args.table.now c.args.self.now.seat world is c.requires.serves);
+      seen = sees_none_yet setup c.args.place c.args.first old;
+    }
+
+pub returns-then-try_take-clause-told_taken : goal.returns-then-try_take-clause-told_taken
+returns-then-try_take-clause-told_taken g c _ world is =
+    let means = g.W.Words.means in
+    let i = c.loop-chunk.invariant in
+    let setup = means.setup c.args.table.now in
+    let place = c.args.place in
+    let old = means.service_view c.args.table.now c.args.self.now.seat in
+    let mid = means.service_view c.loop-chunk.table c.loop-chunk.self.seat in
+    let new = means.service_view c.try_take.new.table c.try_take.new.self.seat in
+    let count_is : (taken_of mid place).count ≡ (taken_of old place).count = ap (λ (v : ServiceView). (taken_of v place).count) i.seen.view in
+    frees_next setup place (taken_of old place).count c.args.first c.loop-chunk.chunk world (means.told c.loop-chunk.table) (means.told c.try_take.new.table) mid new (i.told world is)
+    (c.requires.range c.loop-chunk.chunk (omega arith) (omega arith))
+    (λ w e. subst (λ (n : ℕ). FreesOne place n c.loop-chunk.chunk w (means.told c.try_take.new.table) new) count_is (c.try_take.ensures.told_taken c.if-try_take.true w e))
+
+pub returns-clause-told_none : goal.returns-clause-told_none
+returns-clause-told_none g c _ world is =
+    let means = g.W.Words.means in
+    let old = means.service_view c.args.table.now c.args.self.now.seat in
+    frees_none_all c.args.place (taken_of old c.args.place).count c.args.first c.args.last c.loop-chunk.chunk world (means.told c.loop-chunk.table)
+    (means.service_view c.loop-chunk.table c.loop-chunk.self.seat) c.loop-chunk-test.false (c.loop-chunk.invariant.told world is)
+
+pub try_take-requires-clause-chunk : goal.try_take-requires-clause-chunk
+try_take-requires-clause-chunk g c =
+    let means = g.W.Words.means in
+    subst (λ (s : Setup). IsChunkOf s (producer_of s c.args.place) c.loop-chunk.chunk) (sym c.loop-chunk.invariant.step.setup_stays)
+    (c.requires.range c.loop-chunk.chunk c.loop-chunk.auto.chunk c.loop-chunk-test.true)
