@@ -40,4 +40,14 @@ impl NodeList {
             NodeList::Many(nodes) => nodes.as_slice(),
         }
     }
+
+    /// Gives back the room that the nodes don't need.
+    pub(crate) fn shrink_to_fit(&mut self)
+        ensures { listed self.new ≡ listed self.old }
+    {
+        match self {
+            NodeList::One(_) => {}
+            NodeList::Many(nodes) => nodes.shrink_to_fit(),
+        }
+    }
 }

@@ -32,11 +32,16 @@ impl Model for FieldTree {
 }
 
 impl FieldTree {
-    /// The tree of some nodes with their texts, whose encoding has this length.
+    /// The tree of some nodes with their texts, whose encoding has this length. It takes no more
+    /// room than it needs: a scenario keeps the trees of all its lines.
     pub(crate) fn from_parts(nodes: NodeList, bytes: Vec<u8>, encoded: u32) -> Self
         requires { IsWhole bytes.items (listed nodes) encoded }
         ensures { result ≡ map (shown bytes.items) (listed nodes) }
     {
+        let mut nodes = nodes;
+        let mut bytes = bytes;
+        nodes.shrink_to_fit();
+        bytes.shrink_to_fit();
         FieldTree {
             nodes,
             bytes,
