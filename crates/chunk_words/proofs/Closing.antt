@@ -1,24 +1,25 @@
 -- The seats of a table come back, and what it is then.
-use Rattle.std.proofs.Common.{◌≡◌, ◌≢◌, ℕ, zero, suc, ◌+◌, ◌-◌, ◌<◌, ◌≤◌, Option, Some, None, List, [], ◌∷◌, ◌++◌, map, length, set, get_or, subst, sym, refl, ap, ◌∙◌, arith, ⊎_elim, lt_of_not-le}
+use Rattle.std.proofs.Common.{◌≡◌, ◌≢◌, ℕ, zero, suc, ◌+◌, ◌<◌, ◌≤◌, Option, None, List, [], ◌∷◌, ◌++◌, length, set, get_or, subst, sym, refl, ap, ◌∙◌, arith, ⊎_elim, lt_of_not-le}
 use Rattle.std.proofs.lemmas.List.{length-append, length-map}
-use native.Mathlib.Decide.{ℕ_discrete, dec_le}
+use native.Mathlib.Decide.{dec_le}
 use mathlib.Core.Logic.{dite}
-use mathlib.Core.Option.{some, some-injective, some-ne-none}
-use Rattle.atomic_table.specs.Table.{State, Joins, Seen, Final}
-use Rattle.atomic_table.proofs.Lists.{at_set, at_longer, at_last, at_map, set_here, set_else}
+use mathlib.Core.Option.{some-injective, some-ne-none}
+use Rattle.atomic_table.specs.Table.{Joins, Seen, Final}
+use Rattle.atomic_table.proofs.Lists.{at_set, at_map, set_here, set_else}
 use Rattle.std.specs.Int.{bit_at}
 use Rattle.commit_body.specs.declared.body.CommitBody.{CommitBody}
 use Rattle.page_geometry.specs.declared.chunk_state.ChunkState.TheVariants.{Free}
 use Rattle.page_geometry.specs.PageBits.{HasState}
 use Rattle.chunk_plain.specs.Setup.{Setup, spot}
-use Rattle.chunk_plain.specs.Views.{At, Draft, Content, Begun, Held, Completed, WriterView, Taken, ServiceView, newcomer, none_taken, taken_of}
+use Rattle.chunk_plain.specs.Views.{At, Draft, Begun, Held, Completed, WriterView, Taken, ServiceView, newcomer, none_taken, taken_of}
 use Rattle.chunk_plain.specs.World.{World, Status, Unclaimed, Claimed, Stamped, Writing, Ready, Reading, status, writer}
 use Rattle.chunk_plain.specs.Owned.{times, claims_of, reads_of, held_count, IsOwned}
-use Rattle.chunk_plain.specs.Shows.{ShowsPage, state_of, claim_of, page_word}
+use Rattle.chunk_plain.specs.Shows.{ShowsPage, page_word}
 use Rattle.chunk_plain.proofs.Lists.{at_inside, at_one, at_more, at_some}
 use Rattle.chunk_plain.proofs.Owned.{claims_of-mine}
-use Rattle.chunk_words.specs.Knows.{Watch, Knows, Spent, Writer, Service, place_of, view_of}
-use Rattle.chunk_words.specs.Rule.{Roll, IsIn, HasJoined, Fits, IsManned, IsShared}
+use Rattle.chunk_words.specs.GoesOn.{GoesOn}
+use Rattle.chunk_words.specs.Knows.{Watch, Here, Desk, Knows, Spent, Writer, Service, Pass, place_of, view_of, with_view, with_views}
+use Rattle.chunk_words.specs.Rule.{Roll, HasJoined, IsMade, Fits, IsShared}
 use Rattle.chunk_words.specs.Closed.{IsDone, HasAllSeats, views_of, IsUnused, IsAccount}
 use Rattle.chunk_words.specs.declared.host.HostTable.{HostTable}
 use Rattle.chunk_words.specs.declared.seats.WriterSeat.{WriterSeat}
@@ -36,12 +37,13 @@ joins_fits setup world roll j k other (Writer p hand view) same seat apart serve
   where
     more : (p : ℕ) → roll.joined ≤ p → p ≢ k → k + 1 ≤ p
     more p low differs = omega (arith, same, low, differs)
-joins_fits setup world roll j k other (Service hand made joined watch view) same seat apart server fits = absurd (server fits.1)
+joins_fits setup world roll j k other (Pass view) same seat apart server fits = fits
+joins_fits setup world roll j k other (Service hand made desk watch view) same seat apart server fits = absurd (server fits.1)
 
-pub joins_shared : (setup : Setup) (id k made other : ℕ) (joined : List WriterView) (watch : Watch) (v : ServiceView) (w : WriterView) → k ≡ length joined
-    → Joins (IsShared setup) id (Service 0 made joined watch v) other (Writer k 0 w) (Service 0 made (joined ++ w ∷ []) watch v) Spent
-joins_shared setup id k made other joined watch v w count s r at apart there =
-    let old = Service 0 made joined watch v in let both = Service 0 made (joined ++ w ∷ []) watch v in let mine = Writer k 0 w in
+pub joins_shared : (setup : Setup) (id k made other : ℕ) (desk : Desk) (watch : Watch) (v : ServiceView) (w : WriterView) → k ≡ length desk.joined
+    → Joins (IsShared setup) id (Service 0 made desk watch v) other (Writer k 0 w) (Service 0 made (with_view desk w) watch v) Spent
+joins_shared setup id k made other desk watch v w count s r at apart there =
+    let old = Service 0 made desk watch v in let both = Service 0 made (with_view desk w) watch v in let mine = Writer k 0 w in
     let f = r.manned.each id old at in let world = r.world in
     let mine_at : At s.views other mine = sym (set_else s.views id other both apart) ∙ there in
     let g = r.manned.each other mine mine_at in
@@ -49,13 +51,13 @@ joins_shared setup id k made other joined watch v w count s r at apart there =
     let one = set s.views id both in let last = set one other Spent in
     let roll : Roll = record r.roll { joined = k + 1 } in
     let inside = at_inside s.views old id at in
-    let has : HasJoined world roll (joined ++ w ∷ []) = record {
-      count = length-append joined (w ∷ []) ∙ (let same : length joined + 1 ≡ k + 1 = omega arith in same);
+    let has : HasJoined world roll (desk.joined ++ w ∷ []) = record {
+      count = length-append desk.joined (w ∷ []) ∙ (let same : length desk.joined + 1 ≡ k + 1 = omega arith in same);
       each = λ place view in_list. ⊎_elim
           (λ before. f.4.each place view before)
           (λ new. let same : k ≡ place = count ∙ sym new.0 in
           (subst (λ (z : WriterView). z ≡ writer world place) new.1 (subst (λ p. w ≡ writer world p) same g.0), subst (λ p. r.roll.hands p ≡ 0) same g.2))
-          (at_more joined w view place in_list);
+          (at_more desk.joined w view place in_list);
     } in
     record {
       world = world;
@@ -77,23 +79,25 @@ joins_shared setup id k made other joined watch v w count s r at apart there =
             let not_id : r.roll.seats p ≢ id = λ same. absurd (let clash = at_one s.views whole old id (subst (λ j. At s.views j whole) same was) at in cc) in
             set_else one other (r.roll.seats p) Spent not_other ∙ (set_else s.views id (r.roll.seats p) both not_id ∙ was);
         staffed = (
-          joined ++ w ∷ [],
+          with_view desk w,
           watch,
-          subst (λ j. At last j (Service r.roll.hand r.roll.made (joined ++ w ∷ []) watch world.service)) (sym f.1)
-              (subst (λ h. At last id (Service h r.roll.made (joined ++ w ∷ []) watch world.service)) (sym f.2)
-              (subst (λ m. At last id (Service 0 m (joined ++ w ∷ []) watch world.service)) (sym f.3)
-              (subst (λ z. At last id (Service 0 made (joined ++ w ∷ []) watch z)) f.0
+          subst (λ j. At last j (Service r.roll.hand r.roll.made (with_view desk w) watch world.service)) (sym f.1)
+              (subst (λ h. At last id (Service h r.roll.made (with_view desk w) watch world.service)) (sym f.2)
+              (subst (λ m. At last id (Service 0 m (with_view desk w) watch world.service)) (sym f.3)
+              (subst (λ z. At last id (Service 0 made (with_view desk w) watch z)) f.0
               (set_else one other id Spent (λ e. apart (sym e)) ∙ set_here s.views id both inside)))),
         );
         each = λ j knows in_views. ⊎_elim
             (λ here. subst (λ i. Fits setup world roll i knows) (sym here.0) (subst (λ z. Fits setup world roll other z) here.1 tt))
             (λ rest. ⊎_elim
-            (λ here. subst (λ i. Fits setup world roll i knows) (sym here.0) (subst (λ z. Fits setup world roll id z) here.1 (f.0, f.1, f.2, f.3, has, f.5)))
+            (λ here. subst (λ i. Fits setup world roll i knows) (sym here.0) (subst (λ z. Fits setup world roll id z) here.1 (f.0, f.1, f.2, f.3, has, f.5, f.6)))
             (λ older. joins_fits setup world r.roll j k other knows joined_is g.1 rest.0 (λ e. older.0 (sym e ∙ f.1)) (r.manned.each j knows older.1))
             (at_set s.views id j both knows rest.1))
             (at_set one other j Spent knows in_views);
         handed = r.manned.handed;
         lifted = r.manned.lifted;
+        goes_on = r.manned.goes_on;
+        here = r.manned.here;
       };
     }
 
@@ -149,8 +153,8 @@ next_seat table service seats yielded rest mine all same = all.each (length yiel
 
 -- ---- the end
 
-module _ (setup : Setup) (id made : ℕ) (views : List WriterView) (watch : Watch) (service : ServiceView) (words : List ℕ) (slots : List (Option CommitBody))
-    (final : Final (Seen (IsShared setup) id (Service 0 made views watch service)) words slots) (count : length views ≡ length setup.writers)
+module _ (setup : Setup) (id made : ℕ) (desk : Desk) (views : List WriterView) (watch : Watch) (service : ServiceView) (words : List ℕ) (slots : List (Option CommitBody))
+    (final : Final (Seen (IsShared setup) id (Service 0 made (with_views desk views) watch service)) words slots) (count : length views ≡ length setup.writers)
     (done : (place : ℕ) (view : WriterView) → At views place view → IsDone service place view × (view.stamped ≡ None)) where
   abbrev last : Table
   last = final.0
@@ -158,8 +162,8 @@ module _ (setup : Setup) (id made : ℕ) (views : List WriterView) (watch : Watc
   abbrev rule : IsShared setup last
   rule = final.1.0
 
-  abbrev fits : Fits setup rule.world rule.roll id (Service 0 made views watch service)
-  fits = rule.manned.each id (Service 0 made views watch service) final.1.1
+  abbrev fits : Fits setup rule.world rule.roll id (Service 0 made (with_views desk views) watch service)
+  fits = rule.manned.each id (Service 0 made (with_views desk views) watch service) final.1.1
 
   known : (place : ℕ) (view : WriterView) → At views place view → view ≡ writer rule.world place
   known place view at = (fits.4.each place view at).0
@@ -172,6 +176,13 @@ module _ (setup : Setup) (id made : ℕ) (views : List WriterView) (watch : Watc
 
   pub closed_account : IsAccount views service
   closed_account = ∣ (rule.world, rule.kept.owned, writers_are, sym fits.0) ∣₁
+
+  -- the service has the reading pass
+  pub closed_goes : (known : ServiceView) → desk.stage ≡ Here known → GoesOn known service
+  closed_goes known is =
+      let stage : rule.roll.stage ≡ Here known = fits.6 ∙ is in
+      subst (λ (z : ServiceView). GoesOn z service) (sym (rule.manned.here known stage))
+      (subst (GoesOn rule.roll.passed) (sym fits.0) (rule.manned.goes_on (subst IsMade (sym stage) tt)))
 
   past_taken : (place : ℕ) → length views ≤ place → taken_of service place ≡ none_taken
   past_taken place past = let many = ap (λ (s : ServiceView). length s.taken) fits.0 in let all = rule.kept.owned.all_taken in let of_world = rule.kept.writers in

@@ -1,5 +1,6 @@
 pub mod Standing
 pub mod Bodies
+pub mod Passing
 pub mod Turns
 pub mod WriterMoves
 pub mod WriterEnds
@@ -10,6 +11,7 @@ pub mod Rests
 pub mod Storing
 pub mod Loading
 pub mod TakingUp
+pub mod Staging
 pub mod Making
 pub mod Owners
 pub mod Closing

@@ -9,11 +9,11 @@ use Rattle.std.proofs.Common.{⊎_elim}
 use Rattle.commit_body.specs.declared.body.CommitBody.{CommitBody}
 use Rattle.chunk_plain.specs.Setup.{Setup}
 use Rattle.chunk_plain.specs.Payload.{byte_of, byte_in}
-use Rattle.chunk_plain.specs.Views.{At, WriterView, ServiceView, taken_of}
+use Rattle.chunk_plain.specs.Views.{At, ServiceView, taken_of}
 use Rattle.chunk_plain.specs.Owned.{times}
 use Rattle.chunk_plain.specs.Words.{IsServing, ShowsFound, IsTakenPayload}
 use Rattle.chunk_plain.proofs.Lists.{at_some}
-use Rattle.chunk_words.specs.Knows.{Watch, Lifted, Service, hand_of, made_of, joined_of, watch_of, service_of, by_service}
+use Rattle.chunk_words.specs.Knows.{Watch, Desk, Lifted, Service, hand_of, made_of, desk_of, watch_of, service_of, by_service}
 use Rattle.chunk_words.specs.Moves.{Mine, IsWordOf, Tells, Loads, ReadsOn, LoadsUpTo}
 use Rattle.chunk_words.specs.Seats.{IsService}
 
@@ -34,12 +34,12 @@ bytes_next index word size old new whole puts many is inside so_far j below less
     subst (λ i. byte_in new i ≡ byte_in whole i) same (puts.here m (omega arith) (omega arith) ∙ is m (omega arith) (omega arith)))
     (cases_lt j (8 * index))
 
-pub service_by : (m : Mine) (hand made : ℕ) (joined : List WriterView) (watch : Watch) (view : ServiceView) (carried : List (ℕ × Option CommitBody)) → m ≡ (Service hand made joined watch view, carried) → IsService m
-service_by m hand made joined watch view carried is = subst IsService (sym is) refl
+pub service_by : (m : Mine) (hand made : ℕ) (desk : Desk) (watch : Watch) (view : ServiceView) (carried : List (ℕ × Option CommitBody)) → m ≡ (Service hand made desk watch view, carried) → IsService m
+service_by m hand made desk watch view carried is = subst IsService (sym is) refl
 
 -- the seat is the service's between two loads
 pub between_service : (chunk index size : ℕ) (bytes : List ℕ) (me mid : Mine) → LoadsUpTo chunk index size bytes me mid → IsService mid
-between_service chunk index size bytes me mid so_far = service_by mid (hand_of me.0) (made_of me.0) (joined_of me.0) so_far.watch (service_of me.0) me.1 so_far.new_is
+between_service chunk index size bytes me mid so_far = service_by mid (hand_of me.0) (made_of me.0) (desk_of me.0) so_far.watch (service_of me.0) me.1 so_far.new_is
 
 pub loads_none : (chunk size : ℕ) (bytes : List ℕ) (me : Mine) → IsService me → LoadsUpTo chunk 0 size bytes me me
 loads_none chunk size bytes me service = record {

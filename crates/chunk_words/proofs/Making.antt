@@ -15,7 +15,7 @@ use Rattle.atomic_table.proofs.Lists.{at_longer, at_last, at_map, set_here, set_
 use Rattle.commit_body.specs.declared.body.CommitBody.{CommitBody}
 use Rattle.chunk_plain.specs.declared.setup.Spot.{Spot}
 use Rattle.chunk_plain.specs.Setup.{Setup, spot, no_spot, IsLaid}
-use Rattle.chunk_plain.specs.Views.{At, WriterView, ServiceView, newcomer}
+use Rattle.chunk_plain.specs.Views.{At, ServiceView, newcomer, newcomer_service}
 use Rattle.chunk_plain.specs.World.{World, writer}
 use Rattle.chunk_plain.specs.Stored.{Stored, stored_at}
 use Rattle.chunk_plain.specs.Shows.{IsFreeBody}
@@ -24,7 +24,7 @@ use Rattle.chunk_plain.specs.Words.{IsAtRest}
 use Rattle.chunk_plain.specs.Plain.{first_world}
 use Rattle.chunk_plain.proofs.Lists.{at_inside, at_one, at_more}
 use Rattle.chunk_plain.proofs.MadeLemmas.{all_same, first_kept, first_sits}
-use Rattle.chunk_words.specs.Knows.{Watch, Nothing, Knows, Spent, Writer, Service, put, view_of}
+use Rattle.chunk_words.specs.Knows.{Watch, Nothing, Unmade, Desk, first_desk, Knows, Spent, Writer, Service, Pass, put, view_of}
 use Rattle.chunk_words.specs.Places.{words_for, words_before, payload_start, payload_words, word_total}
 use Rattle.chunk_words.specs.Rule.{Roll, IsIn, Fits, IsShared, first_of}
 use Rattle.chunk_words.specs.Made.{HasStarts, HasFreeBodies, HasWriterSeats}
@@ -102,7 +102,7 @@ free_list setup bodies o = record {
 }
 
 first_roll : Roll
-first_roll = record { seats = λ _. 0; server = 0; hands = λ _. 0; hand = 0; made = 0; joined = 0 }
+first_roll = record { seats = λ _. 0; server = 0; hands = λ _. 0; hand = 0; made = 0; joined = 0; stage = Unmade; keeper = 0; passed = newcomer_service }
 
 pub starts_shared : (setup : Setup) (words : List ℕ) (bodies : List (Option CommitBody)) → IsLaid setup → words ≡ replicate (word_total setup) 0 → HasFreeBodies setup.spots (length setup.spots) bodies
     → IsShared setup (opening words bodies (first_of setup))
@@ -134,25 +134,27 @@ starts_shared setup words bodies laid zero_ o =
         least = omega arith;
         fresh = λ k high. (fresh k, refl);
         seated = λ k low below. absurd (omega arith);
-        staffed = ([], Nothing, refl);
+        staffed = (first_desk, Nothing, refl);
         each = first_fits;
         handed = λ k chunk out. absurd (omega arith);
         lifted = λ chunk out. absurd (omega arith);
+        goes_on = λ made. absurd made;
+        here = λ view is. absurd cc;
       };
     }
   where
     first_fits : (seat : ℕ) (knows : Knows) → At (first_of setup ∷ []) seat knows → Fits setup (first_world setup) first_roll seat knows
     first_fits zero knows at = subst (λ k. Fits setup (first_world setup) first_roll 0 k) (some-injective (first_of setup) knows at)
-        (refl, refl, refl, refl, record { count = refl; each = λ place view there. absurd (some-ne-none view (sym there)) }, tt)
+        (refl, refl, refl, refl, record { count = refl; each = λ place view there. absurd (some-ne-none view (sym there)) }, tt, refl)
     first_fits (suc seat) knows at = absurd (some-ne-none knows (sym at))
 
 -- ---- a writer's seat is made
 
 -- each seat is an old one that isn't the service's, the service's, or the new one
-pub splits_shared : (setup : Setup) (id made : ℕ) (joined : List WriterView) (watch : Watch) (v : ServiceView) → made < length setup.writers
-    → Splits (IsShared setup) id (Service 0 made joined watch v) (Service 0 (made + 1) joined watch v) (Writer made 0 newcomer)
-splits_shared setup id made joined watch v inside s r at =
-    let old = Service 0 made joined watch v in let more = Service 0 (made + 1) joined watch v in let one = Writer made 0 newcomer in
+pub splits_shared : (setup : Setup) (id made : ℕ) (desk : Desk) (watch : Watch) (v : ServiceView) → made < length setup.writers
+    → Splits (IsShared setup) id (Service 0 made desk watch v) (Service 0 (made + 1) desk watch v) (Writer made 0 newcomer)
+splits_shared setup id made desk watch v inside s r at =
+    let old = Service 0 made desk watch v in let more = Service 0 (made + 1) desk watch v in let one = Writer made 0 newcomer in
     let f = r.manned.each id old at in let world = r.world in
     let seat = length (set s.views id more) in
     let made_is : r.roll.made ≡ made = f.3 in
@@ -183,17 +185,17 @@ splits_shared setup id made joined watch v inside s r at =
             subst (λ j. At (set s.views id more ++ one ∷ []) j (Writer k (r.roll.hands k) (writer world k))) (sym (put_other r.roll.seats made seat k differs))
             (at_longer (set s.views id more) (one ∷ []) (r.roll.seats k) (Writer k (r.roll.hands k) (writer world k)) (set_else s.views id (r.roll.seats k) more apart ∙ was)));
         staffed = (
-          joined,
+          desk,
           watch,
-          subst (λ j. At (set s.views id more ++ one ∷ []) j (Service r.roll.hand (made + 1) joined watch world.service)) (sym f.1)
-              (subst (λ h. At (set s.views id more ++ one ∷ []) id (Service h (made + 1) joined watch world.service)) (sym f.2)
-              (subst (λ w. At (set s.views id more ++ one ∷ []) id (Service 0 (made + 1) joined watch w)) f.0
+          subst (λ j. At (set s.views id more ++ one ∷ []) j (Service r.roll.hand (made + 1) desk watch world.service)) (sym f.1)
+              (subst (λ h. At (set s.views id more ++ one ∷ []) id (Service h (made + 1) desk watch world.service)) (sym f.2)
+              (subst (λ w. At (set s.views id more ++ one ∷ []) id (Service 0 (made + 1) desk watch w)) f.0
               (at_longer (set s.views id more) (one ∷ []) id more (set_here s.views id more in_views)))),
         );
         each = λ j knows there. ⊎_elim
             (λ before. ⊎_elim
             (λ here. subst (λ i. Fits setup world roll i knows) (sym here.0) (subst (λ k. Fits setup world roll id k) here.1
-            (f.0, f.1, f.2, refl, record { count = f.4.count; each = f.4.each }, f.5)))
+            (f.0, f.1, f.2, refl, record { count = f.4.count; each = f.4.each }, f.5, f.6)))
             (λ other. still_fits setup world r.roll j made seat knows made_is (r.manned.each j knows other.1) (λ same. other.0 (sym same ∙ f.1)))
             (at_set s.views id j more knows before))
             (λ last. subst (λ i. Fits setup world roll i knows) (sym last.0) (subst (λ k. Fits setup world roll seat k) last.1
@@ -201,6 +203,8 @@ splits_shared setup id made joined watch v inside s r at =
             (at_more (set s.views id more) one knows j there);
         handed = r.manned.handed;
         lifted = r.manned.lifted;
+        goes_on = r.manned.goes_on;
+        here = r.manned.here;
       };
     }
   where
@@ -209,7 +213,8 @@ splits_shared setup id made joined watch v inside s r at =
     still_fits setup world roll j made seat Spent same fits apart = tt
     still_fits setup world roll j made seat (Writer k hand view) same fits apart =
         let below = fits.3 in (fits.0, put_other roll.seats made seat k (λ e. absurd (omega arith)) ∙ fits.1, fits.2, omega arith, fits.4)
-    still_fits setup world roll j made seat (Service hand n views watch view) same fits apart = absurd (apart fits.1)
+    still_fits setup world roll j made seat (Pass view) same fits apart = fits
+    still_fits setup world roll j made seat (Service hand n desk watch view) same fits apart = absurd (apart fits.1)
 
 -- ---- the seats
 

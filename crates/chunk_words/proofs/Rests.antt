@@ -1,5 +1,5 @@
 -- A seat is at rest again where a call of it ends.
-use Rattle.std.proofs.Common.{◌≡◌, ℕ, ◌<◌, [], length, subst, sym, ap, ◌∙◌, arith}
+use Rattle.std.proofs.Common.{◌≡◌, ℕ, ◌<◌, [], length, refl, subst, sym, ap, ◌∙◌, arith}
 use Rattle.page_geometry.specs.declared.chunk_header.ChunkHeader.{ChunkHeader}
 use Rattle.chunk_plain.specs.Setup.{Setup, producer_of, IsChunkOf, IsLaid}
 use Rattle.chunk_plain.specs.Views.{Held, WriterView, ServiceView}
@@ -8,9 +8,9 @@ use Rattle.chunk_plain.specs.Words.{IsAtRest, IsServing, LooksAt}
 use Rattle.chunk_words.specs.declared.host.HostTable.{HostTable}
 use Rattle.chunk_words.specs.declared.seats.WriterSeat.{WriterSeat}
 use Rattle.chunk_words.specs.declared.seats.ServiceSeat.{ServiceSeat}
-use Rattle.chunk_words.specs.Knows.{Watch, Writer, Service, place_of, view_of, made_of, joined_of, watch_of, service_of}
+use Rattle.chunk_words.specs.Knows.{Watch, Desk, Writer, Service, place_of, view_of, made_of, desk_of, joined_of, service_of}
 use Rattle.chunk_words.specs.Moves.{Mine, IsSeen}
-use Rattle.chunk_words.specs.Seats.{IsIdle}
+use Rattle.chunk_words.specs.Seats.{IsIdle, IsServiceIdle}
 use Rattle.chunk_words.specs.Sits.{Sits, Attends}
 
 pub idle_now : (place : ℕ) (old new : Mine) (view : WriterView) → IsIdle place old → new ≡ (Writer (place_of old.0) 0 view, []) → IsIdle place new
@@ -31,27 +31,26 @@ sits_now table old new view sits joined same_place is rests = record {
   };
 }
 
--- the service's seat has this view, which is one between two calls
-pub attends_now : (table : HostTable) (old new : ServiceSeat) (watch : Watch) (view : ServiceView) → Attends table old → new.seat.table_id ≡ old.seat.table_id
-    → new.seat.me ≡ (Service 0 (made_of old.seat.me.0) (joined_of old.seat.me.0) watch view, []) → IsServing table.layout view → IsSeen view → Attends table new
-attends_now table old new watch view attends joined is serving seen =
+-- the service's seat has this view, which is one between two calls, and this of the other seats
+pub attends_as : (table : HostTable) (old new : ServiceSeat) (desk : Desk) (watch : Watch) (view : ServiceView) → Attends table old → new.seat.table_id ≡ old.seat.table_id
+    → desk.joined ≡ joined_of old.seat.me.0 → new.seat.me ≡ (Service 0 (made_of old.seat.me.0) desk watch view, []) → IsServing table.layout view → IsSeen view → Attends table new
+attends_as table old new desk watch view attends joined same is serving seen =
     let view_is : service_of new.seat.me.0 ≡ view = ap (λ (m : Mine). service_of m.0) is in
-    let watch_is : watch_of new.seat.me.0 ≡ watch = ap (λ (m : Mine). watch_of m.0) is in
-    let made_is : made_of new.seat.me.0 ≡ made_of old.seat.me.0 = ap (λ (m : Mine). made_of m.0) is in
-    let joined_is : joined_of new.seat.me.0 ≡ joined_of old.seat.me.0 = ap (λ (m : Mine). joined_of m.0) is in
     record {
       joined = joined ∙ attends.joined;
       waits = record {
-        idle = is ∙ (ap (λ n. let m : Mine = (Service 0 n (joined_of old.seat.me.0) watch view, []) in m) (sym made_is)
-            ∙ (ap (λ l. let m : Mine = (Service 0 (made_of new.seat.me.0) l watch view, []) in m) (sym joined_is)
-            ∙ (ap (λ w. let m : Mine = (Service 0 (made_of new.seat.me.0) (joined_of new.seat.me.0) w view, []) in m) (sym watch_is)
-            ∙ ap (λ v. let m : Mine = (Service 0 (made_of new.seat.me.0) (joined_of new.seat.me.0) (watch_of new.seat.me.0) v, []) in m) (sym view_is))));
+        idle = subst IsServiceIdle (sym is) refl;
         serving = subst (IsServing table.layout) (sym view_is) serving;
         seen = subst IsSeen (sym view_is) seen;
-        all_made = made_is ∙ attends.waits.all_made;
-        none_joined = joined_is ∙ attends.waits.none_joined;
+        all_made = ap (λ (m : Mine). made_of m.0) is ∙ attends.waits.all_made;
+        none_joined = ap (λ (m : Mine). joined_of m.0) is ∙ (same ∙ attends.waits.none_joined);
       };
     }
+
+-- and nothing changed of the other seats
+pub attends_now : (table : HostTable) (old new : ServiceSeat) (watch : Watch) (view : ServiceView) → Attends table old → new.seat.table_id ≡ old.seat.table_id
+    → new.seat.me ≡ (Service 0 (made_of old.seat.me.0) (desk_of old.seat.me.0) watch view, []) → IsServing table.layout view → IsSeen view → Attends table new
+attends_now table old new watch view attends joined is serving seen = attends_as table old new (desk_of old.seat.me.0) watch view attends joined refl is serving seen
 
 -- a producer's chunk is one of the table's
 pub chunk_of_table : (setup : Setup) (producer chunk : ℕ) → IsLaid setup → IsChunkOf setup producer chunk → chunk < length setup.spots

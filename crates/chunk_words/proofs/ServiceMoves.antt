@@ -8,7 +8,7 @@ use Rattle.page_geometry.specs.declared.chunk_header.ChunkHeader.{ChunkHeader}
 use Rattle.page_geometry.specs.declared.chunk_state.ChunkState.TheVariants as state
 use Rattle.commit_body.specs.declared.body.CommitBody.{CommitBody}
 use Rattle.chunk_plain.specs.Setup.{Setup, spot}
-use Rattle.chunk_plain.specs.Views.{At, Head, Content, WriterView, ServiceView, taken_of}
+use Rattle.chunk_plain.specs.Views.{At, Head, Content, ServiceView, taken_of}
 use Rattle.chunk_plain.specs.World.{World, Status, Unclaimed, Ready, Reading, status}
 use Rattle.chunk_plain.specs.Steps.{looks_at, takes_in, served, serviced}
 use Rattle.chunk_plain.specs.Drafts.{head_of}
@@ -18,9 +18,11 @@ use Rattle.chunk_plain.specs.Words.{LooksAt}
 use Rattle.chunk_plain.specs.Plain.{IsKept}
 use Rattle.chunk_plain.proofs.Owned.{looks_owned}
 use Rattle.chunk_plain.proofs.KeptService.{serviced_shown, header_reads, take_kept}
-use Rattle.chunk_words.specs.Knows.{Watch, Nothing, Full, Known, Lifted, Service, hand_with}
+use Rattle.chunk_words.specs.Knows.{Watch, Desk, Nothing, Full, Known, Lifted, Service, hand_with}
 use Rattle.chunk_words.specs.Places.{payload_start, payload_words}
-use Rattle.chunk_words.specs.Rule.{Roll, IsIn, IsOf, IsRead, IsFull, IsWatched, HasHeader, IsManned, IsShared}
+use Rattle.chunk_words.specs.Rule.{Roll, IsIn, IsOf, IsRead, IsFull, IsWatched, HasHeader, IsMade, IsManned, IsShared}
+use Rattle.chunk_words.specs.GoesOn.{GoesOn}
+use Rattle.chunk_words.proofs.Passing.{goes_same, goes_further, goes_look, goes_take}
 use Rattle.chunk_words.specs.Moves.{Mine, watch_for, IsSeen, IsTakenWith, Looks, Serves, Takes, Loads}
 use Rattle.chunk_words.proofs.Standing.{words_front}
 use Rattle.chunk_words.proofs.Bodies.{with_service_hand, in_before_service, bodies_stay, bodies_out}
@@ -40,11 +42,12 @@ pub same_hand : (roll : Roll) (hand chunk : ℕ) → roll.hand ≡ hand → IsIn
 same_hand roll hand chunk same in_now = record { with_none = in_now.with_none; not_service = λ e. in_now.not_service (sym same ∙ e) }
 
 -- A step that reads a word and changes what the service sees and watches, and no chunk.
-pub serviced_allowed : (setup : Setup) (s : Table) (r : IsShared setup s) (id index made : ℕ) (joined : List WriterView) (watch seen : Watch) (v view : ServiceView)
-    → At s.views id (Service 0 made joined watch v) → IsKept setup r.front r.slots (serviced r.world view) → IsWatched setup (serviced r.world view) seen
-    → IsShared setup (record { words = set s.words index (get_or s.words index 0); homes = s.homes; views = set s.views id (Service 0 made joined seen view) })
-serviced_allowed setup s r id index made joined watch seen v view at kept watched =
-    let f = r.manned.each id (Service 0 made joined watch v) at in
+pub serviced_allowed : (setup : Setup) (s : Table) (r : IsShared setup s) (id index made : ℕ) (desk : Desk) (watch seen : Watch) (v view : ServiceView)
+    → At s.views id (Service 0 made desk watch v) → IsKept setup r.front r.slots (serviced r.world view) → (IsMade desk.stage → GoesOn r.world.service view)
+    → IsWatched setup (serviced r.world view) seen
+    → IsShared setup (record { words = set s.words index (get_or s.words index 0); homes = s.homes; views = set s.views id (Service 0 made desk seen view) })
+serviced_allowed setup s r id index made desk watch seen v view at kept goes watched =
+    let f = r.manned.each id (Service 0 made desk watch v) at in
     record {
       world = serviced r.world view;
       front = r.front;
@@ -54,46 +57,46 @@ serviced_allowed setup s r id index made joined watch seen v view at kept watche
       kept = kept;
       words = words_loaded setup s.words r.front r.slots index r.words;
       bodies = bodies_stay setup s.homes r.slots r.slots r.roll (with_service_hand r.roll 0) r.bodies (λ d. refl) (λ d. same_hand r.roll 0 d f.2);
-      manned = service_turn setup r.world (serviced r.world view) r.roll s.views id 0 0 made joined watch seen v view r.manned at (serviced_change r.world view) (λ d e. absurd (omega arith)) watched;
+      manned = service_turn setup r.world (serviced r.world view) r.roll s.views id 0 0 made desk watch seen v view r.manned at (serviced_change r.world view) goes (λ d e. absurd (omega arith)) watched;
     }
 
 -- what the service sees is part of the world as it is owned now
 seen_now : (setup : Setup) (front : List ℕ) (slots : List Stored) (world : World) (view : ServiceView) → IsKept setup front slots world → world.service ≡ view → IsSeen view
 seen_now setup front slots world view kept same = ∣ (world, kept.owned, same) ∣₁
 
-module _ (setup : Setup) (count id made : ℕ) (joined : List WriterView) where
+module _ (setup : Setup) (count id made : ℕ) (desk : Desk) where
   -- ---- look
 
   pub peeks_allowed : (chunk : ℕ) (watch : Watch) (v : ServiceView) → chunk < length setup.spots
-      → Allows (IsShared setup) count id (Service 0 made joined watch v, []) (spot setup chunk).page (λ found. found)
-      (λ found new. new ≡ (Service 0 made joined (watch_for chunk found (spot setup chunk).place) v, []))
+      → Allows (IsShared setup) count id (Service 0 made desk watch v, []) (spot setup chunk).page (λ found. found)
+      (λ found new. new ≡ (Service 0 made desk (watch_for chunk found (spot setup chunk).place) v, []))
   peeks_allowed chunk watch v inside s r deep at small =
-      let f = r.manned.each id (Service 0 made joined watch v) at in
+      let f = r.manned.each id (Service 0 made desk watch v) at in
       let found = get_or s.words (spot setup chunk).page 0 in
       let state = subst (λ w. HasState w (spot setup chunk).place (state_of (status r.world chunk))) (sym (page_is setup s r chunk inside)) (r.kept.shown.page chunk inside).state in
       let seen = watch_for chunk found (spot setup chunk).place in (
-        Service 0 made joined seen v,
+        Service 0 made desk seen v,
         keeps,
         tt,
-        subst (λ z. IsShared setup (record { words = set s.words (spot setup chunk).page found; homes = s.homes; views = set s.views id (Service 0 made joined seen z) })) (sym f.0)
-            (serviced_allowed setup s r id (spot setup chunk).page made joined watch seen v r.world.service at r.kept (watch_holds setup r.world chunk found (spot setup chunk).place state)),
+        subst (λ z. IsShared setup (record { words = set s.words (spot setup chunk).page found; homes = s.homes; views = set s.views id (Service 0 made desk seen z) })) (sym f.0)
+            (serviced_allowed setup s r id (spot setup chunk).page made desk watch seen v r.world.service at r.kept (λ _. goes_same r.world.service) (watch_holds setup r.world chunk found (spot setup chunk).place state)),
         refl,
       )
 
   pub finds_allowed : (chunk word : ℕ) (v : ServiceView) → chunk < length setup.spots
-      → Allows (IsShared setup) count id (Service 0 made joined (watch_for chunk word (spot setup chunk).place) v, []) (setup.pages + chunk) (λ found. found)
-      (Looks setup chunk word (Service 0 made joined (watch_for chunk word (spot setup chunk).place) v, []))
+      → Allows (IsShared setup) count id (Service 0 made desk (watch_for chunk word (spot setup chunk).place) v, []) (setup.pages + chunk) (λ found. found)
+      (Looks setup chunk word (Service 0 made desk (watch_for chunk word (spot setup chunk).place) v, []))
   finds_allowed chunk word v inside s r deep at small =
       let watch = watch_for chunk word (spot setup chunk).place in
-      let f = r.manned.each id (Service 0 made joined watch v) at in
+      let f = r.manned.each id (Service 0 made desk watch v) at in
       let header = get_or s.words (setup.pages + chunk) 0 in let is = header_is setup s r chunk inside in
       let finds = finds_by setup r.front r.slots r.world chunk word r.kept inside f.5 in
       let view = looks_at r.world.service chunk word (packed (unpacked header)) finds.found in
       let kept = serviced_shown setup r.front r.slots r.world view r.kept (looks_owned r.world chunk word (packed (unpacked header)) finds.found r.kept.owned finds.there) in (
-        Service 0 made joined Nothing view,
+        Service 0 made desk Nothing view,
         keeps,
         tt,
-        serviced_allowed setup s r id (setup.pages + chunk) made joined watch Nothing v view at kept tt,
+        serviced_allowed setup s r id (setup.pages + chunk) made desk watch Nothing v view at kept (λ _. goes_look r.world.service chunk word (packed (unpacked header)) finds.found) tt,
         record {
           view = view;
           looks = record {
@@ -110,17 +113,17 @@ module _ (setup : Setup) (count id made : ℕ) (joined : List WriterView) where
   -- ---- take: the header of a complete chunk, then the state
 
   pub knows_allowed : (chunk : ℕ) (v : ServiceView) → chunk < length setup.spots
-      → Allows (IsShared setup) count id (Service 0 made joined (Full chunk) v, []) (setup.pages + chunk) (λ found. found)
-      (λ found new. new ≡ (Service 0 made joined (Known chunk found) v, []))
+      → Allows (IsShared setup) count id (Service 0 made desk (Full chunk) v, []) (setup.pages + chunk) (λ found. found)
+      (λ found new. new ≡ (Service 0 made desk (Known chunk found) v, []))
   knows_allowed chunk v inside s r deep at small =
-      let f = r.manned.each id (Service 0 made joined (Full chunk) v) at in
+      let f = r.manned.each id (Service 0 made desk (Full chunk) v) at in
       let header = get_or s.words (setup.pages + chunk) 0 in
       let shows = subst (λ w. ShowsHeader setup w (status r.world chunk)) (sym (header_is setup s r chunk inside)) (r.kept.shown.header chunk inside) in (
-        Service 0 made joined (Known chunk header) v,
+        Service 0 made desk (Known chunk header) v,
         keeps,
         tt,
-        subst (λ z. IsShared setup (record { words = set s.words (setup.pages + chunk) header; homes = s.homes; views = set s.views id (Service 0 made joined (Known chunk header) z) })) (sym f.0)
-            (serviced_allowed setup s r id (setup.pages + chunk) made joined (Full chunk) (Known chunk header) v r.world.service at r.kept (full_header header (status r.world chunk) f.5 shows)),
+        subst (λ z. IsShared setup (record { words = set s.words (setup.pages + chunk) header; homes = s.homes; views = set s.views id (Service 0 made desk (Known chunk header) z) })) (sym f.0)
+            (serviced_allowed setup s r id (setup.pages + chunk) made desk (Full chunk) (Known chunk header) v r.world.service at r.kept (λ _. goes_same r.world.service) (full_header header (status r.world chunk) f.5 shows)),
         refl,
       )
     where
@@ -133,17 +136,17 @@ module _ (setup : Setup) (count id made : ℕ) (joined : List WriterView) where
       full_header header (Reading k i m) full shows = absurd full
 
   pub misses_allowed : (chunk word header index : ℕ) (watch : Watch) (v : ServiceView)
-      → Allows (IsShared setup) count id (Service 0 made joined watch v, []) index (λ found. found)
-      (λ _. Serves (λ view. looks_at view chunk word header None) (Service 0 made joined watch v, []))
+      → Allows (IsShared setup) count id (Service 0 made desk watch v, []) index (λ found. found)
+      (λ _. Serves (λ view. looks_at view chunk word header None) (Service 0 made desk watch v, []))
   misses_allowed chunk word header index watch v s r deep at small =
-      let f = r.manned.each id (Service 0 made joined watch v) at in
+      let f = r.manned.each id (Service 0 made desk watch v) at in
       let view = looks_at r.world.service chunk word header None in
       let kept = serviced_shown setup r.front r.slots r.world view r.kept (looks_owned r.world chunk word header None r.kept.owned (λ one e. absurd cc)) in (
-        Service 0 made joined Nothing (looks_at v chunk word header None),
+        Service 0 made desk Nothing (looks_at v chunk word header None),
         keeps,
         tt,
-        subst (λ z. IsShared setup (record { words = set s.words index (get_or s.words index 0); homes = s.homes; views = set s.views id (Service 0 made joined Nothing (looks_at z chunk word header None)) })) (sym f.0)
-            (serviced_allowed setup s r id index made joined watch Nothing v view at kept tt),
+        subst (λ z. IsShared setup (record { words = set s.words index (get_or s.words index 0); homes = s.homes; views = set s.views id (Service 0 made desk Nothing (looks_at z chunk word header None)) })) (sym f.0)
+            (serviced_allowed setup s r id index made desk watch Nothing v view at kept (λ _. goes_look r.world.service chunk word header None) tt),
         record { new_is = refl; seen = seen_now setup r.front r.slots (serviced r.world view) (looks_at v chunk word header None) kept (ap (λ z. looks_at z chunk word header None) (sym f.0)) },
       )
 
@@ -167,11 +170,11 @@ module _ (setup : Setup) (count id made : ℕ) (joined : List WriterView) where
       → (unpacked header).writer_id ≡ place + 1 → (unpacked header).chunk_id ≡ (taken_of v place).count
       → ((found : ℕ) → found < 2 ^ 64 → HasState found (spot setup chunk).place state.Complete → SetsState found (bit_and found mask) (spot setup chunk).place state.BeingRead)
       → ((found : ℕ) → KeepsOthers found (bit_and found mask) (spot setup chunk).place)
-      → Allows (IsShared setup) count id (Service 0 made joined (Known chunk header) v, []) (spot setup chunk).page (λ found. bit_and found mask)
-      (λ _. Takes place chunk (spot setup chunk).payload_size word (unpacked header) (Service 0 made joined (Known chunk header) v, []))
+      → Allows (IsShared setup) count id (Service 0 made desk (Known chunk header) v, []) (spot setup chunk).page (λ found. bit_and found mask)
+      (λ _. Takes place chunk (spot setup chunk).payload_size word (unpacked header) (Service 0 made desk (Known chunk header) v, []))
   takes_allowed place chunk word header mask v inside inside_w writer_is id_is sets keep s r deep at small =
       let at_ = spot setup chunk in let found = get_or s.words at_.page 0 in let new = bit_and found mask in
-      let world = r.world in let f = r.manned.each id (Service 0 made joined (Known chunk header) v) at in
+      let world = r.world in let f = r.manned.each id (Service 0 made desk (Known chunk header) v) at in
       let is = page_is setup s r chunk inside in let c_inside = chunk_inside setup s r chunk inside in
       let known = known_by world chunk header (status world chunk) refl f.5 in let content = known.content in
       let reads = header_reads setup header known.place known.at_id (head_of content) known.header_is in
@@ -196,12 +199,13 @@ module _ (setup : Setup) (count id made : ℕ) (joined : List WriterView) where
       let roll = with_service_hand r.roll (hand_with chunk) in
       let i = (unpacked header).chunk_id in
       let i_is : i ≡ n = fields_id ∙ same_id in
-      let turn = service_turn setup world next r.roll s.views id 0 (hand_with chunk) made joined (Known chunk header) (Lifted chunk place i content) v view r.manned at
+      let turn = service_turn setup world next r.roll s.views id 0 (hand_with chunk) made desk (Known chunk header) (Lifted chunk place i content) v view r.manned at
       (served_change world chunk view to c_inside (λ other has. absurd (subst (IsOf other) ready has)))
+      (λ _. goes_further world.service (looks_at world.service chunk word (packed (unpacked header)) None) view (goes_look world.service chunk word (packed (unpacked header)) None) (goes_take _ place chunk))
       (λ d e. let same : chunk ≡ d = omega arith in subst (λ c. IsRead (status next c)) same (subst IsRead (sym now) tt))
       (subst (λ j. status next chunk ≡ Reading place j content) (sym i_is) now) in
       let named = (r.kept.owned.counts place).named n chunk content ((r.kept.owned.owns place chunk).ready_is n content ready).0 in (
-        Service (hand_with chunk) made joined (Lifted chunk place i content) (takes_in (looks_at v chunk word (packed (unpacked header)) None) place chunk),
+        Service (hand_with chunk) made desk (Lifted chunk place i content) (takes_in (looks_at v chunk word (packed (unpacked header)) None) place chunk),
         takes chunk (Some slot.body.0),
         home,
         record {
@@ -214,7 +218,7 @@ module _ (setup : Setup) (count id made : ℕ) (joined : List WriterView) where
           words = words_front setup s.words r.front r.slots at_.page new (page_front setup s r chunk inside) (front_many setup s r) r.words;
           bodies = bodies_out setup s.homes r.slots r.roll roll chunk r.bodies (λ in_now. in_now.not_service refl)
               (λ d _. in_before_service r.roll (hand_with chunk) d (no_slot r.roll d f.2));
-          manned = subst (λ z. IsManned setup next roll (set s.views id (Service (hand_with chunk) made joined (Lifted chunk place i content) (takes_in (looks_at z chunk word (packed (unpacked header)) None) place chunk)))) (sym f.0) turn;
+          manned = subst (λ z. IsManned setup next roll (set s.views id (Service (hand_with chunk) made desk (Lifted chunk place i content) (takes_in (looks_at z chunk word (packed (unpacked header)) None) place chunk)))) (sym f.0) turn;
         },
         record {
           content = content;
@@ -233,17 +237,17 @@ module _ (setup : Setup) (count id made : ℕ) (joined : List WriterView) where
   -- ---- load
 
   pub loads_allowed : (hand chunk index : ℕ) (watch : Watch) (v : ServiceView) (carried : List (ℕ × Option CommitBody)) → chunk < length setup.spots → index < payload_words setup chunk
-      → Allows (IsShared setup) count id (Service hand made joined watch v, carried) (payload_start setup chunk + index) (λ found. found)
-      (Loads chunk index (spot setup chunk).payload_size (Service hand made joined watch v, carried))
+      → Allows (IsShared setup) count id (Service hand made desk watch v, carried) (payload_start setup chunk + index) (λ found. found)
+      (Loads chunk index (spot setup chunk).payload_size (Service hand made desk watch v, carried))
   loads_allowed hand chunk index watch v carried inside less s r deep at small =
-      let f = r.manned.each id (Service hand made joined watch v) at in
+      let f = r.manned.each id (Service hand made desk watch v) at in
       let place = payload_start setup chunk + index in let word = get_or s.words place 0 in
       let seen = watch_on chunk (status r.world chunk) in
       let tells = tells_of setup r.front r.slots r.world chunk index word watch r.kept inside (r.words.payload_is chunk index inside less) f.5 in
       let roll = with_service_hand r.roll hand in
-      let turn = service_turn setup r.world r.world r.roll s.views id hand hand made joined watch seen v r.world.service r.manned at
-      (record { service = refl; writers = refl; still = λ other d x. x }) (λ d e. r.manned.lifted d (f.2 ∙ e)) (watch_on_true setup r.world chunk) in (
-        Service hand made joined seen v,
+      let turn = service_turn setup r.world r.world r.roll s.views id hand hand made desk watch seen v r.world.service r.manned at
+      (record { service = refl; writers = refl; still = λ other d x. x }) (λ _. goes_same r.world.service) (λ d e. r.manned.lifted d (f.2 ∙ e)) (watch_on_true setup r.world chunk) in (
+        Service hand made desk seen v,
         keeps,
         tt,
         record {
@@ -255,7 +259,7 @@ module _ (setup : Setup) (count id made : ℕ) (joined : List WriterView) where
           kept = r.kept;
           words = words_loaded setup s.words r.front r.slots place r.words;
           bodies = bodies_stay setup s.homes r.slots r.slots r.roll roll r.bodies (λ d. refl) (λ d. same_hand r.roll hand d f.2);
-          manned = subst (λ z. IsManned setup r.world roll (set s.views id (Service hand made joined seen z))) (sym f.0) turn;
+          manned = subst (λ z. IsManned setup r.world roll (set s.views id (Service hand made desk seen z))) (sym f.0) turn;
         },
         record { watch = seen; tells = subst (λ (z : ServiceView). Rattle.chunk_words.specs.Moves.Tells chunk index (spot setup chunk).payload_size word watch seen z) (sym f.0) tells; new_is = refl },
       )

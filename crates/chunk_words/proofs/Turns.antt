@@ -9,8 +9,10 @@ use Rattle.chunk_plain.specs.Views.{At, WriterView, ServiceView, newcomer}
 use Rattle.chunk_plain.specs.World.{World, Status, Unclaimed, Claimed, Stamped, Writing, Ready, Reading, status, writer}
 use Rattle.chunk_plain.specs.Steps.{moved, noted, served, serviced}
 use Rattle.chunk_plain.proofs.Lists.{changed, at_one, at_inside}
-use Rattle.chunk_words.specs.Knows.{Watch, Nothing, Started, Full, Known, Lifted, Knows, Spent, Writer, Service, hand_with, place_of, put}
-use Rattle.chunk_words.specs.Rule.{Roll, IsOf, IsRead, IsStarted, IsFull, HasHeader, IsWatched, Fits, IsManned}
+use Rattle.chunk_words.specs.Knows.{Watch, Desk, Nothing, Started, Full, Known, Lifted, Knows, Spent, Writer, Service, Pass, hand_with, place_of, put}
+use Rattle.chunk_words.specs.Rule.{Roll, IsOf, IsRead, IsStarted, IsFull, HasHeader, IsWatched, IsMade, Fits, IsManned}
+use Rattle.chunk_words.specs.GoesOn.{GoesOn}
+use Rattle.chunk_words.proofs.Passing.{goes_further}
 use Rattle.chunk_words.proofs.Bodies.{put_same, put_other, with_hand, with_service_hand}
 
 -- what a step of the writer at this place leaves of a chunk's status
@@ -95,17 +97,19 @@ fits_on setup world next roll seat place hand view Spent change joined apart fit
 fits_on setup world next roll seat place hand view (Writer other held known) change joined apart fits =
     let differs : other ≢ place = λ same. apart (ap roll.seats (sym same) ∙ fits.1) in
     (fits.0 ∙ sym (change.others other differs), fits.1, put_other roll.hands place hand other differs ∙ fits.2, fits.3, fits.4)
-fits_on setup world next roll seat place hand view (Service held made views watch known) change joined apart fits = (
+fits_on setup world next roll seat place hand view (Pass known) change joined apart fits = fits
+fits_on setup world next roll seat place hand view (Service held made desk watch known) change joined apart fits = (
   fits.0 ∙ sym change.service,
   fits.1,
   fits.2,
   fits.3,
   record {
     count = fits.4.count;
-    each = λ other one at. let differs : other ≢ place = λ same. absurd (let below = at_inside views one other at in let many = fits.4.count in omega arith) in
+    each = λ other one at. let differs : other ≢ place = λ same. absurd (let below = at_inside desk.joined one other at in let many = fits.4.count in omega arith) in
         let was = fits.4.each other one at in (was.0 ∙ sym (change.others other differs), put_other roll.hands place hand other differs ∙ was.1);
   },
   watch_stays setup world next place watch change.still fits.5,
+  fits.6,
 )
 
 pub writer_turn : (setup : Setup) (world next : World) (roll : Roll) (views : List Knows) (seat place hand now : ℕ) (known view : WriterView)
@@ -143,6 +147,8 @@ writer_turn setup world next roll views seat place hand now known view manned at
           (λ same. subst (λ p. IsOf p (status next chunk)) (sym same) (has chunk (sym (put_same roll.hands place now) ∙ (ap (put roll.hands place now) (sym same) ∙ out))))
           (λ differs. (change.still chunk).others other differs (manned.handed other chunk (sym (put_other roll.hands place now other differs) ∙ out)));
       lifted = λ chunk out. let was = manned.lifted chunk out in subst IsRead (sym ((change.still chunk).read was)) was;
+      goes_on = λ made. subst (GoesOn roll.passed) (sym change.service) (manned.goes_on made);
+      here = manned.here;
     }
 
 served_on : (setup : Setup) (world next : World) (roll : Roll) (seat hand : ℕ) (view : ServiceView) (knows : Knows) → IsServiceChange world next view
@@ -150,30 +156,31 @@ served_on : (setup : Setup) (world next : World) (roll : Roll) (seat hand : ℕ)
 served_on setup world next roll seat hand view Spent change apart fits = tt
 served_on setup world next roll seat hand view (Writer other held known) change apart fits =
     (subst (λ (l : List WriterView). known ≡ get_or l other newcomer) (sym change.writers) fits.0, fits.1, fits.2, fits.3, fits.4)
-served_on setup world next roll seat hand view (Service held made views watch known) change apart fits = absurd (apart fits.1)
+served_on setup world next roll seat hand view (Pass known) change apart fits = fits
+served_on setup world next roll seat hand view (Service held made desk watch known) change apart fits = absurd (apart fits.1)
 
-pub service_turn : (setup : Setup) (world next : World) (roll : Roll) (views : List Knows) (seat hand now made : ℕ) (joined : List WriterView) (watch seen : Watch) (known view : ServiceView)
-    → IsManned setup world roll views → At views seat (Service hand made joined watch known) → IsServiceChange world next view
-    → ((chunk : ℕ) → now ≡ hand_with chunk → IsRead (status next chunk)) → IsWatched setup next seen
-    → IsManned setup next (with_service_hand roll now) (set views seat (Service now made joined seen view))
-service_turn setup world next roll views seat hand now made joined watch seen known view manned at change has watches =
-    let fits = manned.each seat (Service hand made joined watch known) at in
-    let inside = at_inside views (Service hand made joined watch known) seat at in
+pub service_turn : (setup : Setup) (world next : World) (roll : Roll) (views : List Knows) (seat hand now made : ℕ) (desk : Desk) (watch seen : Watch) (known view : ServiceView)
+    → IsManned setup world roll views → At views seat (Service hand made desk watch known) → IsServiceChange world next view
+    → (IsMade desk.stage → GoesOn world.service view) → ((chunk : ℕ) → now ≡ hand_with chunk → IsRead (status next chunk)) → IsWatched setup next seen
+    → IsManned setup next (with_service_hand roll now) (set views seat (Service now made desk seen view))
+service_turn setup world next roll views seat hand now made desk watch seen known view manned at change goes has watches =
+    let fits = manned.each seat (Service hand made desk watch known) at in
+    let inside = at_inside views (Service hand made desk watch known) seat at in
     let same_writers : (place : ℕ) → writer next place ≡ writer world place = λ place. ap (λ (l : List WriterView). get_or l place newcomer) change.writers in
     record {
       most = subst (λ (l : List WriterView). roll.made ≤ length l) (sym change.writers) manned.most;
       least = manned.least;
       fresh = λ place high. let was = manned.fresh place high in (same_writers place ∙ was.0, was.1);
       seated = λ place low below. let old = manned.seated place low below in
-          let apart : roll.seats place ≢ seat = λ same. absurd (let one = at_one views (Writer place (roll.hands place) (writer world place)) (Service hand made joined watch known) seat (subst (λ s. At views s (Writer place (roll.hands place) (writer world place))) same old) at in cc) in
-          set_else views seat (roll.seats place) (Service now made joined seen view) apart ∙ subst (λ v. At views (roll.seats place) (Writer place (roll.hands place) v)) (sym (same_writers place)) old;
+          let apart : roll.seats place ≢ seat = λ same. absurd (let one = at_one views (Writer place (roll.hands place) (writer world place)) (Service hand made desk watch known) seat (subst (λ s. At views s (Writer place (roll.hands place) (writer world place))) same old) at in cc) in
+          set_else views seat (roll.seats place) (Service now made desk seen view) apart ∙ subst (λ v. At views (roll.seats place) (Writer place (roll.hands place) v)) (sym (same_writers place)) old;
       staffed = (
-        joined,
+        desk,
         seen,
-        subst (λ s. At (set views seat (Service now made joined seen view)) s (Service now roll.made joined seen next.service)) (sym fits.1)
-            (subst (λ m. At (set views seat (Service now made joined seen view)) seat (Service now m joined seen next.service)) (sym fits.3)
-            (subst (λ v. At (set views seat (Service now made joined seen view)) seat (Service now made joined seen v)) (sym change.service)
-            (set_here views seat (Service now made joined seen view) inside))),
+        subst (λ s. At (set views seat (Service now made desk seen view)) s (Service now roll.made desk seen next.service)) (sym fits.1)
+            (subst (λ m. At (set views seat (Service now made desk seen view)) seat (Service now m desk seen next.service)) (sym fits.3)
+            (subst (λ v. At (set views seat (Service now made desk seen view)) seat (Service now made desk seen v)) (sym change.service)
+            (set_here views seat (Service now made desk seen view) inside))),
       );
       each = λ other knows there. ⊎_elim
           (λ here. subst (λ s. Fits setup next (with_service_hand roll now) s knows) (sym here.0)
@@ -187,9 +194,13 @@ service_turn setup world next roll views seat hand now made joined watch seen kn
               each = λ place one at_one_. let was = fits.4.each place one at_one_ in (was.0 ∙ sym (same_writers place), was.1);
             },
             watches,
+            fits.6,
           )))
           (λ old. served_on setup world next roll other now view knows change (λ same. old.0 (sym same ∙ fits.1)) (manned.each other knows old.1))
-          (at_set views seat other (Service now made joined seen view) knows there);
+          (at_set views seat other (Service now made desk seen view) knows there);
       handed = λ place chunk out. change.still place chunk (manned.handed place chunk out);
       lifted = λ chunk out. has chunk out;
+      goes_on = λ made_. subst (GoesOn roll.passed) (sym change.service)
+          (goes_further roll.passed world.service view (manned.goes_on made_) (goes (subst IsMade fits.6 made_)));
+      here = manned.here;
     }

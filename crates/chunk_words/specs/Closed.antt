@@ -1,5 +1,5 @@
 -- A table that threads shared, once all its seats are back.
-use Rattle.std.specs.Prelude.{◌≡◌, ℕ, ◌+◌, ◌<◌, ◌≤◌, List, [], length, map, slice_index_or}
+use Rattle.std.specs.Prelude.{◌≡◌, ℕ, ◌+◌, List, [], length, map, slice_index_or}
 use Rattle.std.specs.Int.{bit_at}
 use Rattle.page_geometry.specs.declared.page_word.TheConstants.{CLAIM_BIT}
 use Rattle.page_geometry.specs.declared.chunk_state.ChunkState.TheVariants.{Free}

@@ -14,13 +14,30 @@ pub data Watch : Type 0 where
   -- it is being read, of this writer and under this id, with this content
   Lifted : (chunk place id : ℕ) → Content → Watch
 
+-- The reading pass of a table: it isn't made, or it is with whoever reads, or the service's seat has it in the midst of a call, with this view.
+pub data Stage : Type 0 where
+  Unmade : Stage
+  Away : Stage
+  Here : ServiceView → Stage
+
+-- What the service's seat has of the other seats: the views of the writers' that it took in again, and where the reading pass is.
+pub record Desk : Type 0 where
+  pub joined : List WriterView
+  pub stage : Stage
+
+-- no seat came back, and no pass was made
+abbrev pub first_desk : Desk
+first_desk = record { joined = []; stage = Unmade }
+
 -- What a seat knows. The hand says whose slot is out with the seat: 0 for none, else the chunk's number and 1. A later kind of seat is one case more.
 pub data Knows : Type 0 where
   -- a seat that another one took in
   Spent : Knows
   Writer : (place hand : ℕ) → WriterView → Knows
-  -- the service's, which made the writers' seats, so many by now, and has the views of those that it took in again
-  Service : (hand made : ℕ) → List WriterView → Watch → ServiceView → Knows
+  -- the service's, which made the writers' seats, so many by now
+  Service : (hand made : ℕ) → Desk → Watch → ServiceView → Knows
+  -- the reading pass's, which knows what the service knew when its last read was noted
+  Pass : ServiceView → Knows
 
 -- the hand that has the slot of a chunk
 abbrev pub hand_with : ℕ → ℕ
@@ -42,29 +59,42 @@ place_of _ = 0
 
 -- the view of the service's seat
 abbrev pub service_of : Knows → ServiceView
-service_of (Service hand made joined watch view) = view
+service_of (Service hand made desk watch view) = view
 service_of _ = newcomer_service
 
 -- what the service's seat watches
 abbrev pub watch_of : Knows → Watch
-watch_of (Service hand made joined watch view) = watch
+watch_of (Service hand made desk watch view) = watch
 watch_of _ = Nothing
 
 -- whose slot is out with a seat: 0 for none, else the chunk's number and 1
 abbrev pub hand_of : Knows → ℕ
 hand_of (Writer place hand view) = hand
-hand_of (Service hand made joined watch view) = hand
-hand_of Spent = 0
+hand_of (Service hand made desk watch view) = hand
+hand_of _ = 0
 
 -- how many seats of writers the service has made
 abbrev pub made_of : Knows → ℕ
-made_of (Service hand made joined watch view) = made
+made_of (Service hand made desk watch view) = made
 made_of _ = 0
+
+-- what the service's seat has of the other seats
+abbrev pub desk_of : Knows → Desk
+desk_of (Service hand made desk watch view) = desk
+desk_of _ = first_desk
 
 -- the views of the seats that it took in
 abbrev pub joined_of : Knows → List WriterView
-joined_of (Service hand made joined watch view) = joined
-joined_of _ = []
+joined_of knows = (desk_of knows).joined
+
+-- where the reading pass is
+abbrev pub stage_of : Knows → Stage
+stage_of knows = (desk_of knows).stage
+
+-- the view of the reading pass
+abbrev pub passed_of : Knows → ServiceView
+passed_of (Pass view) = view
+passed_of _ = newcomer_service
 
 -- a writer's seat with another hand and view
 abbrev pub by_writer : ℕ → (WriterView → WriterView) → Knows → Knows
@@ -72,22 +102,63 @@ by_writer hand step knows = Writer (place_of knows) hand (step (view_of knows))
 
 -- the service's seat with another hand, watch and view
 abbrev pub by_service : ℕ → Watch → (ServiceView → ServiceView) → Knows → Knows
-by_service hand watch step knows = Service hand (made_of knows) (joined_of knows) watch (step (service_of knows))
+by_service hand watch step knows = Service hand (made_of knows) (desk_of knows) watch (step (service_of knows))
 
 -- the service has made one seat more
 abbrev pub one_more : Knows → Knows
-one_more (Service hand made joined watch view) = Service hand (made + 1) joined watch view
+one_more (Service hand made desk watch view) = Service hand (made + 1) desk watch view
 one_more knows = knows
 
 -- the seat that it makes next
 abbrev pub next_writer : Knows → Knows
-next_writer (Service hand made joined watch view) = Writer made 0 newcomer
+next_writer (Service hand made desk watch view) = Writer made 0 newcomer
 next_writer knows = Spent
+
+-- the view of a writer's seat that came back
+abbrev pub with_view : Desk → WriterView → Desk
+with_view desk view = record desk { joined = desk.joined ++ view ∷ [] }
+
+-- the views of the seats that came back are these
+abbrev pub with_views : Desk → List WriterView → Desk
+with_views desk views = record desk { joined = views }
+
+-- the reading pass is somewhere else
+abbrev pub with_stage : Desk → Stage → Desk
+with_stage desk stage = record desk { stage = stage }
 
 -- the service has taken in the seat of a writer
 abbrev pub takes_seat : Knows → Knows → Knows
-takes_seat (Service hand made joined watch view) (Writer place held known) = Service hand made (joined ++ known ∷ []) watch view
+takes_seat (Service hand made desk watch view) (Writer place held known) = Service hand made (with_view desk known) watch view
 takes_seat knows _ = knows
+
+-- the service has given the reading pass away
+abbrev pub without_pass : Knows → Knows
+without_pass (Service hand made desk watch view) = Service hand made (with_stage desk Away) watch view
+without_pass knows = knows
+
+-- the reading pass as it is made: it knows what the service knows
+abbrev pub new_pass : Knows → Knows
+new_pass knows = Pass (service_of knows)
+
+-- the reading pass that the service has
+abbrev pub staged : Stage → ServiceView
+staged (Here view) = view
+staged _ = newcomer_service
+
+abbrev pub own_pass : Knows → Knows
+own_pass knows = Pass (staged (stage_of knows))
+
+-- a seat leaves all that it knows to a new one
+abbrev pub left_over : Knows → Knows
+left_over knows = Spent
+
+abbrev pub handed_on : Knows → Knows
+handed_on knows = knows
+
+-- the service has taken in the reading pass
+abbrev pub takes_pass : Knows → Knows → Knows
+takes_pass (Service hand made desk watch view) (Pass known) = Service hand made (with_stage desk (Here known)) watch view
+takes_pass knows _ = knows
 
 -- a function that differs at one place
 abbrev pub put : (ℕ → ℕ) → ℕ → ℕ → ℕ → ℕ

@@ -8,11 +8,12 @@ use Rattle.chunk_plain.specs.Views.{At, WriterView, ServiceView}
 use Rattle.chunk_plain.specs.World.{World, writer}
 use Rattle.chunk_plain.specs.Stored.{Stored}
 use Rattle.chunk_plain.specs.Ownership.{Ownership}
-use Rattle.chunk_words.specs.Knows.{Watch, Knows, Writer, Service}
+use Rattle.chunk_words.specs.Knows.{Watch, Desk, Knows, Writer, Service, Pass}
+use Rattle.chunk_words.specs.GoesOn.{GoesOn}
 use Rattle.chunk_words.specs.Rule.{HoldsWords, Roll, HoldsBodies, IsShared}
 
 -- The table's words are those of chunks in a world that is owned in its eight parts, and each writer and the service have one seat at most, whose view is
--- that world's.
+-- that world's; and so has the reading pass.
 pub record SharedOwnership (setup : Setup) (state : State (Option CommitBody) Knows) : Type 0 where
   pub world : World
   -- the page and header words, and the payload words and the body of each chunk
@@ -25,10 +26,13 @@ pub record SharedOwnership (setup : Setup) (state : State (Option CommitBody) Kn
   pub writers : (seat place hand : ℕ) (view : WriterView) → At state.views seat (Writer place hand view) → view ≡ writer world place
   pub one_seat : (seat other place hand held : ℕ) (view known : WriterView) → At state.views seat (Writer place hand view)
       → At state.views other (Writer place held known) → seat ≡ other
-  pub service : (seat hand made : ℕ) (joined : List WriterView) (watch : Watch) (view : ServiceView)
-      → At state.views seat (Service hand made joined watch view) → view ≡ world.service
-  pub one_service : (seat other hand held made more : ℕ) (joined views : List WriterView) (watch watched : Watch) (view known : ServiceView)
-      → At state.views seat (Service hand made joined watch view) → At state.views other (Service held more views watched known) → seat ≡ other
+  pub service : (seat hand made : ℕ) (desk : Desk) (watch : Watch) (view : ServiceView)
+      → At state.views seat (Service hand made desk watch view) → view ≡ world.service
+  pub one_service : (seat other hand held made more : ℕ) (desk other_desk : Desk) (watch watched : Watch) (view known : ServiceView)
+      → At state.views seat (Service hand made desk watch view) → At state.views other (Service held more other_desk watched known) → seat ≡ other
+  -- the service's view goes on from that of the reading pass, without a read
+  pub pass : (seat : ℕ) (view : ServiceView) → At state.views seat (Pass view) → GoesOn view world.service
+  pub one_pass : (seat other : ℕ) (view known : ServiceView) → At state.views seat (Pass view) → At state.views other (Pass known) → seat ≡ other
 
 -- Each step is allowed by the rule alone, so between any two steps of any number of threads ownership holds.
 abbrev pub SharedIsOwnership : Type 0

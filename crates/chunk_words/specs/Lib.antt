@@ -1,5 +1,6 @@
 pub mod Knows
 pub mod Places
+pub mod GoesOn
 pub mod Rule
 pub mod Moves
 pub mod Seats

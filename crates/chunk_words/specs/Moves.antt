@@ -12,7 +12,7 @@ use Rattle.page_geometry.specs.PageBits.{HasState}
 use Rattle.trace_base.specs.declared.limits.TheConstants.{MAX_FRAGMENTS}
 use Rattle.commit_body.specs.declared.body.CommitBody.{CommitBody}
 use Rattle.chunk_plain.specs.Payload.{byte_of, byte_in, sealed_to, StoredUpTo}
-use Rattle.chunk_plain.specs.Views.{At, Head, Draft, Content, Found, Look, ServiceView, taken_of}
+use Rattle.chunk_plain.specs.Views.{At, Head, Draft, Content, Found, Look, Noted, ServiceView, taken_of}
 use Rattle.chunk_plain.specs.World.{World}
 use Rattle.chunk_plain.specs.Steps.{claims, stamps, begins, redrafts, with_head, with_word, with_words, completes, notes_call, looks_at, takes_in, learns, lets_go, notes, notes_commit}
 use Rattle.chunk_plain.specs.Owned.{times, IsOwned}
@@ -21,8 +21,9 @@ use Rattle.chunk_plain.specs.Shows.{IsBodyOf, content_of}
 use Rattle.chunk_plain.specs.Setup.{Setup, spot, sequence_of}
 use Rattle.chunk_plain.specs.Words.{LooksAt, call_of, event_of, committed_of}
 use Rattle.chunk_words.specs.declared.moves.Move.{Move}
-use Rattle.chunk_words.specs.declared.moves.Move.TheVariants.{Claim, Stamp, Begin, SetHeader, Publish, Fetch, Complete as CompleteStep, Call as CallStep, Peek, Find, Know, Miss, Take, Load, Learn, Lift, Release, Event, Commit}
-use Rattle.chunk_words.specs.Knows.{Watch, Nothing, Started, Full, Known, Lifted, Knows, hand_with, no_content, hand_of, view_of, place_of, service_of, watch_of, by_writer, by_service}
+use Rattle.chunk_words.specs.declared.moves.Move.TheVariants.{Claim, Stamp, Begin, SetHeader, Publish, Fetch, Complete as CompleteStep, Call as CallStep, Peek, Find, Know, Miss, Take, Load, Learn, Lift, Release, Event, NoteRead, Commit}
+use Rattle.chunk_words.specs.GoesOn.{GoesOn}
+use Rattle.chunk_words.specs.Knows.{Watch, Nothing, Started, Full, Known, Lifted, Here, Knows, Service, hand_with, made_of, desk_of, stage_of, staged, with_stage, no_content, hand_of, view_of, place_of, service_of, watch_of, by_writer, by_service}
 
 -- what a seat knows and has
 abbrev pub Mine : Type 0
@@ -147,6 +148,15 @@ pub record Serves (step : ServiceView → ServiceView) (me new : Mine) : Type 0 
   pub new_is : new ≡ (by_service 0 Nothing step me.0, [])
   pub seen : IsSeen (step (service_of me.0))
 
+-- A read is noted while the reading pass is with the service: the service's view goes on from the pass's, and both are one behind it.
+pub record NotesRead (event : Noted) (me new : Mine) : Type 0 where
+  pub goes_on : GoesOn (staged (stage_of me.0)) (service_of me.0)
+  pub new_is : new ≡ (
+    Service 0 (made_of me.0) (with_stage (desk_of me.0) (Here (notes (service_of me.0) event))) Nothing (notes (service_of me.0) event),
+    [],
+  )
+  pub seen : IsSeen (notes (service_of me.0) event)
+
 -- The chunk is taken, whose page word and header were found: the slot is out with the service.
 pub record Takes (place chunk size word : ℕ) (header : ChunkHeader) (me new : Mine) : Type 0 where
   pub content : Content
@@ -220,4 +230,5 @@ After (Learn place) me found new = Serves (λ view. learns view place (watched (
 After (Lift layout chunk) me found new = Lifts layout.now chunk me new
 After (Release chunk) me found new = Serves (λ view. lets_go view chunk) me new
 After (Event event) me found new = Serves (λ view. notes view (event_of event)) me new
+After (NoteRead event) me found new = NotesRead (event_of event) me new
 After (Commit header payload patches) me found new = Serves (λ view. notes_commit view (committed_of header payload.now patches.now)) me new

@@ -1,18 +1,19 @@
 -- What a table keeps that threads share, between any two atomic steps of any seats: its words and slots are those of a table of one thread that keeps
 -- its world owned, and each seat's view is its part of that world.
-use Rattle.std.specs.Prelude.{◌≡◌, ◌≢◌, ℕ, ◌+◌, ◌<◌, ◌≤◌, Option, List, [], length, slice_index_or}
+use Rattle.std.specs.Prelude.{◌≡◌, ◌≢◌, ℕ, ◌+◌, ◌<◌, ◌≤◌, Option, List, length, slice_index_or}
 use mathlib.Core.Option.{some}
 use lib.ListN.{get_elem?}
 use Rattle.atomic_table.specs.Table.{State}
 use Rattle.commit_body.specs.declared.body.CommitBody.{CommitBody}
 use Rattle.chunk_plain.specs.Setup.{Setup, IsLaid}
-use Rattle.chunk_plain.specs.Views.{At, WriterView, newcomer}
+use Rattle.chunk_plain.specs.Views.{At, WriterView, ServiceView, newcomer}
 use Rattle.chunk_plain.specs.World.{World, Status, Claimed, Stamped, Writing, Ready, Reading, status, writer}
 use Rattle.chunk_plain.specs.Drafts.{head_of}
 use Rattle.chunk_plain.specs.Stored.{Stored, stored_at}
 use Rattle.chunk_plain.specs.Shows.{IsHeader}
 use Rattle.chunk_plain.specs.Plain.{IsKept, first_world}
-use Rattle.chunk_words.specs.Knows.{Watch, Nothing, Started, Full, Known, Lifted, Knows, Spent, Writer, Service, hand_with}
+use Rattle.chunk_words.specs.Knows.{Watch, Nothing, Started, Full, Known, Lifted, Stage, Unmade, Away, Here, Desk, first_desk, Knows, Spent, Writer, Service, Pass, hand_with}
+use Rattle.chunk_words.specs.GoesOn.{GoesOn}
 use Rattle.chunk_words.specs.Places.{front_count, payload_start, payload_words, word_total}
 
 -- The words of the table are the page and header words in front, and behind them the payload words of each chunk.
@@ -24,7 +25,7 @@ pub record HoldsWords (setup : Setup) (words front : List ℕ) (slots : List Sto
       → slice_index_or words (payload_start setup chunk + index) 0 ≡ slice_index_or (stored_at slots chunk).words index 0
 
 -- Who sits where: the seat of each writer and of the service, whose slots are out with them, how many writers' seats were made, and how many of these the
--- service took in again.
+-- service took in again; where the reading pass is, its seat, and what it knows.
 pub record Roll : Type 0 where
   pub seats : ℕ → ℕ
   pub server : ℕ
@@ -32,6 +33,9 @@ pub record Roll : Type 0 where
   pub hand : ℕ
   pub made : ℕ
   pub joined : ℕ
+  pub stage : Stage
+  pub keeper : ℕ
+  pub passed : ServiceView
 
 -- the slot of a chunk is with no seat
 pub record IsIn (roll : Roll) (chunk : ℕ) : Type 0 where
@@ -84,13 +88,20 @@ pub record HasJoined (world : World) (roll : Roll) (joined : List WriterView) : 
   pub count : length joined ≡ roll.joined
   pub each : (place : ℕ) (view : WriterView) → At joined place view → (view ≡ writer world place) × (roll.hands place ≡ 0)
 
+-- there is a reading pass
+abbrev pub IsMade : Stage → Type 0
+IsMade Unmade = ⊥
+IsMade _ = Unit {0}
+
 -- a seat knows its part of the world
 abbrev pub Fits : Setup → World → Roll → ℕ → Knows → Type 0
 Fits setup world roll seat Spent = Unit {0}
 Fits setup world roll seat (Writer place hand view) =
     (view ≡ writer world place) × (roll.seats place ≡ seat) × (roll.hands place ≡ hand) × (place < roll.made) × (roll.joined ≤ place)
-Fits setup world roll seat (Service hand made joined watch view) =
-    (view ≡ world.service) × (roll.server ≡ seat) × (roll.hand ≡ hand) × (roll.made ≡ made) × HasJoined world roll joined × IsWatched setup world watch
+Fits setup world roll seat (Service hand made desk watch view) =
+    (view ≡ world.service) × (roll.server ≡ seat) × (roll.hand ≡ hand) × (roll.made ≡ made) × HasJoined world roll desk.joined × IsWatched setup world watch
+    × (roll.stage ≡ desk.stage)
+Fits setup world roll seat (Pass view) = (view ≡ roll.passed) × (roll.keeper ≡ seat) × (roll.stage ≡ Away)
 
 -- each writer and the service have one seat, which knows its part of the world
 pub record IsManned (setup : Setup) (world : World) (roll : Roll) (views : List Knows) : Type 0 where
@@ -99,11 +110,14 @@ pub record IsManned (setup : Setup) (world : World) (roll : Roll) (views : List 
   -- a writer whose seat isn't made yet has done nothing
   pub fresh : (place : ℕ) → roll.made ≤ place → (writer world place ≡ newcomer) × (roll.hands place ≡ 0)
   pub seated : (place : ℕ) → roll.joined ≤ place → place < roll.made → At views (roll.seats place) (Writer place (roll.hands place) (writer world place))
-  pub staffed : (joined : List WriterView) × (watch : Watch) × At views roll.server (Service roll.hand roll.made joined watch world.service)
+  pub staffed : (desk : Desk) × (watch : Watch) × At views roll.server (Service roll.hand roll.made desk watch world.service)
   pub each : (seat : ℕ) (knows : Knows) → At views seat knows → Fits setup world roll seat knows
   -- a slot that is out is that of a chunk which the seat has
   pub handed : (place chunk : ℕ) → roll.hands place ≡ hand_with chunk → IsOf place (status world chunk)
   pub lifted : (chunk : ℕ) → roll.hand ≡ hand_with chunk → IsRead (status world chunk)
+  -- the service's view goes on from that of the reading pass, without a read
+  pub goes_on : IsMade roll.stage → GoesOn roll.passed world.service
+  pub here : (view : ServiceView) → roll.stage ≡ Here view → view ≡ roll.passed
 
 -- the rule of a table that threads share
 pub record IsShared (setup : Setup) (state : State (Option CommitBody) Knows) : Type 0 where
@@ -119,4 +133,4 @@ pub record IsShared (setup : Setup) (state : State (Option CommitBody) Knows) : 
 
 -- the service's seat, which is there first: it makes the others
 abbrev pub first_of : Setup → Knows
-first_of setup = Service 0 0 [] Nothing (first_world setup).service
+first_of setup = Service 0 0 first_desk Nothing (first_world setup).service

@@ -3,7 +3,7 @@ use Rattle.std.specs.Prelude.{◌≡◌, ℕ, Option, [], ◌∷◌, length}
 use Rattle.commit_body.specs.declared.body.CommitBody.{CommitBody}
 use Rattle.chunk_plain.specs.Setup.{Setup}
 use Rattle.chunk_plain.specs.Words.{IsAtRest, IsServing}
-use Rattle.chunk_words.specs.Knows.{Writer, Service, hand_with, hand_of, view_of, service_of, watch_of, made_of, joined_of}
+use Rattle.chunk_words.specs.Knows.{Writer, Service, hand_with, hand_of, view_of, service_of, watch_of, made_of, desk_of, joined_of, passed_of, Pass}
 use Rattle.chunk_words.specs.Moves.{Mine, IsSeen}
 
 -- the seat of the writer at this place has no slot out
@@ -16,15 +16,15 @@ HasOut place chunk body me = me ≡ (Writer place (hand_with chunk) (view_of me.
 
 -- the service's seat has no slot out
 abbrev pub IsServiceIdle : Mine → Type 0
-IsServiceIdle me = me ≡ (Service 0 (made_of me.0) (joined_of me.0) (watch_of me.0) (service_of me.0), [])
+IsServiceIdle me = me ≡ (Service 0 (made_of me.0) (desk_of me.0) (watch_of me.0) (service_of me.0), [])
 
 -- the slot of a chunk is out with it, with this in it
 abbrev pub HasLifted : ℕ → Option CommitBody → Mine → Type 0
-HasLifted chunk body me = me ≡ (Service (hand_with chunk) (made_of me.0) (joined_of me.0) (watch_of me.0) (service_of me.0), (chunk, body) ∷ [])
+HasLifted chunk body me = me ≡ (Service (hand_with chunk) (made_of me.0) (desk_of me.0) (watch_of me.0) (service_of me.0), (chunk, body) ∷ [])
 
 -- the seat is the service's
 abbrev pub IsService : Mine → Type 0
-IsService me = me ≡ (Service (hand_of me.0) (made_of me.0) (joined_of me.0) (watch_of me.0) (service_of me.0), me.1)
+IsService me = me ≡ (Service (hand_of me.0) (made_of me.0) (desk_of me.0) (watch_of me.0) (service_of me.0), me.1)
 
 -- The seat of the writer at this place is between two calls.
 pub record Rests (setup : Setup) (place : ℕ) (me : Mine) : Type 0 where
@@ -39,3 +39,7 @@ pub record Waits (setup : Setup) (me : Mine) : Type 0 where
   -- each writer has its seat
   pub all_made : made_of me.0 ≡ length setup.writers
   pub none_joined : joined_of me.0 ≡ []
+
+-- the seat is the reading pass's
+abbrev pub IsPass : Mine → Type 0
+IsPass me = me ≡ (Pass (passed_of me.0), [])

@@ -4,10 +4,11 @@ use Rattle.chunk_plain.specs.World.{World}
 use Rattle.chunk_words.specs.declared.host.HostTable.{HostTable}
 use Rattle.chunk_words.specs.declared.seats.WriterSeat.{WriterSeat}
 use Rattle.chunk_words.specs.declared.seats.ServiceSeat.{ServiceSeat}
+use Rattle.chunk_words.specs.declared.seats.ReadPass.{ReadPass}
 use Rattle.chunk_plain.specs.Setup.{Setup}
-use Rattle.chunk_plain.specs.Views.{WriterView}
-use Rattle.chunk_words.specs.Knows.{view_of}
-use Rattle.chunk_words.specs.Seats.{Rests, Waits}
+use Rattle.chunk_plain.specs.Views.{WriterView, ServiceView}
+use Rattle.chunk_words.specs.Knows.{Unmade, view_of, service_of, stage_of, passed_of}
+use Rattle.chunk_words.specs.Seats.{Rests, Waits, IsPass}
 
 -- the writer's seat is one of the table's, and no call of it is going on
 pub record Sits (table : HostTable) (seat : WriterSeat) : Type 0 where
@@ -18,6 +19,15 @@ pub record Sits (table : HostTable) (seat : WriterSeat) : Type 0 where
 pub record Attends (table : HostTable) (seat : ServiceSeat) : Type 0 where
   pub joined : seat.seat.table_id ≡ table.table.shared.table_id
   pub waits : Waits table.layout seat.seat.me
+
+-- the reading pass is the table's
+pub record Passes (table : HostTable) (pass : ReadPass) : Type 0 where
+  pub joined : pass.seat.table_id ≡ table.table.shared.table_id
+  pub idle : IsPass pass.seat.me
+
+-- no reading pass was made with the service's seat
+abbrev pub HasNoPass : ServiceSeat → Type 0
+HasNoPass seat = stage_of seat.seat.me.0 ≡ Unmade
 
 -- nothing is there
 abbrev pub IsNothing : Option World → Type 0
@@ -31,3 +41,10 @@ setup_in table = table.layout
 -- what the writer's seat knows
 abbrev pub known_by : WriterSeat → WriterView
 known_by seat = view_of seat.seat.me.0
+
+abbrev pub known_by_service : ServiceSeat → ServiceView
+known_by_service seat = service_of seat.seat.me.0
+
+-- what the reading pass knows: the service's view as it was once its last read was noted
+abbrev pub known_by_pass : ReadPass → ServiceView
+known_by_pass pass = passed_of pass.seat.me.0

@@ -1,13 +1,15 @@
 //! A table that threads shared, once all its seats are back.
-ghost use Rattle.std.specs.Prelude.{◌≡◌, ℕ, ◌+◌, ◌<◌, ◌++◌, [], ◌∷◌, length};
+ghost use Rattle.std.specs.Prelude.{◌≡◌, ℕ, ◌+◌, ◌<◌, [], length};
 ghost use Rattle.std.specs.Mem.Slots.{slots_items, IsFull};
 ghost use Rattle.chunk_words.specs.Closed.{HasAllSeats, IsUnused, IsAccount, views_of};
-ghost use Rattle.chunk_words.specs.Knows.{Service, made_of, joined_of, watch_of, service_of, view_of};
+ghost use Rattle.chunk_plain.specs.Views.{ServiceView};
+ghost use Rattle.chunk_words.specs.GoesOn.{GoesOn};
+ghost use Rattle.chunk_words.specs.Knows.{Here, Service, made_of, desk_of, joined_of, stage_of, watch_of, service_of, view_of, passed_of, with_view, with_views};
 ghost use Rattle.chunk_words.specs.Seats.{IsServiceIdle, IsIdle};
-ghost use Rattle.chunk_words.specs.Sits.{Attends};
+ghost use Rattle.chunk_words.specs.Sits.{Attends, Passes};
 
 use crate::host::HostTable;
-use crate::seats::{ServiceSeat, WriterSeat};
+use crate::seats::{ReadPass, ServiceSeat, WriterSeat};
 use crate::steps::Knowledge;
 use atomic_table::{Closed, Join};
 use commit_body::CommitBody;
@@ -40,6 +42,39 @@ impl HostTable {
         ensures unused { (chunk : ℕ) → chunk < length self.layout.spots → IsUnused self.layout (slots_items result.closed.words) chunk }
         ensures account { IsAccount (views_of seats.items) (service_of service.seat.me.0) }
     {
+        self.close_all(seats, service)
+    }
+
+    /// Takes all seats back, and the reading pass. Since the last read that was noted with it no
+    /// read was noted.
+    pub fn close_with(
+        self,
+        seats: Vec<WriterSeat>,
+        service: ServiceSeat,
+        pass: ReadPass,
+    ) -> ClosedTable
+        requires seats { HasAllSeats self (service_of service.seat.me.0) seats.items }
+        requires service { Attends self service }
+        requires none_out { (service_of service.seat.me.0).reading ≡ [] }
+        requires pass { Passes self pass }
+        ensures unused { (chunk : ℕ) → chunk < length self.layout.spots → IsUnused self.layout (slots_items result.closed.words) chunk }
+        ensures account { IsAccount (views_of seats.items) (service_of service.seat.me.0) }
+        ensures goes_on { GoesOn (passed_of pass.seat.me.0) (service_of service.seat.me.0) }
+    {
+        let mut service = service;
+        self.take_pass(&mut service, pass.seat);
+        self.close_all(seats, service)
+    }
+
+    /// Takes all seats back. Where the service has the reading pass, it learns what that knows.
+    fn close_all(self, seats: Vec<WriterSeat>, service: ServiceSeat) -> ClosedTable
+        requires seats { HasAllSeats self (service_of service.seat.me.0) seats.items }
+        requires service { Attends self service }
+        requires none_out { (service_of service.seat.me.0).reading ≡ [] }
+        ensures unused { (chunk : ℕ) → chunk < length self.layout.spots → IsUnused self.layout (slots_items result.closed.words) chunk }
+        ensures account { IsAccount (views_of seats.items) (service_of service.seat.me.0) }
+        ensures goes_on { (known : ServiceView) → stage_of service.seat.me.0 ≡ Here known → GoesOn known (service_of service.seat.me.0) }
+    {
         let mut service = service;
         self.join_all(&mut service, seats);
         let HostTable {
@@ -60,7 +95,7 @@ impl HostTable {
         ensures seat { service.new.seat.table_id ≡ service.old.seat.table_id }
         ensures me { service.new.seat.me
             ≡ (
-              Service 0 (made_of service.old.seat.me.0) (views_of seats.items) (watch_of service.old.seat.me.0)
+              Service 0 (made_of service.old.seat.me.0) (with_views (desk_of service.old.seat.me.0) (views_of seats.items)) (watch_of service.old.seat.me.0)
                   (service_of service.old.seat.me.0),
               [],
             ) }
@@ -80,7 +115,7 @@ impl HostTable {
         ensures seat { service.new.seat.table_id ≡ service.old.seat.table_id }
         ensures me { service.new.seat.me
             ≡ (
-              Service 0 (made_of service.old.seat.me.0) (joined_of service.old.seat.me.0 ++ view_of mine.seat.me.0 ∷ [])
+              Service 0 (made_of service.old.seat.me.0) (with_view (desk_of service.old.seat.me.0) (view_of mine.seat.me.0))
                   (watch_of service.old.seat.me.0) (service_of service.old.seat.me.0),
               [],
             ) }

@@ -10,6 +10,7 @@ mod host;
 pub mod laws;
 mod make;
 mod moves;
+mod pass;
 mod seats;
 mod service_calls;
 mod service_steps;
@@ -21,6 +22,6 @@ mod writer_steps;
 
 pub use close::ClosedTable;
 pub use host::HostTable;
-pub use seats::{ServiceSeat, WriterSeat};
+pub use seats::{ReadPass, ServiceSeat, WriterSeat};
 pub use shared::Shared;
 pub use steps::{ChunkRule, ChunkSeat, ChunkTable, Knowledge};

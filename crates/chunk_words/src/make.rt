@@ -6,11 +6,11 @@ ghost use Rattle.chunk_plain.specs.Laying.{setup_of};
 ghost use Rattle.chunk_plain.specs.Shows.{IsFreeBody};
 ghost use Rattle.chunk_plain.specs.Views.{newcomer};
 ghost use Rattle.chunk_plain.specs.Plain.{first_world};
-ghost use Rattle.chunk_words.specs.Knows.{Knows, Service, Writer, Nothing, Watch, made_of, joined_of, watch_of, service_of};
+ghost use Rattle.chunk_words.specs.Knows.{Knows, Service, Writer, Nothing, Watch, first_desk, made_of, desk_of, watch_of, service_of};
 ghost use Rattle.chunk_words.specs.Made.{HasStarts, HasFreeBodies, HasWriterSeats};
 ghost use Rattle.chunk_words.specs.Places.{spare_place};
 ghost use Rattle.chunk_words.specs.Seats.{IsServiceIdle};
-ghost use Rattle.chunk_words.specs.Sits.{Attends};
+ghost use Rattle.chunk_words.specs.Sits.{Attends, HasNoPass};
 
 use crate::host::HostTable;
 use crate::seats::{ServiceSeat, WriterSeat};
@@ -49,6 +49,7 @@ impl HostTable {
         ensures seats { IfOk result (λ made. HasWriterSeats made.0 (length writers.now) made.1.items) }
         ensures service { IfOk result (λ made. Attends made.0 made.2) }
         ensures service_view { IfOk result (λ made. service_of made.2.seat.me.0 ≡ (first_world made.0.layout).service) }
+        ensures no_pass { IfOk result (λ made. HasNoPass made.2) }
     {
         let layout = Layout::make(alloc, producers, writers)?;
         let (starts, spare) = payload_starts(alloc, &layout)?;
@@ -86,10 +87,10 @@ impl HostTable {
     ) -> Result<Vec<WriterSeat>, AllocError>
         requires seat { service.old.seat.table_id ≡ self.now.table.shared.table_id }
         requires count { count ≤ length self.now.layout.writers }
-        requires me { service.old.seat.me ≡ (Service 0 0 [] Nothing (first_world self.now.layout).service, []) }
+        requires me { service.old.seat.me ≡ (Service 0 0 first_desk Nothing (first_world self.now.layout).service, []) }
         ensures seats { IfOk result (λ seats. HasWriterSeats self.now count seats.items) }
         ensures seat { OnOk result (service.new.seat.table_id ≡ service.old.seat.table_id) }
-        ensures me { OnOk result (service.new.seat.me ≡ (Service 0 count [] Nothing (first_world self.now.layout).service, [])) }
+        ensures me { OnOk result (service.new.seat.me ≡ (Service 0 count first_desk Nothing (first_world self.now.layout).service, [])) }
     {
         let mut seats = Vec::new(alloc);
         for place in 0..count {
@@ -106,7 +107,7 @@ impl HostTable {
         requires inside { made_of service.old.seat.me.0 < length self.now.layout.writers }
         ensures seat { service.new.seat.table_id ≡ service.old.seat.table_id }
         ensures me { service.new.seat.me ≡ (
-          Service 0 (made_of service.old.seat.me.0 + 1) (joined_of service.old.seat.me.0)
+          Service 0 (made_of service.old.seat.me.0 + 1) (desk_of service.old.seat.me.0)
               (watch_of service.old.seat.me.0) (service_of service.old.seat.me.0),
           [],
         ) }

@@ -91,6 +91,10 @@ pub enum Move<'a> {
     Event {
         event: ServiceEvent,
     },
+    /// A read is noted, while the reading pass is with the service.
+    NoteRead {
+        event: ServiceEvent,
+    },
     Commit {
         header: ChunkHeader,
         payload: &'a [u8],

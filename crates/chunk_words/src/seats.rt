@@ -14,3 +14,10 @@ pub struct WriterSeat {
 pub struct ServiceSeat {
     pub(crate) seat: ChunkSeat,
 }
+
+/// The reading pass: what the service's seat knew when its last read was noted. No read is noted
+/// without it once it is made.
+#[derive(Drop)]
+pub struct ReadPass {
+    pub(crate) seat: ChunkSeat,
+}

@@ -6,11 +6,11 @@ ghost use Rattle.chunk_plain.specs.Setup.{spot, id_at};
 ghost use Rattle.chunk_plain.specs.Views.{taken_of};
 ghost use Rattle.chunk_plain.specs.Owned.{times};
 ghost use Rattle.chunk_plain.specs.Steps.{looks_at, takes_in, learns, lets_go, notes, notes_commit};
-ghost use Rattle.chunk_plain.specs.Words.{IsServing, LooksAt, ShowsFound, IsTakenPayload, TakesChunk, FindsOther, event_of, committed_of};
+ghost use Rattle.chunk_plain.specs.Words.{IsServing, LooksAt, ShowsFound, IsTakenPayload, TakesChunk, FindsOther, IsReadEvent, event_of, committed_of};
 ghost use Rattle.page_geometry.specs.Header.{packed, unpacked};
 ghost use Rattle.chunk_plain.specs.Payload.{byte_of, byte_in};
 ghost use Rattle.chunk_plain.specs.Shows.{content_of};
-ghost use Rattle.chunk_words.specs.Knows.{Known, service_of, watch_of};
+ghost use Rattle.chunk_words.specs.Knows.{Known, Unmade, desk_of, stage_of, service_of, watch_of};
 ghost use Rattle.chunk_words.specs.Moves.{LoadsUpTo, FindsReady, Serves};
 ghost use Rattle.chunk_words.specs.Seats.{IsService, IsServiceIdle};
 ghost use Rattle.chunk_words.specs.Sits.{Attends};
@@ -31,6 +31,7 @@ impl HostTable {
         ensures flags_fit { result.header.flags ≤ MAX_FLAGS }
         ensures view { LooksAt self.now.layout chunk result.word.0 result.header (service_of seat.old.seat.me.0)
             (service_of seat.new.seat.me.0) }
+        ensures desk { desk_of seat.new.seat.me.0 ≡ desk_of seat.old.seat.me.0 }
         ensures seat { Attends self.now seat.new }
     {
         let word = self.step_peek(seat, chunk);
@@ -51,6 +52,7 @@ impl HostTable {
         ensures found { ShowsFound (service_of seat.old.seat.me.0) chunk into.new }
         ensures read { 0 < times chunk (service_of seat.old.seat.me.0).reading
             → ∥ IsTakenPayload (service_of seat.old.seat.me.0) into.new ∥₁ }
+        ensures desk { desk_of seat.new.seat.me.0 ≡ desk_of seat.old.seat.me.0 }
         ensures seat { Attends self.now seat.new }
     {
         self.load_words(seat, chunk, into);
@@ -89,6 +91,7 @@ impl HostTable {
             (service_of seat.new.seat.me.0)) }
         ensures other { IfErr result (λ found. FindsOther self.now.layout chunk writer id found (service_of seat.old.seat.me.0)
             (service_of seat.new.seat.me.0)) }
+        ensures desk { desk_of seat.new.seat.me.0 ≡ desk_of seat.old.seat.me.0 }
         ensures seat { Attends self.now seat.new }
     {
         let (word, header) = self.find_complete(seat, chunk, writer, id)?;
@@ -115,6 +118,7 @@ impl HostTable {
             seat.old.seat.me seat.new.seat.me) }
         ensures other { IfErr result (λ found. FindsOther self.now.layout chunk writer id found (service_of seat.old.seat.me.0)
             (service_of seat.new.seat.me.0)) }
+        ensures desk { IfErr result (λ _. desk_of seat.new.seat.me.0 ≡ desk_of seat.old.seat.me.0) }
         ensures seat { IfErr result (λ _. Attends self.now seat.new) }
     {
         let word = self.step_peek(seat, chunk);
@@ -173,6 +177,7 @@ impl HostTable {
         requires reading { 0 < times taken.chunk (service_of seat.old.seat.me.0).reading }
         requires size { vec_len taken.body.payload ≡ (spot self.now.layout taken.chunk).payload_size }
         ensures view { service_of seat.new.seat.me.0 ≡ lets_go (service_of seat.old.seat.me.0) taken.chunk }
+        ensures desk { desk_of seat.new.seat.me.0 ≡ desk_of seat.old.seat.me.0 }
         ensures seat { Attends self.now seat.new }
     {
         let Taken {
@@ -185,10 +190,12 @@ impl HostTable {
         self.step_release(seat, chunk);
     }
 
-    /// The event joins the view.
+    /// The event joins the view. Once a reading pass is made, no read is noted so.
     pub fn note(&self, seat: &mut ServiceSeat, event: ServiceEvent)
         requires seat { Attends self.now seat.old }
+        requires read { IsReadEvent event → stage_of seat.old.seat.me.0 ≡ Unmade }
         ensures view { service_of seat.new.seat.me.0 ≡ notes (service_of seat.old.seat.me.0) (event_of event) }
+        ensures desk { desk_of seat.new.seat.me.0 ≡ desk_of seat.old.seat.me.0 }
         ensures seat { Attends self.now seat.new }
     {
         self.step_event(seat, event);
@@ -205,6 +212,7 @@ impl HostTable {
         requires seat { Attends self.now seat.old }
         ensures view { service_of seat.new.seat.me.0 ≡ notes_commit (service_of
             seat.old.seat.me.0) (committed_of header payload.now patches.now) }
+        ensures desk { desk_of seat.new.seat.me.0 ≡ desk_of seat.old.seat.me.0 }
         ensures seat { Attends self.now seat.new }
     {
         self.step_commit(seat, header, payload, patches);

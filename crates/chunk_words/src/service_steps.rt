@@ -5,8 +5,8 @@ ghost use Rattle.chunk_plain.specs.Setup.{spot};
 ghost use Rattle.chunk_plain.specs.Views.{taken_of};
 ghost use Rattle.chunk_plain.specs.Owned.{times};
 ghost use Rattle.chunk_plain.specs.Steps.{looks_at, learns, lets_go, notes, notes_commit};
-ghost use Rattle.chunk_plain.specs.Words.{event_of, committed_of};
-ghost use Rattle.chunk_words.specs.Knows.{Full, Known, Lifted, watch_of, service_of};
+ghost use Rattle.chunk_plain.specs.Words.{IsReadEvent, event_of, committed_of};
+ghost use Rattle.chunk_words.specs.Knows.{Full, Known, Lifted, Unmade, stage_of, watch_of, service_of};
 ghost use Rattle.chunk_words.specs.Moves.{watch_for, watched, body_in, Peeks, Looks, ReadsHeader, Serves, Takes, Loads, Lifts};
 ghost use Rattle.chunk_words.specs.Places.{payload_words};
 ghost use Rattle.chunk_words.specs.Seats.{IsServiceIdle, IsService, HasLifted};
@@ -227,6 +227,7 @@ impl HostTable {
     pub(crate) fn step_event(&self, seat: &mut ServiceSeat, event: ServiceEvent)
         requires seat { seat.old.seat.table_id ≡ self.now.table.shared.table_id }
         requires idle { IsServiceIdle seat.old.seat.me }
+        requires read { IsReadEvent event → stage_of seat.old.seat.me.0 ≡ Unmade }
         ensures seat { seat.new.seat.table_id ≡ seat.old.seat.table_id }
         ensures me { Serves (λ view. notes view (event_of event)) seat.old.seat.me seat.new.seat.me }
     {

@@ -11,7 +11,7 @@ ghost use Rattle.chunk_plain.specs.Owned.{IsOwned};
 ghost use Rattle.chunk_plain.specs.Drafts.{StillHas};
 ghost use Rattle.chunk_plain.specs.Words.{HasBoth};
 ghost use Rattle.chunk_words.specs.Knows.{view_of, service_of};
-ghost use Rattle.chunk_words.specs.Sits.{Sits, Attends, IsNothing};
+ghost use Rattle.chunk_words.specs.Sits.{Sits, Attends, HasNoPass, IsNothing};
 
 use crate::host::HostTable;
 use crate::seats::{ServiceSeat, WriterSeat};
@@ -39,7 +39,7 @@ impl<'t> Words for Shared<'t> {
       serves = λ shared seat. Attends shared.table.now seat;
       service_view = λ _ seat. service_of seat.seat.me.0;
       told = λ _. None;
-      takes_reads = λ _ _. Unit {0};
+      takes_reads = λ _ seat. HasNoPass seat;
     } };
 
     ghost laid = { λ shared. shared.table.now.laid };

@@ -1,8 +1,8 @@
-use Rattle.std.proofs.Common.{◌≡◌, ◌∙◌, ◌+◌, ◌++◌, ◌∷◌, [], List, length, map, refl, sym, ap, subst, append_assoc, append-nil, arith}
+use Rattle.std.proofs.Common.{◌≡◌, ◌∙◌, ◌++◌, ◌∷◌, [], List, length, refl, sym, ap, append_assoc, append-nil, arith}
 use Rattle.std.proofs.lemmas.List.{length-map, map-append}
 use Rattle.std.specs.Vec.Iter.{into_iter_items}
 use Rattle.chunk_words.specs.Closed.{views_of}
-use Rattle.chunk_words.specs.Knows.{Knows, Service, made_of, joined_of, watch_of, service_of, view_of}
+use Rattle.chunk_words.specs.Knows.{Knows, Service, made_of, desk_of, joined_of, watch_of, service_of, view_of, with_view, with_views}
 use Rattle.chunk_words.specs.declared.seats.WriterSeat.{WriterSeat}
 use Rattle.chunk_words.specs.Moves.{Mine}
 use Rattle.chunk_words.proofs.Closing.{next_seat}
@@ -39,8 +39,8 @@ loop-mine-preserved c =
     record {
       seat = c.join_one.ensures.seat ∙ at.invariant.seat;
       me = c.join_one.ensures.me
-          ∙ (ap (λ (k : Knows). let m : Mine = (Service 0 (made_of k) (joined_of k ++ view_of mine.seat.me.0 ∷ []) (watch_of k) (service_of k), []) in m) known
-          ∙ ap (λ l. let m : Mine = (Service 0 (made_of c.args.service.now.seat.me.0) l (watch_of c.args.service.now.seat.me.0) (service_of c.args.service.now.seat.me.0), []) in m)
+          ∙ (ap (λ (k : Knows). let m : Mine = (Service 0 (made_of k) (with_view (desk_of k) (view_of mine.seat.me.0)) (watch_of k) (service_of k), []) in m) known
+          ∙ ap (λ l. let m : Mine = (Service 0 (made_of c.args.service.now.seat.me.0) (with_views (desk_of c.args.service.now.seat.me.0) l) (watch_of c.args.service.now.seat.me.0) (service_of c.args.service.now.seat.me.0), []) in m)
           (sym (map-append (λ (s : WriterSeat). view_of s.seat.me.0) at.yielded (mine ∷ []))));
       all = append_assoc at.yielded (mine ∷ []) _ ∙ rw (← steps) at.invariant.all;
       count = let was = at.invariant.count in let gone = c.in-Some.ensures.steps.1 in let short = ap length steps in omega arith;
@@ -52,4 +52,4 @@ returns-clause-me c =
     let none = c.in-None.ensures.steps in
     let empty : into_iter_items at.mine-iterator ≡ [] = nothing_left _ (at.invariant.count ∙ none.0) in
     let all = sym (append-nil at.yielded) ∙ rw empty at at.invariant.all ∙ c.into_iter-mine-iterator.ensures.into_iter_gives.0 in
-    at.invariant.me ∙ ap (λ l. let m : Mine = (Service 0 (made_of c.args.service.now.seat.me.0) (views_of l) (watch_of c.args.service.now.seat.me.0) (service_of c.args.service.now.seat.me.0), []) in m) all
+    at.invariant.me ∙ ap (λ l. let m : Mine = (Service 0 (made_of c.args.service.now.seat.me.0) (with_views (desk_of c.args.service.now.seat.me.0) (views_of l)) (watch_of c.args.service.now.seat.me.0) (service_of c.args.service.now.seat.me.0), []) in m) all

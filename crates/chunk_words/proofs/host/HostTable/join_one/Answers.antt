@@ -1,5 +1,5 @@
-use Rattle.std.proofs.Common.{◌≡◌, ◌∙◌, ◌<◌, ◌+◌, [], ap, sym, subst, arith}
-use Rattle.chunk_words.specs.Knows.{view_of, made_of, joined_of, watch_of, service_of}
+use Rattle.std.proofs.Common.{ap, arith}
+use Rattle.chunk_words.specs.Knows.{view_of, made_of, desk_of, watch_of, service_of}
 use Rattle.chunk_words.specs.Moves.{Mine}
 use Rattle.chunk_words.proofs.Closing.{joins_shared}
 use Rattle.chunk_words.proofs.host.HostTable.join_one.Goals as goal
@@ -12,5 +12,5 @@ join_seat-requires c =
       ap (λ (m : Mine). m.1) c.requires.rests,
       (let words = self.word_count in omega arith),
       rw (self.key, c.requires.idle, c.requires.rests)
-          (joins_shared self.layout seat.id c.args.mine.place (made_of k) mine.id (joined_of k) (watch_of k) (service_of k) (view_of mine.me.0) c.requires.next),
+          (joins_shared self.layout seat.id c.args.mine.place (made_of k) mine.id (desk_of k) (watch_of k) (service_of k) (view_of mine.me.0) c.requires.next),
     )

@@ -1,6 +1,6 @@
 use Rattle.std.proofs.Common.{◌+◌, ◌∙◌, [], refl, ap, arith}
 use Rattle.chunk_plain.specs.Views.{newcomer}
-use Rattle.chunk_words.specs.Knows.{Writer, Service, Knows, made_of, joined_of, watch_of, service_of}
+use Rattle.chunk_words.specs.Knows.{Writer, Service, Knows, made_of, desk_of, watch_of, service_of}
 use Rattle.chunk_words.specs.Moves.{Mine}
 use Rattle.chunk_words.proofs.Making.{seats_more}
 use Rattle.chunk_words.proofs.host.HostTable.make_seats.Goals as goal
@@ -11,7 +11,7 @@ loop-place-preserved c =
     let known = ap (λ (m : Mine). m.0) invariant.me in
     record {
       seat = c.next_seat-seat.ensures.seat ∙ invariant.seat;
-      me = c.next_seat-seat.ensures.me ∙ ap (λ (k : Knows). let m : Mine = (Service 0 (made_of k + 1) (joined_of k) (watch_of k) (service_of k), []) in m) known;
+      me = c.next_seat-seat.ensures.me ∙ ap (λ (k : Knows). let m : Mine = (Service 0 (made_of k + 1) (desk_of k) (watch_of k) (service_of k), []) in m) known;
       seats = rw c.in_ok-push.ensures.items (seats_more self place c.loop-place.seats.items _ invariant.seats refl
           (c.next_seat-seat.ensures.joined ∙ (invariant.seat ∙ c.requires.seat))
           (c.next_seat-seat.ensures.made ∙ ap (λ (k : Knows). let m : Mine = (Writer (made_of k) 0 newcomer, []) in m) known)

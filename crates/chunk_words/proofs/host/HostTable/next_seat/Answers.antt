@@ -1,5 +1,5 @@
 use Rattle.std.proofs.Common.{arith}
-use Rattle.chunk_words.specs.Knows.{made_of, joined_of, watch_of, service_of}
+use Rattle.chunk_words.specs.Knows.{made_of, desk_of, watch_of, service_of}
 use Rattle.chunk_words.proofs.Making.{splits_shared}
 use Rattle.chunk_words.proofs.host.HostTable.next_seat.Goals as goal
 
@@ -9,5 +9,5 @@ split_seat-requires c =
       c.requires.seat,
       (let words = self.word_count in omega arith),
       rw (self.key, c.requires.idle)
-          (splits_shared self.layout seat.id (made_of k) (joined_of k) (watch_of k) (service_of k) c.requires.inside),
+          (splits_shared self.layout seat.id (made_of k) (desk_of k) (watch_of k) (service_of k) c.requires.inside),
     )

@@ -1,4 +1,4 @@
-use Rattle.chunk_words.specs.Knows.{made_of, joined_of, service_of}
+use Rattle.chunk_words.specs.Knows.{made_of, desk_of, service_of}
 use Rattle.chunk_words.proofs.ServiceMoves.{knows_allowed}
 use Rattle.chunk_words.proofs.host.HostTable.step_know.Goals as goal
 
@@ -6,4 +6,4 @@ pub make_load-requires-clause-allowed : goal.make_load-requires-clause-allowed
 make_load-requires-clause-allowed c =
     let self = c.args.self.now in let seat = c.args.seat.now.seat in let k = seat.me.0 in
     rw (self.key, c.header_index.ensures, c.requires.idle, c.requires.watch)
-    (knows_allowed self.layout _ seat.id (made_of k) (joined_of k) c.args.chunk (service_of k) c.requires.chunk)
+    (knows_allowed self.layout _ seat.id (made_of k) (desk_of k) c.args.chunk (service_of k) c.requires.chunk)

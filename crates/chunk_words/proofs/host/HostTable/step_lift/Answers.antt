@@ -1,4 +1,4 @@
-use Rattle.chunk_words.specs.Knows.{made_of, joined_of, watch_of, service_of}
+use Rattle.chunk_words.specs.Knows.{made_of, desk_of, watch_of, service_of}
 use Rattle.chunk_words.proofs.ServiceEnds.{lifts_allowed}
 use Rattle.chunk_words.proofs.host.HostTable.step_lift.Goals as goal
 
@@ -6,4 +6,4 @@ pub make_load-requires-clause-allowed : goal.make_load-requires-clause-allowed
 make_load-requires-clause-allowed c =
     let self = c.args.self.now in let seat = c.args.seat.now.seat in let k = seat.me.0 in
     rw (self.key, c.requires.idle)
-    (lifts_allowed self.layout _ seat.id (made_of k) (joined_of k) c.args.chunk _ (watch_of k) (service_of k) c.requires.reading)
+    (lifts_allowed self.layout _ seat.id (made_of k) (desk_of k) c.args.chunk _ (watch_of k) (service_of k) c.requires.reading)

@@ -1,0 +1,248 @@
+-- The reading pass is made, goes into the service's seat for a read, and comes back.
+use Rattle.std.proofs.Common.{◌≡◌, ◌≢◌, ℕ, zero, suc, List, [], ◌∷◌, ◌++◌, length, set, subst, sym, refl, ap, ◌∙◌, arith, ⊎_elim}
+use Rattle.std.proofs.lemmas.List.{set_comm}
+use Rattle.atomic_table.specs.Table.{Allows, Splits, Joins, keeps}
+use Rattle.atomic_table.proofs.Lists.{at_set, at_longer, set_here, set_else}
+use Rattle.chunk_plain.specs.Setup.{Setup}
+use Rattle.chunk_plain.specs.Views.{At, Noted, ServiceView}
+use Rattle.chunk_plain.specs.World.{World, writer}
+use Rattle.chunk_plain.specs.Steps.{notes, serviced}
+use Rattle.chunk_plain.proofs.Lists.{at_inside, at_one, at_more}
+use Rattle.chunk_plain.proofs.KeptService.{serviced_kept}
+use Rattle.chunk_words.specs.GoesOn.{GoesOn}
+use Rattle.chunk_words.specs.Knows.{Watch, Nothing, Stage, Unmade, Away, Here, Desk, Knows, Spent, Writer, Service, Pass, staged, with_stage}
+use Rattle.chunk_words.specs.Rule.{Roll, IsMade, Fits, IsManned, IsShared}
+use Rattle.chunk_words.specs.Moves.{NotesRead}
+use Rattle.chunk_words.proofs.Bodies.{with_service_hand, bodies_stay}
+use Rattle.chunk_words.proofs.Passing.{goes_same}
+use Rattle.chunk_words.proofs.Turns.{serviced_change, service_turn}
+use Rattle.chunk_words.proofs.WriterMoves.{Table}
+use Rattle.chunk_words.proofs.WriterEnds.{words_loaded}
+
+-- no seat is the reading pass's
+abbrev pub IsNone : List Knows → Type 0
+IsNone views = (seat : ℕ) (view : ServiceView) → At views seat (Pass view) → ⊥
+
+-- the reading pass is here, with this seat and this view
+abbrev pub with_pass : Roll → Stage → ℕ → ServiceView → Roll
+with_pass roll stage keeper passed = record roll { stage = stage; keeper = keeper; passed = passed }
+
+set_twice : {A : Type 0} (xs : List A) (i : ℕ) (x y : A) → set (set xs i x) i y ≡ set xs i y
+set_twice [] i x y = refl
+set_twice (z ∷ zs) zero x y = refl
+set_twice (z ∷ zs) (suc i) x y = ap (λ (l : List _). z ∷ l) (set_twice zs i x y)
+
+none_set : (views : List Knows) (id hand made : ℕ) (desk : Desk) (watch : Watch) (v : ServiceView) → IsNone views → IsNone (set views id (Service hand made desk watch v))
+none_set views id hand made desk watch v none seat view at = ⊎_elim
+    (λ here. absurd (let clash = here.1 in cc))
+    (λ old. none seat view old.1)
+    (at_set views id seat (Service hand made desk watch v) (Pass view) at)
+
+restaged_on : (setup : Setup) (world : World) (roll : Roll) (seat keeper : ℕ) (stage : Stage) (passed : ServiceView) (knows : Knows) → roll.server ≢ seat
+    → ((view : ServiceView) → knows ≡ Pass view → ⊥) → Fits setup world roll seat knows → Fits setup world (with_pass roll stage keeper passed) seat knows
+restaged_on setup world roll seat keeper stage passed Spent apart none fits = tt
+restaged_on setup world roll seat keeper stage passed (Writer place hand view) apart none fits = fits
+restaged_on setup world roll seat keeper stage passed (Service hand made desk watch view) apart none fits = absurd (apart fits.1)
+restaged_on setup world roll seat keeper stage passed (Pass view) apart none fits = absurd (none view refl)
+
+-- the service has the pass at another stage, while no seat is the pass's
+restage : (setup : Setup) (world : World) (roll : Roll) (views : List Knows) (seat hand made keeper : ℕ) (desk : Desk) (watch : Watch) (v : ServiceView) (stage : Stage) (passed : ServiceView)
+    → IsManned setup world roll views → At views seat (Service hand made desk watch v) → IsNone views → (IsMade stage → GoesOn passed world.service)
+    → ((view : ServiceView) → stage ≡ Here view → view ≡ passed)
+    → IsManned setup world (with_pass roll stage keeper passed) (set views seat (Service hand made (with_stage desk stage) watch v))
+restage setup world roll views seat hand made keeper desk watch v stage passed manned at none goes here =
+    let old = Service hand made desk watch v in let new = Service hand made (with_stage desk stage) watch v in
+    let f = manned.each seat old at in let inside = at_inside views old seat at in
+    record {
+      most = manned.most;
+      least = manned.least;
+      fresh = manned.fresh;
+      seated = λ p low below. let was = manned.seated p low below in let whole = Writer p (roll.hands p) (writer world p) in
+          let apart : roll.seats p ≢ seat = λ same. absurd (let clash = at_one views whole old seat (subst (λ j. At views j whole) same was) at in cc) in
+          set_else views seat (roll.seats p) new apart ∙ was;
+      staffed = (
+        with_stage desk stage,
+        watch,
+        subst (λ j. At (set views seat new) j (Service roll.hand roll.made (with_stage desk stage) watch world.service)) (sym f.1)
+            (subst (λ h. At (set views seat new) seat (Service h roll.made (with_stage desk stage) watch world.service)) (sym f.2)
+            (subst (λ m. At (set views seat new) seat (Service hand m (with_stage desk stage) watch world.service)) (sym f.3)
+            (subst (λ z. At (set views seat new) seat (Service hand made (with_stage desk stage) watch z)) f.0 (set_here views seat new inside)))),
+      );
+      each = λ j knows there. ⊎_elim
+          (λ now. subst (λ i. Fits setup world (with_pass roll stage keeper passed) i knows) (sym now.0)
+          (subst (λ k. Fits setup world (with_pass roll stage keeper passed) seat k) now.1
+          (f.0, f.1, f.2, f.3, record { count = f.4.count; each = f.4.each }, f.5, refl)))
+          (λ was. restaged_on setup world roll j keeper stage passed knows (λ same. was.0 (sym same ∙ f.1))
+          (λ view is. none j view (subst (λ k. At views j k) is was.1)) (manned.each j knows was.1))
+          (at_set views seat j new knows there);
+      handed = manned.handed;
+      lifted = manned.lifted;
+      goes_on = goes;
+      here = here;
+    }
+
+-- the pass's seat leaves what it knows
+spend : (setup : Setup) (world : World) (roll : Roll) (views : List Knows) (seat : ℕ) (known : ServiceView) → IsManned setup world roll views → At views seat (Pass known)
+    → IsManned setup world roll (set views seat Spent)
+spend setup world roll views seat known manned at = record {
+  most = manned.most;
+  least = manned.least;
+  fresh = manned.fresh;
+  seated = λ p low below. let was = manned.seated p low below in let whole = Writer p (roll.hands p) (writer world p) in
+      let apart : roll.seats p ≢ seat = λ same. absurd (let clash = at_one views whole (Pass known) seat (subst (λ j. At views j whole) same was) at in cc) in
+      set_else views seat (roll.seats p) Spent apart ∙ was;
+  staffed = let was = manned.staffed in let whole = Service roll.hand roll.made was.0 was.1 world.service in
+      let apart : roll.server ≢ seat = λ same. absurd (let clash = at_one views whole (Pass known) seat (subst (λ j. At views j whole) same was.2) at in cc) in
+      (was.0, was.1, set_else views seat roll.server Spent apart ∙ was.2);
+  each = λ j knows there. ⊎_elim
+      (λ now. subst (λ i. Fits setup world roll i knows) (sym now.0) (subst (λ k. Fits setup world roll seat k) now.1 tt))
+      (λ was. manned.each j knows was.1)
+      (at_set views seat j Spent knows there);
+  handed = manned.handed;
+  lifted = manned.lifted;
+  goes_on = manned.goes_on;
+  here = manned.here;
+}
+
+none_left : (setup : Setup) (world : World) (roll : Roll) (views : List Knows) (seat : ℕ) (known : ServiceView) → IsManned setup world roll views → At views seat (Pass known)
+    → IsNone (set views seat Spent)
+none_left setup world roll views seat known manned at other view there = ⊎_elim
+    (λ here. absurd (let clash = here.1 in cc))
+    (λ old. old.0 (sym (manned.each other (Pass view) old.1).1 ∙ (manned.each seat (Pass known) at).1))
+    (at_set views seat other Spent (Pass view) there)
+
+-- a new seat is the pass's, while no other one is
+kept_on : (setup : Setup) (world : World) (roll : Roll) (seat keeper : ℕ) (knows : Knows) → ((view : ServiceView) → knows ≡ Pass view → ⊥)
+    → Fits setup world roll seat knows → Fits setup world (record roll { keeper = keeper }) seat knows
+kept_on setup world roll seat keeper Spent none fits = tt
+kept_on setup world roll seat keeper (Writer place hand view) none fits = fits
+kept_on setup world roll seat keeper (Service hand made desk watch view) none fits =
+    (fits.0, fits.1, fits.2, fits.3, record { count = fits.4.count; each = fits.4.each }, fits.5, fits.6)
+kept_on setup world roll seat keeper (Pass view) none fits = absurd (none view refl)
+
+append : (setup : Setup) (world : World) (roll : Roll) (views : List Knows) → IsManned setup world roll views → IsNone views → roll.stage ≡ Away
+    → IsManned setup world (record roll { keeper = length views }) (views ++ Pass roll.passed ∷ [])
+append setup world roll views manned none away = record {
+  most = manned.most;
+  least = manned.least;
+  fresh = manned.fresh;
+  seated = λ p low below. at_longer views (Pass roll.passed ∷ []) (roll.seats p) (Writer p (roll.hands p) (writer world p)) (manned.seated p low below);
+  staffed = let was = manned.staffed in
+      (was.0, was.1, at_longer views (Pass roll.passed ∷ []) roll.server (Service roll.hand roll.made was.0 was.1 world.service) was.2);
+  each = λ j knows there. ⊎_elim
+      (λ was. kept_on setup world roll j (length views) knows (λ view is. none j view (subst (λ k. At views j k) is was)) (manned.each j knows was))
+      (λ last. subst (λ i. Fits setup world (record roll { keeper = length views }) i knows) (sym last.0)
+      (subst (λ k. Fits setup world (record roll { keeper = length views }) (length views) k) last.1 (refl, refl, away)))
+      (at_more views (Pass roll.passed) knows j there);
+  handed = manned.handed;
+  lifted = manned.lifted;
+  goes_on = manned.goes_on;
+  here = manned.here;
+}
+
+-- the words and the slots are as before
+as_shared : (setup : Setup) (s : Table) (r : IsShared setup s) (stage : Stage) (keeper : ℕ) (passed : ServiceView) (views : List Knows)
+    → IsManned setup r.world (with_pass r.roll stage keeper passed) views → IsShared setup (record { words = s.words; homes = s.homes; views = views })
+as_shared setup s r stage keeper passed views manned = record {
+  world = r.world;
+  front = r.front;
+  slots = r.slots;
+  roll = with_pass r.roll stage keeper passed;
+  laid = r.laid;
+  kept = r.kept;
+  words = r.words;
+  bodies = bodies_stay setup s.homes r.slots r.slots r.roll (with_pass r.roll stage keeper passed) r.bodies (λ d. refl)
+      (λ d in_now. record { with_none = in_now.with_none; not_service = in_now.not_service });
+  manned = manned;
+}
+
+-- the service gives a pass with this view away
+given : (setup : Setup) (s : Table) (r : IsShared setup s) (id made : ℕ) (desk : Desk) (watch : Watch) (v passed : ServiceView)
+    → At s.views id (Service 0 made desk watch v) → (r.roll.stage ≡ Away → ⊥) → GoesOn passed r.world.service
+    → IsShared setup (record { words = s.words; homes = s.homes; views = set s.views id (Service 0 made (with_stage desk Away) watch v) ++ Pass passed ∷ [] })
+given setup s r id made desk watch v passed at apart goes =
+    let none : IsNone s.views = λ seat view there. apart (r.manned.each seat (Pass view) there).2 in
+    let one = restage setup r.world r.roll s.views id 0 made 0 desk watch v Away passed r.manned at none (λ _. goes) (λ view is. absurd cc) in
+    let views = set s.views id (Service 0 made (with_stage desk Away) watch v) in
+    as_shared setup s r Away (length views) passed (views ++ Pass passed ∷ [])
+    (append setup r.world (with_pass r.roll Away 0 passed) views one (none_set s.views id 0 made (with_stage desk Away) watch v none) refl)
+
+module _ (setup : Setup) (id made : ℕ) (desk : Desk) (watch : Watch) (v : ServiceView) where
+  pub pass_made : desk.stage ≡ Unmade → Splits (IsShared setup) id (Service 0 made desk watch v) (Service 0 made (with_stage desk Away) watch v) (Pass v)
+  pass_made unmade s r at =
+      let f = r.manned.each id (Service 0 made desk watch v) at in
+      given setup s r id made desk watch v v at (λ away. absurd (let clash = sym away ∙ (f.6 ∙ unmade) in cc)) (subst (GoesOn v) f.0 (goes_same v))
+
+  pub pass_given : (passed : ServiceView) → desk.stage ≡ Here passed → Splits (IsShared setup) id (Service 0 made desk watch v) (Service 0 made (with_stage desk Away) watch v) (Pass passed)
+  pass_given passed here s r at =
+      let f = r.manned.each id (Service 0 made desk watch v) at in let stage = f.6 ∙ here in
+      given setup s r id made desk watch v passed at (λ away. absurd (let clash = sym away ∙ stage in cc))
+      (subst (λ z. GoesOn z r.world.service) (sym (r.manned.here passed stage)) (r.manned.goes_on (subst IsMade (sym stage) tt)))
+
+  pub pass_joins : (other : ℕ) (passed : ServiceView)
+      → Joins (IsShared setup) id (Service 0 made desk watch v) other (Pass passed) (Service 0 made (with_stage desk (Here passed)) watch v) Spent
+  pass_joins other passed s r at apart there =
+      let old = Service 0 made desk watch v in let both = Service 0 made (with_stage desk (Here passed)) watch v in
+      let mine_at : At s.views other (Pass passed) = sym (set_else s.views id other both apart) ∙ there in
+      let g = r.manned.each other (Pass passed) mine_at in
+      let one = spend setup r.world r.roll s.views other passed r.manned mine_at in
+      let old_at : At (set s.views other Spent) id old = set_else s.views other id Spent (λ e. apart (sym e)) ∙ at in
+      let two = restage setup r.world r.roll (set s.views other Spent) id 0 made 0 desk watch v (Here passed) passed one old_at
+      (none_left setup r.world r.roll s.views other passed r.manned mine_at)
+      (λ _. subst (λ z. GoesOn z r.world.service) (sym g.0) (r.manned.goes_on (subst IsMade (sym g.2) tt))) (λ view is. ap staged (sym is)) in
+      as_shared setup s r (Here passed) 0 passed (set (set s.views id both) other Spent)
+      (subst (λ views. IsManned setup r.world (with_pass r.roll (Here passed) 0 passed) views) (set_comm s.views other id Spent both apart) two)
+
+  pub read_allowed : (count index : ℕ) (passed : ServiceView) (note : Noted) → desk.stage ≡ Here passed
+      → Allows (IsShared setup) count id (Service 0 made desk watch v, []) index (λ found. found) (λ _. NotesRead note (Service 0 made desk watch v, []))
+  read_allowed count index passed note here s r deep at small =
+      let world = r.world in let f = r.manned.each id (Service 0 made desk watch v) at in let stage = f.6 ∙ here in
+      let view = notes world.service note in let next = serviced world view in
+      let kept = serviced_kept setup r.front r.slots world view r.kept refl refl refl in
+      let none : IsNone s.views = λ seat known there. absurd (let clash = sym (r.manned.each seat (Pass known) there).2 ∙ stage in cc) in
+      let bare = with_stage desk Unmade in let first = Service 0 made bare watch v in let second = Service 0 made bare Nothing view in
+      let third = Service 0 made (with_stage desk (Here view)) Nothing view in
+      let inside = at_inside s.views (Service 0 made desk watch v) id at in
+      let one = restage setup world r.roll s.views id 0 made 0 desk watch v Unmade passed r.manned at none (λ m. absurd m) (λ known is. absurd cc) in
+      let one_at : At (set s.views id first) id first = set_here s.views id first inside in
+      let two = service_turn setup world next (with_pass r.roll Unmade 0 passed) (set s.views id first) id 0 0 made bare watch Nothing v view one one_at (serviced_change world view)
+      (λ m. absurd m) (λ d e. absurd (omega arith)) tt in
+      let two_at : At (set (set s.views id first) id second) id second = set_here (set s.views id first) id second (at_inside (set s.views id first) first id one_at) in
+      let free : IsNone (set (set s.views id first) id second) = none_set (set s.views id first) id 0 made bare Nothing view (none_set s.views id 0 made bare watch v none) in
+      let roll = with_pass (with_service_hand r.roll 0) (Here view) 0 view in
+      let three = restage setup next (with_service_hand (with_pass r.roll Unmade 0 passed) 0) (set (set s.views id first) id second) id 0 made 0 bare Nothing view (Here view) view two two_at free
+      (λ _. goes_same view) (λ known is. ap staged (sym is)) in
+      let same : set (set (set s.views id first) id second) id third ≡ set s.views id third
+      = ap (λ (l : List Knows). set l id third) (set_twice s.views id first second) ∙ set_twice s.views id second third in (
+        Service 0 made (with_stage desk (Here (notes v note))) Nothing (notes v note),
+        keeps,
+        tt,
+        record {
+          world = next;
+          front = r.front;
+          slots = r.slots;
+          roll = roll;
+          laid = r.laid;
+          kept = kept;
+          words = words_loaded setup s.words r.front r.slots index r.words;
+          bodies = bodies_stay setup s.homes r.slots r.slots r.roll roll r.bodies (λ d. refl)
+              (λ d in_now. record { with_none = in_now.with_none; not_service = λ e. in_now.not_service (sym f.2 ∙ e) });
+          manned = subst (λ z. IsManned setup next roll (set s.views id (Service 0 made (with_stage desk (Here (notes z note))) Nothing (notes z note)))) (sym f.0)
+              (subst (λ views. IsManned setup next roll views) same three);
+        },
+        record {
+          goes_on = subst (λ (stage_ : Stage). GoesOn (staged stage_) v) (sym here) (subst (λ z. GoesOn z v) (sym (r.manned.here passed stage))
+              (subst (GoesOn r.roll.passed) (sym f.0) (r.manned.goes_on (subst IsMade (sym stage) tt))));
+          new_is = refl;
+          seen = ∣ (next, kept.owned, ap (λ z. notes z note) (sym f.0)) ∣₁;
+        },
+      )
+
+-- the pass's seat hands on what it knows to a new one
+pub pass_handed : (setup : Setup) (id : ℕ) (passed : ServiceView) → Splits (IsShared setup) id (Pass passed) Spent (Pass passed)
+pass_handed setup id passed s r at =
+    let g = r.manned.each id (Pass passed) at in let views = set s.views id Spent in
+    let one = spend setup r.world r.roll s.views id passed r.manned at in
+    let two = append setup r.world r.roll views one (none_left setup r.world r.roll s.views id passed r.manned at) g.2 in
+    as_shared setup s r r.roll.stage (length views) r.roll.passed (views ++ Pass passed ∷ [])
+    (subst (λ z. IsManned setup r.world (with_pass r.roll r.roll.stage (length views) r.roll.passed) (views ++ Pass z ∷ [])) (sym g.0) two)
