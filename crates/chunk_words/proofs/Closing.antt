@@ -11,16 +11,16 @@ use Rattle.commit_body.specs.declared.body.CommitBody.{CommitBody}
 use Rattle.page_geometry.specs.declared.chunk_state.ChunkState.TheVariants.{Free}
 use Rattle.page_geometry.specs.PageBits.{HasState}
 use Rattle.chunk_plain.specs.Setup.{Setup, spot}
-use Rattle.chunk_plain.specs.Views.{At, Draft, Begun, Held, Completed, WriterView, Taken, ServiceView, newcomer, none_taken, taken_of}
+use Rattle.chunk_plain.specs.Views.{At, Draft, Begun, Held, Completed, WriterView, ServiceView, newcomer, taken_of}
 use Rattle.chunk_plain.specs.World.{World, Status, Unclaimed, Claimed, Stamped, Writing, Ready, Reading, status, writer}
 use Rattle.chunk_plain.specs.Owned.{times, claims_of, reads_of, held_count, IsOwned}
 use Rattle.chunk_plain.specs.Shows.{ShowsPage, page_word}
 use Rattle.chunk_plain.proofs.Lists.{at_inside, at_one, at_more, at_some}
 use Rattle.chunk_plain.proofs.Owned.{claims_of-mine}
 use Rattle.chunk_words.specs.GoesOn.{GoesOn}
-use Rattle.chunk_words.specs.Knows.{Watch, Here, Desk, Knows, Spent, Writer, Service, Pass, place_of, view_of, with_view, with_views}
+use Rattle.chunk_words.specs.Knows.{Watch, Here, Desk, Knows, Spent, Writer, Service, Pass, Report, place_of, view_of, with_view, with_views}
 use Rattle.chunk_words.specs.Rule.{Roll, HasJoined, IsMade, Fits, IsShared}
-use Rattle.chunk_words.specs.Closed.{IsDone, HasAllSeats, views_of, IsUnused, IsAccount}
+use Rattle.chunk_words.specs.Closed.{IsDone, AllTaken, HasAllSeats, views_of, IsUnused, IsAccount}
 use Rattle.chunk_words.specs.declared.host.HostTable.{HostTable}
 use Rattle.chunk_words.specs.declared.seats.WriterSeat.{WriterSeat}
 use Rattle.chunk_words.specs.Sits.{Sits}
@@ -38,6 +38,7 @@ joins_fits setup world roll j k other (Writer p hand view) same seat apart serve
     more : (p : ℕ) → roll.joined ≤ p → p ≢ k → k + 1 ≤ p
     more p low differs = omega (arith, same, low, differs)
 joins_fits setup world roll j k other (Pass view) same seat apart server fits = fits
+joins_fits setup world roll j k other (Report place begun) same seat apart server fits = fits
 joins_fits setup world roll j k other (Service hand made desk watch view) same seat apart server fits = absurd (server fits.1)
 
 pub joins_shared : (setup : Setup) (id k made other : ℕ) (desk : Desk) (watch : Watch) (v : ServiceView) (w : WriterView) → k ≡ length desk.joined
@@ -90,7 +91,7 @@ joins_shared setup id k made other desk watch v w count s r at apart there =
         each = λ j knows in_views. ⊎_elim
             (λ here. subst (λ i. Fits setup world roll i knows) (sym here.0) (subst (λ z. Fits setup world roll other z) here.1 tt))
             (λ rest. ⊎_elim
-            (λ here. subst (λ i. Fits setup world roll i knows) (sym here.0) (subst (λ z. Fits setup world roll id z) here.1 (f.0, f.1, f.2, f.3, has, f.5, f.6)))
+            (λ here. subst (λ i. Fits setup world roll i knows) (sym here.0) (subst (λ z. Fits setup world roll id z) here.1 (f.0, f.1, f.2, f.3, has, f.5, f.6, f.7)))
             (λ older. joins_fits setup world r.roll j k other knows joined_is g.1 rest.0 (λ e. older.0 (sym e ∙ f.1)) (r.manned.each j knows older.1))
             (at_set s.views id j both knows rest.1))
             (at_set one other j Spent knows in_views);
@@ -184,9 +185,18 @@ module _ (setup : Setup) (id made : ℕ) (desk : Desk) (views : List WriterView)
       subst (λ (z : ServiceView). GoesOn z service) (sym (rule.manned.here known stage))
       (subst (GoesOn rule.roll.passed) (sym fits.0) (rule.manned.goes_on (subst IsMade (sym stage) tt)))
 
-  past_taken : (place : ℕ) → length views ≤ place → taken_of service place ≡ none_taken
-  past_taken place past = let many = ap (λ (s : ServiceView). length s.taken) fits.0 in let all = rule.kept.owned.all_taken in let of_world = rule.kept.writers in
-      get_past service.taken place none_taken (omega (arith, many, all, of_world, count, past))
+  pub closed_taken : AllTaken service views
+  closed_taken place view at =
+      let same = known place view at in let counts = rule.kept.owned.counts place in
+      let least = (done place view at).0.taken in
+      let count = (taken_of rule.world.service place).count in
+      let most : count ≤ length (writer rule.world place).begun = dite (dec_le count (length (writer rule.world place).begun))
+      (λ low. low)
+      (λ high. absurd (let one = counts.completed (length (writer rule.world place).begun) (lt_of_not-le high) in
+      let inside = at_inside (writer rule.world place).begun (Completed one.0 one.1) (length (writer rule.world place).begun) one.2 in omega arith)) in
+      let count_is = ap (λ (z : ServiceView). (taken_of z place).count) fits.0 in
+      let many = ap (λ (w : WriterView). length w.begun) same in
+      omega (arith, least, most, count_is, many)
 
   past_writer : (place : ℕ) → length views ≤ place → writer rule.world place ≡ newcomer
   past_writer place past = let of_world = rule.kept.writers in get_past rule.world.writers place newcomer (omega (arith, of_world, count, past))
@@ -194,7 +204,7 @@ module _ (setup : Setup) (id made : ℕ) (desk : Desk) (views : List WriterView)
   idle : (place : ℕ) → IsDone rule.world.service place (writer rule.world place) × ((writer rule.world place).stamped ≡ None)
   idle place = subst (λ s. IsDone s place (writer rule.world place) × ((writer rule.world place).stamped ≡ None)) fits.0 (dite (dec_le (length views) place)
       (λ past. subst (λ v. IsDone service place v × (v.stamped ≡ None)) (sym (past_writer place past))
-      (record { claimed = refl; held = refl; taken = ap (λ (t : Taken). t.count) (past_taken place past) }, refl))
+      (record { claimed = refl; held = refl; taken = omega arith }, refl))
       (λ below. let there = at_some views place (lt_of_not-le below) in
       subst (λ v. IsDone service place v × (v.stamped ≡ None)) (known place there.0 there.1) (done place there.0 there.1)))
 

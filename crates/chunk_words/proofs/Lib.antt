@@ -1,6 +1,7 @@
 pub mod Standing
 pub mod Bodies
 pub mod Passing
+pub mod Telling
 pub mod Turns
 pub mod WriterMoves
 pub mod WriterEnds

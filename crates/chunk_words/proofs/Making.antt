@@ -24,7 +24,7 @@ use Rattle.chunk_plain.specs.Words.{IsAtRest}
 use Rattle.chunk_plain.specs.Plain.{first_world}
 use Rattle.chunk_plain.proofs.Lists.{at_inside, at_one, at_more}
 use Rattle.chunk_plain.proofs.MadeLemmas.{all_same, first_kept, first_sits}
-use Rattle.chunk_words.specs.Knows.{Watch, Nothing, Unmade, Desk, first_desk, Knows, Spent, Writer, Service, Pass, put, view_of}
+use Rattle.chunk_words.specs.Knows.{Watch, Nothing, Unmade, Desk, first_desk, Knows, Spent, Writer, Service, Pass, Report, put, view_of}
 use Rattle.chunk_words.specs.Places.{words_for, words_before, payload_start, payload_words, word_total}
 use Rattle.chunk_words.specs.Rule.{Roll, IsIn, Fits, IsShared, first_of}
 use Rattle.chunk_words.specs.Made.{HasStarts, HasFreeBodies, HasWriterSeats}
@@ -145,7 +145,7 @@ starts_shared setup words bodies laid zero_ o =
   where
     first_fits : (seat : ℕ) (knows : Knows) → At (first_of setup ∷ []) seat knows → Fits setup (first_world setup) first_roll seat knows
     first_fits zero knows at = subst (λ k. Fits setup (first_world setup) first_roll 0 k) (some-injective (first_of setup) knows at)
-        (refl, refl, refl, refl, record { count = refl; each = λ place view there. absurd (some-ne-none view (sym there)) }, tt, refl)
+        (refl, refl, refl, refl, record { count = refl; each = λ place view there. absurd (some-ne-none view (sym there)) }, tt, refl, λ i tale there. absurd (some-ne-none tale (sym there)))
     first_fits (suc seat) knows at = absurd (some-ne-none knows (sym at))
 
 -- ---- a writer's seat is made
@@ -195,7 +195,7 @@ splits_shared setup id made desk watch v inside s r at =
         each = λ j knows there. ⊎_elim
             (λ before. ⊎_elim
             (λ here. subst (λ i. Fits setup world roll i knows) (sym here.0) (subst (λ k. Fits setup world roll id k) here.1
-            (f.0, f.1, f.2, refl, record { count = f.4.count; each = f.4.each }, f.5, f.6)))
+            (f.0, f.1, f.2, refl, record { count = f.4.count; each = f.4.each }, f.5, f.6, f.7)))
             (λ other. still_fits setup world r.roll j made seat knows made_is (r.manned.each j knows other.1) (λ same. other.0 (sym same ∙ f.1)))
             (at_set s.views id j more knows before))
             (λ last. subst (λ i. Fits setup world roll i knows) (sym last.0) (subst (λ k. Fits setup world roll seat k) last.1
@@ -214,6 +214,7 @@ splits_shared setup id made desk watch v inside s r at =
     still_fits setup world roll j made seat (Writer k hand view) same fits apart =
         let below = fits.3 in (fits.0, put_other roll.seats made seat k (λ e. absurd (omega arith)) ∙ fits.1, fits.2, omega arith, fits.4)
     still_fits setup world roll j made seat (Pass view) same fits apart = fits
+    still_fits setup world roll j made seat (Report place begun) same fits apart = fits
     still_fits setup world roll j made seat (Service hand n desk watch view) same fits apart = absurd (apart fits.1)
 
 -- ---- the seats

@@ -1,11 +1,11 @@
 -- The steps of the service's seat on a chunk that it reads, and its notes.
-use Rattle.std.proofs.Common.{◌≡◌, ◌≢◌, ℕ, ◌+◌, ◌^◌, ◌<◌, true, false, Option, Some, None, IsSome, IfSome, [], ◌∷◌, length, set, get_or, subst, sym, refl, ap, ◌∙◌, arith, bit_and, vec_len}
+use Rattle.std.proofs.Common.{◌≡◌, ◌≢◌, ℕ, ◌+◌, ◌^◌, ◌<◌, true, false, Option, Some, None, IsSome, IfSome, List, [], ◌∷◌, length, set, get_or, subst, sym, refl, ap, ◌∙◌, arith, bit_and, vec_len}
 use Rattle.atomic_table.specs.Table.{Allows, keeps, takes, gives}
 use Rattle.page_geometry.specs.PageBits.{HasState, Releases, KeepsOthers}
 use Rattle.page_geometry.specs.declared.chunk_state.ChunkState.TheVariants as state
 use Rattle.commit_body.specs.declared.body.CommitBody.{CommitBody}
 use Rattle.chunk_plain.specs.Setup.{Setup, spot}
-use Rattle.chunk_plain.specs.Views.{Content, ServiceView, taken_of}
+use Rattle.chunk_plain.specs.Views.{At, Content, Look, ServiceView, taken_of}
 use Rattle.chunk_plain.specs.World.{Unclaimed, Reading, status}
 use Rattle.chunk_plain.specs.Steps.{learns, lets_go, served, serviced}
 use Rattle.chunk_plain.specs.Owned.{times}
@@ -49,7 +49,7 @@ module _ (setup : Setup) (count id made : ℕ) (desk : Desk) where
       let kept' = learn_kept setup r.front slots world place chunk content kept inside_w last' reading in
       let roll = with_service_hand r.roll 0 in
       let turn = service_turn setup world next r.roll s.views id (hand_with chunk) 0 made desk (Lifted chunk place i content) Nothing v view r.manned at (serviced_change world view)
-      (λ _. goes_learn world.service place content) (λ d e. absurd (omega arith)) tt in (
+      (λ _. goes_learn world.service place content) (λ i tale there true_. true_.1) (λ d e. absurd (omega arith)) tt in (
         Service 0 made desk Nothing (learns v place content),
         gives,
         tt,
@@ -84,7 +84,7 @@ module _ (setup : Setup) (count id made : ℕ) (desk : Desk) where
       } in
       let roll = with_service_hand r.roll (hand_with chunk) in
       let turn = service_turn setup world world r.roll s.views id 0 (hand_with chunk) made desk watch Nothing v world.service r.manned at
-      (record { service = refl; writers = refl; still = λ other d x. x }) (λ _. goes_same world.service)
+      (record { service = refl; writers = refl; still = λ other d x. x }) (λ _. goes_same world.service) (λ i tale there true_. true_.1)
       (λ d e. let same : chunk ≡ d = omega arith in subst (λ c. IsRead (status world c)) same (subst IsRead (sym was.3) tt)) tt in (
         Service (hand_with chunk) made desk Nothing v,
         takes chunk (stored_at r.slots chunk).body,
@@ -128,7 +128,7 @@ module _ (setup : Setup) (count id made : ℕ) (desk : Desk) where
       let front = set r.front at_.page new in
       let roll = with_service_hand r.roll 0 in
       let turn = service_turn setup world next r.roll s.views id (hand_with chunk) 0 made desk watch Nothing v view r.manned at
-      (served_change world chunk view Unclaimed c_inside (λ other has. absurd (subst (IsOf other) was.3 has))) (λ _. goes_free world.service chunk) (λ d e. absurd (omega arith)) tt in (
+      (served_change world chunk view Unclaimed c_inside (λ other has. absurd (subst (IsOf other) was.3 has))) (λ _. goes_free world.service chunk) (λ i tale there true_. true_.1) (λ d e. absurd (omega arith)) tt in (
         Service 0 made desk Nothing (lets_go v chunk),
         gives,
         tt,
@@ -173,6 +173,7 @@ module _ (setup : Setup) (count id made : ℕ) (desk : Desk) where
         keeps,
         tt,
         subst (λ z. IsShared setup (record { words = set s.words index (get_or s.words index 0); homes = s.homes; views = set s.views id (Service 0 made desk Nothing (step z)) })) (sym f.0)
-            (serviced_allowed setup s r id index made desk watch Nothing v view at kept (goes r.world.service) tt),
+            (serviced_allowed setup s r id index made desk watch Nothing v view at kept (goes r.world.service)
+            (λ i tale there true_ n id_ look content since at_look. true_.1 n id_ look content since (subst (λ (l : List Look). At l n look) (looks r.world.service) at_look)) tt),
         record { new_is = refl; seen = ∣ (serviced r.world view, kept.owned, ap step (sym f.0)) ∣₁ },
       )

@@ -1,5 +1,5 @@
 -- Each step of the service's seat on a chunk that it doesn't have keeps the rule, and tells what it finds.
-use Rattle.std.proofs.Common.{◌≡◌, ◌≢◌, ℕ, ◌+◌, ◌^◌, ◌<◌, Option, Some, None, List, [], length, set, get_or, subst, sym, refl, ap, ◌∙◌, arith, bit_and}
+use Rattle.std.proofs.Common.{◌≡◌, ◌≢◌, ℕ, ◌+◌, ◌^◌, ◌<◌, ◌≤◌, Option, Some, None, List, [], length, set, get_or, subst, sym, refl, ap, ◌∙◌, arith, bit_and}
 use Rattle.std.proofs.lemmas.List.{get_or-set_same}
 use Rattle.atomic_table.specs.Table.{Allows, keeps, takes}
 use Rattle.page_geometry.specs.Header.{packed, unpacked}
@@ -18,12 +18,14 @@ use Rattle.chunk_plain.specs.Words.{LooksAt}
 use Rattle.chunk_plain.specs.Plain.{IsKept}
 use Rattle.chunk_plain.proofs.Owned.{looks_owned}
 use Rattle.chunk_plain.proofs.KeptService.{serviced_shown, header_reads, take_kept}
-use Rattle.chunk_words.specs.Knows.{Watch, Desk, Nothing, Full, Known, Lifted, Service, hand_with}
+use Rattle.chunk_words.specs.Knows.{Watch, Tale, Desk, Nothing, Full, Known, Lifted, Service, hand_with}
 use Rattle.chunk_words.specs.Places.{payload_start, payload_words}
-use Rattle.chunk_words.specs.Rule.{Roll, IsIn, IsOf, IsRead, IsFull, IsWatched, HasHeader, IsMade, IsManned, IsShared}
+use Rattle.chunk_words.specs.Rule.{Roll, IsIn, IsOf, IsRead, IsFull, IsWatched, HasHeader, IsMade, IsTrue, IsManned, IsShared}
 use Rattle.chunk_words.specs.GoesOn.{GoesOn}
+use Rattle.chunk_words.specs.Told.{ShowsTold, TellsComplete}
+use Rattle.chunk_words.proofs.Telling.{told_ready, packed_back, look_shows}
 use Rattle.chunk_words.proofs.Passing.{goes_same, goes_further, goes_look, goes_take}
-use Rattle.chunk_words.specs.Moves.{Mine, watch_for, IsSeen, IsTakenWith, Looks, Serves, Takes, Loads}
+use Rattle.chunk_words.specs.Moves.{Mine, watch_for, IsSeen, IsTakenWith, Peeks, Recalls, Looks, Serves, Takes, Loads}
 use Rattle.chunk_words.proofs.Standing.{words_front}
 use Rattle.chunk_words.proofs.Bodies.{with_service_hand, in_before_service, bodies_stay, bodies_out}
 use Rattle.chunk_words.proofs.Turns.{served_change, serviced_change, service_turn}
@@ -44,9 +46,10 @@ same_hand roll hand chunk same in_now = record { with_none = in_now.with_none; n
 -- A step that reads a word and changes what the service sees and watches, and no chunk.
 pub serviced_allowed : (setup : Setup) (s : Table) (r : IsShared setup s) (id index made : ℕ) (desk : Desk) (watch seen : Watch) (v view : ServiceView)
     → At s.views id (Service 0 made desk watch v) → IsKept setup r.front r.slots (serviced r.world view) → (IsMade desk.stage → GoesOn r.world.service view)
+    → ((i : ℕ) (tale : Tale) → At desk.told i tale → IsTrue setup r.world tale → ShowsTold setup view tale)
     → IsWatched setup (serviced r.world view) seen
     → IsShared setup (record { words = set s.words index (get_or s.words index 0); homes = s.homes; views = set s.views id (Service 0 made desk seen view) })
-serviced_allowed setup s r id index made desk watch seen v view at kept goes watched =
+serviced_allowed setup s r id index made desk watch seen v view at kept goes shows watched =
     let f = r.manned.each id (Service 0 made desk watch v) at in
     record {
       world = serviced r.world view;
@@ -57,7 +60,7 @@ serviced_allowed setup s r id index made desk watch seen v view at kept goes wat
       kept = kept;
       words = words_loaded setup s.words r.front r.slots index r.words;
       bodies = bodies_stay setup s.homes r.slots r.slots r.roll (with_service_hand r.roll 0) r.bodies (λ d. refl) (λ d. same_hand r.roll 0 d f.2);
-      manned = service_turn setup r.world (serviced r.world view) r.roll s.views id 0 0 made desk watch seen v view r.manned at (serviced_change r.world view) goes (λ d e. absurd (omega arith)) watched;
+      manned = service_turn setup r.world (serviced r.world view) r.roll s.views id 0 0 made desk watch seen v view r.manned at (serviced_change r.world view) goes shows (λ d e. absurd (omega arith)) watched;
     }
 
 -- what the service sees is part of the world as it is owned now
@@ -69,7 +72,7 @@ module _ (setup : Setup) (count id made : ℕ) (desk : Desk) where
 
   pub peeks_allowed : (chunk : ℕ) (watch : Watch) (v : ServiceView) → chunk < length setup.spots
       → Allows (IsShared setup) count id (Service 0 made desk watch v, []) (spot setup chunk).page (λ found. found)
-      (λ found new. new ≡ (Service 0 made desk (watch_for chunk found (spot setup chunk).place) v, []))
+      (Peeks setup chunk (spot setup chunk).place (Service 0 made desk watch v, []))
   peeks_allowed chunk watch v inside s r deep at small =
       let f = r.manned.each id (Service 0 made desk watch v) at in
       let found = get_or s.words (spot setup chunk).page 0 in
@@ -79,14 +82,19 @@ module _ (setup : Setup) (count id made : ℕ) (desk : Desk) where
         keeps,
         tt,
         subst (λ z. IsShared setup (record { words = set s.words (spot setup chunk).page found; homes = s.homes; views = set s.views id (Service 0 made desk seen z) })) (sym f.0)
-            (serviced_allowed setup s r id (spot setup chunk).page made desk watch seen v r.world.service at r.kept (λ _. goes_same r.world.service) (watch_holds setup r.world chunk found (spot setup chunk).place state)),
-        refl,
+            (serviced_allowed setup s r id (spot setup chunk).page made desk watch seen v r.world.service at r.kept (λ _. goes_same r.world.service) (λ i tale there true_. true_.1) (watch_holds setup r.world chunk found (spot setup chunk).place state)),
+        record {
+          new_is = refl;
+          told = λ i id_ tale content there begun untaken.
+              let ready = told_ready setup r.world tale id_ chunk content r.kept.owned (f.7 i tale there) begun (subst (λ (z : ServiceView). (taken_of z tale.place).count ≤ id_) f.0 untaken) in
+              subst (λ t. HasState found (spot setup chunk).place (state_of t)) ready state;
+        },
       )
 
-  pub finds_allowed : (chunk word : ℕ) (v : ServiceView) → chunk < length setup.spots
+  pub finds_allowed : (chunk word : ℕ) (v : ServiceView) → chunk < length setup.spots → TellsComplete setup chunk word v desk
       → Allows (IsShared setup) count id (Service 0 made desk (watch_for chunk word (spot setup chunk).place) v, []) (setup.pages + chunk) (λ found. found)
       (Looks setup chunk word (Service 0 made desk (watch_for chunk word (spot setup chunk).place) v, []))
-  finds_allowed chunk word v inside s r deep at small =
+  finds_allowed chunk word v inside told s r deep at small =
       let watch = watch_for chunk word (spot setup chunk).place in
       let f = r.manned.each id (Service 0 made desk watch v) at in
       let header = get_or s.words (setup.pages + chunk) 0 in let is = header_is setup s r chunk inside in
@@ -96,7 +104,13 @@ module _ (setup : Setup) (count id made : ℕ) (desk : Desk) where
         Service 0 made desk Nothing view,
         keeps,
         tt,
-        serviced_allowed setup s r id (setup.pages + chunk) made desk watch Nothing v view at kept (λ _. goes_look r.world.service chunk word (packed (unpacked header)) finds.found) tt,
+        serviced_allowed setup s r id (setup.pages + chunk) made desk watch Nothing v view at kept (λ _. goes_look r.world.service chunk word (packed (unpacked header)) finds.found)
+            (look_shows setup r.world desk chunk word (packed (unpacked header)) finds.found r.kept.owned (λ i id_ tale content there begun untaken ready.
+            let shows : IsHeader setup header tale.place id_ (head_of content)
+            = subst (λ w. IsHeader setup w tale.place id_ (head_of content)) (sym is) (subst (λ t. ShowsHeader setup (header_word setup r.front chunk) t) ready (r.kept.shown.header chunk inside)) in (
+              told i id_ tale content there begun (subst (λ (z : ServiceView). (taken_of z tale.place).count ≤ id_) (sym f.0) untaken),
+              (head_of content, subst (λ w. IsHeader setup w tale.place id_ (head_of content)) (sym (packed_back setup header tale.place id_ (head_of content) shows)) shows),
+            ))) tt,
         record {
           view = view;
           looks = record {
@@ -107,6 +121,23 @@ module _ (setup : Setup) (count id made : ℕ) (desk : Desk) where
           };
           new_is = refl;
           seen = seen_now setup r.front r.slots (serviced r.world view) view kept refl;
+        },
+      )
+
+  -- ---- what was told, compared with the looks
+
+  pub recalls_allowed : (index : ℕ) (watch : Watch) (v : ServiceView)
+      → Allows (IsShared setup) count id (Service 0 made desk watch v, []) index (λ found. found) (λ _. Recalls setup (Service 0 made desk watch v, []))
+  recalls_allowed index watch v s r deep at small =
+      let f = r.manned.each id (Service 0 made desk watch v) at in (
+        Service 0 made desk Nothing v,
+        keeps,
+        tt,
+        subst (λ z. IsShared setup (record { words = set s.words index (get_or s.words index 0); homes = s.homes; views = set s.views id (Service 0 made desk Nothing z) })) (sym f.0)
+            (serviced_allowed setup s r id index made desk watch Nothing v r.world.service at r.kept (λ _. goes_same r.world.service) (λ i tale there true_. true_.1) tt),
+        record {
+          new_is = refl;
+          shown = λ i tale there. subst (λ (z : ServiceView). ShowsTold setup z tale) (sym f.0) (f.7 i tale there).1;
         },
       )
 
@@ -123,7 +154,7 @@ module _ (setup : Setup) (count id made : ℕ) (desk : Desk) where
         keeps,
         tt,
         subst (λ z. IsShared setup (record { words = set s.words (setup.pages + chunk) header; homes = s.homes; views = set s.views id (Service 0 made desk (Known chunk header) z) })) (sym f.0)
-            (serviced_allowed setup s r id (setup.pages + chunk) made desk (Full chunk) (Known chunk header) v r.world.service at r.kept (λ _. goes_same r.world.service) (full_header header (status r.world chunk) f.5 shows)),
+            (serviced_allowed setup s r id (setup.pages + chunk) made desk (Full chunk) (Known chunk header) v r.world.service at r.kept (λ _. goes_same r.world.service) (λ i tale there true_. true_.1) (full_header header (status r.world chunk) f.5 shows)),
         refl,
       )
     where
@@ -135,18 +166,20 @@ module _ (setup : Setup) (count id made : ℕ) (desk : Desk) where
       full_header header (Rattle.chunk_plain.specs.World.Writing k i d) full shows = absurd full
       full_header header (Reading k i m) full shows = absurd full
 
-  pub misses_allowed : (chunk word header index : ℕ) (watch : Watch) (v : ServiceView)
-      → Allows (IsShared setup) count id (Service 0 made desk watch v, []) index (λ found. found)
-      (λ _. Serves (λ view. looks_at view chunk word header None) (Service 0 made desk watch v, []))
-  misses_allowed chunk word header index watch v s r deep at small =
-      let f = r.manned.each id (Service 0 made desk watch v) at in
+  pub misses_allowed : (chunk word header index : ℕ) (v : ServiceView) → HasState word (spot setup chunk).place state.Complete
+      → Allows (IsShared setup) count id (Service 0 made desk (Known chunk header) v, []) index (λ found. found)
+      (λ _. Serves (λ view. looks_at view chunk word header None) (Service 0 made desk (Known chunk header) v, []))
+  misses_allowed chunk word header index v complete s r deep at small =
+      let watch = Known chunk header in let f = r.manned.each id (Service 0 made desk watch v) at in
       let view = looks_at r.world.service chunk word header None in
       let kept = serviced_shown setup r.front r.slots r.world view r.kept (looks_owned r.world chunk word header None r.kept.owned (λ one e. absurd cc)) in (
         Service 0 made desk Nothing (looks_at v chunk word header None),
         keeps,
         tt,
         subst (λ z. IsShared setup (record { words = set s.words index (get_or s.words index 0); homes = s.homes; views = set s.views id (Service 0 made desk Nothing (looks_at z chunk word header None)) })) (sym f.0)
-            (serviced_allowed setup s r id index made desk watch Nothing v view at kept (λ _. goes_look r.world.service chunk word header None) tt),
+            (serviced_allowed setup s r id index made desk watch Nothing v view at kept (λ _. goes_look r.world.service chunk word header None)
+            (look_shows setup r.world desk chunk word header None r.kept.owned (λ i id_ tale content there begun untaken ready.
+            (complete, (head_of content, subst (λ t. HasHeader setup header t) ready f.5)))) tt),
         record { new_is = refl; seen = seen_now setup r.front r.slots (serviced r.world view) (looks_at v chunk word header None) kept (ap (λ z. looks_at z chunk word header None) (sym f.0)) },
       )
 
@@ -167,12 +200,12 @@ module _ (setup : Setup) (count id made : ℕ) (desk : Desk) where
   known_by world chunk header (Reading k i m) was has = absurd has
 
   pub takes_allowed : (place chunk word header mask : ℕ) (v : ServiceView) → chunk < length setup.spots → place < length setup.writers
-      → (unpacked header).writer_id ≡ place + 1 → (unpacked header).chunk_id ≡ (taken_of v place).count
+      → HasState word (spot setup chunk).place state.Complete → (unpacked header).writer_id ≡ place + 1 → (unpacked header).chunk_id ≡ (taken_of v place).count
       → ((found : ℕ) → found < 2 ^ 64 → HasState found (spot setup chunk).place state.Complete → SetsState found (bit_and found mask) (spot setup chunk).place state.BeingRead)
       → ((found : ℕ) → KeepsOthers found (bit_and found mask) (spot setup chunk).place)
       → Allows (IsShared setup) count id (Service 0 made desk (Known chunk header) v, []) (spot setup chunk).page (λ found. bit_and found mask)
       (λ _. Takes place chunk (spot setup chunk).payload_size word (unpacked header) (Service 0 made desk (Known chunk header) v, []))
-  takes_allowed place chunk word header mask v inside inside_w writer_is id_is sets keep s r deep at small =
+  takes_allowed place chunk word header mask v inside inside_w complete writer_is id_is sets keep s r deep at small =
       let at_ = spot setup chunk in let found = get_or s.words at_.page 0 in let new = bit_and found mask in
       let world = r.world in let f = r.manned.each id (Service 0 made desk (Known chunk header) v) at in
       let is = page_is setup s r chunk inside in let c_inside = chunk_inside setup s r chunk inside in
@@ -202,6 +235,9 @@ module _ (setup : Setup) (count id made : ℕ) (desk : Desk) where
       let turn = service_turn setup world next r.roll s.views id 0 (hand_with chunk) made desk (Known chunk header) (Lifted chunk place i content) v view r.manned at
       (served_change world chunk view to c_inside (λ other has. absurd (subst (IsOf other) ready has)))
       (λ _. goes_further world.service (looks_at world.service chunk word (packed (unpacked header)) None) view (goes_look world.service chunk word (packed (unpacked header)) None) (goes_take _ place chunk))
+      (look_shows setup world desk chunk word (packed (unpacked header)) None r.kept.owned (λ i id_ tale content_ there begun untaken ready_.
+      let shows = subst (λ t. HasHeader setup header t) ready_ f.5 in
+      (complete, (head_of content_, subst (λ w. IsHeader setup w tale.place id_ (head_of content_)) (sym (packed_back setup header tale.place id_ (head_of content_) shows)) shows))))
       (λ d e. let same : chunk ≡ d = omega arith in subst (λ c. IsRead (status next c)) same (subst IsRead (sym now) tt))
       (subst (λ j. status next chunk ≡ Reading place j content) (sym i_is) now) in
       let named = (r.kept.owned.counts place).named n chunk content ((r.kept.owned.owns place chunk).ready_is n content ready).0 in (
@@ -246,7 +282,7 @@ module _ (setup : Setup) (count id made : ℕ) (desk : Desk) where
       let tells = tells_of setup r.front r.slots r.world chunk index word watch r.kept inside (r.words.payload_is chunk index inside less) f.5 in
       let roll = with_service_hand r.roll hand in
       let turn = service_turn setup r.world r.world r.roll s.views id hand hand made desk watch seen v r.world.service r.manned at
-      (record { service = refl; writers = refl; still = λ other d x. x }) (λ _. goes_same r.world.service) (λ d e. r.manned.lifted d (f.2 ∙ e)) (watch_on_true setup r.world chunk) in (
+      (record { service = refl; writers = refl; still = λ other d x. x }) (λ _. goes_same r.world.service) (λ i tale there true_. true_.1) (λ d e. r.manned.lifted d (f.2 ∙ e)) (watch_on_true setup r.world chunk) in (
         Service hand made desk seen v,
         keeps,
         tt,

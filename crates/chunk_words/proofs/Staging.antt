@@ -1,19 +1,22 @@
--- The reading pass is made, goes into the service's seat for a read, and comes back.
+-- The reading pass is made, goes into the service's seat for a read, and comes back; and what a writer tells goes to the service.
 use Rattle.std.proofs.Common.{◌≡◌, ◌≢◌, ℕ, zero, suc, List, [], ◌∷◌, ◌++◌, length, set, subst, sym, refl, ap, ◌∙◌, arith, ⊎_elim}
 use Rattle.std.proofs.lemmas.List.{set_comm}
+use mathlib.Core.Option.{some-injective}
 use Rattle.atomic_table.specs.Table.{Allows, Splits, Joins, keeps}
 use Rattle.atomic_table.proofs.Lists.{at_set, at_longer, set_here, set_else}
 use Rattle.chunk_plain.specs.Setup.{Setup}
-use Rattle.chunk_plain.specs.Views.{At, Noted, ServiceView}
+use Rattle.chunk_plain.specs.Views.{At, Begun, WriterView, Noted, ServiceView}
 use Rattle.chunk_plain.specs.World.{World, writer}
 use Rattle.chunk_plain.specs.Steps.{notes, serviced}
 use Rattle.chunk_plain.proofs.Lists.{at_inside, at_one, at_more}
 use Rattle.chunk_plain.proofs.KeptService.{serviced_kept}
 use Rattle.chunk_words.specs.GoesOn.{GoesOn}
-use Rattle.chunk_words.specs.Knows.{Watch, Nothing, Stage, Unmade, Away, Here, Desk, Knows, Spent, Writer, Service, Pass, staged, with_stage}
-use Rattle.chunk_words.specs.Rule.{Roll, IsMade, Fits, IsManned, IsShared}
+use Rattle.chunk_words.specs.Knows.{Watch, Nothing, Stage, Unmade, Away, Here, Tale, Desk, Knows, Spent, Writer, Service, Pass, Report, staged, with_stage, with_tale}
+use Rattle.chunk_words.specs.Rule.{Roll, IsMade, IsTrue, Fits, IsManned, IsShared}
 use Rattle.chunk_words.specs.Moves.{NotesRead}
 use Rattle.chunk_words.proofs.Bodies.{with_service_hand, bodies_stay}
+use Rattle.chunk_words.specs.Told.{StaysCompleted}
+use Rattle.chunk_words.proofs.Telling.{stays_same}
 use Rattle.chunk_words.proofs.Passing.{goes_same}
 use Rattle.chunk_words.proofs.Turns.{serviced_change, service_turn}
 use Rattle.chunk_words.proofs.WriterMoves.{Table}
@@ -43,6 +46,7 @@ restaged_on : (setup : Setup) (world : World) (roll : Roll) (seat keeper : ℕ) 
 restaged_on setup world roll seat keeper stage passed Spent apart none fits = tt
 restaged_on setup world roll seat keeper stage passed (Writer place hand view) apart none fits = fits
 restaged_on setup world roll seat keeper stage passed (Service hand made desk watch view) apart none fits = absurd (apart fits.1)
+restaged_on setup world roll seat keeper stage passed (Report place begun) apart none fits = fits
 restaged_on setup world roll seat keeper stage passed (Pass view) apart none fits = absurd (none view refl)
 
 -- the service has the pass at another stage, while no seat is the pass's
@@ -71,7 +75,7 @@ restage setup world roll views seat hand made keeper desk watch v stage passed m
       each = λ j knows there. ⊎_elim
           (λ now. subst (λ i. Fits setup world (with_pass roll stage keeper passed) i knows) (sym now.0)
           (subst (λ k. Fits setup world (with_pass roll stage keeper passed) seat k) now.1
-          (f.0, f.1, f.2, f.3, record { count = f.4.count; each = f.4.each }, f.5, refl)))
+          (f.0, f.1, f.2, f.3, record { count = f.4.count; each = f.4.each }, f.5, refl, f.7)))
           (λ was. restaged_on setup world roll j keeper stage passed knows (λ same. was.0 (sym same ∙ f.1))
           (λ view is. none j view (subst (λ k. At views j k) is was.1)) (manned.each j knows was.1))
           (at_set views seat j new knows there);
@@ -81,18 +85,24 @@ restage setup world roll views seat hand made keeper desk watch v stage passed m
       here = here;
     }
 
--- the pass's seat leaves what it knows
-spend : (setup : Setup) (world : World) (roll : Roll) (views : List Knows) (seat : ℕ) (known : ServiceView) → IsManned setup world roll views → At views seat (Pass known)
+-- a seat that is neither a writer's nor the service's
+abbrev IsLight : Knows → Type 0
+IsLight (Pass view) = Unit {0}
+IsLight (Report place begun) = Unit {0}
+IsLight _ = ⊥
+
+-- such a seat leaves what it knows
+spend : (setup : Setup) (world : World) (roll : Roll) (views : List Knows) (seat : ℕ) (known : Knows) → IsManned setup world roll views → At views seat known → IsLight known
     → IsManned setup world roll (set views seat Spent)
-spend setup world roll views seat known manned at = record {
+spend setup world roll views seat known manned at light = record {
   most = manned.most;
   least = manned.least;
   fresh = manned.fresh;
   seated = λ p low below. let was = manned.seated p low below in let whole = Writer p (roll.hands p) (writer world p) in
-      let apart : roll.seats p ≢ seat = λ same. absurd (let clash = at_one views whole (Pass known) seat (subst (λ j. At views j whole) same was) at in cc) in
+      let apart : roll.seats p ≢ seat = λ same. absurd (subst IsLight (sym (at_one views whole known seat (subst (λ j. At views j whole) same was) at)) light) in
       set_else views seat (roll.seats p) Spent apart ∙ was;
   staffed = let was = manned.staffed in let whole = Service roll.hand roll.made was.0 was.1 world.service in
-      let apart : roll.server ≢ seat = λ same. absurd (let clash = at_one views whole (Pass known) seat (subst (λ j. At views j whole) same was.2) at in cc) in
+      let apart : roll.server ≢ seat = λ same. absurd (subst IsLight (sym (at_one views whole known seat (subst (λ j. At views j whole) same was.2) at)) light) in
       (was.0, was.1, set_else views seat roll.server Spent apart ∙ was.2);
   each = λ j knows there. ⊎_elim
       (λ now. subst (λ i. Fits setup world roll i knows) (sym now.0) (subst (λ k. Fits setup world roll seat k) now.1 tt))
@@ -117,7 +127,8 @@ kept_on : (setup : Setup) (world : World) (roll : Roll) (seat keeper : ℕ) (kno
 kept_on setup world roll seat keeper Spent none fits = tt
 kept_on setup world roll seat keeper (Writer place hand view) none fits = fits
 kept_on setup world roll seat keeper (Service hand made desk watch view) none fits =
-    (fits.0, fits.1, fits.2, fits.3, record { count = fits.4.count; each = fits.4.each }, fits.5, fits.6)
+    (fits.0, fits.1, fits.2, fits.3, record { count = fits.4.count; each = fits.4.each }, fits.5, fits.6, fits.7)
+kept_on setup world roll seat keeper (Report place begun) none fits = fits
 kept_on setup world roll seat keeper (Pass view) none fits = absurd (none view refl)
 
 append : (setup : Setup) (world : World) (roll : Roll) (views : List Knows) → IsManned setup world roll views → IsNone views → roll.stage ≡ Away
@@ -185,7 +196,7 @@ module _ (setup : Setup) (id made : ℕ) (desk : Desk) (watch : Watch) (v : Serv
       let old = Service 0 made desk watch v in let both = Service 0 made (with_stage desk (Here passed)) watch v in
       let mine_at : At s.views other (Pass passed) = sym (set_else s.views id other both apart) ∙ there in
       let g = r.manned.each other (Pass passed) mine_at in
-      let one = spend setup r.world r.roll s.views other passed r.manned mine_at in
+      let one = spend setup r.world r.roll s.views other (Pass passed) r.manned mine_at tt in
       let old_at : At (set s.views other Spent) id old = set_else s.views other id Spent (λ e. apart (sym e)) ∙ at in
       let two = restage setup r.world r.roll (set s.views other Spent) id 0 made 0 desk watch v (Here passed) passed one old_at
       (none_left setup r.world r.roll s.views other passed r.manned mine_at)
@@ -206,7 +217,7 @@ module _ (setup : Setup) (id made : ℕ) (desk : Desk) (watch : Watch) (v : Serv
       let one = restage setup world r.roll s.views id 0 made 0 desk watch v Unmade passed r.manned at none (λ m. absurd m) (λ known is. absurd cc) in
       let one_at : At (set s.views id first) id first = set_here s.views id first inside in
       let two = service_turn setup world next (with_pass r.roll Unmade 0 passed) (set s.views id first) id 0 0 made bare watch Nothing v view one one_at (serviced_change world view)
-      (λ m. absurd m) (λ d e. absurd (omega arith)) tt in
+      (λ m. absurd m) (λ i tale there true_. true_.1) (λ d e. absurd (omega arith)) tt in
       let two_at : At (set (set s.views id first) id second) id second = set_here (set s.views id first) id second (at_inside (set s.views id first) first id one_at) in
       let free : IsNone (set (set s.views id first) id second) = none_set (set s.views id first) id 0 made bare Nothing view (none_set s.views id 0 made bare watch v none) in
       let roll = with_pass (with_service_hand r.roll 0) (Here view) 0 view in
@@ -242,7 +253,100 @@ module _ (setup : Setup) (id made : ℕ) (desk : Desk) (watch : Watch) (v : Serv
 pub pass_handed : (setup : Setup) (id : ℕ) (passed : ServiceView) → Splits (IsShared setup) id (Pass passed) Spent (Pass passed)
 pass_handed setup id passed s r at =
     let g = r.manned.each id (Pass passed) at in let views = set s.views id Spent in
-    let one = spend setup r.world r.roll s.views id passed r.manned at in
+    let one = spend setup r.world r.roll s.views id (Pass passed) r.manned at tt in
     let two = append setup r.world r.roll views one (none_left setup r.world r.roll s.views id passed r.manned at) g.2 in
     as_shared setup s r r.roll.stage (length views) r.roll.passed (views ++ Pass passed ∷ [])
     (subst (λ z. IsManned setup r.world (with_pass r.roll r.roll.stage (length views) r.roll.passed) (views ++ Pass z ∷ [])) (sym g.0) two)
+
+-- ---- tales
+
+set_at : (views : List Knows) (id : ℕ) (knows : Knows) → At views id knows → set views id knows ≡ views
+set_at [] id knows at = refl
+set_at (one ∷ views) zero knows at = ap (λ (k : Knows). k ∷ views) (sym (some-injective one knows at))
+set_at (one ∷ views) (suc id) knows at = ap (λ (l : List Knows). one ∷ l) (set_at views id knows at)
+
+-- a new seat knows what a writer has begun
+reported : (setup : Setup) (world : World) (roll : Roll) (views : List Knows) (place : ℕ) → IsManned setup world roll views
+    → IsManned setup world roll (views ++ Report place (writer world place).begun ∷ [])
+reported setup world roll views place manned = record {
+  most = manned.most;
+  least = manned.least;
+  fresh = manned.fresh;
+  seated = λ p low below. at_longer views (Report place (writer world place).begun ∷ []) (roll.seats p) (Writer p (roll.hands p) (writer world p)) (manned.seated p low below);
+  staffed = let was = manned.staffed in
+      (was.0, was.1, at_longer views (Report place (writer world place).begun ∷ []) roll.server (Service roll.hand roll.made was.0 was.1 world.service) was.2);
+  each = λ j knows there. ⊎_elim
+      (λ was. manned.each j knows was)
+      (λ last. subst (λ k. Fits setup world roll j k) last.1 (stays_same (writer world place).begun))
+      (at_more views (Report place (writer world place).begun) knows j there);
+  handed = manned.handed;
+  lifted = manned.lifted;
+  goes_on = manned.goes_on;
+  here = manned.here;
+}
+
+pub tale_cut : (setup : Setup) (id place hand : ℕ) (v : WriterView) → Splits (IsShared setup) id (Writer place hand v) (Writer place hand v) (Report place v.begun)
+tale_cut setup id place hand v s r at =
+    let f = r.manned.each id (Writer place hand v) at in
+    let one = reported setup r.world r.roll s.views place r.manned in
+    let whole : IsShared setup (record { words = s.words; homes = s.homes; views = s.views ++ Report place (writer r.world place).begun ∷ [] })
+    = as_shared setup s r r.roll.stage r.roll.keeper r.roll.passed _ one in
+    subst (λ views. IsShared setup (record { words = s.words; homes = s.homes; views = views ++ Report place v.begun ∷ [] })) (sym (set_at s.views id (Writer place hand v) at))
+    (subst (λ (z : WriterView). IsShared setup (record { words = s.words; homes = s.homes; views = s.views ++ Report place z.begun ∷ [] })) (sym f.0) whole)
+
+told_on : (setup : Setup) (world : World) (v : ServiceView) (desk : Desk) (place : ℕ) (begun : List Begun) → v ≡ world.service
+    → ((i : ℕ) (tale : Tale) → At desk.told i tale → IsTrue setup world tale) → StaysCompleted begun (writer world place).begun
+    → (i : ℕ) (tale : Tale) → At (with_tale desk v place begun).told i tale → IsTrue setup world tale
+told_on setup world v desk place begun same true_ stays i tale there = ⊎_elim
+    (λ old. true_ i tale old)
+    (λ last. subst (λ (t : Tale). IsTrue setup world t) last.1 (
+      stays,
+      λ n id look content since at mine free. absurd (let inside = at_inside world.service.looks look n at in let many = ap (λ (z : ServiceView). length z.looks) same in omega (arith, inside, many, since)),
+    ))
+    (at_more desk.told (record { place = place; looks = length v.looks; begun = begun }) tale i there)
+
+-- the service's seat has a tale more
+retell : (setup : Setup) (world : World) (roll : Roll) (views : List Knows) (seat hand made place : ℕ) (desk : Desk) (watch : Watch) (v : ServiceView) (begun : List Begun)
+    → IsManned setup world roll views → At views seat (Service hand made desk watch v) → StaysCompleted begun (writer world place).begun
+    → IsManned setup world roll (set views seat (Service hand made (with_tale desk v place begun) watch v))
+retell setup world roll views seat hand made place desk watch v begun manned at stays =
+    let old = Service hand made desk watch v in let more = with_tale desk v place begun in let new = Service hand made more watch v in
+    let f = manned.each seat old at in let inside = at_inside views old seat at in
+    record {
+      most = manned.most;
+      least = manned.least;
+      fresh = manned.fresh;
+      seated = λ p low below. let was = manned.seated p low below in let whole = Writer p (roll.hands p) (writer world p) in
+          let apart : roll.seats p ≢ seat = λ same. absurd (let clash = at_one views whole old seat (subst (λ j. At views j whole) same was) at in cc) in
+          set_else views seat (roll.seats p) new apart ∙ was;
+      staffed = (
+        more,
+        watch,
+        subst (λ j. At (set views seat new) j (Service roll.hand roll.made more watch world.service)) (sym f.1)
+            (subst (λ h. At (set views seat new) seat (Service h roll.made more watch world.service)) (sym f.2)
+            (subst (λ m. At (set views seat new) seat (Service hand m more watch world.service)) (sym f.3)
+            (subst (λ z. At (set views seat new) seat (Service hand made more watch z)) f.0 (set_here views seat new inside)))),
+      );
+      each = λ j knows there. ⊎_elim
+          (λ now. subst (λ i. Fits setup world roll i knows) (sym now.0)
+          (subst (λ k. Fits setup world roll seat k) now.1
+          (f.0, f.1, f.2, f.3, f.4, f.5, f.6, told_on setup world v desk place begun f.0 f.7 stays)))
+          (λ was. manned.each j knows was.1)
+          (at_set views seat j new knows there);
+      handed = manned.handed;
+      lifted = manned.lifted;
+      goes_on = manned.goes_on;
+      here = manned.here;
+    }
+
+pub tale_heard : (setup : Setup) (id made other place : ℕ) (desk : Desk) (watch : Watch) (v : ServiceView) (begun : List Begun)
+    → Joins (IsShared setup) id (Service 0 made desk watch v) other (Report place begun) (Service 0 made (with_tale desk v place begun) watch v) Spent
+tale_heard setup id made other place desk watch v begun s r at apart there =
+    let old = Service 0 made desk watch v in let both = Service 0 made (with_tale desk v place begun) watch v in
+    let mine_at : At s.views other (Report place begun) = sym (set_else s.views id other both apart) ∙ there in
+    let stays = r.manned.each other (Report place begun) mine_at in
+    let one = spend setup r.world r.roll s.views other (Report place begun) r.manned mine_at tt in
+    let old_at : At (set s.views other Spent) id old = set_else s.views other id Spent (λ e. apart (sym e)) ∙ at in
+    let two = retell setup r.world r.roll (set s.views other Spent) id 0 made place desk watch v begun one old_at stays in
+    as_shared setup s r r.roll.stage r.roll.keeper r.roll.passed (set (set s.views id both) other Spent)
+    (subst (λ views. IsManned setup r.world r.roll views) (set_comm s.views other id Spent both apart) two)

@@ -5,12 +5,13 @@ use mathlib.Core.Logic.{dite}
 use Rattle.atomic_table.proofs.Lists.{at_set, set_here, set_else}
 use Rattle.std.proofs.lemmas.List.{get_or-set_same, get_or-set_other}
 use Rattle.chunk_plain.specs.Setup.{Setup}
-use Rattle.chunk_plain.specs.Views.{At, WriterView, ServiceView, newcomer}
+use Rattle.chunk_plain.specs.Views.{At, Begun, Completed, WriterView, ServiceView, newcomer}
 use Rattle.chunk_plain.specs.World.{World, Status, Unclaimed, Claimed, Stamped, Writing, Ready, Reading, status, writer}
 use Rattle.chunk_plain.specs.Steps.{moved, noted, served, serviced}
 use Rattle.chunk_plain.proofs.Lists.{changed, at_one, at_inside}
-use Rattle.chunk_words.specs.Knows.{Watch, Desk, Nothing, Started, Full, Known, Lifted, Knows, Spent, Writer, Service, Pass, hand_with, place_of, put}
-use Rattle.chunk_words.specs.Rule.{Roll, IsOf, IsRead, IsStarted, IsFull, HasHeader, IsWatched, IsMade, Fits, IsManned}
+use Rattle.chunk_words.specs.Knows.{Watch, Desk, Nothing, Started, Full, Known, Lifted, Tale, Knows, Spent, Writer, Service, Pass, Report, hand_with, place_of, put}
+use Rattle.chunk_words.specs.Rule.{Roll, IsOf, IsRead, IsStarted, IsFull, HasHeader, IsWatched, IsMade, IsTrue, Fits, IsManned}
+use Rattle.chunk_words.specs.Told.{StaysCompleted, ShowsTold}
 use Rattle.chunk_words.specs.GoesOn.{GoesOn}
 use Rattle.chunk_words.proofs.Passing.{goes_further}
 use Rattle.chunk_words.proofs.Bodies.{put_same, put_other, with_hand, with_service_hand}
@@ -29,6 +30,7 @@ pub record IsWriterChange (world next : World) (place : ℕ) (view : WriterView)
   pub service : next.service ≡ world.service
   pub count : length next.writers ≡ length world.writers
   pub still : (chunk : ℕ) → Still place (status world chunk) (status next chunk)
+  pub follows : StaysCompleted (writer world place).begun view.begun
 
 -- what a step of the service leaves of the world
 pub record IsServiceChange (world next : World) (view : ServiceView) : Type 0 where
@@ -40,28 +42,31 @@ still_same : (place : ℕ) (is : Status) → Still place is is
 still_same place is = record { started = λ x. x; full = λ x. refl; read = λ x. refl; others = λ other differs x. x }
 
 pub moved_change : (world : World) (place chunk : ℕ) (view : WriterView) (is : Status) → place < length world.writers → chunk < length world.chunks
-    → Still place (status world chunk) is → IsWriterChange world (moved world place view chunk is) place view
-moved_change world place chunk view is inside_w inside_c still = record {
+    → Still place (status world chunk) is → StaysCompleted (writer world place).begun view.begun → IsWriterChange world (moved world place view chunk is) place view
+moved_change world place chunk view is inside_w inside_c still follows = record {
   mine = get_or-set_same world.writers place view newcomer inside_w;
   others = λ other differs. get_or-set_other world.writers place other view newcomer differs;
   service = refl;
   count = length-set world.writers place view;
   still = λ d. changed (λ t. Still place (status world d) t) world.chunks chunk d is Unclaimed inside_c
       (λ same. subst (λ e. Still place (status world e) is) (sym same) still) (λ differs. still_same place (status world d));
+  follows = follows;
 }
 
-pub noted_change : (world : World) (place : ℕ) (view : WriterView) → place < length world.writers → IsWriterChange world (noted world place view) place view
-noted_change world place view inside_w = record {
+pub noted_change : (world : World) (place : ℕ) (view : WriterView) → place < length world.writers → view.begun ≡ (writer world place).begun
+    → IsWriterChange world (noted world place view) place view
+noted_change world place view inside_w same = record {
   mine = get_or-set_same world.writers place view newcomer inside_w;
   others = λ other differs. get_or-set_other world.writers place other view newcomer differs;
   service = refl;
   count = length-set world.writers place view;
   still = λ d. still_same place (status world d);
+  follows = λ id chunk content at. subst (λ (l : List Begun). At l id (Completed chunk content)) (sym same) at;
 }
 
 -- nothing changes but the hand
 pub same_change : (world : World) (place : ℕ) → IsWriterChange world world place (writer world place)
-same_change world place = record { mine = refl; others = λ other differs. refl; service = refl; count = refl; still = λ d. still_same place (status world d) }
+same_change world place = record { mine = refl; others = λ other differs. refl; service = refl; count = refl; still = λ d. still_same place (status world d); follows = λ id chunk content at. at }
 
 pub served_change : (world : World) (chunk : ℕ) (view : ServiceView) (is : Status) → chunk < length world.chunks
     → ((place : ℕ) → IsOf place (status world chunk) → IsOf place is) → IsServiceChange world (served world view chunk is) view
@@ -74,6 +79,14 @@ served_change world chunk view is inside_c still = record {
 
 pub serviced_change : (world : World) (view : ServiceView) → IsServiceChange world (serviced world view) view
 serviced_change world view = record { service = refl; writers = refl; still = λ place d x. x }
+
+-- what any writer completed it has still
+begun_stays : (world next : World) (place : ℕ) (view : WriterView) → IsWriterChange world next place view → (other : ℕ) → StaysCompleted (writer world other).begun (writer next other).begun
+begun_stays world next place view change other id chunk content at = dite (ℕ_discrete other place)
+    (λ same. subst (λ p. At (writer next p).begun id (Completed chunk content)) (sym same)
+    (subst (λ (v : WriterView). At v.begun id (Completed chunk content)) (sym change.mine)
+    (change.follows id chunk content (subst (λ p. At (writer world p).begun id (Completed chunk content)) same at))))
+    (λ differs. subst (λ (v : WriterView). At v.begun id (Completed chunk content)) (sym (change.others other differs)) at)
 
 header_stays : (setup : Setup) (header : ℕ) (was is : Status) → (IsFull was → is ≡ was) → HasHeader setup header was → HasHeader setup header is
 header_stays setup header (Ready place id content) is same has = subst (λ t. HasHeader setup header t) (sym (same tt)) has
@@ -98,6 +111,8 @@ fits_on setup world next roll seat place hand view (Writer other held known) cha
     let differs : other ≢ place = λ same. apart (ap roll.seats (sym same) ∙ fits.1) in
     (fits.0 ∙ sym (change.others other differs), fits.1, put_other roll.hands place hand other differs ∙ fits.2, fits.3, fits.4)
 fits_on setup world next roll seat place hand view (Pass known) change joined apart fits = fits
+fits_on setup world next roll seat place hand view (Report other begun) change joined apart fits =
+    λ id chunk content at. begun_stays world next place view change other id chunk content (fits id chunk content at)
 fits_on setup world next roll seat place hand view (Service held made desk watch known) change joined apart fits = (
   fits.0 ∙ sym change.service,
   fits.1,
@@ -110,6 +125,10 @@ fits_on setup world next roll seat place hand view (Service held made desk watch
   },
   watch_stays setup world next place watch change.still fits.5,
   fits.6,
+  λ i tale there. let was = fits.7 i tale there in (
+    λ id chunk content at. begun_stays world next place view change tale.place id chunk content (was.0 id chunk content at),
+    subst (λ (z : ServiceView). ShowsTold setup z tale) (sym change.service) was.1,
+  ),
 )
 
 pub writer_turn : (setup : Setup) (world next : World) (roll : Roll) (views : List Knows) (seat place hand now : ℕ) (known view : WriterView)
@@ -157,13 +176,16 @@ served_on setup world next roll seat hand view Spent change apart fits = tt
 served_on setup world next roll seat hand view (Writer other held known) change apart fits =
     (subst (λ (l : List WriterView). known ≡ get_or l other newcomer) (sym change.writers) fits.0, fits.1, fits.2, fits.3, fits.4)
 served_on setup world next roll seat hand view (Pass known) change apart fits = fits
+served_on setup world next roll seat hand view (Report other begun) change apart fits =
+    subst (λ (l : List WriterView). StaysCompleted begun (get_or l other newcomer).begun) (sym change.writers) fits
 served_on setup world next roll seat hand view (Service held made desk watch known) change apart fits = absurd (apart fits.1)
 
 pub service_turn : (setup : Setup) (world next : World) (roll : Roll) (views : List Knows) (seat hand now made : ℕ) (desk : Desk) (watch seen : Watch) (known view : ServiceView)
     → IsManned setup world roll views → At views seat (Service hand made desk watch known) → IsServiceChange world next view
-    → (IsMade desk.stage → GoesOn world.service view) → ((chunk : ℕ) → now ≡ hand_with chunk → IsRead (status next chunk)) → IsWatched setup next seen
+    → (IsMade desk.stage → GoesOn world.service view) → ((i : ℕ) (tale : Tale) → At desk.told i tale → IsTrue setup world tale → ShowsTold setup view tale)
+    → ((chunk : ℕ) → now ≡ hand_with chunk → IsRead (status next chunk)) → IsWatched setup next seen
     → IsManned setup next (with_service_hand roll now) (set views seat (Service now made desk seen view))
-service_turn setup world next roll views seat hand now made desk watch seen known view manned at change goes has watches =
+service_turn setup world next roll views seat hand now made desk watch seen known view manned at change goes shows has watches =
     let fits = manned.each seat (Service hand made desk watch known) at in
     let inside = at_inside views (Service hand made desk watch known) seat at in
     let same_writers : (place : ℕ) → writer next place ≡ writer world place = λ place. ap (λ (l : List WriterView). get_or l place newcomer) change.writers in
@@ -195,6 +217,10 @@ service_turn setup world next roll views seat hand now made desk watch seen know
             },
             watches,
             fits.6,
+            λ i tale told. let was = fits.7 i tale told in (
+              subst (λ (l : List WriterView). StaysCompleted tale.begun (get_or l tale.place newcomer).begun) (sym change.writers) was.0,
+              subst (λ (z : ServiceView). ShowsTold setup z tale) (sym change.service) (shows i tale told was),
+            ),
           )))
           (λ old. served_on setup world next roll other now view knows change (λ same. old.0 (sym same ∙ fits.1)) (manned.each other knows old.1))
           (at_set views seat other (Service now made desk seen view) knows there);

@@ -7,7 +7,7 @@ use Rattle.page_geometry.specs.PageBits.{HasState, SetsState, KeepsOthers}
 use Rattle.page_geometry.specs.declared.chunk_state.ChunkState.TheVariants as state
 use Rattle.commit_body.specs.declared.body.CommitBody.{CommitBody}
 use Rattle.chunk_plain.specs.Setup.{Setup, spot}
-use Rattle.chunk_plain.specs.Views.{WriterView}
+use Rattle.chunk_plain.specs.Views.{Completed, WriterView}
 use Rattle.chunk_plain.specs.World.{Writing, Ready, status, writer}
 use Rattle.chunk_plain.specs.Steps.{completes, notes_call, moved, noted}
 use Rattle.chunk_plain.specs.Drafts.{draft_at, head_at, IsHolding}
@@ -20,6 +20,7 @@ use Rattle.chunk_words.specs.Rule.{IsOf, HoldsWords, IsManned, IsShared}
 use Rattle.chunk_words.specs.Moves.{Fetches, Completes, Notes}
 use Rattle.chunk_words.proofs.Standing.{words_front, words_body}
 use Rattle.chunk_words.proofs.Bodies.{put_same, with_hand, in_before, bodies_stay, bodies_out, bodies_back, body_here, body_else}
+use Rattle.chunk_words.proofs.Telling.{stays_set}
 use Rattle.chunk_words.proofs.Turns.{Still, moved_change, noted_change, same_change, writer_turn}
 use Rattle.chunk_words.proofs.WriterMoves.{front_many, page_front, page_is, writer_inside, world_inside, chunk_inside, slot_in, hand_else, hand_none}
 
@@ -82,7 +83,8 @@ completes_allowed setup count id k chunk i mask body v holding whole sets keep s
     let front = set r.front at_.page new in
     let roll = with_hand r.roll k 0 in
     let change = moved_change world k chunk view to w_inside c_inside
-    (subst (λ t. Still k t to) (sym was) (record { started = λ x. tt; full = λ x. absurd x; read = λ x. absurd x; others = λ other differs same. absurd (differs (sym same)) })) in
+    (subst (λ t. Still k t to) (sym was) (record { started = λ x. tt; full = λ x. absurd x; read = λ x. absurd x; others = λ other differs same. absurd (differs (sym same)) }))
+    (stays_set v'.begun i chunk (draft_at v' i) (Completed chunk content) holding') in
     let turn = writer_turn setup world next r.roll s.views id k (hand_with chunk) 0 v view r.manned at change (λ d e. absurd (omega arith)) in (
       Writer k 0 (completes v chunk i (content_of k i (head_at v i) body)),
       gives,
@@ -111,7 +113,7 @@ calls_allowed setup count id k index call v s r deep at small =
     let inside_w = writer_inside setup s r id k 0 v at in let w_inside = world_inside setup s r id k 0 v at in
     let view = notes_call (writer world k) call in let next = noted world k view in
     let roll = with_hand r.roll k 0 in
-    let turn = writer_turn setup world next r.roll s.views id k 0 0 v view r.manned at (noted_change world k view w_inside) (λ d e. absurd (omega arith)) in (
+    let turn = writer_turn setup world next r.roll s.views id k 0 0 v view r.manned at (noted_change world k view w_inside refl) (λ d e. absurd (omega arith)) in (
       Writer k 0 (notes_call v call),
       keeps,
       tt,

@@ -10,7 +10,7 @@ use Rattle.commit_body.specs.declared.body.CommitBody.{CommitBody}
 use Rattle.chunk_plain.specs.declared.step.Step.TheVariants.{Claim}
 use Rattle.chunk_plain.specs.Setup.{Setup, spot}
 use Rattle.chunk_plain.specs.Payload.{byte_of, byte_at, sealed_to, HasFragments}
-use Rattle.chunk_plain.specs.Views.{At, Head, no_head, fresh, Draft, WriterView}
+use Rattle.chunk_plain.specs.Views.{At, Head, no_head, fresh, Draft, Held, WriterView}
 use Rattle.chunk_plain.specs.World.{World, Status, Unclaimed, Claimed, Stamped, Writing, status, writer}
 use Rattle.chunk_plain.specs.Steps.{claims, stamps, begins, redrafts, with_head, with_word, with_words, moved}
 use Rattle.chunk_plain.specs.Owned.{times, claims_of}
@@ -27,6 +27,7 @@ use Rattle.chunk_words.specs.Rule.{Roll, IsIn, IsOf, IsRead, IsManned, IsShared}
 use Rattle.chunk_words.specs.Moves.{is_clear, Claims, Stamps, Begins, SetsHeader, Publishes}
 use Rattle.chunk_words.proofs.Standing.{words_front, words_payload, words_body}
 use Rattle.chunk_words.proofs.Bodies.{put_same, with_hand, in_before, bodies_stay, bodies_out, bodies_back, body_here, body_else}
+use Rattle.chunk_words.proofs.Telling.{stays_same, stays_more, stays_set}
 use Rattle.chunk_words.proofs.Turns.{Still, IsWriterChange, moved_change, noted_change, writer_turn}
 
 abbrev pub Table : Type 0
@@ -78,7 +79,8 @@ claim_change : (world : World) (place chunk found : ℕ) (won : Bool) → place 
 claim_change world place chunk found true inside_w inside_c free =
     moved_change world place chunk (claims (writer world place) chunk found true) (Claimed place) inside_w inside_c
     (subst (λ t. Still place t (Claimed place)) (sym (free refl)) (record { started = λ x. x; full = λ x. absurd x; read = λ x. absurd x; others = λ other differs x. absurd x }))
-claim_change world place chunk found false inside_w inside_c free = noted_change world place (claims (writer world place) chunk found false) inside_w
+    (stays_same (writer world place).begun)
+claim_change world place chunk found false inside_w inside_c free = noted_change world place (claims (writer world place) chunk found false) inside_w refl
 
 not_not : (b : Bool) → not (not (not b)) ≡ not b
 not_not true = refl
@@ -140,7 +142,8 @@ stamps_allowed setup count id k chunk header v inside mine unstamped is_header s
     let home = r.bodies.home_is chunk inside in_ ∙ ap (λ (b : Option CommitBody). mathlib.Core.Option.some (mathlib.Core.Option.some b)) body.1 in
     let roll = with_hand r.roll k (hand_with chunk) in
     let change = moved_change world k chunk view is w_inside c_inside
-    (subst (λ t. Still k t is) (sym was) (record { started = λ x. x; full = λ x. absurd x; read = λ x. absurd x; others = λ other differs same. absurd (differs (sym same)) })) in
+    (subst (λ t. Still k t is) (sym was) (record { started = λ x. x; full = λ x. absurd x; read = λ x. absurd x; others = λ other differs same. absurd (differs (sym same)) }))
+    (stays_same (writer world k).begun) in
     let turn = writer_turn setup world next r.roll s.views id k 0 (hand_with chunk) v view r.manned at change
     (λ d e. let same : chunk ≡ d = omega arith in subst (λ c. IsOf k (status next c)) same (subst (IsOf k) (sym now) refl)) in (
       Writer k (hand_with chunk) (stamps v chunk),
@@ -185,7 +188,8 @@ begins_allowed setup count id k chunk mask v inside stamped sets keep s r deep a
     let kept' = body_kept setup front r.slots next chunk None r.laid kept (subst IsLent (sym now) tt) in
     let roll = with_hand r.roll k 0 in
     let change = moved_change world k chunk view to w_inside c_inside
-    (subst (λ t. Still k t to) (sym was) (record { started = λ x. tt; full = λ x. absurd x; read = λ x. absurd x; others = λ other differs same. absurd (differs (sym same)) })) in
+    (subst (λ t. Still k t to) (sym was) (record { started = λ x. tt; full = λ x. absurd x; read = λ x. absurd x; others = λ other differs same. absurd (differs (sym same)) }))
+    (stays_more v'.begun (Held chunk (fresh payload) ∷ [])) in
     let turn = writer_turn setup world next r.roll s.views id k (hand_with chunk) 0 v view r.manned at change (λ d e. absurd (omega arith)) in
     let room = (r.kept.shown.slot chunk inside).room in (
       Writer k 0 (begins v chunk payload),
@@ -227,7 +231,8 @@ heads_allowed setup count id k chunk i header head v holding is_header follows r
     (subst (λ z. HasFragments (published z i) (ends_by z i head.count)) f.0 reads) (subst (λ z. sealed_to (ends_by z i head.count) ≤ (spot setup chunk).payload_size) f.0 fits_in) in
     let roll = with_hand r.roll k 0 in
     let change = moved_change world k chunk view to w_inside c_inside
-    (subst (λ t. Still k t to) (sym was) (record { started = λ x. tt; full = λ x. absurd x; read = λ x. absurd x; others = λ other differs same. absurd (differs (sym same)) })) in
+    (subst (λ t. Still k t to) (sym was) (record { started = λ x. tt; full = λ x. absurd x; read = λ x. absurd x; others = λ other differs same. absurd (differs (sym same)) }))
+    (stays_set v'.begun i chunk (draft_at v' i) (Held chunk draft) holding') in
     let turn = writer_turn setup world next r.roll s.views id k 0 0 v view r.manned at change (λ d e. absurd (omega arith)) in (
       Writer k 0 (redrafts v chunk i (with_head (draft_at v i) head (ends_by v i head.count))),
       keeps,
@@ -277,7 +282,8 @@ publishes_allowed setup count id k chunk i index word v holding less same s r de
     (λ j below. ap (λ (l : List ℕ). byte_at l j) stored_is ∙ bytes j below) in
     let roll = with_hand r.roll k 0 in
     let change = moved_change world k chunk view to w_inside c_inside
-    (subst (λ t. Still k t to) (sym was) (record { started = λ x. tt; full = λ x. absurd x; read = λ x. absurd x; others = λ other differs same_. absurd (differs (sym same_)) })) in
+    (subst (λ t. Still k t to) (sym was) (record { started = λ x. tt; full = λ x. absurd x; read = λ x. absurd x; others = λ other differs same_. absurd (differs (sym same_)) }))
+    (stays_set v'.begun i chunk old (Held chunk draft) holding') in
     let turn = writer_turn setup world next r.roll s.views id k 0 0 v view r.manned at change (λ d e. absurd (omega arith)) in
     let deep_slots : length r.slots ≡ length setup.spots = r.kept.shown.slot_count in (
       Writer k 0 (redrafts v chunk i (with_word (draft_at v i) index word)),

@@ -1,5 +1,5 @@
 -- A table that threads shared, once all its seats are back.
-use Rattle.std.specs.Prelude.{◌≡◌, ℕ, ◌+◌, List, [], length, map, slice_index_or}
+use Rattle.std.specs.Prelude.{◌≡◌, ℕ, ◌+◌, ◌≤◌, List, [], length, map, slice_index_or}
 use Rattle.std.specs.Int.{bit_at}
 use Rattle.page_geometry.specs.declared.page_word.TheConstants.{CLAIM_BIT}
 use Rattle.page_geometry.specs.declared.chunk_state.ChunkState.TheVariants.{Free}
@@ -17,12 +17,16 @@ use Rattle.chunk_words.specs.Sits.{Sits}
 pub record IsDone (service : ServiceView) (place : ℕ) (view : WriterView) : Type 0 where
   pub claimed : view.claimed ≡ []
   pub held : held_count view.begun ≡ 0
-  pub taken : (taken_of service place).count ≡ length view.begun
+  pub taken : length view.begun ≤ (taken_of service place).count
 
 -- the seats of all writers, in their order, which have nothing left to do
 pub record HasAllSeats (table : HostTable) (service : ServiceView) (seats : List WriterSeat) : Type 0 where
   pub count : length seats ≡ length table.layout.writers
   pub each : (place : ℕ) (seat : WriterSeat) → At seats place seat → (seat.place ≡ place) × Sits table seat × IsDone service place (view_of seat.seat.me.0)
+
+-- of each writer so many chunks were taken as it has completed
+abbrev pub AllTaken : ServiceView → List WriterView → Type 0
+AllTaken service views = (place : ℕ) (view : WriterView) → At views place view → (taken_of service place).count ≡ length view.begun
 
 -- the views of the seats
 abbrev pub views_of : List WriterSeat → List WriterView

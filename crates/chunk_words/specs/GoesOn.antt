@@ -8,6 +8,7 @@ pub record IsFront {A : Type 0} (front all : List A) : Type 0 where
   pub rest : List A
   pub is : all ≡ front ++ rest
 
+-- a read was noted
 abbrev pub IsReadNote : Noted → Type 0
 IsReadNote (Read sequence limit) = Unit {0}
 IsReadNote _ = ⊥

@@ -1,6 +1,6 @@
 -- What a seat of a table that threads share knows: a view, and what it does with it in the middle of a call.
-use Rattle.std.specs.Prelude.{ℕ, ◌+◌, ◌==◌, ◌++◌, ◌∷◌, List, [], if◌then◌else◌}
-use Rattle.chunk_plain.specs.Views.{Content, WriterView, newcomer, ServiceView, newcomer_service}
+use Rattle.std.specs.Prelude.{ℕ, ◌+◌, ◌==◌, ◌++◌, ◌∷◌, List, [], length, if◌then◌else◌}
+use Rattle.chunk_plain.specs.Views.{Content, Begun, WriterView, newcomer, ServiceView, newcomer_service}
 
 -- What the service found at one step of a call and relies on at the next one.
 pub data Watch : Type 0 where
@@ -20,14 +20,21 @@ pub data Stage : Type 0 where
   Away : Stage
   Here : ServiceView → Stage
 
--- What the service's seat has of the other seats: the views of the writers' that it took in again, and where the reading pass is.
+-- What a writer told the service: what it had begun. The service had looked so often by then.
+pub record Tale : Type 0 where
+  pub place : ℕ
+  pub looks : ℕ
+  pub begun : List Begun
+
+-- What the service's seat has of the other seats: the views of the writers' that it took in again, where the reading pass is, and what writers told it.
 pub record Desk : Type 0 where
   pub joined : List WriterView
   pub stage : Stage
+  pub told : List Tale
 
--- no seat came back, and no pass was made
+-- no seat came back, no pass was made, and nothing was told
 abbrev pub first_desk : Desk
-first_desk = record { joined = []; stage = Unmade }
+first_desk = record { joined = []; stage = Unmade; told = [] }
 
 -- What a seat knows. The hand says whose slot is out with the seat: 0 for none, else the chunk's number and 1. A later kind of seat is one case more.
 pub data Knows : Type 0 where
@@ -38,6 +45,8 @@ pub data Knows : Type 0 where
   Service : (hand made : ℕ) → Desk → Watch → ServiceView → Knows
   -- the reading pass's, which knows what the service knew when its last read was noted
   Pass : ServiceView → Knows
+  -- that of a tale on its way to the service: what the writer at this place had begun
+  Report : (place : ℕ) → List Begun → Knows
 
 -- the hand that has the slot of a chunk
 abbrev pub hand_with : ℕ → ℕ
@@ -126,6 +135,10 @@ with_views desk views = record desk { joined = views }
 abbrev pub with_stage : Desk → Stage → Desk
 with_stage desk stage = record desk { stage = stage }
 
+-- the service has heard so much of the writer at this place
+abbrev pub with_tale : Desk → ServiceView → (place : ℕ) → List Begun → Desk
+with_tale desk view place begun = record desk { told = desk.told ++ record { place = place; looks = length view.looks; begun = begun } ∷ [] }
+
 -- the service has taken in the seat of a writer
 abbrev pub takes_seat : Knows → Knows → Knows
 takes_seat (Service hand made desk watch view) (Writer place held known) = Service hand made (with_view desk known) watch view
@@ -145,6 +158,7 @@ abbrev pub staged : Stage → ServiceView
 staged (Here view) = view
 staged _ = newcomer_service
 
+-- the reading pass's seat as the service gives it back
 abbrev pub own_pass : Knows → Knows
 own_pass knows = Pass (staged (stage_of knows))
 
@@ -152,6 +166,7 @@ own_pass knows = Pass (staged (stage_of knows))
 abbrev pub left_over : Knows → Knows
 left_over knows = Spent
 
+-- what the new seat knows then
 abbrev pub handed_on : Knows → Knows
 handed_on knows = knows
 
@@ -159,6 +174,15 @@ handed_on knows = knows
 abbrev pub takes_pass : Knows → Knows → Knows
 takes_pass (Service hand made desk watch view) (Pass known) = Service hand made (with_stage desk (Here known)) watch view
 takes_pass knows _ = knows
+
+-- a writer tells what it has begun
+abbrev pub tells : Knows → Knows
+tells knows = Report (place_of knows) (view_of knows).begun
+
+-- the service has heard it
+abbrev pub hears : Knows → Knows → Knows
+hears (Service hand made desk watch view) (Report place begun) = Service hand made (with_tale desk view place begun) watch view
+hears knows _ = knows
 
 -- a function that differs at one place
 abbrev pub put : (ℕ → ℕ) → ℕ → ℕ → ℕ → ℕ

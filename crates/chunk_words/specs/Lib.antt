@@ -1,6 +1,7 @@
 pub mod Knows
 pub mod Places
 pub mod GoesOn
+pub mod Told
 pub mod Rule
 pub mod Moves
 pub mod Seats

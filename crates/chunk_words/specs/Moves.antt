@@ -21,8 +21,9 @@ use Rattle.chunk_plain.specs.Shows.{IsBodyOf, content_of}
 use Rattle.chunk_plain.specs.Setup.{Setup, spot, sequence_of}
 use Rattle.chunk_plain.specs.Words.{LooksAt, call_of, event_of, committed_of}
 use Rattle.chunk_words.specs.declared.moves.Move.{Move}
-use Rattle.chunk_words.specs.declared.moves.Move.TheVariants.{Claim, Stamp, Begin, SetHeader, Publish, Fetch, Complete as CompleteStep, Call as CallStep, Peek, Find, Know, Miss, Take, Load, Learn, Lift, Release, Event, NoteRead, Commit}
+use Rattle.chunk_words.specs.declared.moves.Move.TheVariants.{Claim, Stamp, Begin, SetHeader, Publish, Fetch, Complete as CompleteStep, Call as CallStep, Peek, Find, Know, Miss, Take, Load, Learn, Lift, Release, Event, NoteRead, Recall, Commit}
 use Rattle.chunk_words.specs.GoesOn.{GoesOn}
+use Rattle.chunk_words.specs.Told.{ShowsAllTold, TellsComplete}
 use Rattle.chunk_words.specs.Knows.{Watch, Nothing, Started, Full, Known, Lifted, Here, Knows, Service, hand_with, made_of, desk_of, stage_of, staged, with_stage, no_content, hand_of, view_of, place_of, service_of, watch_of, by_writer, by_service}
 
 -- what a seat knows and has
@@ -128,9 +129,10 @@ Completes chunk id body me new =
 abbrev pub Notes : Call → Mine → Mine → Type 0
 Notes call me new = new ≡ (by_writer 0 (λ view. notes_call view call) me.0, [])
 
--- the page word is found, and what it says is watched
-abbrev pub Peeks : (chunk place : ℕ) → Mine → ℕ → Mine → Type 0
-Peeks chunk place me found new = new ≡ (by_service 0 (watch_for chunk found place) (λ view. view) me.0, [])
+-- the page word is found, and what it says is watched; it shows the chunk complete where that was told
+pub record Peeks (setup : Setup) (chunk place : ℕ) (me : Mine) (found : ℕ) (new : Mine) : Type 0 where
+  pub new_is : new ≡ (by_service 0 (watch_for chunk found place) (λ view. view) me.0, [])
+  pub told : TellsComplete setup chunk found (service_of me.0) (desk_of me.0)
 
 -- the header of a complete chunk is found
 abbrev pub ReadsHeader : (chunk : ℕ) → Mine → ℕ → Mine → Type 0
@@ -156,6 +158,11 @@ pub record NotesRead (event : Noted) (me new : Mine) : Type 0 where
     [],
   )
   pub seen : IsSeen (notes (service_of me.0) event)
+
+-- nothing changes, and the looks in the view show what was told
+pub record Recalls (setup : Setup) (me new : Mine) : Type 0 where
+  pub new_is : new ≡ (by_service 0 Nothing (λ view. view) me.0, [])
+  pub shown : ShowsAllTold setup (service_of me.0) (desk_of me.0)
 
 -- The chunk is taken, whose page word and header were found: the slot is out with the service.
 pub record Takes (place chunk size word : ℕ) (header : ChunkHeader) (me new : Mine) : Type 0 where
@@ -220,7 +227,7 @@ After (Publish chunk id index word) me found new = Publishes chunk id index word
 After (Fetch chunk) me found new = Fetches chunk me new
 After (CompleteStep chunk id) me found new = IfSome (body_in me.1) (λ body. Completes chunk id body me new)
 After (CallStep call) me found new = Notes (call_of call) me new
-After (Peek chunk place) me found new = Peeks chunk place me found new
+After (Peek layout chunk place) me found new = Peeks layout.now chunk place me found new
 After (Find layout chunk word) me found new = Looks layout.now chunk word me found new
 After (Know chunk) me found new = ReadsHeader chunk me found new
 After (Miss chunk word header) me found new = Serves (λ view. looks_at view chunk word (packed header) None) me new
@@ -230,5 +237,6 @@ After (Learn place) me found new = Serves (λ view. learns view place (watched (
 After (Lift layout chunk) me found new = Lifts layout.now chunk me new
 After (Release chunk) me found new = Serves (λ view. lets_go view chunk) me new
 After (Event event) me found new = Serves (λ view. notes view (event_of event)) me new
+After (Recall layout) me found new = Recalls layout.now me new
 After (NoteRead event) me found new = NotesRead (event_of event) me new
 After (Commit header payload patches) me found new = Serves (λ view. notes_commit view (committed_of header payload.now patches.now)) me new

@@ -12,7 +12,8 @@ use Rattle.chunk_plain.specs.Drafts.{head_of}
 use Rattle.chunk_plain.specs.Stored.{Stored, stored_at}
 use Rattle.chunk_plain.specs.Shows.{IsHeader}
 use Rattle.chunk_plain.specs.Plain.{IsKept, first_world}
-use Rattle.chunk_words.specs.Knows.{Watch, Nothing, Started, Full, Known, Lifted, Stage, Unmade, Away, Here, Desk, first_desk, Knows, Spent, Writer, Service, Pass, hand_with}
+use Rattle.chunk_words.specs.Knows.{Watch, Nothing, Started, Full, Known, Lifted, Stage, Unmade, Away, Here, Tale, Desk, first_desk, Knows, Spent, Writer, Service, Pass, Report, hand_with}
+use Rattle.chunk_words.specs.Told.{StaysCompleted, ShowsTold}
 use Rattle.chunk_words.specs.GoesOn.{GoesOn}
 use Rattle.chunk_words.specs.Places.{front_count, payload_start, payload_words, word_total}
 
@@ -88,6 +89,10 @@ pub record HasJoined (world : World) (roll : Roll) (joined : List WriterView) : 
   pub count : length joined ≡ roll.joined
   pub each : (place : ℕ) (view : WriterView) → At joined place view → (view ≡ writer world place) × (roll.hands place ≡ 0)
 
+-- What was told is so still, and the looks since show it.
+abbrev pub IsTrue : Setup → World → Tale → Type 0
+IsTrue setup world tale = StaysCompleted tale.begun (writer world tale.place).begun × ShowsTold setup world.service tale
+
 -- there is a reading pass
 abbrev pub IsMade : Stage → Type 0
 IsMade Unmade = ⊥
@@ -100,8 +105,9 @@ Fits setup world roll seat (Writer place hand view) =
     (view ≡ writer world place) × (roll.seats place ≡ seat) × (roll.hands place ≡ hand) × (place < roll.made) × (roll.joined ≤ place)
 Fits setup world roll seat (Service hand made desk watch view) =
     (view ≡ world.service) × (roll.server ≡ seat) × (roll.hand ≡ hand) × (roll.made ≡ made) × HasJoined world roll desk.joined × IsWatched setup world watch
-    × (roll.stage ≡ desk.stage)
+    × (roll.stage ≡ desk.stage) × ((i : ℕ) (tale : Tale) → At desk.told i tale → IsTrue setup world tale)
 Fits setup world roll seat (Pass view) = (view ≡ roll.passed) × (roll.keeper ≡ seat) × (roll.stage ≡ Away)
+Fits setup world roll seat (Report place begun) = StaysCompleted begun (writer world place).begun
 
 -- each writer and the service have one seat, which knows its part of the world
 pub record IsManned (setup : Setup) (world : World) (roll : Roll) (views : List Knows) : Type 0 where

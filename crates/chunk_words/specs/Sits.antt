@@ -42,6 +42,7 @@ setup_in table = table.layout
 abbrev pub known_by : WriterSeat → WriterView
 known_by seat = view_of seat.seat.me.0
 
+-- what the service's seat knows
 abbrev pub known_by_service : ServiceSeat → ServiceView
 known_by_service seat = service_of seat.seat.me.0
 

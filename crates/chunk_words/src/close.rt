@@ -1,7 +1,7 @@
 //! A table that threads shared, once all its seats are back.
 ghost use Rattle.std.specs.Prelude.{◌≡◌, ℕ, ◌+◌, ◌<◌, [], length};
 ghost use Rattle.std.specs.Mem.Slots.{slots_items, IsFull};
-ghost use Rattle.chunk_words.specs.Closed.{HasAllSeats, IsUnused, IsAccount, views_of};
+ghost use Rattle.chunk_words.specs.Closed.{HasAllSeats, IsUnused, IsAccount, AllTaken, views_of};
 ghost use Rattle.chunk_plain.specs.Views.{ServiceView};
 ghost use Rattle.chunk_words.specs.GoesOn.{GoesOn};
 ghost use Rattle.chunk_words.specs.Knows.{Here, Service, made_of, desk_of, joined_of, stage_of, watch_of, service_of, view_of, passed_of, with_view, with_views};
@@ -41,6 +41,7 @@ impl HostTable {
         requires none_out { (service_of service.seat.me.0).reading ≡ [] }
         ensures unused { (chunk : ℕ) → chunk < length self.layout.spots → IsUnused self.layout (slots_items result.closed.words) chunk }
         ensures account { IsAccount (views_of seats.items) (service_of service.seat.me.0) }
+        ensures taken { AllTaken (service_of service.seat.me.0) (views_of seats.items) }
     {
         self.close_all(seats, service)
     }
@@ -59,6 +60,7 @@ impl HostTable {
         requires pass { Passes self pass }
         ensures unused { (chunk : ℕ) → chunk < length self.layout.spots → IsUnused self.layout (slots_items result.closed.words) chunk }
         ensures account { IsAccount (views_of seats.items) (service_of service.seat.me.0) }
+        ensures taken { AllTaken (service_of service.seat.me.0) (views_of seats.items) }
         ensures goes_on { GoesOn (passed_of pass.seat.me.0) (service_of service.seat.me.0) }
     {
         let mut service = service;
@@ -73,6 +75,7 @@ impl HostTable {
         requires none_out { (service_of service.seat.me.0).reading ≡ [] }
         ensures unused { (chunk : ℕ) → chunk < length self.layout.spots → IsUnused self.layout (slots_items result.closed.words) chunk }
         ensures account { IsAccount (views_of seats.items) (service_of service.seat.me.0) }
+        ensures taken { AllTaken (service_of service.seat.me.0) (views_of seats.items) }
         ensures goes_on { (known : ServiceView) → stage_of service.seat.me.0 ≡ Here known → GoesOn known (service_of service.seat.me.0) }
     {
         let mut service = service;

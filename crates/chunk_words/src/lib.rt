@@ -17,6 +17,7 @@ mod service_steps;
 mod shared;
 mod slots;
 mod steps;
+mod tell;
 mod writer_calls;
 mod writer_steps;
 

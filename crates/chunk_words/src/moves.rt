@@ -44,6 +44,7 @@ pub enum Move<'a> {
     },
     /// The page word is read.
     Peek {
+        layout: &'a Layout,
         chunk: u32,
         place: u8,
     },
@@ -94,6 +95,10 @@ pub enum Move<'a> {
     /// A read is noted, while the reading pass is with the service.
     NoteRead {
         event: ServiceEvent,
+    },
+    /// The looks so far are compared with what writers told.
+    Recall {
+        layout: &'a Layout,
     },
     Commit {
         header: ChunkHeader,

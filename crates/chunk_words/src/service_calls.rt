@@ -8,6 +8,8 @@ ghost use Rattle.chunk_plain.specs.Owned.{times};
 ghost use Rattle.chunk_plain.specs.Steps.{looks_at, takes_in, learns, lets_go, notes, notes_commit};
 ghost use Rattle.chunk_plain.specs.Words.{IsServing, LooksAt, ShowsFound, IsTakenPayload, TakesChunk, FindsOther, IsReadEvent, event_of, committed_of};
 ghost use Rattle.page_geometry.specs.Header.{packed, unpacked};
+ghost use Rattle.page_geometry.specs.PageBits.{HasState};
+ghost use Rattle.page_geometry.specs.declared.chunk_state.ChunkState.TheVariants.{Complete};
 ghost use Rattle.chunk_plain.specs.Payload.{byte_of, byte_in};
 ghost use Rattle.chunk_plain.specs.Shows.{content_of};
 ghost use Rattle.chunk_words.specs.Knows.{Known, Unmade, desk_of, stage_of, service_of, watch_of};
@@ -155,6 +157,7 @@ impl HostTable {
         requires chunk { chunk < length self.now.layout.spots }
         requires writer { writer < length self.now.layout.writers }
         requires serving { IsServing self.now.layout (service_of seat.old.seat.me.0) }
+        requires complete { HasState word (spot self.now.layout chunk).place Complete }
         requires watch { watch_of seat.old.seat.me.0 ≡ Known chunk (packed header) }
         requires fields { unpacked (packed header) ≡ header }
         requires writer_is { header.writer_id ≡ writer + 1 }

@@ -1,14 +1,17 @@
 //! The steps of the service's seat: each is one atomic step on the table.
 ghost use Rattle.std.specs.Prelude.{◌≡◌, ℕ, ◌+◌, ◌<◌, None, length, vec_len, IsSome, IfSome};
 ghost use Rattle.page_geometry.specs.Header.{packed, unpacked};
+ghost use Rattle.page_geometry.specs.PageBits.{HasState};
+ghost use Rattle.page_geometry.specs.declared.chunk_state.ChunkState.TheVariants.{Complete};
 ghost use Rattle.chunk_plain.specs.Setup.{spot};
 ghost use Rattle.chunk_plain.specs.Views.{taken_of};
 ghost use Rattle.chunk_plain.specs.Owned.{times};
 ghost use Rattle.chunk_plain.specs.Steps.{looks_at, learns, lets_go, notes, notes_commit};
 ghost use Rattle.chunk_plain.specs.Words.{IsReadEvent, event_of, committed_of};
-ghost use Rattle.chunk_words.specs.Knows.{Full, Known, Lifted, Unmade, stage_of, watch_of, service_of};
+ghost use Rattle.chunk_words.specs.Knows.{Full, Known, Lifted, Unmade, desk_of, stage_of, watch_of, service_of};
 ghost use Rattle.chunk_words.specs.Moves.{watch_for, watched, body_in, Peeks, Looks, ReadsHeader, Serves, Takes, Loads, Lifts};
 ghost use Rattle.chunk_words.specs.Places.{payload_words};
+ghost use Rattle.chunk_words.specs.Told.{TellsComplete};
 ghost use Rattle.chunk_words.specs.Seats.{IsServiceIdle, IsService, HasLifted};
 
 use crate::host::HostTable;
@@ -27,10 +30,11 @@ impl HostTable {
         requires idle { IsServiceIdle seat.old.seat.me }
         requires chunk { chunk < length self.now.layout.spots }
         ensures seat { seat.new.seat.table_id ≡ seat.old.seat.table_id }
-        ensures me { Peeks chunk (spot self.now.layout chunk).place seat.old.seat.me result seat.new.seat.me }
+        ensures me { Peeks self.now.layout chunk (spot self.now.layout chunk).place seat.old.seat.me result seat.new.seat.me }
     {
         let spot = self.layout.spot(chunk);
         let step = Move::Peek {
+            layout: &self.layout,
             chunk,
             place: spot.place,
         };
@@ -44,6 +48,7 @@ impl HostTable {
         requires idle { IsServiceIdle seat.old.seat.me }
         requires chunk { chunk < length self.now.layout.spots }
         requires watch { watch_of seat.old.seat.me.0 ≡ watch_for chunk word (spot self.now.layout chunk).place }
+        requires told { TellsComplete self.now.layout chunk word (service_of seat.old.seat.me.0) (desk_of seat.old.seat.me.0) }
         ensures seat { seat.new.seat.table_id ≡ seat.old.seat.table_id }
         ensures me { Looks self.now.layout chunk word seat.old.seat.me result seat.new.seat.me }
     {
@@ -89,6 +94,8 @@ impl HostTable {
     )
         requires seat { seat.old.seat.table_id ≡ self.now.table.shared.table_id }
         requires idle { IsServiceIdle seat.old.seat.me }
+        requires watch { watch_of seat.old.seat.me.0 ≡ Known chunk (packed header) }
+        requires complete { HasState word (spot self.now.layout chunk).place Complete }
         ensures seat { seat.new.seat.table_id ≡ seat.old.seat.table_id }
         ensures me { Serves (λ view. looks_at view chunk word (packed header) None) seat.old.seat.me seat.new.seat.me }
     {
@@ -114,6 +121,7 @@ impl HostTable {
         requires idle { IsServiceIdle seat.old.seat.me }
         requires chunk { chunk < length self.now.layout.spots }
         requires writer { writer < length self.now.layout.writers }
+        requires complete { HasState word (spot self.now.layout chunk).place Complete }
         requires watch { watch_of seat.old.seat.me.0 ≡ Known chunk (packed header) }
         requires fields { unpacked (packed header) ≡ header }
         requires writer_is { header.writer_id ≡ writer + 1 }

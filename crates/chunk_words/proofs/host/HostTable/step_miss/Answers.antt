@@ -1,9 +1,9 @@
-use Rattle.chunk_words.specs.Knows.{made_of, desk_of, watch_of, service_of}
+use Rattle.chunk_words.specs.Knows.{made_of, desk_of, service_of}
 use Rattle.chunk_words.proofs.ServiceMoves.{misses_allowed}
 use Rattle.chunk_words.proofs.host.HostTable.step_miss.Goals as goal
 
 pub make_load-requires-clause-allowed : goal.make_load-requires-clause-allowed
 make_load-requires-clause-allowed c =
     let self = c.args.self.now in let seat = c.args.seat.now.seat in let k = seat.me.0 in
-    rw (self.key, c.requires.idle)
-    (misses_allowed self.layout _ seat.id (made_of k) (desk_of k) c.args.chunk c.args.word _ _ (watch_of k) (service_of k))
+    rw (self.key, c.requires.idle, c.requires.watch)
+    (misses_allowed self.layout _ seat.id (made_of k) (desk_of k) c.args.chunk c.args.word _ _ (service_of k) c.requires.complete)

@@ -1,0 +1,32 @@
+-- What writers told the service, and what its looks show of that.
+use Rattle.std.specs.Prelude.{ℕ, ◌≤◌, List, slice_index_or}
+use Rattle.page_geometry.specs.declared.chunk_state.ChunkState.TheVariants.{Complete}
+use Rattle.page_geometry.specs.PageBits.{HasState}
+use Rattle.chunk_plain.specs.Setup.{Setup, spot}
+use Rattle.chunk_plain.specs.Views.{At, Head, Content, Begun, Completed, Look, ServiceView, taken_of}
+use Rattle.chunk_plain.specs.Shows.{IsHeader}
+use Rattle.chunk_words.specs.Knows.{Tale, Desk}
+
+-- what was completed is completed still, as it was
+abbrev pub StaysCompleted : List Begun → List Begun → Type 0
+StaysCompleted was is = (id chunk : ℕ) (content : Content) → At was id (Completed chunk content) → At is id (Completed chunk content)
+
+-- the look found its chunk complete, with this writer and this id in its header
+pub record ShowsComplete (setup : Setup) (place id : ℕ) (look : Look) : Type 0 where
+  pub complete : HasState look.word (spot setup look.chunk).place Complete
+  pub head : Head
+  pub header : IsHeader setup look.header place id head
+
+-- Each look since the tale at a chunk that it tells of shows the chunk complete, as long as its id isn't taken.
+abbrev pub ShowsTold : Setup → ServiceView → Tale → Type 0
+ShowsTold setup view tale = (n id : ℕ) (look : Look) (content : Content) → tale.looks ≤ n → At view.looks n look
+    → At tale.begun id (Completed look.chunk content) → slice_index_or look.taken tale.place 0 ≤ id → ShowsComplete setup tale.place id look
+
+-- and so do all looks of all that was told
+abbrev pub ShowsAllTold : Setup → ServiceView → Desk → Type 0
+ShowsAllTold setup view desk = (i : ℕ) (tale : Tale) → At desk.told i tale → ShowsTold setup view tale
+
+-- The page word shows the chunk complete, where it was told so and its id isn't taken.
+abbrev pub TellsComplete : Setup → (chunk word : ℕ) → ServiceView → Desk → Type 0
+TellsComplete setup chunk word view desk = (i id : ℕ) (tale : Tale) (content : Content) → At desk.told i tale → At tale.begun id (Completed chunk content)
+    → (taken_of view tale.place).count ≤ id → HasState word (spot setup chunk).place Complete
