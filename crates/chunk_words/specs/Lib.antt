@@ -5,6 +5,7 @@ pub mod Told
 pub mod Rule
 pub mod Moves
 pub mod Seats
+pub mod Seen
 pub mod Sits
 pub mod Made
 pub mod Laws

@@ -7,7 +7,7 @@ use Rattle.chunk_words.specs.declared.seats.ServiceSeat.{ServiceSeat}
 use Rattle.chunk_words.specs.declared.seats.ReadPass.{ReadPass}
 use Rattle.chunk_plain.specs.Setup.{Setup}
 use Rattle.chunk_plain.specs.Views.{WriterView, ServiceView}
-use Rattle.chunk_words.specs.Knows.{Unmade, view_of, service_of, stage_of, passed_of}
+use Rattle.chunk_words.specs.Knows.{Unmade, Desk, desk_of, view_of, service_of, stage_of, passed_of}
 use Rattle.chunk_words.specs.Seats.{Rests, Waits, IsPass}
 
 -- the writer's seat is one of the table's, and no call of it is going on
@@ -19,6 +19,11 @@ pub record Sits (table : HostTable) (seat : WriterSeat) : Type 0 where
 pub record Attends (table : HostTable) (seat : ServiceSeat) : Type 0 where
   pub joined : seat.seat.table_id ≡ table.table.shared.table_id
   pub waits : Waits table.layout seat.seat.me
+
+-- the service's seat attends, and has this of the other seats
+pub record Remembers (table : HostTable) (desk : Desk) (seat : ServiceSeat) : Type 0 where
+  pub attends : Attends table seat
+  pub desk_is : desk_of seat.seat.me.0 ≡ desk
 
 -- the reading pass is the table's
 pub record Passes (table : HostTable) (pass : ReadPass) : Type 0 where

@@ -11,6 +11,7 @@ pub mod laws;
 mod make;
 mod moves;
 mod pass;
+mod remembering;
 mod seats;
 mod service_calls;
 mod service_steps;
@@ -23,6 +24,7 @@ mod writer_steps;
 
 pub use close::ClosedTable;
 pub use host::HostTable;
+pub use remembering::{Memory, Remembering};
 pub use seats::{ReadPass, ServiceSeat, WriterSeat};
 pub use shared::Shared;
 pub use steps::{ChunkRule, ChunkSeat, ChunkTable, Knowledge};

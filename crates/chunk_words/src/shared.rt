@@ -1,17 +1,9 @@
 //! The table that threads share, as the trait `Words` has it.
-ghost use Rattle.std.specs.Prelude.{◌≡◌, ℕ, ◌+◌, ◌<◌, ◌≤◌, Option, Some, None, length};
-ghost use Rattle.std.proofs.Common.{subst, sym, ◌∙◌};
-ghost use Rattle.std.proofs.Math.Logic.{∥∥₁_map, ∥∥₁_elim};
-ghost use Rattle.std.proofs.Math.Nat.{ℕ_set};
-ghost use Rattle.std.specs.Coded.{le_prop};
-ghost use mathlib.Core.Option.{some-injective};
-ghost use Rattle.chunk_plain.specs.Views.{At, Begun, Completed, ServiceView, taken_of};
-ghost use Rattle.chunk_plain.specs.World.{World, writer};
-ghost use Rattle.chunk_plain.specs.Owned.{IsOwned};
-ghost use Rattle.chunk_plain.specs.Drafts.{StillHas};
-ghost use Rattle.chunk_plain.specs.Words.{HasBoth};
+ghost use Rattle.std.specs.Prelude.{Option, Some, None};
+ghost use Rattle.std.proofs.Common.{subst};
 ghost use Rattle.chunk_words.specs.Knows.{view_of, service_of};
 ghost use Rattle.chunk_words.specs.Sits.{Sits, Attends, HasNoPass, IsNothing};
+ghost use Rattle.chunk_words.specs.Seen.{learnt_as_found, looks_agree};
 
 use crate::host::HostTable;
 use crate::seats::{ServiceSeat, WriterSeat};
@@ -48,36 +40,9 @@ impl<'t> Words for Shared<'t> {
 
     ghost serving = { λ shared seat serves. serves.waits.serving };
 
-    ghost learnt = { λ shared seat serves n look found content at is has.
-        let view = service_of seat.seat.me.0 in
-        let fact : (world : World) × IsOwned world × (world.service ≡ view) → (chunk : ℕ) × StillHas look.chunk found (Completed chunk content) = λ w.
-        let there = (w.1.looks n look found (subst (λ (v : ServiceView). At v.looks n look) (sym w.2) at) is).1 in
-        let done = (w.1.counts found.place).learnt found.id content (subst (λ (v : ServiceView). At (taken_of v found.place).contents found.id content) (sym w.2) has) in
-        (done.0, subst (StillHas look.chunk found) (some-injective there.entry (Completed done.0 content) (sym there.at ∙ done.1)) there.has) in (
-          record {
-            count_grows = ∥∥₁_elim serves.waits.seen (Prim.hlevel le_prop) (λ w. (fact w).1.1.count_grows);
-            front_stays = λ some. ∥∥₁_elim serves.waits.seen (ℕ_set _ _) (λ w. (fact w).1.1.front_stays some);
-          },
-          ∥∥₁_elim serves.waits.seen (Prim.hlevel le_prop) (λ w. (fact w).1.2),
-          λ j below. ∥∥₁_elim serves.waits.seen (ℕ_set _ _) (λ w. (fact w).1.3 j below),
-        ) };
+    ghost learnt = { λ shared seat serves. learnt_as_found (service_of seat.seat.me.0) serves.waits.seen };
 
-    ghost looks_agree = { λ shared seat serves n m look later found other at is then was place id.
-        let view = service_of seat.seat.me.0 in
-        let both : (world : World) × IsOwned world × (world.service ≡ view) → HasBoth look.chunk found later.chunk other = λ w.
-        let here = w.1.looks n look found (subst (λ (v : ServiceView). At v.looks n look) (sym w.2) at) is in
-        let there = w.1.looks m later other (subst (λ (v : ServiceView). At v.looks m later) (sym w.2) then) was in
-        let moved = subst (λ (i : ℕ). At (writer w.0 found.place).begun i there.1.entry) (sym id)
-        (subst (λ (p : ℕ). At (writer w.0 p).begun other.id there.1.entry) (sym place) there.1.at) in
-        let same = some-injective here.1.entry there.1.entry (sym here.1.at ∙ moved) in
-        record {
-          entry = here.1.entry;
-          found_is = here.0;
-          has = here.1.has;
-          other_is = there.0;
-          had = subst (λ (e : Begun). StillHas later.chunk other e) (sym same) there.1.has;
-        } in
-        ∥∥₁_map serves.waits.seen both };
+    ghost looks_agree = { λ shared seat serves. looks_agree (service_of seat.seat.me.0) serves.waits.seen };
 
     ghost told_view = { λ shared seat world told sits. absurd (subst IsNothing told tt) };
 
