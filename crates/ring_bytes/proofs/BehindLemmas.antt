@@ -19,29 +19,29 @@ use Rattle.ring_bytes.proofs.RingLemmas.{IsLive, halves_of, some_of}
 use Rattle.ring_bytes.proofs.MetLemmas.{before, rows_of, some_size, some_place, no_place}
 use Rattle.ring_bytes.proofs.LiveLemmas.{behind_only}
 
-older_limit : (room next n a m : ℕ) → next ≤ a → a + m ≤ room → 0 < m → is_met room next n a m ≡ nat_lt a (min (next + n) room)
-older_limit room next n a m above inside some = grind (arith, nat_tests)
+older_limit : (room end next n a m : ℕ) → end ≤ room → next ≤ a → a + m ≤ end → 0 < m → is_met room next n a m ≡ nat_lt a (min end (next + n))
+older_limit room end next n a m in_room above inside some = grind (arith, nat_tests)
 
 newer_limit : (room next n a m : ℕ) → next ≤ room → a + m ≤ next → 0 < m → is_met room next n a m ≡ nat_lt a (newer_limit_of next n room)
 newer_limit room next n a m low below some = grind (arith, nat_tests)
 
-older_behind : (a : Inside) (len to : ℕ) → IsRing a → a.next ≤ to → IsRow a.bytes.items to a.size → find (meets_stored (ring_view a) len) (live_row a.bytes.items to a.size) ≡ find (before (min (a.next + len) a.size)) (live_row a.bytes.items to a.size)
+older_behind : (a : Inside) (len to : ℕ) → IsRing a → a.next ≤ to → IsRow a.bytes.items to a.reached → find (meets_stored (ring_view a) len) (live_row a.bytes.items to a.reached) ≡ find (before (min a.reached (a.next + len))) (live_row a.bytes.items to a.reached)
 older_behind a len to ok above is =
-    find_same (meets_stored (ring_view a) len) (before (min (a.next + len) a.size)) to a.size (live_row a.bytes.items to a.size)
-    (row_within a.bytes.items to a.size (omega (arith, ok.whole)) is)
-    (λ s low high. older_limit a.size a.next len s.at (size_of s) (omega arith) high (some_size s))
+    find_same (meets_stored (ring_view a) len) (before (min a.reached (a.next + len))) to a.reached (live_row a.bytes.items to a.reached)
+    (row_within a.bytes.items to a.reached (omega (arith, ok.whole)) is)
+    (λ s low high. older_limit a.size a.reached a.next len s.at (size_of s) ok.reached_in (omega arith) high (some_size s))
 
 newer_behind : (a : Inside) (len to : ℕ) → IsRing a → IsRow a.bytes.items to a.next → find (meets_stored (ring_view a) len) (live_row a.bytes.items to a.next) ≡ find (before (newer_limit_of a.next len a.size)) (live_row a.bytes.items to a.next)
 newer_behind a len to ok is =
     find_same (meets_stored (ring_view a) len) (before (newer_limit_of a.next len a.size)) to a.next (live_row a.bytes.items to a.next)
     (row_within a.bytes.items to a.next (omega (arith, ok.whole, ok.next_in)) is)
-    (λ s low high. newer_limit a.size a.next len s.at (size_of s) ok.next_in high (some_size s))
+    (λ s low high. newer_limit a.size a.next len s.at (size_of s) (omega (arith, ok.next_in, ok.reached_in)) high (some_size s))
 
 newer_all : (a : Inside) (len : ℕ) → IsRing a → find (meets_stored (ring_view a) len) (live_row a.bytes.items 0 a.next) ≡ find (before (newer_limit_of a.next len a.size)) (live_row a.bytes.items a.front a.next)
 newer_all a len ok =
     let rows = rows_of a ok in
     find_same (meets_stored (ring_view a) len) (before (newer_limit_of a.next len a.size)) 0 a.next (live_row a.bytes.items 0 a.next) rows.newer
-    (λ s low high. newer_limit a.size a.next len s.at (size_of s) ok.next_in high (some_size s))
+    (λ s low high. newer_limit a.size a.next len s.at (size_of s) (omega (arith, ok.next_in, ok.reached_in)) high (some_size s))
     ∙ ap (find (before (newer_limit_of a.next len a.size))) rows.newer_is
 
 -- what a walk along a row has found
@@ -58,7 +58,7 @@ met_of : (a : Inside) (v : RingValue) (len place : ℕ) (result : Option ℕ) (l
 met_of a v len place result l view is =
     is
     ∙ ap (λ ss. option_map (λ (s : Stored). s.at) (find (meets_stored (ring_view a) len) ss))
-    (sym (behind_only place (live_of a.bytes.items a.next a.size) l.stored l.here.only))
+    (sym (behind_only place (live_of a.bytes.items a.next a.reached) l.stored l.here.only))
     ∙ ap (λ (r : RingValue). next_met_behind r len place) view
 
 pub met_newer : (a : Inside) (v : RingValue) (len place to limit : ℕ) (seen : List ℕ) (result : Option ℕ) (l : IsLive a v place) → ring_view a ≡ v → IsRing a → place < a.next → seen ≡ a.bytes.items → to ≡ place + record_size l.here.header.len → limit ≡ newer_limit_of a.next len a.size → Walked seen to a.next limit result → result ≡ next_met_behind v len place
@@ -72,19 +72,19 @@ met_newer a v len place to limit seen result l view ok low same is limit_is walk
     ∙ ap (option_map (λ (s : Stored). s.at)) (sym (newer_behind a len end ok (l.here.in_newer low).0))
     ∙ ap (λ ss. option_map (λ (s : Stored). s.at) (find (meets_stored (ring_view a) len) ss)) (sym (l.here.in_newer low).1))
 
-older_is : (a : Inside) (len place to limit : ℕ) (seen : List ℕ) (result : Option ℕ) (v : RingValue) (l : IsLive a v place) → IsRing a → a.next ≤ place → seen ≡ a.bytes.items → to ≡ place + record_size l.here.header.len → limit ≡ min (a.next + len) a.size → Walked seen to a.size limit result → result ≡ option_map (λ (s : Stored). s.at) (find (meets_stored (ring_view a) len) (live_row a.bytes.items (place + record_size l.here.header.len) a.size))
+older_is : (a : Inside) (len place to limit : ℕ) (seen : List ℕ) (result : Option ℕ) (v : RingValue) (l : IsLive a v place) → IsRing a → a.next ≤ place → seen ≡ a.bytes.items → to ≡ place + record_size l.here.header.len → limit ≡ min a.reached (a.next + len) → Walked seen to a.reached limit result → result ≡ option_map (λ (s : Stored). s.at) (find (meets_stored (ring_view a) len) (live_row a.bytes.items (place + record_size l.here.header.len) a.reached))
 older_is a len place to limit seen result v l ok high same is limit_is walked =
     let end : ℕ = place + record_size l.here.header.len in
     walked
-    ∙ ap (λ b. option_map (λ (s : Stored). s.at) (find (before limit) (live_row b to a.size))) same
-    ∙ ap (λ n. option_map (λ (s : Stored). s.at) (find (before limit) (live_row a.bytes.items n a.size))) is
-    ∙ ap (λ n. option_map (λ (s : Stored). s.at) (find (before n) (live_row a.bytes.items end a.size))) limit_is
+    ∙ ap (λ b. option_map (λ (s : Stored). s.at) (find (before limit) (live_row b to a.reached))) same
+    ∙ ap (λ n. option_map (λ (s : Stored). s.at) (find (before limit) (live_row a.bytes.items n a.reached))) is
+    ∙ ap (λ n. option_map (λ (s : Stored). s.at) (find (before n) (live_row a.bytes.items end a.reached))) limit_is
     ∙ ap (option_map (λ (s : Stored). s.at)) (sym (older_behind a len end ok (omega arith) (l.here.in_older high).0))
 
-pub met_older_first : (a : Inside) (v : RingValue) (len place to limit found : ℕ) (seen : List ℕ) (result : Option ℕ) (l : IsLive a v place) → ring_view a ≡ v → IsRing a → a.next ≤ place → seen ≡ a.bytes.items → to ≡ place + record_size l.here.header.len → limit ≡ min (a.next + len) a.size → Walked seen to a.size limit result → result ≡ Some found → Some found ≡ next_met_behind v len place
+pub met_older_first : (a : Inside) (v : RingValue) (len place to limit found : ℕ) (seen : List ℕ) (result : Option ℕ) (l : IsLive a v place) → ring_view a ≡ v → IsRing a → a.next ≤ place → seen ≡ a.bytes.items → to ≡ place + record_size l.here.header.len → limit ≡ min a.reached (a.next + len) → Walked seen to a.reached limit result → result ≡ Some found → Some found ≡ next_met_behind v len place
 met_older_first a v len place to limit found seen result l view ok high same is limit_is walked some =
     let end : ℕ = place + record_size l.here.header.len in
-    let older : List Stored = live_row a.bytes.items end a.size in
+    let older : List Stored = live_row a.bytes.items end a.reached in
     let P : Stored → Bool = meets_stored (ring_view a) len in
     let p = some_place (find P older) found (sym some ∙ older_is a len place to limit seen result v l ok high same is limit_is walked) in
     met_of a v len place (Some found) l view
@@ -92,10 +92,10 @@ met_older_first a v len place to limit found seen result l view ok high same is 
     ∙ ap (option_map (λ (s : Stored). s.at)) (sym (find_front P older (live_row a.bytes.items 0 a.next) p.0 p.1))
     ∙ ap (λ ss. option_map (λ (s : Stored). s.at) (find P ss)) (sym (l.here.in_older high).1))
 
-pub met_older_then : (a : Inside) (v : RingValue) (len place to limit second : ℕ) (seen again : List ℕ) (first result : Option ℕ) (l : IsLive a v place) → ring_view a ≡ v → IsRing a → a.next ≤ place → seen ≡ a.bytes.items → to ≡ place + record_size l.here.header.len → limit ≡ min (a.next + len) a.size → Walked seen to a.size limit first → first ≡ None → again ≡ a.bytes.items → second ≡ newer_limit_of a.next len a.size → Walked again a.front a.next second result → result ≡ next_met_behind v len place
+pub met_older_then : (a : Inside) (v : RingValue) (len place to limit second : ℕ) (seen again : List ℕ) (first result : Option ℕ) (l : IsLive a v place) → ring_view a ≡ v → IsRing a → a.next ≤ place → seen ≡ a.bytes.items → to ≡ place + record_size l.here.header.len → limit ≡ min a.reached (a.next + len) → Walked seen to a.reached limit first → first ≡ None → again ≡ a.bytes.items → second ≡ newer_limit_of a.next len a.size → Walked again a.front a.next second result → result ≡ next_met_behind v len place
 met_older_then a v len place to limit second seen again first result l view ok high same is limit_is walked none same_again second_is walked_again =
     let end : ℕ = place + record_size l.here.header.len in
-    let older : List Stored = live_row a.bytes.items end a.size in
+    let older : List Stored = live_row a.bytes.items end a.reached in
     let P : Stored → Bool = meets_stored (ring_view a) len in
     let no = no_place (find P older) (sym none ∙ older_is a len place to limit seen first v l ok high same is limit_is walked) in
     met_of a v len place result l view
@@ -143,7 +143,7 @@ met_in a len place ok = of (find P (behind place live)) refl
     P = meets_stored (ring_view a) len
 
     live : List Stored
-    live = live_of a.bytes.items a.next a.size
+    live = live_of a.bytes.items a.next a.reached
 
     of : (o : Option Stored) → find P (behind place live) ≡ o → IfSome (option_map (λ (s : Stored). s.at) o) (IsMetAt (ring_view a) len)
     of None is = tt
@@ -155,7 +155,7 @@ met_in a len place ok = of (find P (behind place live)) refl
         record {
           stored = p.0;
           met = holds.1;
-          alone = (at_found a.bytes.items a.next a.size a.clear a.front Q p.0 (halves_of a ok) p.1).only;
+          alone = (at_found a.bytes.items a.next a.reached a.clear a.front Q p.0 (halves_of a ok) p.1).only;
         }
 
 pub met_alone_behind : (a : Inside) (v : RingValue) (len place : ℕ) (result : Option ℕ) → ring_view a ≡ v → IsRing a → result ≡ next_met_behind v len place → IfSome result (IsMetAt v len)

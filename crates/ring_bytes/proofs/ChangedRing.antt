@@ -12,15 +12,15 @@ use Rattle.ring_bytes.proofs.RingLemmas.{IsLive, ring_with, view_with}
 use Rattle.ring_bytes.proofs.ChangeLemmas.{IsNow, changed_list}
 
 pub record IsChangedRing (a : Inside) (v : RingValue) (place : ℕ) (change : Stored → Stored) (c : List ℕ) : Type 0 where
-  pub ring : IsRing record { size = a.size; next = a.next; clear = a.clear; front = a.front; bytes = with_items a.bytes c }
-  pub view : ring_view record { size = a.size; next = a.next; clear = a.clear; front = a.front; bytes = with_items a.bytes c } ≡ changed_at v place change
+  pub ring : IsRing record { size = a.size; reached = a.reached; next = a.next; clear = a.clear; front = a.front; bytes = with_items a.bytes c }
+  pub view : ring_view record { size = a.size; reached = a.reached; next = a.next; clear = a.clear; front = a.front; bytes = with_items a.bytes c } ≡ changed_at v place change
 
 pub changed_ring : (a : Inside) (v : RingValue) (place : ℕ) (change : Stored → Stored) (c : List ℕ) → (l : IsLive a v place) → ring_view a ≡ v → IsRing a → IsNow a.bytes.items c place (record_size l.here.header.len) (change l.stored ∷ []) → IsChangedRing a v place change c
 changed_ring a v place change c l view ok now =
     let items : (with_items a.bytes c).items ≡ c = with_items_is a.bytes c (omega (arith, now.same.size, a.bytes.ok.0)) in
-    let list = changed_list a.bytes.items c a.next a.size a.clear a.front place l.stored change l.here now in
+    let list = changed_list a.bytes.items c a.next a.reached a.clear a.front place l.stored change l.here now in
     record {
-      ring = ring_with a (with_items a.bytes c) c a.clear a.front items ok list.0;
+      ring = ring_with a (with_items a.bytes c) c a.clear a.front items refl ok list.0;
       view = view_with a v (with_items a.bytes c) c a.clear a.front (change_at place change) items view list.1;
     }
 

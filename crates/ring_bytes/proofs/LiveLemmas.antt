@@ -48,25 +48,25 @@ found_in (t ∷ front) rest s = of (t.at == s.at) (found_in front rest s)
     of true later = refl
     of false later = later
 
-alone_in : (a : Inside) (front rest : List Stored) (s : Stored) → IsRing a → live_of a.bytes.items a.next a.size ≡ front ++ s ∷ rest → IsAlone (ring_view a) s.at
+alone_in : (a : Inside) (front rest : List Stored) (s : Stored) → IsRing a → live_of a.bytes.items a.next a.reached ≡ front ++ s ∷ rest → IsAlone (ring_view a) s.at
 alone_in a front rest s ok split =
-    let p = some_of (find (is_at s.at) (live_of a.bytes.items a.next a.size))
+    let p = some_of (find (is_at s.at) (live_of a.bytes.items a.next a.reached))
     (subst (λ ss. IsSome (find (is_at s.at) ss)) (sym split) (found_in front rest s)) in
     record {
       stored = p.0;
-      alone = (at_place a.bytes.items a.next a.size a.clear a.front s.at p.0 (halves_of a ok) p.1).only;
+      alone = (at_place a.bytes.items a.next a.reached a.clear a.front s.at p.0 (halves_of a ok) p.1).only;
     }
 
 -- the first of these records is alone at its place
-first_alone : (a : Inside) (front rest : List Stored) → IsRing a → live_of a.bytes.items a.next a.size ≡ front ++ rest → IfSome (first_place rest) (IsAlone (ring_view a))
+first_alone : (a : Inside) (front rest : List Stored) → IsRing a → live_of a.bytes.items a.next a.reached ≡ front ++ rest → IfSome (first_place rest) (IsAlone (ring_view a))
 first_alone a front [] ok split = tt
 first_alone a front (s ∷ rest) ok split = alone_in a front rest s ok split
 
-pub first_of_all : (a : Inside) (v : RingValue) (result : Option ℕ) → ring_view a ≡ v → IsRing a → result ≡ first_place (live_of a.bytes.items a.next a.size) → IfSome result (IsAlone v)
+pub first_of_all : (a : Inside) (v : RingValue) (result : Option ℕ) → ring_view a ≡ v → IsRing a → result ≡ first_place (live_of a.bytes.items a.next a.reached) → IfSome result (IsAlone v)
 first_of_all a v result view ok is =
     subst (λ o. IfSome o (IsAlone v)) (sym is)
-    (subst (λ (r : RingValue). IfSome (first_place (live_of a.bytes.items a.next a.size)) (IsAlone r)) view
-    (first_alone a [] (live_of a.bytes.items a.next a.size) ok refl))
+    (subst (λ (r : RingValue). IfSome (first_place (live_of a.bytes.items a.next a.reached)) (IsAlone r)) view
+    (first_alone a [] (live_of a.bytes.items a.next a.reached) ok refl))
 
 pub first_behind_it : (a : Inside) (v : RingValue) (place : ℕ) (result : Option ℕ) → ring_view a ≡ v → IsRing a → (l : IsLive a v place) → result ≡ first_place l.here.only.behind → IfSome result (IsAlone v)
 first_behind_it a v place result view ok l is =
@@ -77,37 +77,37 @@ first_behind_it a v place result view ok l is =
 
 -- what the calls answer
 
-pub next_none : (a : Inside) (v : RingValue) (seen : List ℕ) (place result : Option ℕ) → ring_view a ≡ v → IsRing a → place ≡ None → seen ≡ a.bytes.items → result ≡ first_place (live_row seen a.clear a.size ++ live_row seen a.front a.next) → (result ≡ next_behind place v.live) × (result ≡ first_place (live_of a.bytes.items a.next a.size))
+pub next_none : (a : Inside) (v : RingValue) (seen : List ℕ) (place result : Option ℕ) → ring_view a ≡ v → IsRing a → place ≡ None → seen ≡ a.bytes.items → result ≡ first_place (live_row seen a.clear a.reached ++ live_row seen a.front a.next) → (result ≡ next_behind place v.live) × (result ≡ first_place (live_of a.bytes.items a.next a.reached))
 next_none a v seen place result view ok none same is =
     let rows = rows_of a ok in
-    let all : result ≡ first_place (live_of a.bytes.items a.next a.size) =
+    let all : result ≡ first_place (live_of a.bytes.items a.next a.reached) =
     is
-    ∙ ap (λ b. first_place (live_row b a.clear a.size ++ live_row b a.front a.next)) same
+    ∙ ap (λ b. first_place (live_row b a.clear a.reached ++ live_row b a.front a.next)) same
     ∙ ap₂ (λ xs ys. first_place (xs ++ ys)) (sym rows.older_is) (sym rows.newer_is) in
     (all ∙ ap (λ (r : RingValue). first_place r.live) view ∙ ap (λ o. next_behind o v.live) (sym none), all)
 
 pub next_some : (a : Inside) (v : RingValue) (at : ℕ) (place result : Option ℕ) → ring_view a ≡ v → IsRing a → (l : IsLive a v at) → place ≡ Some at → result ≡ first_place l.here.only.behind → result ≡ next_behind place v.live
 next_some a v at place result view ok l some is =
     is
-    ∙ ap first_place (sym (behind_only at (live_of a.bytes.items a.next a.size) l.stored l.here.only))
+    ∙ ap first_place (sym (behind_only at (live_of a.bytes.items a.next a.reached) l.stored l.here.only))
     ∙ ap (λ (r : RingValue). first_place (behind at r.live)) view
     ∙ ap (λ o. next_behind o v.live) (sym some)
 
 -- the two rows behind a record
-pub behind_newer : (a : Inside) (v : RingValue) (at to : ℕ) (seen : List ℕ) (result : Option ℕ) → (l : IsLive a v at) → at < a.next → seen ≡ a.bytes.items → to ≡ at + record_size l.here.header.len → result ≡ first_place (live_row seen a.size a.size ++ live_row seen to a.next) → result ≡ first_place l.here.only.behind
+pub behind_newer : (a : Inside) (v : RingValue) (at to : ℕ) (seen : List ℕ) (result : Option ℕ) → (l : IsLive a v at) → at < a.next → seen ≡ a.bytes.items → to ≡ at + record_size l.here.header.len → result ≡ first_place (live_row seen a.reached a.reached ++ live_row seen to a.next) → result ≡ first_place l.here.only.behind
 behind_newer a v at to seen result l before same is walked =
     walked
-    ∙ ap (λ b. first_place (live_row b a.size a.size ++ live_row b to a.next)) same
-    ∙ ap (λ xs. first_place (xs ++ live_row a.bytes.items to a.next)) (row_none a.bytes.items a.size).1
+    ∙ ap (λ b. first_place (live_row b a.reached a.reached ++ live_row b to a.next)) same
+    ∙ ap (λ xs. first_place (xs ++ live_row a.bytes.items to a.next)) (row_none a.bytes.items a.reached).1
     ∙ ap (λ n. first_place (live_row a.bytes.items n a.next)) is
     ∙ ap first_place (sym (l.here.in_newer before).1)
 
-pub behind_older : (a : Inside) (v : RingValue) (at to : ℕ) (seen : List ℕ) (result : Option ℕ) → IsRing a → (l : IsLive a v at) → a.next ≤ at → seen ≡ a.bytes.items → to ≡ at + record_size l.here.header.len → result ≡ first_place (live_row seen to a.size ++ live_row seen a.front a.next) → result ≡ first_place l.here.only.behind
+pub behind_older : (a : Inside) (v : RingValue) (at to : ℕ) (seen : List ℕ) (result : Option ℕ) → IsRing a → (l : IsLive a v at) → a.next ≤ at → seen ≡ a.bytes.items → to ≡ at + record_size l.here.header.len → result ≡ first_place (live_row seen to a.reached ++ live_row seen a.front a.next) → result ≡ first_place l.here.only.behind
 behind_older a v at to seen result ok l above same is walked =
     walked
-    ∙ ap (λ b. first_place (live_row b to a.size ++ live_row b a.front a.next)) same
-    ∙ ap (λ xs. first_place (live_row a.bytes.items to a.size ++ xs)) (sym (rows_of a ok).newer_is)
-    ∙ ap (λ n. first_place (live_row a.bytes.items n a.size ++ live_row a.bytes.items 0 a.next)) is
+    ∙ ap (λ b. first_place (live_row b to a.reached ++ live_row b a.front a.next)) same
+    ∙ ap (λ xs. first_place (live_row a.bytes.items to a.reached ++ xs)) (sym (rows_of a ok).newer_is)
+    ∙ ap (λ n. first_place (live_row a.bytes.items n a.reached ++ live_row a.bytes.items 0 a.next)) is
     ∙ ap first_place (sym (l.here.in_older above).1)
 
 -- A record that is alone at its place is there, as the calls on it ask.

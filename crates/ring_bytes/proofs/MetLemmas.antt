@@ -19,8 +19,8 @@ older_fit room next n a m fit above some = grind (arith, nat_tests)
 newer_fit : (room next n a m : ℕ) → next + n ≤ room → a + m ≤ next → is_met room next n a m ≡ false
 newer_fit room next n a m fit below = grind (arith, nat_tests)
 
-pub older_over : (room next n a m : ℕ) → room < next + n → next ≤ a → a + m ≤ room → 0 < m → is_met room next n a m ≡ nat_lt a room
-older_over room next n a m over above inside some = grind (arith, nat_tests)
+pub older_over : (room end next n a m : ℕ) → end ≤ room → room < next + n → next ≤ a → a + m ≤ end → 0 < m → is_met room next n a m ≡ nat_lt a end
+older_over room end next n a m in_room over above inside some = grind (arith, nat_tests)
 
 newer_over : (room next n a m : ℕ) → room < next + n → a + m ≤ next → 0 < m → is_met room next n a m ≡ nat_lt a (min next n)
 newer_over room next n a m over below some = grind (arith, nat_tests)
@@ -38,17 +38,17 @@ find_first P ss ts none = of (find P ss) refl
 
 -- the rows of a ring, and where their records lie
 pub record AreRows (a : Inside) : Type 0 where
-  pub older : AllIn a.next a.size (live_row a.bytes.items a.next a.size)
-  pub older_is : live_row a.bytes.items a.next a.size ≡ live_row a.bytes.items a.clear a.size
+  pub older : AllIn a.next a.reached (live_row a.bytes.items a.next a.reached)
+  pub older_is : live_row a.bytes.items a.next a.reached ≡ live_row a.bytes.items a.clear a.reached
   pub newer : AllIn 0 a.next (live_row a.bytes.items 0 a.next)
   pub newer_is : live_row a.bytes.items 0 a.next ≡ live_row a.bytes.items a.front a.next
 
 pub rows_of : (a : Inside) → IsRing a → AreRows a
 rows_of a ok =
-    let older = past_row a.bytes.items a.next a.clear a.size ok.clear in
+    let older = past_row a.bytes.items a.next a.clear a.reached ok.clear in
     let newer = past_row a.bytes.items 0 a.front a.next ok.front in
     record {
-      older = row_within a.bytes.items a.next a.size (omega (arith, ok.whole)) older.0;
+      older = row_within a.bytes.items a.next a.reached (omega (arith, ok.whole)) older.0;
       older_is = older.1;
       newer = row_within a.bytes.items 0 a.next (omega (arith, ok.whole, ok.next_in)) newer.0;
       newer_is = newer.1;
@@ -58,7 +58,7 @@ pub some_size : (s : Stored) → 0 < size_of s
 some_size s = let least = size_least (length s.payload) in omega arith
 
 -- where the next record fits behind the last one
-pub found_fit : (a : Inside) (len : ℕ) → IsRing a → a.next + len ≤ a.size → find (meets_stored (ring_view a) len) (live_of a.bytes.items a.next a.size) ≡ find (before (a.next + len)) (live_row a.bytes.items a.clear a.size)
+pub found_fit : (a : Inside) (len : ℕ) → IsRing a → a.next + len ≤ a.size → find (meets_stored (ring_view a) len) (live_of a.bytes.items a.next a.reached) ≡ find (before (a.next + len)) (live_row a.bytes.items a.clear a.reached)
 found_fit a len ok fit =
     let rows = rows_of a ok in
     let P : Stored → Bool = meets_stored (ring_view a) len in
@@ -66,18 +66,30 @@ found_fit a len ok fit =
     find_same P (λ s. false) 0 a.next (live_row a.bytes.items 0 a.next) rows.newer
     (λ s above under. newer_fit a.size a.next len s.at (size_of s) fit under)
     ∙ find_none (λ s. false) (live_row a.bytes.items 0 a.next) (λ s. refl) in
-    find_first P (live_row a.bytes.items a.next a.size) (live_row a.bytes.items 0 a.next) newer
-    ∙ find_same P (before (a.next + len)) a.next a.size (live_row a.bytes.items a.next a.size) rows.older
+    find_first P (live_row a.bytes.items a.next a.reached) (live_row a.bytes.items 0 a.next) newer
+    ∙ find_same P (before (a.next + len)) a.next a.reached (live_row a.bytes.items a.next a.reached) rows.older
     (λ s above under. older_fit a.size a.next len s.at (size_of s) fit above (some_size s))
     ∙ ap (find (before (a.next + len))) rows.older_is
 
+-- and where the bytes end before it would
+pub found_until : (a : Inside) (len : ℕ) → IsRing a → a.next + len ≤ a.size → find (meets_stored (ring_view a) len) (live_of a.bytes.items a.next a.reached) ≡ find (before (min a.reached (a.next + len))) (live_row a.bytes.items a.clear a.reached)
+found_until a len ok fit =
+    let rows = rows_of a ok in
+    found_fit a len ok fit
+    ∙ find_same (before (a.next + len)) (before (min a.reached (a.next + len))) a.next a.reached (live_row a.bytes.items a.clear a.reached)
+    (subst (λ ss. AllIn a.next a.reached ss) rows.older_is rows.older)
+    (λ s above under. same_limit s under)
+  where
+    same_limit : (s : Stored) → s.at + size_of s ≤ a.reached → nat_lt s.at (a.next + len) ≡ nat_lt s.at (min a.reached (a.next + len))
+    same_limit s under = let some = some_size s in grind (arith, nat_tests)
+
 -- where it doesn't
-older_found : (a : Inside) (len : ℕ) → IsRing a → a.size < a.next + len → find (meets_stored (ring_view a) len) (live_row a.bytes.items a.next a.size) ≡ find (before a.size) (live_row a.bytes.items a.clear a.size)
+older_found : (a : Inside) (len : ℕ) → IsRing a → a.size < a.next + len → find (meets_stored (ring_view a) len) (live_row a.bytes.items a.next a.reached) ≡ find (before a.reached) (live_row a.bytes.items a.clear a.reached)
 older_found a len ok over =
     let rows = rows_of a ok in
-    find_same (meets_stored (ring_view a) len) (before a.size) a.next a.size (live_row a.bytes.items a.next a.size) rows.older
-    (λ s above under. older_over a.size a.next len s.at (size_of s) over above under (some_size s))
-    ∙ ap (find (before a.size)) rows.older_is
+    find_same (meets_stored (ring_view a) len) (before a.reached) a.next a.reached (live_row a.bytes.items a.next a.reached) rows.older
+    (λ s above under. older_over a.size a.reached a.next len s.at (size_of s) ok.reached_in over above under (some_size s))
+    ∙ ap (find (before a.reached)) rows.older_is
 
 pub newer_found : (a : Inside) (len : ℕ) → IsRing a → a.size < a.next + len → find (meets_stored (ring_view a) len) (live_row a.bytes.items 0 a.next) ≡ find (before (min a.next len)) (live_row a.bytes.items a.front a.next)
 newer_found a len ok over =
@@ -86,29 +98,29 @@ newer_found a len ok over =
     (λ s above under. newer_over a.size a.next len s.at (size_of s) over under (some_size s))
     ∙ ap (find (before (min a.next len))) rows.newer_is
 
-pub found_over_first : (a : Inside) (len : ℕ) (s : Stored) → IsRing a → a.size < a.next + len → find (before a.size) (live_row a.bytes.items a.clear a.size) ≡ Some s → find (meets_stored (ring_view a) len) (live_of a.bytes.items a.next a.size) ≡ Some s
+pub found_over_first : (a : Inside) (len : ℕ) (s : Stored) → IsRing a → a.size < a.next + len → find (before a.reached) (live_row a.bytes.items a.clear a.reached) ≡ Some s → find (meets_stored (ring_view a) len) (live_of a.bytes.items a.next a.reached) ≡ Some s
 found_over_first a len s ok over found =
-    find_front (meets_stored (ring_view a) len) (live_row a.bytes.items a.next a.size) (live_row a.bytes.items 0 a.next) s (older_found a len ok over ∙ found)
+    find_front (meets_stored (ring_view a) len) (live_row a.bytes.items a.next a.reached) (live_row a.bytes.items 0 a.next) s (older_found a len ok over ∙ found)
 
-pub found_over_then : (a : Inside) (len : ℕ) → IsRing a → a.size < a.next + len → find (before a.size) (live_row a.bytes.items a.clear a.size) ≡ None → find (meets_stored (ring_view a) len) (live_of a.bytes.items a.next a.size) ≡ find (before (min a.next len)) (live_row a.bytes.items a.front a.next)
+pub found_over_then : (a : Inside) (len : ℕ) → IsRing a → a.size < a.next + len → find (before a.reached) (live_row a.bytes.items a.clear a.reached) ≡ None → find (meets_stored (ring_view a) len) (live_of a.bytes.items a.next a.reached) ≡ find (before (min a.next len)) (live_row a.bytes.items a.front a.next)
 found_over_then a len ok over none =
-    find_back (meets_stored (ring_view a) len) (live_row a.bytes.items a.next a.size) (live_row a.bytes.items 0 a.next) (older_found a len ok over ∙ none)
+    find_back (meets_stored (ring_view a) len) (live_row a.bytes.items a.next a.reached) (live_row a.bytes.items 0 a.next) (older_found a len ok over ∙ none)
     ∙ newer_found a len ok over
 
 -- What is met is alone at its place.
 
 alone_in : (a : Inside) (len : ℕ) → IsRing a → IfSome (next_met_of (ring_view a) len) (IsMetAt (ring_view a) len)
-alone_in a len ok = of (find P (live_of a.bytes.items a.next a.size)) refl
+alone_in a len ok = of (find P (live_of a.bytes.items a.next a.reached)) refl
   where
     P : Stored → Bool
     P = meets_stored (ring_view a) len
 
-    of : (o : Option Stored) → find P (live_of a.bytes.items a.next a.size) ≡ o → IfSome (option_map (λ (s : Stored). s.at) o) (IsMetAt (ring_view a) len)
+    of : (o : Option Stored) → find P (live_of a.bytes.items a.next a.reached) ≡ o → IfSome (option_map (λ (s : Stored). s.at) o) (IsMetAt (ring_view a) len)
     of None is = tt
     of (Some s) is = record {
       stored = s;
-      met = find_true P (live_of a.bytes.items a.next a.size) s is;
-      alone = (at_found a.bytes.items a.next a.size a.clear a.front P s (halves_of a ok) is).only;
+      met = find_true P (live_of a.bytes.items a.next a.reached) s is;
+      alone = (at_found a.bytes.items a.next a.reached a.clear a.front P s (halves_of a ok) is).only;
     }
 
 pub met_alone : (a : Inside) (v : RingValue) (len : ℕ) (result : Option ℕ) → ring_view a ≡ v → IsRing a → result ≡ next_met_of v len → IfSome result (IsMetAt v len)
@@ -118,7 +130,7 @@ met_alone a v len result view ok is =
 
 -- Options of places
 
-pub met_is : (a : Inside) (v : RingValue) (len : ℕ) (found : Option Stored) → ring_view a ≡ v → find (meets_stored (ring_view a) len) (live_of a.bytes.items a.next a.size) ≡ found → option_map (λ (s : Stored). s.at) found ≡ next_met_of v len
+pub met_is : (a : Inside) (v : RingValue) (len : ℕ) (found : Option Stored) → ring_view a ≡ v → find (meets_stored (ring_view a) len) (live_of a.bytes.items a.next a.reached) ≡ found → option_map (λ (s : Stored). s.at) found ≡ next_met_of v len
 met_is a v len found view is =
     ap (option_map (λ (s : Stored). s.at)) (sym is) ∙ ap (λ (r : RingValue). next_met_of r len) view
 

@@ -1,5 +1,5 @@
 -- A ring's fields and its value.
-use Rattle.std.proofs.Common.{◌≡◌, ℕ, ◌≤◌, List, length, sum_by, Option, Some, None, IsSome, Vec, Global, sym, ap, ◌∙◌, subst, true≢false, arith}
+use Rattle.std.proofs.Common.{◌≡◌, ℕ, ◌≤◌, List, length, sum_by, Option, Some, None, IsSome, Vec, Global, vec_capacity, sym, ap, ◌∙◌, subst, true≢false, arith}
 use Rattle.std.proofs.lemmas.List.{with_items_is}
 use Rattle.std.proofs.lemmas.List.Sums.{sum_by-append}
 use Rattle.std.specs.Vec.{with_items}
@@ -11,14 +11,14 @@ use Rattle.ring_bytes.specs.Value.{Stored, RingValue, stored_at, size_of}
 use Rattle.ring_bytes.proofs.RowLemmas.{row_few, past_row}
 use Rattle.ring_bytes.proofs.PlaceLemmas.{AreHalves, IsAt, at_place}
 
-pub halves_of : (a : Inside) → IsRing a → AreHalves a.bytes.items a.next a.size a.clear a.front
+pub halves_of : (a : Inside) → IsRing a → AreHalves a.bytes.items a.next a.reached a.clear a.front
 halves_of a ok = record { whole = ok.whole; next_in = ok.next_in; older = ok.clear; newer = ok.front }
 
 -- the live record that a call is for
 pub record IsLive (a : Inside) (v : RingValue) (place : ℕ) : Type 0 where
   pub stored : Stored
   pub found : stored_at v place ≡ Some stored
-  pub here : IsAt a.bytes.items a.next a.size a.clear a.front place stored
+  pub here : IsAt a.bytes.items a.next a.reached a.clear a.front place stored
 
 pub some_of : {X : Type 0} → (found : Option X) → IsSome found → (x : X) × (found ≡ Some x)
 some_of None h = absurd (true≢false (sym h))
@@ -30,27 +30,30 @@ live_at a v place view ok some =
     record {
       stored = p.0;
       found = p.1;
-      here = at_place a.bytes.items a.next a.size a.clear a.front place p.0 (halves_of a ok) (ap (λ (r : RingValue). stored_at r place) view ∙ p.1);
+      here = at_place a.bytes.items a.next a.reached a.clear a.front place p.0 (halves_of a ok) (ap (λ (r : RingValue). stored_at r place) view ∙ p.1);
     }
 
 -- a ring whose bytes and cursors are new
-pub ring_with : (a : Inside) (now : Vec ℕ Global) (c : List ℕ) (clear front : ℕ) → now.items ≡ c → IsRing a → AreHalves c a.next a.size clear front → IsRing record { size = a.size; next = a.next; clear = clear; front = front; bytes = now }
-ring_with a now c clear front is ok halves = record {
+pub ring_with : (a : Inside) (now : Vec ℕ Global) (c : List ℕ) (clear front : ℕ) → now.items ≡ c → vec_capacity now ≡ vec_capacity a.bytes → IsRing a → AreHalves c a.next a.reached clear front → IsRing record { size = a.size; reached = a.reached; next = a.next; clear = clear; front = front; bytes = now }
+ring_with a now c clear front is room ok halves = record {
   small = ok.small;
-  next_in = ok.next_in;
+  reached_in = ok.reached_in;
   whole = ap length is ∙ halves.whole;
+  roomy = omega (arith, ok.roomy);
+  next_in = ok.next_in;
   size_units = ok.size_units;
+  reached_units = ok.reached_units;
   next_units = ok.next_units;
-  clear = subst (λ b. IsPast b a.next clear a.size) (sym is) halves.older;
+  clear = subst (λ b. IsPast b a.next clear a.reached) (sym is) halves.older;
   front = subst (λ b. IsPast b 0 front a.next) (sym is) halves.newer;
 }
 
 -- and the value of it, where the list of live records has changed in this way
-pub view_with : (a : Inside) (v : RingValue) (now : Vec ℕ Global) (c : List ℕ) (clear front : ℕ) (change : List Stored → List Stored) → now.items ≡ c → ring_view a ≡ v → live_of c a.next a.size ≡ change (live_of a.bytes.items a.next a.size) → ring_view record { size = a.size; next = a.next; clear = clear; front = front; bytes = now } ≡ record v { live = change v.live }
+pub view_with : (a : Inside) (v : RingValue) (now : Vec ℕ Global) (c : List ℕ) (clear front : ℕ) (change : List Stored → List Stored) → now.items ≡ c → ring_view a ≡ v → live_of c a.next a.reached ≡ change (live_of a.bytes.items a.next a.reached) → ring_view record { size = a.size; reached = a.reached; next = a.next; clear = clear; front = front; bytes = now } ≡ record v { live = change v.live }
 view_with a v now c clear front change is view live =
-    let same : live_of now.items a.next a.size ≡ change (live_of a.bytes.items a.next a.size) =
-    ap (λ b. live_of b a.next a.size) is ∙ live in
-    let then : ring_view record { size = a.size; next = a.next; clear = clear; front = front; bytes = now } ≡ record { room = a.size; next = a.next; live = change (live_of a.bytes.items a.next a.size) } =
+    let same : live_of now.items a.next a.reached ≡ change (live_of a.bytes.items a.next a.reached) =
+    ap (λ b. live_of b a.next a.reached) is ∙ live in
+    let then : ring_view record { size = a.size; reached = a.reached; next = a.next; clear = clear; front = front; bytes = now } ≡ record { room = a.size; next = a.next; live = change (live_of a.bytes.items a.next a.reached) } =
     λ i. record { room = a.size; next = a.next; live = same i } in
     then ∙ ap (λ (r : RingValue). record r { live = change r.live }) view
 
@@ -65,8 +68,8 @@ same_from v b c from to is same = subst (λ x. SameOutside from to x c) is same
 pub few_in : (a : Inside) (v : RingValue) → ring_view a ≡ v → IsRing a → sum_by size_of v.live ≤ v.room
 few_in a v view ok =
     let b : List ℕ = a.bytes.items in
-    let older = row_few b a.next a.size (omega (arith, ok.whole)) (past_row b a.next a.clear a.size ok.clear).0 in
+    let older = row_few b a.next a.reached (omega (arith, ok.whole)) (past_row b a.next a.clear a.reached ok.clear).0 in
     let newer = row_few b 0 a.next (omega (arith, ok.whole, ok.next_in)) (past_row b 0 a.front a.next ok.front).0 in
-    let both = sum_by-append size_of (live_row b a.next a.size) (live_row b 0 a.next) in
-    let few : sum_by size_of (live_of b a.next a.size) ≤ a.size = omega arith in
+    let both = sum_by-append size_of (live_row b a.next a.reached) (live_row b 0 a.next) in
+    let few : sum_by size_of (live_of b a.next a.reached) ≤ a.size = omega (arith, ok.reached_in) in
     subst (λ (r : RingValue). sum_by size_of r.live ≤ r.room) view few

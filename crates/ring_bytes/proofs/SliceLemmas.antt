@@ -40,6 +40,13 @@ put_same at piece bytes inside = record {
   size = length_put at piece bytes inside;
 }
 
+-- a list that goes on has the same slices in front
+pub slice_front : (at count reached : ℕ) (old new : List ℕ) → at + count ≤ reached → take reached new ≡ old → slice at count new ≡ slice at count old
+slice_front at count reached old new inside kept =
+    slice_is at count new
+    ∙ ap (drop at) (sym (take-take (at + count) reached new inside) ∙ ap (take (at + count)) kept)
+    ∙ sym (slice_is at count old)
+
 -- Two writes, and a wider stretch
 
 pub same_then : (from to : ℕ) (one two three : List ℕ) → SameOutside from to one two → SameOutside from to two three → SameOutside from to one three

@@ -5,6 +5,7 @@
 //! nothing that is live is overwritten: `next_met` names what has to be dropped before a write.
 #![tactic(auto)]
 
+mod grow;
 mod header;
 mod key;
 mod part;

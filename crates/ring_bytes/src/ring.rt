@@ -6,6 +6,7 @@ ghost use Rattle.trace_model.specs.Places.{place_after, padding_before};
 ghost use Rattle.ring_bytes.specs.Value.{Stored, IsMetAt, next_met_of, stored_at, size_of, empty_ring, written, dropped_at, changed_at, with_awaits, with_bytes, with_contents, turned};
 ghost use Rattle.ring_bytes.specs.Walked.{next_behind, next_met_behind, newer_limit_of, IsAlone};
 
+use crate::grow::reach;
 use crate::header::{Header, put, put_header, read_header};
 use crate::key::{Place, RecordKey};
 use crate::part::{put_over, put_record, put_rest, size_of_record};
@@ -18,11 +19,14 @@ use trace_base::limits::{BYTES_PER_KB, MAX_BUFFER_KB, MAX_FRAGMENTS};
 /// Bytes of the largest ring.
 pub const MAX_RING_SIZE: u32 = MAX_BUFFER_KB * BYTES_PER_KB;
 
-/// A ring of records. The fields have no meaning beside its bytes: from the write place to the end
-/// stand older parts, and from 0 to the write place newer ones.
+/// A ring of records. The fields have no meaning beside its bytes: from the write place to where the
+/// bytes end stand older parts, and from 0 to the write place newer ones.
 #[derive(Drop)]
 pub struct Ring {
     size: u32,
+    /// Up to here there are bytes. They grow towards the size as records are first put there, so that
+    /// what a ring never uses is never touched.
+    reached: u32,
     /// The write place.
     next: u32,
     /// No record is live between the write place and here.
@@ -45,19 +49,19 @@ impl Model for Ring {
 }
 
 impl Ring {
-    /// A ring with no record.
+    /// A ring with no record. It takes all memory that it will ever need, and writes none of it.
     pub fn make(alloc: Global, size: u32) -> Result<Ring, AllocError>
         requires least { RECORD_UNIT ≤ size }
         requires units { size % RECORD_UNIT ≡ 0 }
         requires most { size ≤ MAX_RING_SIZE }
         ensures { IfOk result (λ ring. ring ≡ empty_ring size) }
     {
-        let mut bytes = vec![in alloc; 0; size as usize]?;
-        put_rest(&mut bytes, 0, size, false);
+        let bytes = Vec::with_capacity(alloc, size as usize)?;
         Ok(Ring {
             size,
+            reached: 0,
             next: 0,
-            clear: size,
+            clear: 0,
             front: 0,
             bytes,
         })
@@ -91,9 +95,10 @@ impl Ring {
         ensures alone { IfSome result (IsMetAt self.now len) }
     {
         if self.next + len <= self.size {
-            return first_live(&self.bytes, self.clear, self.size, self.next + len);
+            let limit = self.reached.min(self.next + len);
+            return first_live(&self.bytes, self.clear, self.reached, limit);
         }
-        match first_live(&self.bytes, self.clear, self.size, self.size) {
+        match first_live(&self.bytes, self.clear, self.reached, self.reached) {
             Some(place) => Some(place),
             None => first_live(&self.bytes, self.front, self.next, self.next.min(len)),
         }
@@ -106,13 +111,13 @@ impl Ring {
         ensures alone { IfSome result (IsAlone self.now) }
     {
         let Some(at) = place else {
-            return first_of_two(&self.bytes, self.clear, self.size, self.front, self.next);
+            return first_of_two(&self.bytes, self.clear, self.reached, self.front, self.next);
         };
         let behind = at + size_of_record(read_header(&self.bytes, at).len);
         if at < self.next {
-            return first_of_two(&self.bytes, self.size, self.size, behind, self.next);
+            return first_of_two(&self.bytes, self.reached, self.reached, behind, self.next);
         }
-        first_of_two(&self.bytes, behind, self.size, self.front, self.next)
+        first_of_two(&self.bytes, behind, self.reached, self.front, self.next)
     }
 
     /// The live record behind this one, in the order of placement, that a next record of this size, or
@@ -128,8 +133,8 @@ impl Ring {
         if place < self.next {
             return first_live(&self.bytes, behind, self.next, newer);
         }
-        let older = (self.next + len).min(self.size);
-        match first_live(&self.bytes, behind, self.size, older) {
+        let older = self.reached.min(self.next + len);
+        match first_live(&self.bytes, behind, self.reached, older) {
             Some(found) => Some(found),
             None => first_live(&self.bytes, self.front, self.next, newer),
         }
@@ -170,7 +175,7 @@ impl Ring {
             ..header
         };
         put_header(&mut self.bytes, place, dropped);
-        self.clear = skip_dead(&self.bytes, self.clear, self.size);
+        self.clear = skip_dead(&self.bytes, self.clear, self.reached);
         self.front = skip_dead(&self.bytes, self.front, self.next);
     }
 
@@ -213,7 +218,7 @@ impl Ring {
         ensures free { next_met_of self.new len ≡ None }
     {
         if self.next + len > self.size {
-            put_rest(&mut self.bytes, self.next, self.size, true);
+            put_rest(&mut self.bytes, self.next, self.reached, true);
             self.next = 0;
             self.clear = self.front;
             self.front = 0;
@@ -246,7 +251,8 @@ impl Ring {
         let len = size_of_record(payload.len() as u32);
         self.turn(len);
         let at = self.next;
-        let end = first_behind(&self.bytes, self.clear, self.size, at + len);
+        self.reached = reach(&mut self.bytes, self.reached, at + len, self.size);
+        let end = first_behind(&self.bytes, self.clear, self.reached, at + len);
         put_over(&mut self.bytes, at, end, key, payload);
         self.next = at + len;
         self.clear = end;

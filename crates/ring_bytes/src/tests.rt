@@ -93,9 +93,13 @@ fn drop_record(rt: &impl Abort, ring: &mut Ring, place: u32)
 #[test]
 fn headers_are_byte_by_byte(rt: HostRuntime) -> Result<(), Fail> {
     let mut ring = Ring::make(rt.alloc(), 4096)?;
-    let new = [0xf0, 0x0f, 0, 0, 0, 0, 0, 0, 0, 0, 0, 0, 0, 0, 8, 0];
-    assert_eq!(rt; ring.header_bytes(0), new);
-    for chunk_id in 0..13 {
+    assert_eq!(rt; ring.header_bytes(0), [0; 16]);
+    push(&mut ring, KEY, &PAYLOAD);
+
+    // The bytes that were added for it are one dead part behind it.
+    let added = [0xc0, 0x0e, 0, 0, 0, 0, 0, 0, 0, 0, 0, 0, 0, 0, 8, 0];
+    assert_eq!(rt; ring.header_bytes(304), added);
+    for chunk_id in 1..13 {
         push(&mut ring, RecordKey { chunk_id, ..KEY }, &PAYLOAD);
     }
     let place = ring.place_next(304);
@@ -190,5 +194,23 @@ fn records_go_to_the_start_where_they_do_not_fit(rt: HostRuntime) -> Result<(), 
         assert_eq!(rt; live_at(&ring, at), Some(at), "{first} {second}");
         assert_eq!(rt; ring.live_behind(None), Some(0), "{first} {second}");
     }
+    Ok(())
+}
+
+#[test]
+fn bytes_grow_as_records_come(rt: HostRuntime) -> Result<(), Fail> {
+    let mut ring = Ring::make(rt.alloc(), 65_536)?;
+    let payload = [5; 55_000];
+    push(&mut ring, KEY, &payload[..20_000]);
+    push(&mut ring, KEY, &payload[..40_000]);
+    assert_eq!(rt; ring.header_bytes(60_032), [0; 16]);
+
+    // The ring turns before all of it has bytes, and a record of the second round goes on behind them.
+    assert_eq!(rt; push(&mut ring, KEY, &payload[..6_000]), 0);
+    assert_eq!(rt; push(&mut ring, KEY, &payload), 6_016);
+    let added = [0x80, 0x11, 0, 0, 0, 0, 0, 0, 0, 0, 0, 0, 0, 0, 8, 0];
+    assert_eq!(rt; ring.header_bytes(61_040), added);
+    assert!(rt; has_payload(&ring, 6_016, &payload));
+    assert_eq!(rt; live_at(&ring, 20_016), None);
     Ok(())
 }

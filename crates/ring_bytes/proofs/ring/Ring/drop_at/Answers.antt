@@ -17,8 +17,8 @@ use Rattle.ring_bytes.proofs.ring.Ring.drop_at.Goals as goal
 -- the ring's bytes once the record's header says that it is dead
 record IsDropped (a : Inside) (place : ℕ) (c : List ℕ) : Type 0 where
   items : (with_items a.bytes c).items ≡ c
-  halves : AreHalves c a.next a.size a.clear a.front
-  live : live_of c a.next a.size ≡ without_stored place (live_of a.bytes.items a.next a.size)
+  halves : AreHalves c a.next a.reached a.clear a.front
+  live : live_of c a.next a.reached ≡ without_stored place (live_of a.bytes.items a.next a.reached)
 
 dead_of : (header : Header) → is_live record header { dead = true } ≡ false
 dead_of header = of header.padding
@@ -31,11 +31,11 @@ dropped_of : (a : Inside) (v : RingValue) (place : ℕ) (seen slot c : List ℕ)
 dropped_of a v place seen slot c header l see read is same there =
     let b : List ℕ = a.bytes.items in
     let header_is : header ≡ l.here.header = read ∙ ap (λ x. header_at x place) see ∙ l.here.there in
-    let now = reheaded b c a.next a.size a.clear a.front place l.stored record header { dead = true } l.here
+    let now = reheaded b c a.next a.reached a.clear a.front place l.stored record header { dead = true } l.here
     (same_from a.bytes slot c place (place + 16) is same) there (ap (λ (h : Header). h.len) header_is) in
     let gone : IsNow b c place (record_size l.here.header.len) [] =
     record { same = now.same; row = now.row; live = now.live ∙ ap (λ x. cond x (record { at = place; key = header.key; payload = l.stored.payload } ∷ []) []) (dead_of header) } in
-    let list = dropped_list b c a.next a.size a.clear a.front place l.stored l.here gone in
+    let list = dropped_list b c a.next a.reached a.clear a.front place l.stored l.here gone in
     record {
       items = items_with a.bytes slot c place (place + 16) is same;
       halves = list.0;
@@ -58,7 +58,7 @@ skip_dead-self-inside-requires-clause-row c =
     let l = live_at a c.args.self.now c.args.place c.self.view_is c.self.invariant c.requires in
     let d = dropped_of a c.args.self.now c.args.place _ _ c.put_header.new.bytes c.read_header-header.result l c.deref.ensures.value
     c.read_header-header.ensures.header c.deref_mut.ensures.value c.put_header.ensures.same c.put_header.ensures.there in
-    subst (λ b. IsRow b a.clear a.size) (sym (c.deref-2.ensures.value ∙ d.items)) d.halves.older.rest
+    subst (λ b. IsRow b a.clear a.reached) (sym (c.deref-2.ensures.value ∙ d.items)) d.halves.older.rest
 
 pub skip_dead-self-inside-requires-2-clause-row : goal.skip_dead-self-inside-requires-2-clause-row
 skip_dead-self-inside-requires-2-clause-row c =
@@ -75,12 +75,12 @@ invariant_of-self c =
     let l = live_at a c.args.self.now c.args.place c.self.view_is c.self.invariant c.requires in
     let d = dropped_of a c.args.self.now c.args.place _ _ now c.read_header-header.result l c.deref.ensures.value
     c.read_header-header.ensures.header c.deref_mut.ensures.value c.put_header.ensures.same c.put_header.ensures.there in
-    let older : IsPast now a.clear c.skip_dead-self-inside.result a.size =
-    subst (λ b. IsPast b a.clear c.skip_dead-self-inside.result a.size) (c.deref-2.ensures.value ∙ d.items) c.skip_dead-self-inside.ensures.past in
+    let older : IsPast now a.clear c.skip_dead-self-inside.result a.reached =
+    subst (λ b. IsPast b a.clear c.skip_dead-self-inside.result a.reached) (c.deref-2.ensures.value ∙ d.items) c.skip_dead-self-inside.ensures.past in
     let newer : IsPast now a.front c.skip_dead-self-inside-2.result a.next =
     subst (λ b. IsPast b a.front c.skip_dead-self-inside-2.result a.next) (c.deref-3.ensures.value ∙ d.items) c.skip_dead-self-inside-2.ensures.past in
-    ring_with a (with_items a.bytes now) now c.skip_dead-self-inside.result c.skip_dead-self-inside-2.result d.items c.self.invariant
-    (halves_on now a.next a.size a.clear a.front c.skip_dead-self-inside.result c.skip_dead-self-inside-2.result d.halves older newer)
+    ring_with a (with_items a.bytes now) now c.skip_dead-self-inside.result c.skip_dead-self-inside-2.result d.items refl c.self.invariant
+    (halves_on now a.next a.reached a.clear a.front c.skip_dead-self-inside.result c.skip_dead-self-inside-2.result d.halves older newer)
 
 pub returns : goal.returns
 returns c =

@@ -40,7 +40,7 @@ overflow_add-behind c =
     omega (arith, l.here.inside, end, c.self.invariant.small)
 
 pub first_of_two-requires-then-at-self-clause-row : goal.first_of_two-requires-then-at-self-clause-row
-first_of_two-requires-then-at-self-clause-row c = (row_none c.deref-then-at-self.result.now c.self.inside.size).0
+first_of_two-requires-then-at-self-clause-row c = (row_none c.deref-then-at-self.result.now c.self.inside.reached).0
 
 pub first_of_two-requires-then-at-self-clause-second_row : goal.first_of_two-requires-then-at-self-clause-second_row
 first_of_two-requires-then-at-self-clause-second_row c =
@@ -75,8 +75,8 @@ first_of_two-requires-2-clause-row c =
     let a = c.self.inside in
     let l = live_at a c.args.self.now c.in-Some.at c.self.view_is c.self.invariant (c.requires c.in-Some.at c.in-Some.is) in
     let end = end_of a c.args.self.now c.in-Some.at c.size_of_record.result _ c.read_header.result l c.deref-2.ensures.value c.read_header.ensures.header c.size_of_record.ensures in
-    subst (λ n. IsRow c.deref-3.result.now n a.size) (sym end)
-    (subst (λ b. IsRow b (c.in-Some.at + record_size l.here.header.len) a.size) (sym c.deref-3.ensures.value) (l.here.in_older c.if-at-self.false).0)
+    subst (λ n. IsRow c.deref-3.result.now n a.reached) (sym end)
+    (subst (λ b. IsRow b (c.in-Some.at + record_size l.here.header.len) a.reached) (sym c.deref-3.ensures.value) (l.here.in_older c.if-at-self.false).0)
 
 pub returns-clause-next : goal.returns-clause-next
 returns-clause-next c =

@@ -53,8 +53,8 @@ first_live-requires-2-clause-row c =
     let a = c.self.inside in
     let l = live_at a c.args.self.now c.args.place c.self.view_is c.self.invariant c.requires.there in
     let end = end_of a c.args.self.now c.args.place c.size_of_record.result _ c.read_header.result l c.deref.ensures.value c.read_header.ensures.header c.size_of_record.ensures in
-    subst (λ n. IsRow c.deref-2.result.now n a.size) (sym end)
-    (subst (λ b. IsRow b (c.args.place + record_size l.here.header.len) a.size) (sym c.deref-2.ensures.value) (l.here.in_older c.if-place-self.false).0)
+    subst (λ n. IsRow c.deref-2.result.now n a.reached) (sym end)
+    (subst (λ b. IsRow b (c.args.place + record_size l.here.header.len) a.reached) (sym c.deref-2.ensures.value) (l.here.in_older c.if-place-self.false).0)
 
 pub returns-in-Some-clause-next : goal.returns-in-Some-clause-next
 returns-in-Some-clause-next c =

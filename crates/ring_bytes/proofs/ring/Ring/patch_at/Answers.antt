@@ -12,7 +12,7 @@ use Rattle.ring_bytes.proofs.ring.Ring.patch_at.Goals as goal
 record IsInside (a : Inside) (v : RingValue) (place offset : ℕ) : Type 0 where
   live : IsLive a v place
   fits : offset + 4 ≤ live.here.header.len
-  ends : place + 16 + offset + 4 ≤ a.size
+  ends : place + 16 + offset + 4 ≤ a.reached
 
 inside_of : (a : Inside) (v : RingValue) (place offset : ℕ) → ring_view a ≡ v → IsRing a → IsSomeAnd (stored_at v place) (λ (stored : Stored). offset + 4 ≤ length stored.payload) → IsInside a v place offset
 inside_of a v place offset view ok has =
@@ -26,7 +26,7 @@ inside_of a v place offset view ok has =
 patched_of : (a : Inside) (v : RingValue) (place offset : ℕ) (piece slot c : List ℕ) → length piece ≡ 4 → ring_view a ≡ v → IsRing a → IsInside a v place offset → slot ≡ a.bytes.items → c ≡ put_at (place + 16 + offset) piece slot → IsChangedRing a v place (with_bytes offset piece) c
 patched_of a v place offset piece slot c four view ok is same now =
     changed_ring a v place (with_bytes offset piece) c is.live view ok
-    (patched a.bytes.items c a.next a.size a.clear a.front place offset piece is.live.stored is.live.here ok.whole (omega (arith, is.fits))
+    (patched a.bytes.items c a.next a.reached a.clear a.front place offset piece is.live.stored is.live.here ok.whole (omega (arith, is.fits))
     (now ∙ ap (put_at (place + 16 + offset) piece) same))
 
 pub overflow_add-place : goal.overflow_add-place

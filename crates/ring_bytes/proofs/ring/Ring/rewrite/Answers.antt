@@ -16,7 +16,7 @@ use Rattle.ring_bytes.proofs.ring.Ring.rewrite.Goals as goal
 record IsAsLong (a : Inside) (v : RingValue) (place size : ℕ) : Type 0 where
   live : IsLive a v place
   same : record_size live.here.header.len ≡ size
-  ends : place + size ≤ a.size
+  ends : place + size ≤ a.reached
 
 as_long : (a : Inside) (v : RingValue) (place size : ℕ) → ring_view a ≡ v → IsRing a → option_map size_of (stored_at v place) ≡ Some size → IsAsLong a v place size
 as_long a v place size view ok has =

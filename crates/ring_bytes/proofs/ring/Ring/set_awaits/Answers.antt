@@ -14,7 +14,7 @@ use Rattle.ring_bytes.proofs.ring.Ring.set_awaits.Goals as goal
 set_of : (a : Inside) (v : RingValue) (place : ℕ) (awaits : Bool) (seen slot c : List ℕ) (header : Header) → IsLive a v place → ring_view a ≡ v → IsRing a → seen ≡ a.bytes.items → header ≡ header_at seen place → slot ≡ a.bytes.items → SameOutside place (place + 16) slot c → header_at c place ≡ record header { key = record header.key { awaits = awaits } } → IsChangedRing a v place (with_awaits awaits) c
 set_of a v place awaits seen slot c header l view ok see read is same there =
     let header_is : header ≡ l.here.header = read ∙ ap (λ x. header_at x place) see ∙ l.here.there in
-    let now = reheaded a.bytes.items c a.next a.size a.clear a.front place l.stored (record header { key = record header.key { awaits = awaits } }) l.here
+    let now = reheaded a.bytes.items c a.next a.reached a.clear a.front place l.stored (record header { key = record header.key { awaits = awaits } }) l.here
     (same_from a.bytes slot c place (place + 16) is same) there (ap (λ (h : Header). h.len) header_is) in
     let alive : is_live header ≡ true = ap is_live header_is ∙ l.here.alive in
     let at_is : place ≡ l.stored.at = ap (λ (t : Stored). t.at) l.here.is in
