@@ -5,10 +5,11 @@ use byte_io::put::WriteFault;
 use sequence_reader::{ReadCount, ReadEnd, Why, read_counted, read_sequence};
 use std::process::Abort;
 use std::test::Fail;
+use trace_base::policy::FullPolicy;
 
 #[test]
 fn a_failed_record_is_read_again(rt: HostRuntime) -> Result<(), Fail> {
-    let mut buffer = small_buffer(rt.alloc())?;
+    let mut buffer = small_buffer(rt.alloc(), FullPolicy::Ring)?;
     arrive(&rt, &mut buffer, 0, 0, 2, b"\x02\x40\x01\x02\x40\x02", true);
 
     let mut short = MemSink::with_room(rt.alloc(), 12)?;

@@ -5,6 +5,8 @@
 #[cfg(test)]
 mod faults;
 #[cfg(test)]
+mod losses;
+#[cfg(test)]
 mod play;
 #[cfg(test)]
 mod rows;

@@ -8,7 +8,7 @@ use std::alloc::Global;
 use std::process::Abort;
 use std::test::Fail;
 use trace_base::policy::FullPolicy;
-use trace_buffer::{BufferSpec, SequenceSpec, TraceBuffer};
+use trace_buffer::{Arrived, BufferSpec, SequenceSpec, TraceBuffer};
 
 pub const SEQUENCE: u32 = 2;
 
@@ -38,6 +38,19 @@ pub enum Play {
         offset: u32,
         bytes: [u8; 4],
     },
+    /// Complete chunks that go on with no packet, from one id up to another: they take room, and
+    /// nothing of them is delivered.
+    Fill {
+        first: u32,
+        end: u32,
+    },
+    /// A chunk of one fragment, or a first part of one, that the full buffer refuses.
+    Refused {
+        id: u32,
+        flags: u8,
+        front: &'static [u8],
+        whole: bool,
+    },
     Close,
     /// A read writes these records and answers this.
     Read {
@@ -46,14 +59,19 @@ pub enum Play {
         delivered: u64,
         why: Why,
     },
+    /// How many packets have been lost by each cause, and how many complete chunks got no place.
+    Lost {
+        dropped: u64,
+        overwritten: u64,
+        discarded: u64,
+        cut: u64,
+        refused: u64,
+    },
 }
 
 /// A buffer of one sequence, with room for 13 records.
-pub fn small_buffer(alloc: Global) -> Result<TraceBuffer, Fail> {
-    let spec = BufferSpec {
-        size: 4096,
-        policy: FullPolicy::Ring,
-    };
+pub fn small_buffer(alloc: Global, policy: FullPolicy) -> Result<TraceBuffer, Fail> {
+    let spec = BufferSpec { size: 4096, policy };
     let sequences = [SequenceSpec {
         sequence: 2,
         payload: 284,
@@ -70,7 +88,7 @@ pub fn arrive(
     count: u16,
     front: &[u8],
     whole: bool,
-) {
+) -> Arrived {
     let mut payload = [0u8; PAYLOAD];
     assert!(rt; front.len() <= PAYLOAD);
     payload[..front.len()].copy_from_slice(front);
@@ -87,10 +105,10 @@ pub fn arrive(
     assert!(rt; count <= 1023);
     if whole {
         assert!(rt; flags <= 63);
-        buffer.arrive(&image);
+        buffer.arrive(&image)
     } else {
         assert!(rt; flags <= 1);
-        buffer.arrive_partial(&image);
+        buffer.arrive_partial(&image)
     }
 }
 
@@ -112,17 +130,39 @@ fn read(
 }
 
 /// Plays it on a new buffer.
-pub fn play_all(rt: &impl Abort, alloc: Global, name: &str, list: &[Play]) -> Result<(), Fail> {
-    let mut buffer = small_buffer(alloc)?;
+pub fn play_all(
+    rt: &impl Abort,
+    alloc: Global,
+    name: &str,
+    policy: FullPolicy,
+    list: &[Play],
+) -> Result<(), Fail> {
+    let mut buffer = small_buffer(alloc, policy)?;
     for one in list {
-        play_one(rt, alloc, &mut buffer, name, *one)?;
+        match *one {
+            Play::Read {
+                limit,
+                records,
+                delivered,
+                why,
+            } => read(
+                rt,
+                alloc,
+                &mut buffer,
+                limit,
+                records,
+                ReadEnd { delivered, why },
+                name,
+            )?,
+            change => play_change(rt, &mut buffer, name, change)?,
+        }
     }
     Ok(())
 }
 
-fn play_one(
+/// What comes to the buffer, and a look at its counts.
+fn play_change(
     rt: &impl Abort,
-    alloc: Global,
     buffer: &mut TraceBuffer,
     name: &str,
     one: Play,
@@ -133,31 +173,51 @@ fn play_one(
             flags,
             count,
             front,
-        } => arrive(rt, buffer, id, flags, count, front, true),
+        } => {
+            arrive(rt, buffer, id, flags, count, front, true);
+        }
         Play::Part {
             id,
             flags,
             count,
             front,
-        } => arrive(rt, buffer, id, flags, count, front, false),
+        } => {
+            arrive(rt, buffer, id, flags, count, front, false);
+        }
+        Play::Fill { first, end } => fill(rt, buffer, first, end),
+        Play::Refused {
+            id,
+            flags,
+            front,
+            whole,
+        } => {
+            let outcome = arrive(rt, buffer, id, flags, 1, front, whole);
+            assert_eq!(rt; outcome, Arrived::Discarded, "{name}");
+        }
         Play::Patched { id, offset, bytes } => patch(rt, buffer, id, offset, bytes)?,
         Play::Close => close(rt, buffer),
-        Play::Read {
-            limit,
-            records,
-            delivered,
-            why,
-        } => read(
-            rt,
-            alloc,
-            buffer,
-            limit,
-            records,
-            ReadEnd { delivered, why },
-            name,
-        )?,
+        Play::Read { .. } => {}
+        Play::Lost {
+            dropped,
+            overwritten,
+            discarded,
+            cut,
+            refused,
+        } => {
+            assert!(rt; buffer.knows(SEQUENCE));
+            let state = buffer.state(SEQUENCE);
+            let lost = (state.dropped, state.overwritten, state.discarded, state.cut);
+            assert_eq!(rt; lost, (dropped, overwritten, discarded, cut), "{name}");
+            assert_eq!(rt; buffer.counts().discarded, refused, "{name}");
+        }
     }
     Ok(())
+}
+
+fn fill(rt: &impl Abort, buffer: &mut TraceBuffer, first: u32, end: u32) {
+    for id in first..end {
+        arrive(rt, buffer, id, 1, 1, b"\x01\x02", true);
+    }
 }
 
 fn patch(

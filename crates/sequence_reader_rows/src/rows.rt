@@ -3,6 +3,7 @@
 use crate::play::{Play, play_all};
 use sequence_reader::Why;
 use std::test::Fail;
+use trace_base::policy::FullPolicy;
 
 const ALL: u64 = u64::MAX;
 
@@ -466,7 +467,7 @@ static ROWS: [Row; 14] = [
 #[test]
 fn reads_deliver_what_is_due(rt: HostRuntime) -> Result<(), Fail> {
     for row in &ROWS {
-        play_all(&rt, rt.alloc(), row.name, row.list)?;
+        play_all(&rt, rt.alloc(), row.name, FullPolicy::Ring, row.list)?;
     }
     Ok(())
 }
