@@ -1,5 +1,5 @@
 -- Sizes: the steps that read one find just the varint of one to four bytes that stands in front.
-use Rattle.std.proofs.Common.{◌≡◌, ℕ, ◌^◌, ◌<◌, ◌≤◌, List, length, take, drop, Option, Some, None, refl, ap, sym, subst, ◌∙◌, arith}
+use Rattle.std.proofs.Common.{◌≡◌, ℕ, ◌+◌, ◌-◌, ◌*◌, ◌%◌, ◌^◌, ◌<◌, ◌≤◌, cond, get_or, le-ltb, List, [], ◌∷◌, length, take, drop, Option, Some, None, refl, ap, sym, subst, ◌∙◌, arith}
 use Rattle.std.proofs.lemmas.List.{take-append-drop, length-take-le}
 use Rattle.std.proofs.Math.Seq.{take-append_seam}
 use Rattle.std.proofs.Math.Nat.{pow-le-pow_right}
@@ -53,3 +53,24 @@ size_long bytes value width found within many = no_size bytes (size_of 4 bytes) 
     whole_once has.front (take width bytes) has.rest (drop width bytes) has.whole found.whole
     (sym has.cut ∙ sym (take-append-drop width bytes)) in
     omega (arith, has.few, long, ap length same))
+
+-- a size below 128 in the form of four bytes
+
+short_is : (first : ℕ) (rest : List ℕ) → 128 ≤ first → first < 256
+    → size_of 4 (first ∷ 128 ∷ 128 ∷ 0 ∷ rest) ≡ Some (record { value = first - 128; width = 4 })
+short_is first rest high low =
+    let value : first % 128 + 128 * 0 ≡ first - 128 = omega arith in
+    ap (λ b. cond b (Some (record { value = first; width = 1 })) (Some (record { value = first % 128 + 128 * 0; width = 4 })))
+    (le-ltb first 128 high)
+    ∙ ap (λ n. Some (record { value = n; width = 4 })) value
+
+pub size_short : (bytes : List ℕ) → 4 ≤ length bytes → 128 ≤ get_or bytes 0 0 → get_or bytes 0 0 < 256 → get_or bytes 1 0 ≡ 128
+    → get_or bytes 2 0 ≡ 128 → get_or bytes 3 0 ≡ 0
+    → size_of 4 bytes ≡ Some (record { value = get_or bytes 0 0 - 128; width = 4 })
+size_short [] long high low second third last = absurd (omega arith)
+size_short (a ∷ []) long high low second third last = absurd (omega arith)
+size_short (a ∷ b ∷ []) long high low second third last = absurd (omega arith)
+size_short (a ∷ b ∷ c ∷ []) long high low second third last = absurd (omega arith)
+size_short (a ∷ b ∷ c ∷ d ∷ rest) long high low second third last =
+    let behind : b ∷ c ∷ d ∷ rest ≡ 128 ∷ 128 ∷ 0 ∷ rest = λ i. second i ∷ third i ∷ last i ∷ rest in
+    ap (λ xs. size_of 4 (a ∷ xs)) behind ∙ short_is a rest high low
