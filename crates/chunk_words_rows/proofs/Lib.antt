@@ -1,2 +1,4 @@
 pub mod Begun
 pub mod Popped
+pub mod OnePage
+pub mod Takings

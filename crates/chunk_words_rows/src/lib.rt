@@ -4,4 +4,6 @@
 #![tactic(auto)]
 
 #[cfg(test)]
+mod serving;
+#[cfg(test)]
 mod threads;

@@ -8,6 +8,7 @@ ghost use Rattle.chunk_plain.specs.Meaning.{IsWriterStep};
 ghost use Rattle.chunk_words.specs.Made.{HasWriterSeats};
 ghost use Rattle.chunk_words.specs.Sits.{Sits, Attends, setup_in, known_by};
 ghost use Rattle.chunk_words_rows.specs.Fresh.{IsFreshSeat};
+ghost use Rattle.chunk_words_rows.specs.Page.{IsOnePage, HasTaken};
 
 use chunk_plain::{ProducerSpec, Words};
 use chunk_words::{HostTable, ServiceSeat, Shared, WriterSeat};
@@ -39,38 +40,39 @@ fn fill<W: Words>(table: &mut W, seat: &mut W::Writer, chunk: u32, id: u32) -> u
     id + 1
 }
 
-/// Asks for each of the first so many chunks; answers how many it filled.
-fn fill_all<W: Words>(table: &mut W, seat: &mut W::Writer, chunks: u32) -> u32
+/// Asks for the chunks of the page in turn, so many times; answers how many it filled.
+fn fill_all<W: Words>(table: &mut W, seat: &mut W::Writer, rounds: u32) -> u32
     requires seat { W.means.sits table.old seat.old }
-    requires chunks { (chunk : ℕ) → chunk < chunks
+    requires chunks { (chunk : ℕ) → chunk < 14
         → IsChunkOf (W.means.setup table.old) (producer_of (W.means.setup table.old) (W.means.place seat.old)) chunk }
     requires fresh { W.means.view table.old seat.old ≡ newcomer }
-    requires few { chunks < ID_LIMIT }
-    ensures most { result ≤ chunks }
+    requires few { rounds < ID_LIMIT }
+    ensures most { result ≤ rounds }
 {
     let mut won = 0;
-    for chunk in 0..chunks {
-        won = fill(table, seat, chunk, won);
+    for round in 0..rounds {
+        won = fill(table, seat, round % 14, won);
     }
     won
 }
 
-/// Asks for each chunk of the page.
-fn fill_page(host: &HostTable, mut seat: WriterSeat) -> u32
+/// The same by a writer of its own.
+pub(crate) fn fill_page(host: &HostTable, mut seat: WriterSeat, rounds: u32) -> u32
     requires seat { Sits host.now seat }
     requires fresh { known_by seat ≡ newcomer }
     requires chunks { (chunk : ℕ) → chunk < 14 → IsChunkOf (setup_in host.now) (producer_of (setup_in host.now) seat.place) chunk }
-    ensures most { result ≤ 14 }
+    requires few { rounds < ID_LIMIT }
+    ensures most { result ≤ rounds }
 {
     let mut shared = Shared { table: host };
-    fill_all(&mut shared, &mut seat, 14)
+    fill_all(&mut shared, &mut seat, rounds)
 }
 
-fn make(alloc: Global) -> Result<(HostTable, Vec<WriterSeat>, ServiceSeat), Fail>
+pub(crate) fn make(alloc: Global) -> Result<(HostTable, Vec<WriterSeat>, ServiceSeat), Fail>
     ensures seats { IfOk result (λ made. HasWriterSeats made.0 2 made.1.items) }
     ensures service { IfOk result (λ made. Attends made.0 made.2) }
-    ensures chunks { IfOk result (λ made. (chunk place : ℕ) → place < 2 → chunk < 14
-        → IsChunkOf (setup_in made.0) (producer_of (setup_in made.0) place) chunk) }
+    ensures page { IfOk result (λ made. IsOnePage made.0) }
+    ensures none_taken { IfOk result (λ made. HasTaken 0 made.2) }
 {
     let geometry = Geometry::new(4096, 14)?;
     let producers = [ProducerSpec { pages: 1, geometry }];
@@ -79,11 +81,12 @@ fn make(alloc: Global) -> Result<(HostTable, Vec<WriterSeat>, ServiceSeat), Fail
         buffer: 1,
         policy: WriterPolicy::Drops,
     };
-    Ok(HostTable::make(alloc, &producers, &[spec; 2])?)
+    let (host, seats, service) = HostTable::make(alloc, &producers, &[spec, spec])?;
+    Ok((host, seats, service))
 }
 
 /// The seats of the two writers, out of their list.
-fn both(host: &HostTable, mut seats: Vec<WriterSeat>) -> Option<(WriterSeat, WriterSeat)>
+pub(crate) fn both(host: &HostTable, mut seats: Vec<WriterSeat>) -> Option<(WriterSeat, WriterSeat)>
     requires { HasWriterSeats host.now 2 seats.items }
     ensures first { IfSome result (λ pair. IsFreshSeat host.now 0 pair.0) }
     ensures second { IfSome result (λ pair. IsFreshSeat host.now 1 pair.1) }
@@ -103,12 +106,15 @@ fn on_two_threads(
 ) -> (u32, u32)
     requires first { IsFreshSeat host.now 0 first }
     requires second { IsFreshSeat host.now 1 second }
-    requires chunks { (chunk place : ℕ) → place < 2 → chunk < 14
-        → IsChunkOf (setup_in host.now) (producer_of (setup_in host.now) place) chunk }
+    requires page { IsOnePage host.now }
     ensures first { result.0 ≤ 14 }
     ensures second { result.1 ≤ 14 }
 {
-    let (one, two) = join(rt, || fill_page(host, first), || fill_page(host, second));
+    let (one, two) = join(
+        rt,
+        || fill_page(host, first, 14),
+        || fill_page(host, second, 14),
+    );
     (one, two)
 }
 

@@ -1,12 +1,12 @@
-use Rattle.std.proofs.Common.{length, subst, sym, ap, arith}
+use Rattle.std.proofs.Common.{◌≡◌, ℕ, ◌+◌, ◌%◌, ◌<◌, ◌≤◌, ◌∙◌, length, refl, subst, sym, ap, arith}
 use Rattle.chunk_plain.specs.Setup.{Setup, IsChunkOf, producer_of}
 use Rattle.chunk_plain.specs.Views.{WriterView}
 use Rattle.chunk_plain.specs.Owned.{held_count}
 use Rattle.chunk_plain.proofs.SeatSteps.{stays, steps_follow}
 use Rattle.chunk_words_rows.proofs.threads.fill_all.Goals as goal
 
-pub loop-chunk-init : goal.loop-chunk-init
-loop-chunk-init g c = record {
+pub loop-round-init : goal.loop-round-init
+loop-round-init g c = record {
   step = stays g.W.Words.means c.args.table.now c.args.seat.now c.requires.seat;
   next = ap (λ (v : WriterView). length v.begun) (sym c.requires.fresh);
   none_held = ap (λ (v : WriterView). held_count v.begun) c.requires.fresh;
@@ -14,28 +14,28 @@ loop-chunk-init g c = record {
 }
 
 pub fill-won-requires-clause-seat : goal.fill-won-requires-clause-seat
-fill-won-requires-clause-seat g c = c.loop-chunk.invariant.step.seat_stays
+fill-won-requires-clause-seat g c = c.loop-round.invariant.step.seat_stays
 
 pub fill-won-requires-clause-chunk : goal.fill-won-requires-clause-chunk
 fill-won-requires-clause-chunk g c =
-    let step = c.loop-chunk.invariant.step in
-    subst (λ (s : Setup). IsChunkOf s (producer_of s (g.W.Words.means.place c.loop-chunk.seat)) c.loop-chunk.chunk) (sym step.setup_stays)
-    (subst (λ p. IsChunkOf (g.W.Words.means.setup c.args.table.now) (producer_of (g.W.Words.means.setup c.args.table.now) p) c.loop-chunk.chunk) (sym step.place_stays)
-    (c.requires.chunks c.loop-chunk.chunk (let less = c.loop-chunk-test.true in let ended = c.loop-chunk.auto.chunk-end in omega arith)))
+    let step = c.loop-round.invariant.step in
+    subst (λ (s : Setup). IsChunkOf s (producer_of s (g.W.Words.means.place c.loop-round.seat)) (c.loop-round.round % 14)) (sym step.setup_stays)
+    (subst (λ p. IsChunkOf (g.W.Words.means.setup c.args.table.now) (producer_of (g.W.Words.means.setup c.args.table.now) p) (c.loop-round.round % 14)) (sym step.place_stays)
+    (c.requires.chunks (c.loop-round.round % 14) (omega arith)))
 
 pub fill-won-requires-clause-none_held : goal.fill-won-requires-clause-none_held
-fill-won-requires-clause-none_held g c = c.loop-chunk.invariant.none_held
+fill-won-requires-clause-none_held g c = c.loop-round.invariant.none_held
 
 pub fill-won-requires-clause-id : goal.fill-won-requires-clause-id
-fill-won-requires-clause-id g c = c.loop-chunk.invariant.next
+fill-won-requires-clause-id g c = c.loop-round.invariant.next
 
 pub fill-won-requires-clause-id_fits : goal.fill-won-requires-clause-id_fits
-fill-won-requires-clause-id_fits g c = let most = c.loop-chunk.invariant.most in let less = c.loop-chunk-test.true in let ended = c.loop-chunk.auto.chunk-end in let few = c.requires.few in omega arith
+fill-won-requires-clause-id_fits g c = let most = c.loop-round.invariant.most in let less = c.loop-round-test.true in let ended = c.loop-round.auto.round-end in let few = c.requires.few in omega arith
 
-pub loop-chunk-preserved : goal.loop-chunk-preserved
-loop-chunk-preserved g c = record {
-  step = steps_follow g.W.Words.means c.args.table.now c.args.seat.now c.loop-chunk.table c.loop-chunk.seat _ _ c.loop-chunk.invariant.step c.fill-won.ensures.step;
+pub loop-round-preserved : goal.loop-round-preserved
+loop-round-preserved g c = record {
+  step = steps_follow g.W.Words.means c.args.table.now c.args.seat.now c.loop-round.table c.loop-round.seat _ _ c.loop-round.invariant.step c.fill-won.ensures.step;
   next = c.fill-won.ensures.next;
   none_held = c.fill-won.ensures.none_held;
-  most = let most = c.loop-chunk.invariant.most in let more = c.fill-won.ensures.most in omega arith;
+  most = let most = c.loop-round.invariant.most in let more = c.fill-won.ensures.most in omega arith;
 }

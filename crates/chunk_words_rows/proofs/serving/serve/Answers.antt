@@ -1,0 +1,59 @@
+use Rattle.std.proofs.Common.{◌≡◌, ℕ, ◌+◌, ◌<◌, ◌∙◌, subst, sym, ap, arith, None, length, vec_len}
+use Rattle.page_geometry.specs.Header.{packed}
+use Rattle.chunk_plain.specs.Setup.{spot}
+use Rattle.chunk_plain.specs.Words.{taken_content}
+use Rattle.chunk_plain.proofs.Holding.{takes_reads}
+use Rattle.chunk_words.specs.Knows.{service_of}
+use Rattle.chunk_words.specs.Sits.{setup_in}
+use Rattle.chunk_words_rows.specs.Page.{HasTaken}
+use Rattle.chunk_words_rows.proofs.Takings.{looked, loaded, served}
+use Rattle.chunk_words_rows.proofs.serving.serve.Goals as goal
+
+pub look-requires-clause-chunk : goal.look-requires-clause-chunk
+look-requires-clause-chunk c = c.requires.page.inside c.args.chunk c.requires.chunk
+
+pub load-requires-clause-chunk : goal.load-requires-clause-chunk
+load-requires-clause-chunk c = c.requires.page.inside c.args.chunk c.requires.chunk
+
+pub load-requires-clause-size : goal.load-requires-clause-size
+load-requires-clause-size c = c.requires.size ∙ sym (c.requires.page.size c.args.chunk c.requires.chunk)
+
+pub take-requires-clause-chunk : goal.take-requires-clause-chunk
+take-requires-clause-chunk c = c.requires.page.inside c.args.chunk c.requires.chunk
+
+pub take-requires-clause-writers : goal.take-requires-clause-writers
+take-requires-clause-writers c = let two = c.requires.page.writers in omega (arith, two)
+
+pub take-requires-clause-id : goal.take-requires-clause-id
+take-requires-clause-id c =
+    let looks = c.look.ensures.view in
+    let one = looked c.args.seat.now c.look.new.seat c.args.chunk _ _ c.args.next looks.found c.requires.next looks.view in
+    sym (loaded c.look.new.seat c.load.new.seat c.args.next one c.load.ensures.view).count_is
+
+pub release-requires-clause-reading : goal.release-requires-clause-reading
+release-requires-clause-reading c =
+    let taken = c.in-Ok.ensures.taken in
+    takes_reads (service_of c.load.new.seat.seat.me.0) (service_of c.take.new.seat.seat.me.0) c.args.chunk c.in-Ok.taken.chunk
+    taken.word (packed c.in-Ok.taken.header) 0 None (taken_content 0 c.in-Ok.taken) taken.view taken.chunk_is
+
+pub release-requires-clause-size : goal.release-requires-clause-size
+release-requires-clause-size c =
+    let taken = c.in-Ok.ensures.taken in
+    subst (λ k. vec_len c.in-Ok.taken.body.payload ≡ (spot (setup_in c.args.host.now) k).payload_size) (sym taken.chunk_is) taken.whole
+
+pub returns-in-Err-clause-next : goal.returns-in-Err-clause-next
+returns-in-Err-clause-next c =
+    let looks = c.look.ensures.view in
+    let one = looked c.args.seat.now c.look.new.seat c.args.chunk _ _ c.args.next looks.found c.requires.next looks.view in
+    let two = loaded c.look.new.seat c.load.new.seat c.args.next one c.load.ensures.view in
+    let other = c.in-Err.ensures.other.look in
+    looked c.load.new.seat c.take.new.seat c.args.chunk _ _ c.args.next other.found two other.view
+
+pub returns-in-Ok-clause-next : goal.returns-in-Ok-clause-next
+returns-in-Ok-clause-next c =
+    let looks = c.look.ensures.view in let taken = c.in-Ok.ensures.taken in
+    let one = looked c.args.seat.now c.look.new.seat c.args.chunk _ _ c.args.next looks.found c.requires.next looks.view in
+    let two = loaded c.look.new.seat c.load.new.seat c.args.next one c.load.ensures.view in
+    let all = c.load.ensures.seat.waits.serving.writers in let many = c.requires.page.writers in
+    served c.load.new.seat c.take.new.seat c.release.new.seat c.args.chunk c.in-Ok.taken.chunk taken.word (packed c.in-Ok.taken.header) c.args.next None (taken_content 0 c.in-Ok.taken)
+    two (omega (arith, all, many)) taken.view taken.chunk_is c.release.ensures.view
