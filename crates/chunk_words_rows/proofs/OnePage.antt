@@ -1,10 +1,10 @@
 -- The table of the tests is one page of 14 chunks.
-use Rattle.std.proofs.Common.{◌≡◌, ℕ, zero, suc, ◌+◌, ◌*◌, ◌<◌, ◌≤◌, [], ◌∷◌, length, map, get_or, subst, sym, refl, ap, ◌∙◌, arith}
+use Rattle.std.proofs.Common.{◌≡◌, ℕ, zero, suc, ◌<◌, [], ◌∷◌, length, subst, sym, refl, ap, ◌∙◌, arith}
 use Rattle.trace_base.specs.declared.policy.WriterSpec.{WriterSpec}
 use Rattle.page_geometry.specs.Sizes.{payload_size, chunk_size}
 use Rattle.page_geometry.specs.declared.geometry.Geometry.{Geometry}
 use Rattle.chunk_plain.specs.declared.setup.ProducerSpec.{ProducerSpec}
-use Rattle.chunk_plain.specs.Setup.{Setup, IsLaid, IsChunkOf, producer_of, range_of, size_of, spot}
+use Rattle.chunk_plain.specs.Setup.{Setup, IsLaid, IsChunkOf, producer_of, size_of}
 use Rattle.chunk_plain.specs.Laying.{setup_of}
 use Rattle.chunk_plain.specs.Views.{ServiceView, taken_of}
 use Rattle.chunk_plain.specs.Plain.{first_world}

@@ -1,5 +1,5 @@
 -- The service takes a chunk of the first writer and lets it go.
-use Rattle.std.proofs.Common.{◌≡◌, ℕ, ◌+◌, ◌<◌, Option, List, [], ◌∷◌, ◌++◌, length, set, subst, sym, refl, ap, ◌∙◌, arith, get_or-set_same, length-set}
+use Rattle.std.proofs.Common.{◌≡◌, ℕ, ◌+◌, ◌<◌, Option, List, [], ◌∷◌, ◌++◌, length, ap, ◌∙◌, arith, get_or-set_same, length-set}
 use Rattle.std.proofs.lemmas.Bool.Decides.{nat_tests}
 use Rattle.chunk_plain.specs.Views.{Content, Found, Taken, none_taken, ServiceView, taken_of}
 use Rattle.chunk_plain.specs.Steps.{without, looks_at, takes_in, learns, lets_go}

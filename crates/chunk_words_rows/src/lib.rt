@@ -7,3 +7,5 @@
 mod serving;
 #[cfg(test)]
 mod threads;
+#[cfg(test)]
+mod words;

@@ -1,4 +1,4 @@
-use Rattle.std.proofs.Common.{◌≡◌, ℕ, ◌<◌, subst, sym, arith}
+use Rattle.std.proofs.Common.{ℕ, ◌<◌, subst, sym, arith}
 use Rattle.chunk_plain.specs.Setup.{IsChunkOf, producer_of}
 use Rattle.chunk_words.specs.Sits.{setup_in}
 use Rattle.chunk_words_rows.proofs.serving.on_both_sides.Goals as goal

@@ -1,11 +1,10 @@
-use Rattle.std.proofs.Common.{◌≡◌, ℕ, ◌+◌, ◌<◌, ◌∙◌, subst, sym, ap, arith, None, length, vec_len}
+use Rattle.std.proofs.Common.{◌≡◌, ◌∙◌, subst, sym, arith, None, vec_len}
 use Rattle.page_geometry.specs.Header.{packed}
 use Rattle.chunk_plain.specs.Setup.{spot}
 use Rattle.chunk_plain.specs.Words.{taken_content}
 use Rattle.chunk_plain.proofs.Holding.{takes_reads}
 use Rattle.chunk_words.specs.Knows.{service_of}
 use Rattle.chunk_words.specs.Sits.{setup_in}
-use Rattle.chunk_words_rows.specs.Page.{HasTaken}
 use Rattle.chunk_words_rows.proofs.Takings.{looked, loaded, served}
 use Rattle.chunk_words_rows.proofs.serving.serve.Goals as goal
 

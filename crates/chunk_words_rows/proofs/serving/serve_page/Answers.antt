@@ -1,4 +1,4 @@
-use Rattle.std.proofs.Common.{◌≡◌, ◌+◌, ◌<◌, ◌≤◌, arith, rules}
+use Rattle.std.proofs.Common.{arith, rules}
 use Rattle.chunk_words_rows.proofs.serving.serve_page.Goals as goal
 
 pub loop-round-init : goal.loop-round-init

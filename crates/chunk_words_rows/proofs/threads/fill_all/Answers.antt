@@ -1,4 +1,4 @@
-use Rattle.std.proofs.Common.{◌≡◌, ℕ, ◌+◌, ◌%◌, ◌<◌, ◌≤◌, ◌∙◌, length, refl, subst, sym, ap, arith}
+use Rattle.std.proofs.Common.{◌%◌, length, subst, sym, ap, arith}
 use Rattle.chunk_plain.specs.Setup.{Setup, IsChunkOf, producer_of}
 use Rattle.chunk_plain.specs.Views.{WriterView}
 use Rattle.chunk_plain.specs.Owned.{held_count}
