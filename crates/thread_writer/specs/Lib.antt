@@ -1,0 +1,5 @@
+pub mod Lent
+pub mod Asking
+pub mod Standing
+pub mod Writing
+pub mod Laws

@@ -1,0 +1,62 @@
+-- The writer of a thread, as its callers see it: by the view of its seat.
+use Rattle.std.specs.Prelude.{◌≡◌, ℕ, Bool, true, false, List, ◌++◌, Option, Some, None, Result, MatchResult}
+use Rattle.atomic_table.specs.Seated.{TableId}
+use Rattle.crossbeam_utils.specs.Padded.{padded_value}
+use Rattle.trace_base.specs.declared.policy.WriterPolicy.TheVariants.{Drops}
+use Rattle.trace_model.specs.Calls.{Call}
+use Rattle.chunk_plain.specs.Meaning.{IsWriterStep}
+use Rattle.chunk_plain.specs.Views.{WriterView}
+use Rattle.chunk_words.specs.declared.host.HostTable.{HostTable}
+use Rattle.chunk_words.specs.declared.seats.WriterSeat.{WriterSeat}
+use Rattle.chunk_words.specs.declared.shared.Shared.{Shared}
+use Rattle.chunk_words.specs.contracts.shared.SharedWords.TheImpl.{ghosts as shared}
+use Rattle.chunk_words.specs.Sits.{Sits, setup_in, known_by}
+use Rattle.trace_writer.specs.declared.fault.CallFault.{CallFault}
+use Rattle.trace_writer.specs.declared.fault.CallFault.TheVariants as call_fault
+use Rattle.trace_writer.specs.declared.writer.WriterCore.{WriterCore}
+use Rattle.trace_writer.specs.Core.{CoreAgrees, is_stalled, route_of, refusal_of}
+use Rattle.trace_writer.specs.Asked.{IsAsked, LeavesAll}
+use Rattle.trace_writer.specs.OwnSteps.{IsQuiet}
+use Rattle.thread_writer.specs.declared.helper.Asks.{Asks}
+use Rattle.thread_writer.specs.declared.writer.TraceWriter.{TraceWriter}
+use Rattle.thread_writer.specs.Lent.{identity_of}
+use Rattle.thread_writer.specs.Asking.{MayAsk, GivesTurn}
+
+-- the writer with its seat, alone on its cache lines
+abbrev pub core_of : TraceWriter → WriterCore WriterSeat
+core_of writer = padded_value writer.core
+
+-- what its seat knows
+abbrev pub view_in : TraceWriter → WriterView
+view_in writer = known_by (core_of writer).seat
+
+-- The writer is one of this table: its seat sits there, and it agrees with the view of its seat.
+pub record Writes (table : HostTable) (writer : TraceWriter) : Type 0 where
+  pub seat : Sits table (core_of writer).seat
+  pub agrees : CoreAgrees (setup_in table) (core_of writer).seat.place (view_in writer) (core_of writer)
+
+-- A call that may ask the helper, over the lent table: what it leaves where it is refused, its answer where it isn't, and what it then did, as the
+-- same call of a writer over any table. A writer that drops leaves its helper as it was.
+pub record IsCall {A H : Type 0} (turns : H → ℕ) (of_table : H → TableId → Type 0) (table : Shared) (old new : WriterCore WriterSeat) (help left : Asks H) (steps later : ℕ)
+    (answer : Result A CallFault) (reason : Option CallFault) (stopped : Bool) (noted : List Call) : Type 0 where
+  -- the table as the call leaves it
+  pub behind : Shared
+  pub same_table : identity_of behind.table.now ≡ identity_of table.table.now
+  pub refused : (fault : CallFault) → refusal_of old reason ≡ Some fault → LeavesAll fault answer old new table behind help left steps later
+  pub answers : refusal_of old reason ≡ None
+      → MatchResult answer (λ _. is_stalled new ≡ false) (λ fault. (fault ≡ call_fault.Stalled) × (is_stalled new ≡ true))
+  pub done : refusal_of old reason ≡ None → IsAsked shared.means (MayAsk of_table) (GivesTurn turns)
+      (route_of old) help table old.seat steps stopped noted (is_stalled new) left behind new.seat later
+  pub alone : (route_of old).spec.policy ≡ Drops → (left ≡ help) × IsWriterStep shared.means table old.seat behind new.seat
+  pub route : route_of new ≡ route_of old
+
+-- A call that needs no chunk, over the lent table: a stalled writer is as before, another one notes the call.
+pub record IsQuietCall (table : Shared) (old new : WriterCore WriterSeat) (noted : List Call) : Type 0 where
+  -- the table as the call leaves it
+  pub behind : Shared
+  pub same_table : identity_of behind.table.now ≡ identity_of table.table.now
+  pub stalled : is_stalled old ≡ true → (new ≡ old) × (behind ≡ table)
+  pub goes : is_stalled new ≡ is_stalled old
+  pub notes : is_stalled old ≡ false → (known_by new.seat).calls ≡ (known_by old.seat).calls ++ noted
+  pub quiet : IsQuiet shared.means table old.seat behind new.seat
+  pub route : route_of new ≡ route_of old

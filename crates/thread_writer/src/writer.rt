@@ -1,0 +1,272 @@
+//! The writer of a thread, over the table that threads share.
+ghost use Rattle.std.specs.Prelude.{◌≡◌, ℕ, ◌+◌, ◌-◌, ◌<◌, ◌≤◌, Bool, true, false, Some, None, [], ◌∷◌, length, slice_get, IfOk};
+ghost use Rattle.chunk_plain.specs.declared.tokens.TheConstants.{ID_LIMIT};
+ghost use Rattle.trace_base.specs.declared.limits.TheConstants.{MAX_FIELD, MAX_INPUT};
+ghost use Rattle.page_geometry.specs.Sizes.{payload_size};
+ghost use Rattle.trace_model.specs.Calls as call;
+ghost use Rattle.trace_model.specs.Encoding.{number_field, nested_tag};
+ghost use Rattle.trace_model.specs.Packets.{begun_count, dropped_at_begin};
+ghost use Rattle.chunk_plain.specs.Histories.{completed_images};
+ghost use Rattle.chunk_plain.specs.Setup.{spot, range_of, producer_of, HasProducer, IsChunkOf};
+ghost use Rattle.chunk_plain.specs.Views.{newcomer};
+ghost use Rattle.chunk_words.specs.declared.host.HostTable.{HostTable};
+ghost use Rattle.chunk_words.specs.Sits.{Sits, setup_in, known_by};
+ghost use Rattle.claim_arbiter.specs.Claiming.{range_in};
+ghost use Rattle.trace_writer.specs.declared.ids.TheConstants.{PACKET_IDS};
+ghost use Rattle.trace_writer.specs.Agreement.{counted};
+ghost use Rattle.trace_writer.specs.Asked.{begun_as, written_as, stops_with};
+ghost use Rattle.trace_writer.specs.Core.{in_packet, open_depth, field_fault, nested_fault, bytes_size};
+ghost use Rattle.trace_writer.specs.Core.{holds_chunk, is_stalled, route_of, begins_here, FitsHere};
+ghost use Rattle.thread_writer.specs.Lent.{identity_of, lent};
+ghost use Rattle.thread_writer.specs.Writing.{core_of, view_in, Writes, IsCall, IsQuietCall};
+
+use crate::helper::{Asks, Helper};
+use chunk_words::{HostTable, Shared, WriterSeat};
+use claim_arbiter::Arbiter;
+use crossbeam_utils::CachePadded;
+use page_geometry::Geometry;
+use std::sync::ledger::Ledger;
+use trace_base::policy::WriterSpec;
+use trace_base::steps::Steps;
+use trace_writer::{Begun, CallFault, WriterCore};
+
+/// The writer of a thread, alone on its cache lines. It may hold a chunk, so it has to be ended by
+/// `into_seat`.
+pub struct TraceWriter {
+    core: CachePadded<WriterCore<WriterSeat>>,
+}
+
+impl TraceWriter {
+    /// A writer for a seat with which nothing was begun or noted.
+    pub fn make(
+        seat: WriterSeat,
+        spec: WriterSpec,
+        arbiter: Arbiter,
+        geometry: Geometry,
+    ) -> TraceWriter
+        ensures seat { (core_of result).seat ≡ seat }
+        ensures spec { (route_of (core_of result)).spec ≡ spec }
+        ensures none_held { holds_chunk (core_of result) ≡ false }
+        ensures going { is_stalled (core_of result) ≡ false }
+        ensures writes { (table : HostTable) → Sits table seat → known_by seat ≡ newcomer
+            → slice_get (setup_in table).writers seat.place ≡ Some spec → HasProducer (setup_in table) spec.producer
+            → range_of (setup_in table) (producer_of (setup_in table) seat.place) ≡ range_in arbiter
+            → ((chunk : ℕ) → IsChunkOf (setup_in table) (producer_of (setup_in table) seat.place) chunk
+            → (spot (setup_in table) chunk).payload_size ≡ payload_size geometry.page_size geometry.chunks)
+            → Writes table result }
+    {
+        TraceWriter {
+            core: CachePadded::new(WriterCore::make(seat, spec, arbiter, geometry)),
+        }
+    }
+
+    /// Begins a packet. It claims only where the packet is to begin in a new chunk.
+    pub fn begin<L: Ledger, H: Helper>(
+        &mut self,
+        table: &HostTable,
+        help: &mut Asks<H>,
+        steps: &mut Steps<L>,
+    ) -> Result<Begun, CallFault>
+        requires writes { Writes table.now self.old }
+        requires help { H.of_table help.old.help (identity_of table.now) }
+        requires none_begun { in_packet (view_in self.old) ≡ false }
+        requires ids { length (view_in self.old).begun + PACKET_IDS ≤ ID_LIMIT }
+        ensures writes { Writes table.now self.new }
+        ensures help { H.of_table help.new.help (identity_of table.now) }
+        ensures call { IsCall H.turns H.of_table (lent table.entry) (core_of self.old) (core_of self.new)
+            help.old help.new steps.old steps.new result None (stops_with result)
+            (begun_as (stops_with result) (route_of (core_of self.old)).spec.policy) }
+        ensures asked { begins_here (core_of self.old) → (view_in self.new).asked ≡ (view_in self.old).asked }
+        ensures in_packet { IfOk result (λ _. in_packet (view_in self.new) ≡ true) }
+        ensures depth { IfOk result (λ _. open_depth (view_in self.new) ≡ 0) }
+    {
+        let mut shared = Shared { table };
+        self.core.begin(&mut shared, help, steps)
+    }
+
+    /// Writes a number.
+    pub fn varint<L: Ledger, H: Helper>(
+        &mut self,
+        table: &HostTable,
+        help: &mut Asks<H>,
+        field: u32,
+        value: u64,
+        steps: &mut Steps<L>,
+    ) -> Result<(), CallFault>
+        requires writes { Writes table.now self.old }
+        requires help { H.of_table help.old.help (identity_of table.now) }
+        requires begun { in_packet (view_in self.old) ≡ true }
+        requires least { 1 ≤ field }
+        requires most { field ≤ MAX_FIELD }
+        ensures writes { Writes table.now self.new }
+        ensures help { H.of_table help.new.help (identity_of table.now) }
+        ensures call { (stopped : Bool) × IsCall H.turns H.of_table (lent table.entry) (core_of self.old) (core_of self.new)
+            help.old help.new steps.old steps.new result (field_fault (view_in self.old) field (length (number_field field value))) stopped
+            (written_as stopped (route_of (core_of self.old)).spec.policy (call.Number field value)) }
+        ensures asked { FitsHere (core_of self.old) (length (number_field field value))
+            → (view_in self.new).asked ≡ (view_in self.old).asked }
+        ensures in_packet { in_packet (view_in self.new) ≡ true }
+        ensures depth { open_depth (view_in self.new) ≡ open_depth (view_in self.old) }
+    {
+        let mut shared = Shared { table };
+        self.core.varint(&mut shared, help, field, value, steps)
+    }
+
+    /// Writes a text, so many times over.
+    pub fn bytes<L: Ledger, H: Helper>(
+        &mut self,
+        table: &HostTable,
+        help: &mut Asks<H>,
+        field: u32,
+        value: &[u8],
+        times: u32,
+        steps: &mut Steps<L>,
+    ) -> Result<(), CallFault>
+        requires writes { Writes table.now self.old }
+        requires help { H.of_table help.old.help (identity_of table.now) }
+        requires begun { in_packet (view_in self.old) ≡ true }
+        requires least { 1 ≤ field }
+        requires most { field ≤ MAX_FIELD }
+        requires text { length value.now ≤ MAX_INPUT }
+        ensures writes { Writes table.now self.new }
+        ensures help { H.of_table help.new.help (identity_of table.now) }
+        ensures call { (stopped : Bool) × IsCall H.turns H.of_table (lent table.entry) (core_of self.old) (core_of self.new)
+            help.old help.new steps.old steps.new result (field_fault (view_in self.old) field (bytes_size field times value.now)) stopped
+            (written_as stopped (route_of (core_of self.old)).spec.policy (call.Bytes field value.now times)) }
+        ensures asked { FitsHere (core_of self.old) (bytes_size field times value.now)
+            → (view_in self.new).asked ≡ (view_in self.old).asked }
+        ensures in_packet { in_packet (view_in self.new) ≡ true }
+        ensures depth { open_depth (view_in self.new) ≡ open_depth (view_in self.old) }
+    {
+        let mut shared = Shared { table };
+        self.core
+            .bytes(&mut shared, help, field, value, times, steps)
+    }
+
+    /// Begins a nested message.
+    pub fn begin_nested<L: Ledger, H: Helper>(
+        &mut self,
+        table: &HostTable,
+        help: &mut Asks<H>,
+        field: u32,
+        steps: &mut Steps<L>,
+    ) -> Result<(), CallFault>
+        requires writes { Writes table.now self.old }
+        requires help { H.of_table help.old.help (identity_of table.now) }
+        requires begun { in_packet (view_in self.old) ≡ true }
+        requires least { 1 ≤ field }
+        requires most { field ≤ MAX_FIELD }
+        ensures writes { Writes table.now self.new }
+        ensures help { H.of_table help.new.help (identity_of table.now) }
+        ensures call { (stopped : Bool) × IsCall H.turns H.of_table (lent table.entry) (core_of self.old) (core_of self.new)
+            help.old help.new steps.old steps.new result (nested_fault (view_in self.old) field) stopped
+            (written_as stopped (route_of (core_of self.old)).spec.policy (call.Nested field)) }
+        ensures asked { FitsHere (core_of self.old) (length (nested_tag field) + 4)
+            → (view_in self.new).asked ≡ (view_in self.old).asked }
+        ensures in_packet { in_packet (view_in self.new) ≡ true }
+    {
+        let mut shared = Shared { table };
+        self.core.begin_nested(&mut shared, help, field, steps)
+    }
+
+    /// Ends the innermost nested message. Where the writer stalls nothing changes.
+    pub fn end_nested(&mut self, table: &HostTable)
+        requires writes { Writes table.now self.old }
+        requires depth { 0 < open_depth (view_in self.old) }
+        ensures writes { Writes table.now self.new }
+        ensures call { IsQuietCall (lent table.entry) (core_of self.old) (core_of self.new) (call.Ended ∷ []) }
+        ensures others { record (view_in self.new) { calls = (view_in self.old).calls } ≡ view_in self.old }
+        ensures in_packet { in_packet (view_in self.new) ≡ true }
+        ensures depth_falls { is_stalled (core_of self.old) ≡ false → open_depth (view_in self.new) + 1 ≡ open_depth (view_in self.old) }
+    {
+        let mut shared = Shared { table };
+        self.core.end_nested(&mut shared);
+    }
+
+    /// Ends the packet. Where the writer stalls nothing changes.
+    pub fn finish(&mut self, table: &HostTable)
+        requires writes { Writes table.now self.old }
+        requires begun { in_packet (view_in self.old) ≡ true }
+        requires depth { open_depth (view_in self.old) ≡ 0 }
+        ensures writes { Writes table.now self.new }
+        ensures call { IsQuietCall (lent table.entry) (core_of self.old) (core_of self.new) (call.Finished ∷ []) }
+        ensures others { record (view_in self.new) { calls = (view_in self.old).calls } ≡ view_in self.old }
+        ensures in_packet { is_stalled (core_of self.old) ≡ false → in_packet (view_in self.new) ≡ false }
+    {
+        let mut shared = Shared { table };
+        self.core.finish(&mut shared);
+    }
+
+    /// Completes the held chunk, where there is one. Where the writer stalls nothing changes.
+    pub fn flush(&mut self, table: &HostTable)
+        requires writes { Writes table.now self.old }
+        requires none_begun { in_packet (view_in self.old) ≡ false }
+        ensures writes { Writes table.now self.new }
+        ensures call { IsQuietCall (lent table.entry) (core_of self.old) (core_of self.new) (call.Flushed ∷ []) }
+        ensures none_held { holds_chunk (core_of self.new) ≡ false }
+        ensures in_packet { in_packet (view_in self.new) ≡ false }
+    {
+        let mut shared = Shared { table };
+        self.core.flush(&mut shared);
+    }
+
+    /// Chunk ids that are left.
+    pub fn ids_left(&self) -> u64
+        ensures { (table : HostTable) → Writes table self.now → result ≡ ID_LIMIT - length (view_in self.now).begun }
+    {
+        self.core.ids_left()
+    }
+
+    /// Packets that were begun.
+    pub fn begun(&self) -> u64
+        ensures { (table : HostTable) → Writes table self.now → result ≡ counted (begun_count (view_in self.now).calls) }
+    {
+        self.core.begun()
+    }
+
+    /// Those of them that were dropped at their begin.
+    pub fn dropped_at_begin(&self) -> u64
+        ensures { (table : HostTable) → Writes table self.now → result ≡ counted (dropped_at_begin (view_in self.now).calls) }
+    {
+        self.core.dropped_at_begin()
+    }
+
+    /// Chunks that were completed.
+    pub fn completed(&self) -> u32
+        ensures { (table : HostTable) → Writes table self.now → result ≡ length (completed_images (view_in self.now).begun) }
+    {
+        self.core.completed()
+    }
+
+    /// Open nested messages.
+    pub fn depth(&self) -> u8
+        ensures { (table : HostTable) → Writes table self.now → result ≡ open_depth (view_in self.now) }
+    {
+        self.core.depth()
+    }
+
+    /// Whether a packet is begun.
+    pub fn in_packet(&self) -> bool
+        ensures { (table : HostTable) → Writes table self.now → result ≡ in_packet (view_in self.now) }
+    {
+        self.core.in_packet()
+    }
+
+    /// The seat, where no chunk is held.
+    pub fn into_seat(self) -> WriterSeat
+        requires { holds_chunk (core_of self) ≡ false }
+        ensures { result ≡ (core_of self).seat }
+    {
+        let TraceWriter { core } = self;
+        core.into_inner().into_seat()
+    }
+
+    /// The seat, and nothing of what the writer still holds: for the way out after a fault. The chunk
+    /// that is held is never completed then.
+    pub fn give_up(self) -> WriterSeat
+        ensures { result ≡ (core_of self).seat }
+    {
+        let TraceWriter { core } = self;
+        core.into_inner().give_up()
+    }
+}
