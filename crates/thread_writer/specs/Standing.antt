@@ -9,7 +9,7 @@ use Rattle.chunk_words.specs.declared.shared.Shared.{Shared}
 use Rattle.chunk_words.specs.declared.seats.ServiceSeat.{ServiceSeat}
 use Rattle.chunk_words.specs.declared.seats.WriterSeat.{WriterSeat}
 use Rattle.chunk_words.specs.contracts.shared.SharedWords.TheImpl.{ghosts as shared}
-use Rattle.chunk_words.specs.Knows.{Nothing, Service}
+use Rattle.chunk_words.specs.Knows.{Nothing, Service, first_desk}
 use Rattle.chunk_words.specs.Sits.{Attends}
 use Rattle.thread_writer.specs.declared.helper.Asks.{Asks}
 use Rattle.thread_writer.specs.Lent.{identity_of}
@@ -20,7 +20,7 @@ abbrev a_service : HostTable → WriterSeat → ServiceSeat
 a_service table seat = record {
   seat = record seat.seat {
     table_id = identity_of table;
-    me = (Service 0 (length table.layout.writers) [] Nothing (first_world table.layout).service, []);
+    me = (Service 0 (length table.layout.writers) first_desk Nothing (first_world table.layout).service, []);
   };
 }
 
