@@ -143,6 +143,10 @@ row_is false (Never ∷ slots) chunk_id passed some = record { adjacent = tt; be
 pub row_adjacent : (closed : Bool) (slots : List Slot) (chunk_id passed : ℕ) → NoneEmpty slots → Adjacent (row_of closed chunk_id passed slots)
 row_adjacent closed slots chunk_id passed some = (row_is closed slots chunk_id passed some).adjacent
 
+-- a row of whose first chunk nothing was passed begins with it
+pub row_begins : (closed : Bool) (slots : List Slot) (chunk_id : ℕ) → NoneEmpty slots → begin_of (row_of closed chunk_id 0 slots) ≡ place chunk_id 0
+row_begins closed slots chunk_id some = (row_is closed slots chunk_id 0 some).begins refl
+
 -- where a reader stands that has passed these links, and has those left
 abbrev pub reader_after : Cursor → List Link → List Link → Cursor
 reader_after cursor [] left = cursor

@@ -22,11 +22,11 @@ use Rattle.delivery_laws.proofs.WrittenPackets.{are_full, IsToldBy, zip_reversed
 
 -- Only the newest packet may be unfinished
 
-abbrev AllFinished : List Packet → Type 0
+abbrev pub AllFinished : List Packet → Type 0
 AllFinished [] = Unit {0}
 AllFinished (packet ∷ packets) = (packet.finished ≡ true) × AllFinished packets
 
-abbrev OlderFinished : List Packet → Type 0
+abbrev pub OlderFinished : List Packet → Type 0
 OlderFinished [] = Unit {0}
 OlderFinished (packet ∷ older) = AllFinished older
 
@@ -35,7 +35,7 @@ older_changed : (change : Packet → Packet) (packets : List Packet) (flushed : 
 older_changed change [] flushed h = h
 older_changed change (packet ∷ older) flushed h = h
 
-begun_older : (packets : List Packet) → not (is_writing packets) ≡ true → OlderFinished packets → AllFinished packets
+pub begun_older : (packets : List Packet) → not (is_writing packets) ≡ true → OlderFinished packets → AllFinished packets
 begun_older [] h k = tt
 begun_older (packet ∷ older) h k = (was packet.finished h, k)
   where
@@ -59,7 +59,7 @@ older_all (call ∷ calls) account h k =
     let parts = and_parts (is_possible account.packets call) (are_possible_after (noted account call) calls) h in
     older_all calls (noted account call) parts.1 (older_noted account call parts.0 k)
 
-older_finished : (calls : List Call) → AreCalls calls → OlderFinished (packets_of calls)
+pub older_finished : (calls : List Call) → AreCalls calls → OlderFinished (packets_of calls)
 older_finished calls possible = older_all calls nothing_yet possible tt
 
 -- In the order of the calls

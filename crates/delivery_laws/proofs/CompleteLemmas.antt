@@ -104,7 +104,7 @@ pub lasts_behind : (open_ones : List ℕ) (patches more : List Patch) → LastsA
 lasts_behind open_ones [] more h = h
 lasts_behind open_ones (patch ∷ patches) more h = lasts_behind open_ones patches more h.1
 
-lasts_from : (open_ones : List ℕ) (pages : List Page) (place : ℕ) → LastsAre open_ones (patches_of pages) → LastsAre open_ones (patches_of (drop place pages))
+pub lasts_from : (open_ones : List ℕ) (pages : List Page) (place : ℕ) → LastsAre open_ones (patches_of pages) → LastsAre open_ones (patches_of (drop place pages))
 lasts_from open_ones pages zero h = h
 lasts_from open_ones [] (suc place) h = h
 lasts_from open_ones (page ∷ pages) (suc place) h = lasts_from open_ones pages place (lasts_behind open_ones page.patches (patches_of pages) h)
@@ -156,6 +156,9 @@ pub record IsSheetOf (patches : List Patch) (pages : List Page) (first place : �
   pub awaits : sheet.chunk.awaits ≡ page.awaits
   pub fragments : sheet.chunk.fragments ≡ (chunk_of page).fragments
   pub written : sheet.written ≡ settled_fragments patches (first + place) (chunk_of page).fragments
+  pub brings : sheet.patches ≡ page.patches
+  -- the last page's sheet runs on as is given
+  pub runs : suc place < length pages → sheet.chunk.runs_on ≡ page.runs_on
 
 pub sheet_at : (patches : List Patch) (goes : Bool) (pages : List Page) (first place : ℕ) (sheet : Sheet) → slice_get (sheets_from patches first goes pages) place ≡ Some sheet
     → IsSheetOf patches pages first place sheet
@@ -173,6 +176,8 @@ sheet_at patches goes (page ∷ []) first zero sheet get = here goes get
           awaits = sym (ap (λ (s : Sheet). s.chunk.awaits) same);
           fragments = sym (ap (λ (s : Sheet). s.chunk.fragments) same);
           written = sym (ap (λ (s : Sheet). s.written) same) ∙ ap (λ (n : ℕ). settled_fragments patches n (chunk_of page).fragments) at;
+          brings = sym (ap (λ (s : Sheet). s.patches) same);
+          runs = λ low. absurd (omega (arith, low));
         }
 sheet_at patches goes (page ∷ []) first (suc place) sheet get = absurd (cc)
 sheet_at patches goes (page ∷ next ∷ pages) first zero sheet get =
@@ -185,6 +190,8 @@ sheet_at patches goes (page ∷ next ∷ pages) first zero sheet get =
       awaits = sym (ap (λ (s : Sheet). s.chunk.awaits) same);
       fragments = sym (ap (λ (s : Sheet). s.chunk.fragments) same);
       written = sym (ap (λ (s : Sheet). s.written) same) ∙ ap (λ (n : ℕ). settled_fragments patches n (chunk_of page).fragments) at;
+      brings = sym (ap (λ (s : Sheet). s.patches) same);
+      runs = λ low. sym (ap (λ (s : Sheet). s.chunk.runs_on) same);
     }
 sheet_at patches goes (page ∷ next ∷ pages) first (suc place) sheet get =
     let is = sheet_at patches goes (next ∷ pages) (suc first) place sheet get in
@@ -196,6 +203,8 @@ sheet_at patches goes (page ∷ next ∷ pages) first (suc place) sheet get =
       awaits = is.awaits;
       fragments = is.fragments;
       written = is.written ∙ ap (λ (n : ℕ). settled_fragments patches n (chunk_of is.page).fragments) at;
+      brings = is.brings;
+      runs = λ low. is.runs (omega (arith, low));
     }
 
 pub patches_left : (patches : List Patch) (goes : Bool) (pages : List Page) (first place : ℕ) → sheet_patches (drop place (sheets_from patches first goes pages)) ≡ patches_of (drop place pages)

@@ -40,7 +40,7 @@ rest_fits : (b : Buffer) (event : Event) (events : List Event) → b.next + aske
     → (buffer_after b event).next + asked (buffer_after b event) events ≤ (buffer_after b event).room
 rest_fits b event events low grows = let next = grows.next in let room = grows.room in omega (arith, low, next, room)
 
-taken : (b : Buffer) (event : Event) → is_known b.sequences (event_sequence event) ≡ true → after b event ≡ buffer_after b event
+pub taken : (b : Buffer) (event : Event) → is_known b.sequences (event_sequence event) ≡ true → after b event ≡ buffer_after b event
 taken b event known = sym (ap (λ (x : Bool). cond x (after b event) b) known)
 
 module _ (sheets : List Sheet) (agree : SheetsAgree false sheets) (completes : EachCompletes sheets) (whole : AreWhole sheets) (q packets : ℕ) where
@@ -267,7 +267,7 @@ module _ (sheets : List Sheet) (agree : SheetsAgree false sheets) (completes : E
             roomy = grows.roomy;
             all = λ i low. grows.stays q i (calm.all i low);
             waits = subst (λ (c : Buffer). EachOf q (Waits (sheet_patches (drop come sheets))) c.live) now
-                (patches_wait sheets q come closed due (sheet_patches (drop come sheets)) b calm.known calm.lasts calm.waits);
+                (patches_wait sheets q come closed due (sheet_patches (drop come sheets)) (sheet_patches (drop come sheets)) b calm.known calm.lasts calm.waits);
             lasts = lasts_behind [] due (sheet_patches (drop come sheets)) calm.lasts;
             inside = inside.0;
             follows = inside.1;

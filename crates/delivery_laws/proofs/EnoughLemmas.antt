@@ -33,7 +33,7 @@ use Rattle.delivery_laws.proofs.DeliversAll.{delivers_all}
 use Rattle.delivery_laws.proofs.WholeLemmas.{none_goes_on, all_kept, sheets_are_whole}
 
 -- records are told at rising places, so there are at most as many as packets
-tells_few : (emitted : List (List ℕ)) (q : ℕ) (first : Bool) (next : ℕ) (records : List (List ℕ)) → TellsFrom emitted q first next records → next ≤ length emitted
+pub tells_few : (emitted : List (List ℕ)) (q : ℕ) (first : Bool) (next : ℕ) (records : List (List ℕ)) → TellsFrom emitted q first next records → next ≤ length emitted
     → next + length records ≤ length emitted
 tells_few emitted q first next [] h low = omega (arith, low)
 tells_few emitted q first next (bytes ∷ records) h low =
@@ -50,14 +50,14 @@ filter_few test (x ∷ xs) = step (test x) (filter_few test xs)
     step true k = omega (arith, k)
     step false k = omega (arith, k)
 
-emissions_few : (calls : List Call) → length (emissions_of calls) ≤ begun_count calls
+pub emissions_few : (calls : List Call) → length (emissions_of calls) ≤ begun_count calls
 emissions_few calls =
     let mapped = length-map (filter (λ packet. packet.finished) (reverse (packets_of calls))) packet_encoding in
     let few = filter_few (λ packet. packet.finished) (reverse (packets_of calls)) in
     let turned = length-reverse (packets_of calls) in
     omega (arith, mapped, few, turned)
 
-zip_long : {A B : Type 0} (R : A → B → Type 0) (xs : List A) (ys : List B) → AllZip R xs ys → length xs ≡ length ys
+pub zip_long : {A B : Type 0} (R : A → B → Type 0) (xs : List A) (ys : List B) → AllZip R xs ys → length xs ≡ length ys
 zip_long R [] [] h = refl
 zip_long R [] (y ∷ ys) h = absurd h
 zip_long R (x ∷ xs) [] h = absurd h

@@ -8,10 +8,14 @@ pub mod DeliversAll
 pub mod EmissionLemmas
 pub mod EnoughLemmas
 pub mod EventLemmas
+pub mod FarRows
+pub mod FlushCalls
+pub mod FlushLemmas
 pub mod HistoryLemmas
 pub mod IdLemmas
 pub mod KeepLemmas
 pub mod KnownLemmas
+pub mod LossLemmas
 pub mod OrderLemmas
 pub mod OwnEvents
 pub mod PieceLemmas
@@ -19,6 +23,9 @@ pub mod ReadTells
 pub mod ReportLemmas
 pub mod RoomLemmas
 pub mod RowWalks
+pub mod SettledHistory
+pub mod SettledLemmas
+pub mod StartRows
 pub mod WaitLemmas
 pub mod Walks
 pub mod WholeLemmas

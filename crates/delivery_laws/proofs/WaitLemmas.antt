@@ -55,20 +55,20 @@ or_none true = refl
 or_none false = refl
 
 module _ (sheets : List Sheet) (q come : ℕ) (closed : Bool) where
-  patched_waits : (patch : Patch) (later : List Patch) (r : BufferRecord) (x : Bool) → (awaits_at q patch.chunk_id r && last_holds r.chunk.fragments patch) ≡ x
-      → (r.sequence == q) ≡ true → LastsAre [] (patch ∷ later) → IsGood sheets come (patch ∷ later) r → Waits (patch ∷ later) r
-      → Waits later (cond x (record r { chunk = patched_chunk patch r.chunk }) r)
-  patched_waits patch later r true e of lasts good waits more =
+  patched_waits : (patch : Patch) (later first : List Patch) (r : BufferRecord) (x : Bool) → (awaits_at q patch.chunk_id r && last_holds r.chunk.fragments patch) ≡ x
+      → (r.sequence == q) ≡ true → LastsAre [] (patch ∷ first) → IsGood sheets come (patch ∷ later) r → Waits (patch ∷ first) r
+      → Waits first (cond x (record r { chunk = patched_chunk patch r.chunk }) r)
+  patched_waits patch later first r true e of lasts good waits more =
       let holds = and_parts (awaits_at q patch.chunk_id r) (last_holds r.chunk.fragments patch) e in
       let awaits = and_parts (is_of q patch.chunk_id r) r.chunk.awaits holds.0 in
       let same : r.chunk_id ≡ patch.chunk_id = eqb-true r.chunk_id patch.chunk_id (and_parts (r.sequence == q) (r.chunk_id == patch.chunk_id) awaits.0).1 in
-      ap (λ (n : ℕ). is_among n (chunks_of later)) same
-      ∙ was (is_among patch.chunk_id (chunks_of later)) (ap not (sym lasts.0) ∙ more)
+      ap (λ (n : ℕ). is_among n (chunks_of first)) same
+      ∙ was (is_among patch.chunk_id (chunks_of first)) (ap not (sym lasts.0) ∙ more)
     where
       was : (a : Bool) → not (not (a || false)) ≡ true → a ≡ true
       was true h = refl
       was false h = absurd (false≢true h)
-  patched_waits patch later r false e of lasts good waits more = by_id (patch.chunk_id == r.chunk_id) refl (waits more)
+  patched_waits patch later first r false e of lasts good waits more = by_id (patch.chunk_id == r.chunk_id) refl (waits more)
     where
       by_part : (patch.chunk_id == r.chunk_id) ≡ true → (p : Bool) → r.chunk.partial ≡ p → ⊥
       by_part f true p = false≢true (sym (good.part p).2 ∙ more)
@@ -84,21 +84,22 @@ module _ (sheets : List Sheet) (q come : ℕ) (closed : Bool) where
           here true g h = h.1
           here false g h = absurd (false≢true g)
 
-      by_id : (x : Bool) → (patch.chunk_id == r.chunk_id) ≡ x → (x || is_among r.chunk_id (chunks_of later)) ≡ true → is_among r.chunk_id (chunks_of later) ≡ true
+      by_id : (x : Bool) → (patch.chunk_id == r.chunk_id) ≡ x → (x || is_among r.chunk_id (chunks_of first)) ≡ true → is_among r.chunk_id (chunks_of first) ≡ true
       by_id true f h = absurd (by_part f r.chunk.partial refl)
       by_id false f h = h
 
-  pub patches_wait : (patches left : List Patch) (b : Buffer) → IsKnown sheets q come closed (patches ++ left) b → LastsAre [] (patches ++ left) → EachOf q (Waits (patches ++ left)) b.live
-      → EachOf q (Waits left) (with_patches b q patches).live
-  patches_wait [] left b known lasts waits = waits
-  patches_wait (patch ∷ patches) left b known lasts waits =
-      patches_wait patches left (with_patch b q patch) (patched_known sheets q come closed patch (patches ++ left) b known) lasts.1
-      (each_change q (λ r. IsGood sheets come (patch ∷ (patches ++ left)) r × Waits (patch ∷ (patches ++ left)) r) (Waits (patches ++ left))
+  -- what is left is to come; the patches that are waited for are the first ones of it
+  pub patches_wait : (patches left first : List Patch) (b : Buffer) → IsKnown sheets q come closed (patches ++ left) b → LastsAre [] (patches ++ first)
+      → EachOf q (Waits (patches ++ first)) b.live → EachOf q (Waits first) (with_patches b q patches).live
+  patches_wait [] left first b known lasts waits = waits
+  patches_wait (patch ∷ patches) left first b known lasts waits =
+      patches_wait patches left first (with_patch b q patch) (patched_known sheets q come closed patch (patches ++ left) b known) lasts.1
+      (each_change q (λ r. IsGood sheets come (patch ∷ (patches ++ left)) r × Waits (patch ∷ (patches ++ first)) r) (Waits (patches ++ first))
       (λ stored. cond (awaits_at q patch.chunk_id stored && last_holds stored.chunk.fragments patch) (record stored { chunk = patched_chunk patch stored.chunk }) stored)
       (λ r both of.
       let here : (r.sequence == q) ≡ true = of_record r (awaits_at q patch.chunk_id r && last_holds r.chunk.fragments patch) of in
-      patched_waits patch (patches ++ left) r (awaits_at q patch.chunk_id r && last_holds r.chunk.fragments patch) refl here lasts (both here).0 (both here).1)
-      b.live (each_both q (IsGood sheets come (patch ∷ (patches ++ left))) (Waits (patch ∷ (patches ++ left))) b.live known.live waits))
+      patched_waits patch (patches ++ left) (patches ++ first) r (awaits_at q patch.chunk_id r && last_holds r.chunk.fragments patch) refl here lasts (both here).0 (both here).1)
+      b.live (each_both q (IsGood sheets come (patch ∷ (patches ++ left))) (Waits (patch ∷ (patches ++ first))) b.live known.live waits))
     where
       of_record : (r : BufferRecord) (x : Bool) → ((cond x (record r { chunk = patched_chunk patch r.chunk }) r).sequence == q) ≡ true → (r.sequence == q) ≡ true
       of_record r true h = h

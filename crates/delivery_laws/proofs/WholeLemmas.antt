@@ -1,6 +1,6 @@
 -- What a writer wrote whose packets are all whole: no drop mark, no length that stays open, and a patch for each page that awaits
 -- one.
-use Rattle.std.proofs.Common.{◌≡◌, ◌∙◌, ℕ, zero, suc, ◌+◌, ◌-◌, ◌<◌, ◌≤◌, ◌⊎◌, Bool, true, false, not, ◌&&◌, ◌||◌, List, [], ◌∷◌, ◌++◌, length, map, drop, reverse, Option, Some, refl, sym, ap, subst, arith, inl, inr, append-nil}
+use Rattle.std.proofs.Common.{◌≡◌, ◌∙◌, ℕ, zero, suc, ◌+◌, ◌-◌, ◌<◌, ◌≤◌, ◌⊎◌, Bool, true, false, not, ◌&&◌, ◌||◌, List, [], ◌∷◌, ◌++◌, length, map, drop, reverse, Option, Some, None, refl, sym, ap, subst, arith, inl, inr, append-nil}
 use Rattle.std.specs.Prelude.{cond, ◌==◌, slice_get, filter, fold, is_some, nat_lt, nat_le}
 use Rattle.std.proofs.Common.{unwrap_or}
 use Rattle.std.proofs.lemmas.Option.{slice_get_within}
@@ -41,7 +41,7 @@ all_kept (packet ∷ packets) h =
     ap (λ (b : Bool). cond b (packet ∷ kept_of packets) (kept_of packets)) h.0 ∙ ap (λ (ps : List Packet). packet ∷ ps) (all_kept packets h.3)
 
 -- a finished packet has no open message
-abbrev FinishedFlat : List Packet → Type 0
+abbrev pub FinishedFlat : List Packet → Type 0
 FinishedFlat [] = Unit {0}
 FinishedFlat (packet ∷ packets) = (packet.finished ≡ true → length packet.text.levels ≡ 1) × FinishedFlat packets
 
@@ -72,24 +72,35 @@ flat_noted account GivenUp p h =
 flat_noted account Finished p h = flat_finished account.packets account.flushed (and_parts (is_writing account.packets) (open_count account.packets == 1) p).1 h
 flat_noted account Flushed p h = h
 
-flat_all : (calls : List Call) (account : Account) → are_possible_after account calls ≡ true → FinishedFlat account.packets → FinishedFlat (fold noted account calls).packets
+pub flat_all : (calls : List Call) (account : Account) → are_possible_after account calls ≡ true → FinishedFlat account.packets → FinishedFlat (fold noted account calls).packets
 flat_all [] account p h = h
 flat_all (call ∷ calls) account p h =
     let parts = and_parts (is_possible account.packets call) (are_possible_after (noted account call) calls) p in
     flat_all calls (noted account call) parts.1 (flat_noted account call parts.0 h)
 
+-- a packet without an open message
+abbrev pub IsFlat : Packet → Type 0
+IsFlat packet = length packet.text.levels ≡ 1
+
 -- so no length is open at the end
-none_open : (packets : List Packet) (chains : List Chain) → AllWhole packets → FinishedFlat packets → open_chunks packets chains ≡ []
-none_open [] chains w f = refl
-none_open (packet ∷ packets) [] w f = refl
-none_open (packet ∷ packets) (chain ∷ chains) w f =
-    ap (λ (o : Option Text). cond (is_some o) [] (map (chunk_at chain.pieces) (open_in chain.pieces (unwrap_or o packet.text)))) w.1
-    ∙ ap (λ (places : List ℕ). map (chunk_at chain.pieces) (filter (λ at. nat_le (at + 4) (length (bytes_of chain.pieces))) places)) (closed packet.text.levels (f.0 w.2))
+pub none_open : (packets : List Packet) (chains : List Chain) → Each IsFlat packets → open_chunks packets chains ≡ []
+none_open [] chains flat = refl
+none_open (packet ∷ packets) [] flat = refl
+none_open (packet ∷ packets) (chain ∷ chains) flat = by_given packet.given_up
   where
     closed : (levels : List (List ℕ)) → length levels ≡ 1 → open_places levels ≡ []
     closed [] e = refl
     closed (level ∷ []) e = refl
     closed (level ∷ outer ∷ others) e = absurd (omega (arith, e))
+
+    by_given : (given : Option Text) → cond (is_some given) [] (map (chunk_at chain.pieces) (open_in chain.pieces (unwrap_or given packet.text))) ≡ []
+    by_given (Some text) = refl
+    by_given None =
+        ap (λ (places : List ℕ). map (chunk_at chain.pieces) (filter (λ at. nat_le (at + 4) (length (bytes_of chain.pieces))) places)) (closed packet.text.levels flat.0)
+
+whole_flat : (packets : List Packet) → AllWhole packets → FinishedFlat packets → Each IsFlat packets
+whole_flat [] w f = tt
+whole_flat (packet ∷ packets) w f = (f.0 w.2, whole_flat packets w.3 f.1)
 
 -- Chains without a drop mark
 
@@ -102,7 +113,7 @@ unmarked_zip size [] (c ∷ cs) w z = absurd z
 unmarked_zip size (p ∷ ps) [] w z = absurd z
 unmarked_zip size (p ∷ ps) (c ∷ cs) w z = (z.0.marked ∙ ap (λ (o : Option Text). is_some o) w.1, unmarked_zip size ps cs w.3 z.1)
 
-each_reversed : (P : Chain → Type 0) (xs : List Chain) → Each P xs → Each P (reverse xs)
+pub each_reversed : (P : Chain → Type 0) (xs : List Chain) → Each P xs → Each P (reverse xs)
 each_reversed P [] h = tt
 each_reversed P (x ∷ xs) h = subst (Each P) (sym (reverse-append (x ∷ []) xs)) (each-append P (reverse xs) (x ∷ []) (each_reversed P xs h.1) (h.0, tt))
 
@@ -332,22 +343,33 @@ chunk_below bound (piece ∷ pieces) at some h = step (nat_lt at (length piece.f
 abbrev SentBelow : ℕ → SentPatch → Type 0
 SentBelow bound one = one.by < bound
 
-sent_below : (bound : ℕ) (packets : List Packet) (chains : List Chain) → 0 < bound → AllWhole packets → Each (PiecesBelow bound) chains → Each (SentBelow bound) (all_sent packets chains)
-sent_below bound [] chains some w h = tt
-sent_below bound (packet ∷ packets) [] some w h = tt
-sent_below bound (packet ∷ packets) (chain ∷ chains) some w h =
-    each-append (SentBelow bound) (all_sent packets chains) (sent_of packet chain) (sent_below bound packets chains some w.3 h.1)
+last_below : (bound : ℕ) (pieces : List Piece) → 0 < bound → Each (λ (piece : Piece). piece.at.chunk_id < bound) pieces → last_chunk pieces < bound
+last_below bound [] some h = some
+last_below bound (piece ∷ []) some h = h.0
+last_below bound (piece ∷ next ∷ pieces) some h = last_below bound (next ∷ pieces) some h.1
+
+sent_below : (bound : ℕ) (packets : List Packet) (chains : List Chain) → 0 < bound → Each (PiecesBelow bound) chains → Each (SentBelow bound) (all_sent packets chains)
+sent_below bound [] chains some h = tt
+sent_below bound (packet ∷ packets) [] some h = tt
+sent_below bound (packet ∷ packets) (chain ∷ chains) some h =
+    each-append (SentBelow bound) (all_sent packets chains) (sent_of packet chain) (sent_below bound packets chains some h.1)
     (each-append (SentBelow bound) (map (sent_for chain.pieces) (filter (crosses chain.pieces) (text_of packet).closed))
     (cond (is_some packet.given_up) (map (sent_at_drop chain.pieces)
     (filter (λ at. not (chunk_at chain.pieces at == last_chunk chain.pieces)) (open_in chain.pieces (text_of packet)))) [])
     (all_for (filter (crosses chain.pieces) (text_of packet).closed))
-    (subst (λ (b : Bool). Each (SentBelow bound) (cond b (map (sent_at_drop chain.pieces)
-    (filter (λ at. not (chunk_at chain.pieces at == last_chunk chain.pieces)) (open_in chain.pieces (text_of packet)))) []))
-    (sym (ap (λ (o : Option Text). is_some o) w.1)) tt))
+    (by_drop (is_some packet.given_up) (filter (λ at. not (chunk_at chain.pieces at == last_chunk chain.pieces)) (open_in chain.pieces (text_of packet)))))
   where
     all_for : (lengths : List NestedLength) → Each (SentBelow bound) (map (sent_for chain.pieces) lengths)
     all_for [] = tt
     all_for (nested ∷ lengths) = (chunk_below bound chain.pieces (nested.at + 3 + nested.size) some h.0, all_for lengths)
+
+    at_drop : (places : List ℕ) → Each (SentBelow bound) (map (sent_at_drop chain.pieces) places)
+    at_drop [] = tt
+    at_drop (at ∷ places) = (last_below bound chain.pieces some h.0, at_drop places)
+
+    by_drop : (b : Bool) (places : List ℕ) → Each (SentBelow bound) (cond b (map (sent_at_drop chain.pieces) places) [])
+    by_drop true places = at_drop places
+    by_drop false places = tt
 
 -- Pages that await patches
 
@@ -361,6 +383,32 @@ awaits_at_page crossing (other ∷ pages) first zero page are get =
 awaits_at_page crossing (other ∷ pages) first (suc place) page are get =
     let at : suc first + place ≡ first + suc place = omega arith in
     subst (λ (n : ℕ). page.awaits ≡ (page.runs_on && is_among n crossing)) at (awaits_at_page crossing pages (suc first) place page are.1 get)
+
+-- Where no length is open, each page that awaits patches gets some, from a page behind it.
+pub awaited_are_sent : (size : ℕ) (packets : List Packet) (pages : List Page) → CutsInto size packets pages → open_chunks (kept_of packets) (chains_of pages) ≡ []
+    → (i : ℕ) (page : Page) → slice_get pages i ≡ Some page → page.awaits ≡ true → is_among i (chunks_of (patches_of (drop i pages))) ≡ true
+awaited_are_sent size packets pages cut closed i page get awaits =
+    let low : i < length pages = slice_get_within pages i page get in
+    let at : 0 + i ≡ i = omega arith in
+    let awaited = awaits_at_page (map (λ (one : SentPatch). one.chunk_id) (all_sent (kept_of packets) (chains_of pages)) ++ open_chunks (kept_of packets) (chains_of pages)) pages 0 i page cut.patches.awaits get in
+    let among = (and_parts page.runs_on (is_among (0 + i) (map (λ (one : SentPatch). one.chunk_id) (all_sent (kept_of packets) (chains_of pages)) ++ open_chunks (kept_of packets) (chains_of pages)))
+    (sym awaited ∙ awaits)).1 in
+    let here : is_among i (map (λ (one : SentPatch). one.chunk_id) (all_sent (kept_of packets) (chains_of pages))) ≡ true =
+    sym (ap (is_among i) (ap (λ (ns : List ℕ). map (λ (one : SentPatch). one.chunk_id) (all_sent (kept_of packets) (chains_of pages)) ++ ns) closed
+    ∙ append-nil (map (λ (one : SentPatch). one.chunk_id) (all_sent (kept_of packets) (chains_of pages)))))
+    ∙ ap (λ (n : ℕ). is_among n (map (λ (one : SentPatch). one.chunk_id) (all_sent (kept_of packets) (chains_of pages)) ++ open_chunks (kept_of packets) (chains_of pages))) (sym at)
+    ∙ among in
+    let found = found_sent i (all_sent (kept_of packets) (chains_of pages)) here in
+    let bounds : Each (SentBelow (length pages)) (all_sent (kept_of packets) (chains_of pages)) =
+    sent_below (length pages) (kept_of packets) (chains_of pages) (omega (arith, low))
+    (each_reversed (PiecesBelow (length pages)) (chains_in (written_row pages)) (below_pages (patches_of pages) pages (length pages) 0 (omega arith))) in
+    let high : found.0.by < length pages = each_in (SentBelow (length pages)) found.0 (all_sent (kept_of packets) (chains_of pages)) bounds found.1 in
+    let chunk = found.2 in
+    let first = brought (all_sent (kept_of packets) (chains_of pages)) found.0 pages 0 0 cut.patches.sent cut.patches.behind found.1 (omega arith) (omega (arith, high)) in
+    let later = first.behind in
+    let there = brought (all_sent (kept_of packets) (chains_of pages)) found.0 pages 0 i cut.patches.sent cut.patches.behind found.1 (omega (arith, chunk, later)) (omega (arith, high)) in
+    ap (λ (n : ℕ). is_among n (chunks_of (patches_of (drop i pages)))) (sym chunk)
+    ∙ there.among
 
 pub sheets_are_whole : (size : ℕ) (calls : List Call) (pages : List Page) → AreCalls calls → CutsInto size (packets_of calls) pages → AllWhole (packets_of calls)
     → AreWhole (sheets_of false pages)
@@ -377,7 +425,7 @@ sheets_are_whole size calls pages possible cut w = record {
     kept = all_kept (packets_of calls) w
 
     closed : open_chunks (kept_of (packets_of calls)) (chains_of pages) ≡ []
-    closed = ap (λ (ps : List Packet). open_chunks ps (chains_of pages)) kept ∙ none_open (packets_of calls) (chains_of pages) w (flat_all calls nothing_yet possible tt)
+    closed = ap (λ (ps : List Packet). open_chunks ps (chains_of pages)) kept ∙ none_open (packets_of calls) (chains_of pages) (whole_flat (packets_of calls) w (flat_all calls nothing_yet possible tt))
 
     unmarked : Each Unmarked (chains_in (written_row pages))
     unmarked = subst (Each Unmarked) (reverse-reverse (chains_in (written_row pages)))
@@ -385,26 +433,5 @@ sheets_are_whole size calls pages possible cut w = record {
 
     sent_for_page : (i : ℕ) (sheet : Sheet) → sheet.chunk.awaits ≡ true → IsSheetOf (patches_of pages) pages 0 i sheet → is_among i (chunks_of (sheet_patches (drop i (sheets_of false pages)))) ≡ true
     sent_for_page i sheet awaits is =
-        let at : 0 + i ≡ i = omega arith in
-        let low : i < length pages = slice_get_within pages i is.page is.get in
-        let awaited = awaits_at_page (map (λ (one : SentPatch). one.chunk_id) (all_sent (kept_of (packets_of calls)) (chains_of pages)) ++ open_chunks (kept_of (packets_of calls)) (chains_of pages)) pages 0 i is.page cut.patches.awaits is.get in
-        let among = (and_parts is.page.runs_on (is_among (0 + i) (map (λ (one : SentPatch). one.chunk_id) (all_sent (kept_of (packets_of calls)) (chains_of pages)) ++ open_chunks (kept_of (packets_of calls)) (chains_of pages)))
-        (sym awaited ∙ sym is.awaits ∙ awaits)).1 in
-        let here : is_among i (map (λ (one : SentPatch). one.chunk_id) (all_sent (kept_of (packets_of calls)) (chains_of pages))) ≡ true =
-        sym (ap (is_among i) (ap (λ (ns : List ℕ). map (λ (one : SentPatch). one.chunk_id) (all_sent (kept_of (packets_of calls)) (chains_of pages)) ++ ns) closed
-        ∙ append-nil (map (λ (one : SentPatch). one.chunk_id) (all_sent (kept_of (packets_of calls)) (chains_of pages)))))
-        ∙ ap (λ (n : ℕ). is_among n (map (λ (one : SentPatch). one.chunk_id) (all_sent (kept_of (packets_of calls)) (chains_of pages)) ++ open_chunks (kept_of (packets_of calls)) (chains_of pages))) (sym at)
-        ∙ among in
-        let found = found_sent i (all_sent (kept_of (packets_of calls)) (chains_of pages)) here in
-        let bounds : Each (SentBelow (length pages)) (all_sent (kept_of (packets_of calls)) (chains_of pages)) =
-        subst (λ (ps : List Packet). Each (SentBelow (length pages)) (all_sent ps (chains_of pages))) (sym kept)
-        (sent_below (length pages) (packets_of calls) (chains_of pages) (omega (arith, low)) w
-        (each_reversed (PiecesBelow (length pages)) (chains_in (written_row pages)) (below_pages (patches_of pages) pages (length pages) 0 (omega arith)))) in
-        let high : found.0.by < length pages = each_in (SentBelow (length pages)) found.0 (all_sent (kept_of (packets_of calls)) (chains_of pages)) bounds found.1 in
-        let chunk = found.2 in
-        let first = brought (all_sent (kept_of (packets_of calls)) (chains_of pages)) found.0 pages 0 0 cut.patches.sent cut.patches.behind found.1 (omega arith) (omega (arith, high)) in
-        let later = first.behind in
-        let there = brought (all_sent (kept_of (packets_of calls)) (chains_of pages)) found.0 pages 0 i cut.patches.sent cut.patches.behind found.1 (omega (arith, chunk, later)) (omega (arith, high)) in
         ap (λ (ps : List Patch). is_among i (chunks_of ps)) (patches_left (patches_of pages) false pages 0 i)
-        ∙ ap (λ (n : ℕ). is_among n (chunks_of (patches_of (drop i pages)))) (sym chunk)
-        ∙ there.among
+        ∙ awaited_are_sent size (packets_of calls) pages cut closed i is.page is.get (sym is.awaits ∙ awaits)

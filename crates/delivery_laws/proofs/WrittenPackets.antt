@@ -10,6 +10,7 @@ use Rattle.trace_model.specs.Pages.{Page, chunk_of, fragments_from, patches_of}
 use Rattle.trace_model.specs.Row.{Piece, Chain, Whole, Marked, CutOff, Open, Link, Joined, Gap, Stop, Unpatched, bytes_of, joined_to, with_piece, chain_of, place, place_behind, is_last, is_part, chunk_links, row_of}
 use Rattle.trace_model.specs.Written.{settled_fragments, settled_chunk, written_slots, written_row, chains_in}
 use Rattle.trace_model.specs.Cut.{IsFull, FlagsAgree, is_marked_fate}
+use Rattle.trace_model.proofs.CursorLemmas.{Each}
 use Rattle.model_laws.proofs.StartLemmas.{same_long}
 use Rattle.delivery_laws.specs.Sheets.{Part, WrittenPacket, SheetsAgree, parts_from, all_parts, tail_bytes, ends_whole, packets_in}
 use Rattle.delivery_laws.specs.WriterSheets.{sheets_from, sheets_of}
@@ -278,6 +279,18 @@ covered_told (Joined chain ∷ links) (first ∷ parts) follows c =
     ∙ ap (λ (ps : List WrittenPacket). record { bytes = first.bytes ++ tail_bytes parts; whole = ends_whole first parts } ∷ ps) c.1.after))
     (record { bytes = c.1.bytes; marked = c.1.marked }, covered_told links c.0 c.1.follows c.2)
 
+-- and each of the chains has its start
+covered_heads : (links : List Link) (parts : List Part) → Follows true parts → Covers links parts → Each (λ (chain : Chain). chain.headless ≡ false) (chains_in links)
+covered_heads [] parts follows c = absurd c
+covered_heads (Stop at why may ∷ links) parts follows c = subst (λ (ls : List Link). Each (λ (chain : Chain). chain.headless ≡ false) (chains_in ls)) (sym c.1) tt
+covered_heads (Gap at next lost ∷ links) parts follows c = absurd c
+covered_heads (Joined chain ∷ links) [] follows c = absurd c
+covered_heads (Joined chain ∷ links) (first ∷ parts) follows c = (was chain.headless (sym c.1.starts ∙ follows), covered_heads links c.0 c.1.follows c.2)
+  where
+    was : (b : Bool) → not b ≡ true → b ≡ false
+    was true e = absurd (false≢true e)
+    was false e = refl
+
 pub zip_append : {A B : Type 0} (R : A → B → Type 0) (xs xs' : List A) (ys ys' : List B) → AllZip R xs ys → AllZip R xs' ys' → AllZip R (xs ++ xs') (ys ++ ys')
 zip_append R [] xs' [] ys' h k = k
 zip_append R [] xs' (y ∷ ys) ys' h k = absurd h
@@ -293,15 +306,19 @@ zip_reversed R (x ∷ xs) (y ∷ ys) h =
     (subst (λ zs. AllZip R (reverse xs ++ x ∷ []) zs) (sym (reverse-append (y ∷ []) ys))
     (zip_append R (reverse xs) (x ∷ []) (reverse ys) (y ∷ []) (zip_reversed R xs ys h.1) (h.0, tt)))
 
+begins_first : (size : ℕ) (goes : Bool) (pages : List Page) → AreFull size pages → FlagsAgree false pages → Follows true (all_parts (sheets_of goes pages))
+begins_first size goes [] full flags = tt
+begins_first size goes (page ∷ more) full flags = follows_page size (patches_of (page ∷ more)) 0 goes false page more flags.0 full.0
+
 -- the chains of the pages, the oldest first, and the packets that stand in the sheets
 pub packets_are_chains : (size : ℕ) (goes : Bool) (pages : List Page) → AreFull size pages → FlagsAgree false pages
     → AllZip IsToldBy (chains_in (written_row pages)) (packets_in (all_parts (sheets_of goes pages)))
 packets_are_chains size goes pages full flags =
-    covered_told (written_row pages) (all_parts (sheets_of goes pages)) (begins pages full flags) (covers_pages size (patches_of pages) goes false pages 0 full flags)
-  where
-    begins : (pages : List Page) → AreFull size pages → FlagsAgree false pages → Follows true (all_parts (sheets_from (patches_of pages) 0 goes pages))
-    begins [] full flags = tt
-    begins (page ∷ more) full flags = follows_page size (patches_of (page ∷ more)) 0 goes false page more flags.0 full.0
+    covered_told (written_row pages) (all_parts (sheets_of goes pages)) (begins_first size goes pages full flags) (covers_pages size (patches_of pages) goes false pages 0 full flags)
+
+pub chains_have_heads : (size : ℕ) (pages : List Page) → AreFull size pages → FlagsAgree false pages → Each (λ (chain : Chain). chain.headless ≡ false) (chains_in (written_row pages))
+chains_have_heads size pages full flags =
+    covered_heads (written_row pages) (all_parts (sheets_of false pages)) (begins_first size false pages full flags) (covers_pages size (patches_of pages) false false pages 0 full flags)
 
 -- the sheets' flags agree
 sheets_agree_from : (size : ℕ) (patches : List Patch) (goes runs_on : Bool) (pages : List Page) (chunk_id : ℕ) → AreFull size pages → FlagsAgree runs_on pages

@@ -1,6 +1,7 @@
 pub mod DeliveryLaws
 pub mod EnoughLaws
 pub mod Finishing
+pub mod FlushLaws
 pub mod Histories
 pub mod Orders
 pub mod Room

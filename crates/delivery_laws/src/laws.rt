@@ -1,6 +1,7 @@
 //! Laws about what histories deliver: each is the contract of a function with nothing to do.
 ghost use Rattle.delivery_laws.specs.DeliveryLaws.{AccountsAreHistories, EveryHistoryTells, EveryWriterIsTold};
 ghost use Rattle.delivery_laws.specs.EnoughLaws.{EveryAskIsCounted, EveryPacketIsDelivered};
+ghost use Rattle.delivery_laws.specs.FlushLaws.{EveryFlushIsSettled};
 ghost use Rattle.delivery_laws.specs.WorkedAccounts.{WorkedAccount, WorkedEnough};
 
 /// Whatever a history does with the chunks of a writer, what its reads deliver are packets that the
@@ -28,6 +29,12 @@ pub fn every_packet_is_delivered()
 /// A history asks for no more bytes than a record for each chunk takes.
 pub fn every_ask_is_counted()
     ensures { EveryAskIsCounted }
+{}
+
+/// Once the chunks of a flush have come, a read of all that is due fixes what became of each packet
+/// that was emitted before it.
+pub fn every_flush_is_settled()
+    ensures { EveryFlushIsSettled }
 {}
 
 /// There is an account that meets all that the law asks for, with a part of a chunk, a patch and a
