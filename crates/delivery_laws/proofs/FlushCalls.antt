@@ -15,7 +15,7 @@ use Rattle.delivery_laws.proofs.CallLemmas.{AllFinished, begun_older, older_fini
 use Rattle.delivery_laws.proofs.WholeLemmas.{FinishedFlat, flat_all, IsFlat, none_open}
 
 -- what is possible, in two parts
-possible_parts : (account : Account) (xs ys : List Call) → are_possible_after account (xs ++ ys) ≡ true
+pub possible_parts : (account : Account) (xs ys : List Call) → are_possible_after account (xs ++ ys) ≡ true
     → (are_possible_after account xs ≡ true) × (are_possible_after (fold noted account xs) ys ≡ true)
 possible_parts account [] ys h = (refl, h)
 possible_parts account (call ∷ xs) ys h =

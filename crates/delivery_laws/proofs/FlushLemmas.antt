@@ -1,9 +1,9 @@
 -- Behind a flush whose chunks came and were read, the outcome of each packet before it is fixed, and stays.
-use Rattle.std.proofs.Common.{◌≡◌, ◌∙◌, ℕ, zero, suc, ◌+◌, ◌<◌, ◌≤◌, ◌⊎◌, Bool, true, false, not, ◌&&◌, ◌||◌, List, [], ◌∷◌, ◌++◌, length, map, drop, Option, Some, None, refl, sym, ap, subst, arith, inl, inr, append-nil, length-append}
+use Rattle.std.proofs.Common.{◌≡◌, ◌∙◌, ℕ, zero, suc, ◌+◌, ◌<◌, ◌≤◌, ◌⊎◌, Bool, true, false, not, ◌&&◌, ◌||◌, List, [], ◌∷◌, ◌++◌, length, map, drop, Option, Some, None, refl, sym, ap, subst, arith, inl, inr, append_assoc, append-nil, length-append}
 use Rattle.std.specs.Prelude.{cond, ◌==◌, slice_get, is_some, MatchBool}
 use Rattle.std.proofs.lemmas.Bool.{false≢true, eq-eqb, cases_lt}
 use Rattle.std.proofs.lemmas.List.{length-map}
-use Rattle.std.proofs.lemmas.Option.{slice_get_within, same_Some}
+use Rattle.std.proofs.lemmas.Option.{slice_get_within, same_Some, none-some}
 use Rattle.trace_base.specs.declared.policy.FullPolicy.{FullPolicy}
 use Rattle.trace_model.specs.Calls.{Call, Flushed}
 use Rattle.trace_model.specs.Images.{Chunk, Fragment, Patch}
@@ -11,14 +11,14 @@ use Rattle.trace_model.specs.Packets.{Packet, packets_of, kept_of, emissions_of,
 use Rattle.trace_model.specs.Pages.{Page, chunk_of, patches_of}
 use Rattle.trace_model.specs.Sent.{LastsAre, open_chunks}
 use Rattle.trace_model.specs.Cut.{IsChainOf, last_runs_on, newest_goes_on}
-use Rattle.trace_model.specs.Sequences.{Sequence, Cursor}
+use Rattle.trace_model.specs.Sequences.{Sequence, Cursor, sequence_in, is_known}
 use Rattle.trace_model.specs.Buffers.{Buffer, empty_buffer}
 use Rattle.trace_model.specs.Row.{Chain, CutOff, Link, Joined, Gap, Stop, Unpatched, joined_to, with_piece, chain_of, place, place_behind, is_last, is_part, chunk_links, row_of}
 use Rattle.trace_model.specs.RowLaws.{Before}
 use Rattle.trace_model.specs.Written.{settled_fragments, settled_chunk, written_slots, written_row, chains_in, chains_of}
 use Rattle.trace_model.specs.Reads.{Dropped, delivered_by}
-use Rattle.trace_model.specs.History.{Event, Arrives, ArrivesInPart, Patched, Committed, Closed, Read, buffer_after, state_after, delivered_at, delivered_to}
-use Rattle.trace_model.specs.Causes.{Outcome, Absent, Fixed, fixed_after, outcome_at}
+use Rattle.trace_model.specs.History.{Event, event_sequence, Arrives, ArrivesInPart, Patched, Committed, Closed, Read, buffer_after, state_after, delivered_at, delivered_to}
+use Rattle.trace_model.specs.Causes.{Outcome, Absent, Fixed, is_same_place, fixed_by, fixed_after, outcome_at}
 use Rattle.trace_model.proofs.CursorLemmas.{Each}
 use Rattle.delivery_laws.specs.Sheets.{Sheet, SheetsAgree, sheet_patches}
 use Rattle.delivery_laws.specs.Histories.{IsPart}
@@ -167,6 +167,61 @@ settled_by fixed (packet ∷ packets) (chain ∷ chains) h =
       fates = ap (λ (b : Bool). cond b (outcome_at chain.at fixed ∷ fates_of fixed packets chains) (Some (Absent Dropped) ∷ fates_of fixed packets (chain ∷ chains))) k
           ∙ ap (λ (os : List (Option Outcome)). Some (Absent Dropped) ∷ os) same.fates;
     }
+
+-- what is fixed later changes no outcome
+kept_outcome : (at : Cursor) (fixed more : List Fixed) (outcome : Outcome) → outcome_at at fixed ≡ Some outcome → outcome_at at (fixed ++ more) ≡ Some outcome
+kept_outcome at [] more outcome e = absurd (none-some outcome e)
+kept_outcome at (one ∷ fixed) more outcome e = step (is_same_place one.at at) e (kept_outcome at fixed more outcome)
+  where
+    step : (b : Bool) → cond b (Some one.outcome) (outcome_at at fixed) ≡ Some outcome → (outcome_at at fixed ≡ Some outcome → outcome_at at (fixed ++ more) ≡ Some outcome)
+        → cond b (Some one.outcome) (outcome_at at (fixed ++ more)) ≡ Some outcome
+    step true h k = h
+    step false h k = k h
+
+kept_fates : (fixed more : List Fixed) (packets : List Packet) (chains : List Chain) (outcomes : List Outcome) → fates_of fixed packets chains ≡ map Some outcomes
+    → fates_of (fixed ++ more) packets chains ≡ map Some outcomes
+kept_fates fixed more [] chains outcomes e = e
+kept_fates fixed more (packet ∷ packets) chains [] e = absurd (some chains e)
+  where
+    some : (chains : List Chain) → fates_of fixed (packet ∷ packets) chains ≡ [] → ⊥
+    some [] e = cc
+    some (chain ∷ chains) e = by_kept packet.kept e
+      where
+        by_kept : (b : Bool) → cond b (outcome_at chain.at fixed ∷ fates_of fixed packets chains) (Some (Absent Dropped) ∷ fates_of fixed packets (chain ∷ chains)) ≡ [] → ⊥
+        by_kept true e = cc
+        by_kept false e = cc
+kept_fates fixed more (packet ∷ packets) [] (outcome ∷ outcomes) e =
+    let first : Some (Absent Dropped) ≡ Some outcome = cc in
+    let rest : fates_of fixed packets [] ≡ map Some outcomes = cc in
+    ap (λ (o : Option Outcome). o ∷ fates_of (fixed ++ more) packets []) first ∙ ap (λ (os : List (Option Outcome)). Some outcome ∷ os) (kept_fates fixed more packets [] outcomes rest)
+kept_fates fixed more (packet ∷ packets) (chain ∷ chains) (outcome ∷ outcomes) e =
+    by_kept packet.kept e (λ f. kept_fates fixed more packets chains outcomes f) (λ f. kept_fates fixed more packets (chain ∷ chains) outcomes f)
+  where
+    by_kept : (b : Bool)
+        → cond b (outcome_at chain.at fixed ∷ fates_of fixed packets chains) (Some (Absent Dropped) ∷ fates_of fixed packets (chain ∷ chains)) ≡ Some outcome ∷ map Some outcomes
+        → (fates_of fixed packets chains ≡ map Some outcomes → fates_of (fixed ++ more) packets chains ≡ map Some outcomes)
+        → (fates_of fixed packets (chain ∷ chains) ≡ map Some outcomes → fates_of (fixed ++ more) packets (chain ∷ chains) ≡ map Some outcomes)
+        → cond b (outcome_at chain.at (fixed ++ more) ∷ fates_of (fixed ++ more) packets chains) (Some (Absent Dropped) ∷ fates_of (fixed ++ more) packets (chain ∷ chains))
+        ≡ Some outcome ∷ map Some outcomes
+    by_kept true e k n =
+        let first : outcome_at chain.at fixed ≡ Some outcome = cc in
+        let rest : fates_of fixed packets chains ≡ map Some outcomes = cc in
+        ap (λ (o : Option Outcome). o ∷ fates_of (fixed ++ more) packets chains) (kept_outcome chain.at fixed more outcome first) ∙ ap (λ (os : List (Option Outcome)). Some outcome ∷ os) (k rest)
+    by_kept false e k n =
+        let first : Some (Absent Dropped) ≡ Some outcome = cc in
+        let rest : fates_of fixed packets (chain ∷ chains) ≡ map Some outcomes = cc in
+        ap (λ (o : Option Outcome). o ∷ fates_of (fixed ++ more) packets (chain ∷ chains)) first ∙ ap (λ (os : List (Option Outcome)). Some outcome ∷ os) (n rest)
+
+pub settled_still : (fixed more : List Fixed) (packets : List Packet) (chains : List Chain) → AreSettled fixed packets chains → AreSettled (fixed ++ more) packets chains
+settled_still fixed more packets chains settled = record { outcomes = settled.outcomes; fates = kept_fates fixed more packets chains settled.outcomes settled.fates }
+
+-- what a history fixes, in two parts
+pub fixed_parts : (q : ℕ) (b : Buffer) (xs ys : List Event) → fixed_after q b (xs ++ ys) ≡ fixed_after q b xs ++ fixed_after q (state_after b xs) ys
+fixed_parts q b [] ys = refl
+fixed_parts q b (event ∷ xs) ys =
+    ap (λ (fs : List Fixed). cond (is_known b.sequences (event_sequence event)) (fixed_by b (sequence_in b.sequences q) event) [] ++ fs) (fixed_parts q (buffer_after b event) xs ys)
+    ∙ sym (append_assoc (cond (is_known b.sequences (event_sequence event)) (fixed_by b (sequence_in b.sequences q) event) []) (fixed_after q (buffer_after b event) xs)
+    (fixed_after q (state_after (buffer_after b event) xs) ys))
 
 -- ---- how many a read delivers
 

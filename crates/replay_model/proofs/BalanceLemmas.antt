@@ -149,7 +149,7 @@ after_at [] events i low = absurd (omega (arith, low))
 after_at (buffer ∷ buffers) events zero low = refl
 after_at (buffer ∷ buffers) events (suc i) low = after_at buffers events i (omega (arith, low))
 
-first_long : (setup : Setup) (n : ℕ) (specs : List BufferSpec) → length (first_buffers setup n specs) ≡ length specs
+pub first_long : (setup : Setup) (n : ℕ) (specs : List BufferSpec) → length (first_buffers setup n specs) ≡ length specs
 first_long setup n [] = refl
 first_long setup n (s ∷ specs) = ap suc (first_long setup (suc n) specs)
 

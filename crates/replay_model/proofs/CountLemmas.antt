@@ -1,22 +1,21 @@
 -- The report of a replay counts the outcomes of its packets.
-use Rattle.std.proofs.Common.{◌≡◌, ◌∙◌, ℕ, zero, suc, ◌+◌, ◌-◌, ◌<◌, ◌≤◌, Bool, true, false, List, [], ◌∷◌, length, get_or, Some, refl, sym, ap, subst, arith, cond}
-use Rattle.std.specs.Prelude.{◌==◌, slice_get}
+use Rattle.std.proofs.Common.{◌≡◌, ◌∙◌, ℕ, suc, ◌+◌, ◌-◌, ◌≤◌, Bool, true, false, List, [], ◌∷◌, length, Some, refl, sym, ap, subst, arith, cond}
+use Rattle.std.specs.Prelude.{slice_get}
 use Rattle.std.proofs.lemmas.Bool.{eq-eqb}
 use Rattle.std.proofs.lemmas.Option.{get_or_from_slice_get}
 use Rattle.trace_base.specs.declared.policy.FullPolicy.{FullPolicy}
 use Rattle.trace_base.specs.declared.policy.WriterSpec.{WriterSpec}
 use Rattle.page_geometry.specs.Sizes.{record_size}
-use Rattle.trace_model.specs.Arrivals.{Arrived, Kept, Rewritten, Duplicate, Discarded, TooFar, BadChunk, settled, discarded_buffer, arrival_of, partial_arrival_of, makes_arrive, with_arrived, with_arrival, with_image, once_read}
+use Rattle.trace_model.specs.Arrivals.{Arrived, Kept, Rewritten, Duplicate, Discarded, TooFar, BadChunk, settled, discarded_buffer, arrival_of, partial_arrival_of, with_arrival, with_image, once_read}
 use Rattle.trace_model.specs.Balance.{PacketCounts, CountsOutcomes, counts_of, packet_outcomes}
-use Rattle.trace_model.specs.Buffers.{Buffer, empty_buffer}
-use Rattle.trace_model.specs.Causes.{Fixed, fixed_after}
+use Rattle.trace_model.specs.Buffers.{Buffer}
+use Rattle.trace_model.specs.Causes.{fixed_after}
 use Rattle.trace_model.specs.Counts.{raised, last_count}
 use Rattle.trace_model.specs.History.{Event, Arrives, ArrivesInPart, Patched, Committed, Closed, Read, after, buffer_after, event_sequence, state_after}
 use Rattle.trace_model.specs.Images.{Image, Chunk, Patch, complete_chunk, partial_chunk, whole_chunk}
-use Rattle.trace_model.specs.Packets.{begun_count}
 use Rattle.trace_model.specs.Patches.{with_patch, with_patches, closed_buffer}
 use Rattle.trace_model.specs.Reading.{Reading, Fragments, Unreadable, reading_of}
-use Rattle.trace_model.specs.Sequences.{Sequence, sequence_in, is_known, changed_at}
+use Rattle.trace_model.specs.Sequences.{Sequence, sequence_in, is_known}
 use Rattle.model_laws.proofs.LossLemmas.{losses_change_no_shape}
 use Rattle.model_laws.proofs.ReportLemmas.{counts_are_of_outcomes}
 use Rattle.delivery_laws.proofs.ReportLemmas.{accounts_are_histories}
@@ -28,7 +27,7 @@ use Rattle.world_model.proofs.MakingLemmas.{set_at}
 use Rattle.scenario_text.specs.Scenario.{Parts}
 use Rattle.scenario_text.specs.Accepted.{calls_asked}
 use Rattle.scenario_text.specs.Limits.{IsWriter}
-use Rattle.service_core.specs.Agreement.{spec_at, no_writer}
+use Rattle.service_core.specs.Agreement.{no_writer}
 use Rattle.service_core.specs.Routing.{buffer_at}
 use Rattle.replay_model.specs.Flushes.{FlushNote}
 use Rattle.replay_model.specs.Laws.{EveryReportCountsPackets}

@@ -87,7 +87,7 @@ none_held setup place view wrote none = by_held wrote.held refl
         absurd (false≢true (sym none ∙ ap last_is_held h.begun ∙ held_last h.completed h.chunk h.draft))
     by_held (one ∷ other ∷ others) is = absurd (wrote.only one other others is)
 
-flush_done : (setup : Setup) (place : ℕ) (old new : World) → Asks setup place Flushed old new → held_count (writer new place).begun ≡ 0
+pub flush_done : (setup : Setup) (place : ℕ) (old new : World) → Asks setup place Flushed old new → held_count (writer new place).begun ≡ 0
 flush_done setup place old new asks =
     let view : WriterView = writer new place in
     none_held setup place view asks.wrote (asks.wrote.holds ∙ holds_none (account_of view.calls).packets (account_of view.calls).flushed (flushed_now setup place old new asks.notes))

@@ -63,7 +63,7 @@ finishes_read q chunks packets come (model.Patched sequence patches ∷ events) 
 finishes_read q chunks packets come (model.Committed image patches ∷ events) has = absurd has
 finishes_read q chunks packets come (model.Closed sequence ∷ events) has = absurd has
 
-by_match : (b : Bool) (P Q R : Type 0) → MatchBool b P Q → (b ≡ true → P → R) → (b ≡ false → Q → R) → R
+pub by_match : (b : Bool) (P Q R : Type 0) → MatchBool b P Q → (b ≡ true → P → R) → (b ≡ false → Q → R) → R
 by_match true P Q R h same apart = same refl h
 by_match false P Q R h same apart = apart refl h
 
@@ -88,11 +88,11 @@ module _ (setup : Setup) (world : World) (owned : ∥ IsOwned world ∥₁) (pla
   abbrev service : ServiceView
   service = world.service
 
-  record IsArrival (id : ℕ) : Type 0 where
-    chunk : Chunk
-    is : happened world.service (Arrive (place + 2) id) ≡ model.Arrives (place + 2) id chunk ∷ []
+  pub record IsArrival (id : ℕ) : Type 0 where
+    pub chunk : Chunk
+    pub is : happened world.service (Arrive (place + 2) id) ≡ model.Arrives (place + 2) id chunk ∷ []
 
-  arrives_one : (id : ℕ) (content : Content) → content_at world.service (place + 2) id ≡ Some content → IsArrival id
+  pub arrives_one : (id : ℕ) (content : Content) → content_at world.service (place + 2) id ≡ Some content → IsArrival id
   arrives_one id content there =
       let back : place + 2 - 2 ≡ place = omega arith in
       let got : slice_get (taken_of world.service place).contents id ≡ Some content = sym (ap (λ (p : ℕ). slice_get (taken_of world.service p).contents id) back) ∙ there in

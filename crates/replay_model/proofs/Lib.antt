@@ -6,13 +6,16 @@ pub mod CountLemmas
 pub mod EndLemmas
 pub mod FinishLemmas
 pub mod FirstLemmas
+pub mod FlushLemmas
 pub mod LosesLemmas
 pub mod LostLemmas
 pub mod NoneLostLemmas
+pub mod PageLemmas
 pub mod PhaseLemmas
 pub mod PigeonLemmas
 pub mod PlayLemmas
 pub mod PlayedLemmas
+pub mod PlayedOnLemmas
 pub mod ReadOutLemmas
 pub mod ReplayLemmas
 pub mod RoomLemmas

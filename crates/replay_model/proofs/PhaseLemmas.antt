@@ -143,7 +143,7 @@ pub record IsReadOut (setup : Setup) (buffers : List Buffer) (number : ℕ) (lin
   pub each : (i : ℕ) → i < length lines → (before : List Event) × (later : List Event) × AreReads before
       × (events ≡ before ++ (reads_in setup (buffers_after buffers (history_of old.service ++ before)) (number + i) last_count ++ later))
 
-history_read : (setup : Setup) (buffers : List Buffer) (buffer limit : ℕ) (old new : World) → Stands setup old → Reads setup buffers buffer limit old new
+pub history_read : (setup : Setup) (buffers : List Buffer) (buffer limit : ℕ) (old new : World) → Stands setup old → Reads setup buffers buffer limit old new
     → history_of new.service ≡ history_of old.service ++ reads_in setup (buffers_after buffers (history_of old.service)) buffer limit
 history_read setup buffers buffer limit old new stands reads =
     let events : List Event = reads_in setup (buffers_after buffers (history_of old.service)) buffer limit in

@@ -1,6 +1,7 @@
 pub mod Acts
 pub mod Does
 pub mod Enough
+pub mod FlushLaws
 pub mod Flushes
 pub mod Laws
 pub mod Played

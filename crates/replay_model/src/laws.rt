@@ -1,6 +1,7 @@
 //! Laws on what acts make of a world, and on what a scenario's acts lead to: contracts of functions with
 //! nothing to do.
 ghost use Rattle.replay_model.specs.Laws.{NothingPlaysNothing, WritersWrote, WritersLose, ReplaysAreAccounts, EveryReplayIsFaithful};
+ghost use Rattle.replay_model.specs.FlushLaws.{EveryFlushIsSettled};
 ghost use Rattle.replay_model.specs.Laws.{EveryReportIsBalanced, EveryReportCountsPackets, EnoughLosesNothing, EveryEnoughReplayIsComplete};
 
 /// No acts lead from a world to itself.
@@ -47,4 +48,10 @@ pub fn every_enough_replay_is_complete()
 /// The report's counts are those of the packets' outcomes.
 pub fn every_report_counts_packets()
     ensures { EveryReportCountsPackets }
+{}
+
+/// Once as many chunks of a writer are taken as it had completed when it flushed, the next read of its
+/// buffer without limit fixes the outcome of each packet that it had emitted by then.
+pub fn every_flush_is_settled()
+    ensures { EveryFlushIsSettled }
 {}

@@ -65,7 +65,7 @@ image_at q first (page ∷ pages) (suc i) image e =
     let at : suc first + i ≡ first + suc i = omega arith in
     record { page = h.page; get = h.get; is = h.is ∙ ap (λ (n : ℕ). image_of q n h.page) at }
 
-images_long : (q first : ℕ) (pages : List Page) → length (images_from q first pages) ≡ length pages
+pub images_long : (q first : ℕ) (pages : List Page) → length (images_from q first pages) ≡ length pages
 images_long q first [] = refl
 images_long q first (page ∷ pages) = ap suc (images_long q (suc first) pages)
 
@@ -177,7 +177,7 @@ flag_1 false true false = refl
 flag_1 false false true = refl
 flag_1 false false false = refl
 
-flag_2 : (a b c : Bool) → has_flag_2 (flag_where a 1 + flag_where b 2 + flag_where c 4) ≡ b
+pub flag_2 : (a b c : Bool) → has_flag_2 (flag_where a 1 + flag_where b 2 + flag_where c 4) ≡ b
 flag_2 true true true = refl
 flag_2 true true false = refl
 flag_2 true false true = refl
@@ -187,7 +187,7 @@ flag_2 false true false = refl
 flag_2 false false true = refl
 flag_2 false false false = refl
 
-flag_4 : (a b c : Bool) → has_flag_4 (flag_where a 1 + flag_where b 2 + flag_where c 4) ≡ c
+pub flag_4 : (a b c : Bool) → has_flag_4 (flag_where a 1 + flag_where b 2 + flag_where c 4) ≡ c
 flag_4 true true true = refl
 flag_4 true true false = refl
 flag_4 true false true = refl

@@ -1,0 +1,396 @@
+-- A flush whose chunks were taken and read settles what its writer had emitted.
+use Rattle.std.proofs.Common.{◌≡◌, ◌∙◌, ℕ, zero, suc, ◌+◌, ◌-◌, ◌*◌, ◌<◌, ◌≤◌, true, not, ◌&&◌, List, [], ◌∷◌, ◌++◌, length, map, drop, get_or, Some, refl, sym, ap, subst, arith, inl, inr, append_assoc, append-nil, length-append}
+use Rattle.std.specs.Prelude.{slice_get}
+use Rattle.std.proofs.lemmas.Bool.{false≢true, eq-eqb, and_parts}
+use Rattle.std.proofs.lemmas.List.{length-map}
+use Rattle.std.proofs.lemmas.List.Sums.{fold-append}
+use Rattle.std.proofs.lemmas.Option.{slice_get_within, slice_get-get_or, same_Some}
+use Rattle.trace_base.specs.declared.policy.WriterSpec.{WriterSpec}
+use Rattle.page_geometry.specs.Sizes.{record_size}
+use Rattle.trace_model.specs.Buffers.{Buffer, empty_buffer}
+use Rattle.trace_model.specs.Calls.{Call, GivenUp, Flushed}
+use Rattle.trace_model.specs.Causes.{fixed_after}
+use Rattle.trace_model.specs.Counts.{last_count}
+use Rattle.trace_model.specs.Cut.{CutsInto}
+use Rattle.trace_model.specs.History as model
+use Rattle.trace_model.specs.History.{Event, state_after, buffers_after, delivered_to, reads_of}
+use Rattle.trace_model.specs.Images.{Image}
+use Rattle.trace_model.specs.Packets.{Packet, Account, packets_of, nothing_yet, noted, is_writing, newest_is_lost, newest_is_kept, are_possible_after, emissions_of, begun_count}
+use Rattle.trace_model.specs.Pages.{Page}
+use Rattle.trace_model.specs.Reads.{Delivery}
+use Rattle.trace_model.specs.Record.{record_of}
+use Rattle.trace_model.specs.Sequences.{Sequence}
+use Rattle.trace_model.specs.Written.{chains_of}
+use Rattle.delivery_laws.specs.DeliveryLaws.{IsAccountOf}
+use Rattle.delivery_laws.specs.FlushLaws.{arrivals_of, IsFlushed, AreSettled}
+use Rattle.delivery_laws.proofs.CompleteLemmas.{full_at}
+use Rattle.delivery_laws.proofs.FlushCalls.{possible_parts}
+use Rattle.delivery_laws.proofs.FlushLemmas as delivery
+use Rattle.delivery_laws.proofs.FlushLemmas.{fixed_parts, settled_still}
+use Rattle.delivery_laws.proofs.OrderLemmas.{every_writer_is_told}
+use Rattle.delivery_laws.proofs.WrittenPackets.{are_full}
+use Rattle.chunk_plain.specs.Plain.{first_world}
+use Rattle.chunk_plain.specs.Setup.{Setup, sequence_of, size_of}
+use Rattle.chunk_plain.specs.Views.{At, Completed, Content, ServiceView, taken_of, WriterView, newcomer}
+use Rattle.chunk_plain.specs.World.{World, writer}
+use Rattle.chunk_plain.specs.Owned.{IsOwned}
+use Rattle.chunk_plain.specs.Histories.{completed_images, history_of}
+use Rattle.chunk_plain.proofs.MadeLemmas.{first_owned}
+use Rattle.world_model.specs.FirstBuffers.{BufferSpec, payload_at, sequences_from}
+use Rattle.world_model.proofs.MakingLemmas.{set_at}
+use Rattle.world_model.proofs.OwnLemmas.{elem_at, images_long, page_of}
+use Rattle.scenario_text.specs.declared.scenario.BufferLine.{BufferLine}
+use Rattle.scenario_text.specs.Scenario.{Parts}
+use Rattle.scenario_text.specs.Limits.{IsSetUp, IsWriter}
+use Rattle.service_core.specs.Agreement.{spec_at, no_writer}
+use Rattle.service_core.specs.Order.{beginning}
+use Rattle.service_core.specs.Reading.{reads_in}
+use Rattle.service_core.specs.Routing.{buffer_at}
+use Rattle.service_core.proofs.HistoryLemmas.{Grows}
+use Rattle.replay_model.specs.Acts.{Act, Ask, ReadAll}
+use Rattle.replay_model.specs.Does.{Notes, Wrote, is_shut}
+use Rattle.replay_model.specs.Flushes.{FlushNote}
+use Rattle.replay_model.specs.FlushLaws.{begun_in, IsFlushRead, HasSettled, EveryFlushIsSettled}
+use Rattle.replay_model.specs.Plays.{Plays}
+use Rattle.replay_model.specs.Played.{IsSetupOf, buffer_specs, buffers_of, first_buffer}
+use Rattle.replay_model.proofs.AccountLemmas.{account_in, learnt, named, many_writers}
+use Rattle.replay_model.proofs.BalanceLemmas.{first_at, after_at, first_long, each_is, get_map}
+use Rattle.replay_model.proofs.EndLemmas.{flush_done}
+use Rattle.replay_model.proofs.FinishLemmas.{HasRead}
+use Rattle.replay_model.proofs.FirstLemmas.{small_payload, first_stands}
+use Rattle.replay_model.proofs.PageLemmas.{pages_same, begins_as}
+use Rattle.replay_model.proofs.PhaseLemmas.{history_read}
+use Rattle.replay_model.proofs.PlayedLemmas.{plays_stand, setup_writers}
+use Rattle.replay_model.proofs.PlayedOnLemmas.{grows_both, plays_grow, reads_grow, HasMore, more_both, plays_more, plays_alone, arrivals_parts, lead_arrivals}
+use Rattle.replay_model.proofs.ReadOutLemmas.{told_few, emitted_few, sum_all, IsFew, reads_has}
+use Rattle.replay_model.proofs.ScrapedLemmas.{counted}
+use Rattle.replay_model.proofs.SortedLemmas.{at_stage}
+use Rattle.replay_model.proofs.StandsLemmas.{Stands, stands_does}
+
+get_there : {A : Type 0} (xs : List A) (i : ℕ) → i < length xs → (x : A) × (slice_get xs i ≡ Some x)
+get_there [] i low = absurd (omega (arith, low))
+get_there (x ∷ xs) zero low = (x, refl)
+get_there (x ∷ xs) (suc i) low = get_there xs i (omega (arith, low))
+
+-- a read of the sequence among reads
+record IsReadAmong (q packets : ℕ) (events : List Event) : Type 0 where
+  front : List Event
+  limit : ℕ
+  back : List Event
+  is : events ≡ front ++ model.Read q limit ∷ back
+  enough : packets ≤ limit
+
+read_among : (q packets : ℕ) (events : List Event) → HasRead q packets events → IsReadAmong q packets events
+read_among q packets [] has = absurd has
+read_among q packets (model.Read other limit ∷ events) (inl here) = record {
+  front = [];
+  limit = limit;
+  back = events;
+  is = ap (λ (p : ℕ). model.Read p limit ∷ events) here.0;
+  enough = here.1;
+}
+read_among q packets (model.Read other limit ∷ events) (inr later) =
+    let rest = read_among q packets events later in
+    record { front = model.Read other limit ∷ rest.front; limit = rest.limit; back = rest.back; is = ap (λ (es : List Event). model.Read other limit ∷ es) rest.is; enough = rest.enough }
+read_among q packets (model.Arrives sequence chunk_id chunk ∷ events) has = absurd has
+read_among q packets (model.ArrivesInPart sequence chunk_id chunk ∷ events) has = absurd has
+read_among q packets (model.Patched sequence patches ∷ events) has = absurd has
+read_among q packets (model.Committed image patches ∷ events) has = absurd has
+read_among q packets (model.Closed sequence ∷ events) has = absurd has
+
+-- the packets of all writers, as a sum over their places
+sum_views : (each : ℕ → ℕ) (views : List WriterView) (specs : List WriterSpec) (first : ℕ) → length views ≡ length specs
+    → ((k : ℕ) → each (first + k) ≡ begun_count (get_or views k newcomer).calls) → sum_all each first specs ≡ begun_in views
+sum_views each [] [] first long is = refl
+sum_views each [] (spec ∷ specs) first long is = absurd (omega (arith, long))
+sum_views each (view ∷ views) [] first long is = absurd (omega (arith, long))
+sum_views each (view ∷ views) (spec ∷ specs) first long is =
+    let zeroth : first + 0 ≡ first = omega arith in
+    let here : each first ≡ begun_count view.calls = ap each (sym zeroth) ∙ is 0 in
+    let rest = sum_views each views specs (suc first) (omega (arith, long)) (λ k. let at : suc first + k ≡ first + suc k = omega arith in ap each at ∙ is (suc k)) in
+    omega (arith, here, rest)
+
+-- a flush changes no packet
+flush_packets : (calls : List Call) → packets_of (calls ++ Flushed ∷ []) ≡ packets_of calls
+flush_packets calls = ap (λ (a : Account). a.packets) (fold-append noted nothing_yet calls (Flushed ∷ []))
+
+module _ (scenario : Parts) (setup : Setup) (is_setup : IsSetupOf scenario setup) (set_up : IsSetUp scenario.buffers scenario.producers scenario.writers)
+    (acts : List Act) (asked read : World) (notes : List FlushNote) (plays : Plays setup (buffers_of scenario setup) acts (first_world setup) asked notes)
+    (place : ℕ) (inside : place < length setup.writers) (flush : IsFlushRead setup (buffers_of scenario setup) place asked read) where
+  abbrev buffers : List Buffer
+  buffers = buffers_of scenario setup
+
+  abbrev size : ℕ
+  size = payload_at setup place
+
+  abbrev before : List Call
+  before = (writer asked place).calls
+
+  -- ---- the worlds on the way
+
+  at_answered : Stands setup flush.answered
+  at_answered =
+      stands_does setup buffers (Ask place Flushed) asked flush.answered flush.answers flush.owned_then
+      (plays_stand setup buffers acts (first_world setup) asked notes plays (first_stands setup (small_payload scenario setup is_setup)) ∣ first_owned setup ∣₁).0
+
+  at_taken : Stands setup flush.taken × ∥ IsOwned flush.taken ∥₁
+  at_taken = plays_stand setup buffers flush.between flush.answered flush.taken flush.notes flush.takes at_answered flush.owned_then
+
+  at_reading : Stands setup flush.reading × ∥ IsOwned flush.reading ∥₁
+  at_reading = plays_stand setup buffers flush.onward flush.taken flush.reading flush.later flush.goes_on at_taken.0 at_taken.1
+
+  at_read : Stands setup read
+  at_read = stands_does setup buffers (ReadAll (spec_at setup.writers place).buffer last_count) flush.reading read flush.reads flush.owned_now at_reading.0
+
+  abbrev then : Wrote setup place (writer flush.answered place)
+  then = at_answered.wrote place inside
+
+  abbrev now : Wrote setup place (writer read place)
+  now = at_read.wrote place inside
+
+  -- ---- calls
+
+  calls_then : (writer flush.answered place).calls ≡ before ++ Flushed ∷ []
+  calls_then = by_notes flush.answers.notes
+    where
+      by_notes : Notes setup place Flushed asked flush.answered → (writer flush.answered place).calls ≡ before ++ Flushed ∷ []
+      by_notes (inl is) = is
+      by_notes (inr is) =
+          let possible : are_possible_after nothing_yet (before ++ Flushed ∷ GivenUp ∷ []) ≡ true =
+          subst (λ (cs : List Call). are_possible_after nothing_yet cs ≡ true) is.0 then.cut.possible in
+          let behind = (possible_parts nothing_yet before (Flushed ∷ GivenUp ∷ []) possible).1 in
+          let both = and_parts (not (is_writing (packets_of before))) (newest_is_kept (packets_of before) && true) behind in
+          let kept = and_parts (newest_is_kept (packets_of before)) true both.1 in
+          absurd (false≢true (sym flush.ended ∙ (and_parts (is_writing (packets_of before)) (not (newest_is_lost (packets_of before))) kept.0).0))
+
+  calls_on : HasMore (writer flush.answered place).calls (writer read place).calls
+  calls_on =
+      let on = more_both (writer flush.answered place).calls (writer flush.taken place).calls (writer flush.reading place).calls
+      (plays_more setup buffers flush.between flush.answered flush.taken flush.notes place flush.takes)
+      (plays_more setup buffers flush.onward flush.taken flush.reading flush.later place flush.goes_on) in
+      (on.0, ap (λ (ws : List WriterView). (get_or ws place newcomer).calls) flush.reads.writers ∙ on.1)
+
+  calls_now : (writer read place).calls ≡ before ++ Flushed ∷ calls_on.0
+  calls_now = calls_on.1 ∙ ap (λ (cs : List Call). cs ++ calls_on.0) calls_then ∙ append_assoc before (Flushed ∷ []) calls_on.0
+
+  -- ---- pages
+
+  abbrev pages_then : List Page
+  pages_then = then.cut.cut.pages
+
+  abbrev pages_now : List Page
+  pages_now = now.cut.cut.pages
+
+  cut_then : CutsInto size (packets_of before) pages_then
+  cut_then =
+      subst (λ (ps : List Packet). CutsInto size ps pages_then) (ap packets_of calls_then ∙ flush_packets before) then.cut.cut.cut
+
+  many_then : length (completed_images (writer flush.answered place).begun) ≡ length pages_then
+  many_then =
+      let none = flush_done setup place asked flush.answered flush.answers in
+      let all = counted (writer flush.answered place).begun in
+      let begun = then.begun in
+      let images = ap (λ (xs : List Image). length xs) then.cut.cut.images_are in
+      let both = length-append (completed_images (writer flush.answered place).begun) then.held in
+      let long = images_long (sequence_of place) 0 pages_then in
+      omega (arith, none, all, begun, images, both, long)
+
+  view_same : writer flush.taken place ≡ writer flush.answered place
+  view_same = plays_alone setup buffers flush.between flush.answered flush.taken flush.notes place flush.takes flush.alone
+
+  come_then : length pages_then ≤ length (taken_of flush.taken.service place).contents
+  come_then =
+      let met = flush.met in
+      let level = at_taken.0.sorted.level place in
+      let many = many_then in
+      omega (arith, met, level, many)
+
+  back : place + 2 - 2 ≡ place
+  back = omega arith
+
+  grows_to_reading : Grows flush.taken.service flush.reading.service
+  grows_to_reading = plays_grow setup buffers flush.onward flush.taken flush.reading flush.later flush.goes_on at_taken.0
+
+  grows_to_read : Grows flush.taken.service read.service
+  grows_to_read =
+      grows_both flush.taken.service flush.reading.service read.service grows_to_reading
+      (reads_grow setup buffers (spec_at setup.writers place).buffer last_count flush.reading read flush.reads at_reading.0)
+
+  -- what the service took stays in its view
+  stays : (service : ServiceView) → Grows flush.taken.service service → (i : ℕ) (content : Content) → slice_get (taken_of flush.taken.service place).contents i ≡ Some content
+      → slice_get (taken_of service place).contents i ≡ Some content
+  stays service grows i content there =
+      let e = back in
+      sym (ap (λ (p : ℕ). slice_get (taken_of service p).contents i) e)
+      ∙ grows.contents (place + 2) i content (ap (λ (p : ℕ). slice_get (taken_of flush.taken.service p).contents i) e ∙ there)
+
+  page_stays : (i : ℕ) (page : Page) → slice_get pages_then i ≡ Some page → slice_get pages_now i ≡ Some page
+  page_stays i page get =
+      let low = slice_get_within pages_then i page get in
+      let come = come_then in
+      let content = get_there (taken_of flush.taken.service place).contents i (omega (arith, low, come)) in
+      let was = learnt setup flush.taken at_taken.1 place (at_taken.0.wrote place inside) i content.0 (elem_at (taken_of flush.taken.service place).contents i content.0 content.1) in
+      let was_there : At (writer flush.answered place).begun i (Completed was.0 content.0) =
+      subst (λ (v : WriterView). At v.begun i (Completed was.0 content.0)) view_same was.1 in
+      let own = page_of size place i was.0 (writer flush.answered place) then.held then.cut content.0 was_there
+      (named setup flush.answered flush.owned_then place then i was.0 content.0 was_there) in
+      let kept = stays read.service grows_to_read i content.0 content.1 in
+      let is = learnt setup read flush.owned_now place now i content.0 (elem_at (taken_of read.service place).contents i content.0 kept) in
+      let later = page_of size place i is.0 (writer read place) now.held now.cut content.0 is.1 (named setup read flush.owned_now place now i is.0 content.0 is.1) in
+      let first : own.page ≡ page = same_Some own.page page (sym own.get ∙ get) in
+      let same : later.page ≡ own.page =
+      pages_same size (place + 2) i later.page own.page now.cut.small
+      (full_at size pages_now i later.page (are_full size pages_now now.cut.cut.cut.full) later.get)
+      (full_at size pages_then i own.page (are_full size pages_then then.cut.cut.cut.full) own.get)
+      (sym later.image ∙ own.image) (sym later.patches ∙ own.patches) in
+      later.get ∙ ap (λ (p : Page). Some p) (same ∙ first)
+
+  is_flushed : IsFlushed size (writer read place).calls pages_now before pages_then
+  is_flushed = record {
+    behind = calls_on.0;
+    calls_are = calls_now;
+    more = drop (length pages_then) pages_now;
+    pages_are = begins_as pages_then pages_now page_stays;
+    cut = cut_then;
+  }
+
+  -- ---- the buffer
+
+  abbrev spec : WriterSpec
+  spec = spec_at setup.writers place
+
+  there : (p : ℕ) → p < length setup.writers → slice_get setup.writers p ≡ Some (spec_at setup.writers p)
+  there p low = slice_get-get_or setup.writers p no_writer low
+
+  is_writer : IsWriter scenario.buffers scenario.producers (spec_at setup.writers place)
+  is_writer =
+      each_is (IsWriter scenario.buffers scenario.producers) scenario.writers place (spec_at setup.writers place) set_up.are_writers
+      (sym (ap (λ (specs : List WriterSpec). slice_get specs place) (setup_writers scenario setup is_setup)) ∙ there place inside)
+
+  abbrev made : BufferSpec
+  made = record { size = is_writer.into_buffer.kb * 1024; policy = is_writer.into_buffer.policy }
+
+  abbrev sequences : List Sequence
+  sequences = sequences_from setup (spec_at setup.writers place).buffer 0 setup.writers
+
+  abbrev first : Buffer
+  first = empty_buffer made.size made.policy (sequences_from setup (spec_at setup.writers place).buffer 0 setup.writers)
+
+  made_there : slice_get (buffer_specs scenario) ((spec_at setup.writers place).buffer - 1) ≡ Some made
+  made_there =
+      get_map (λ (line : BufferLine). record { size = line.kb * 1024; policy = line.policy }) scenario.buffers ((spec_at setup.writers place).buffer - 1) is_writer.into_buffer is_writer.buffer_is
+
+  first_is : buffer_at buffers ((spec_at setup.writers place).buffer - 1) ≡ first
+  first_is =
+      let least = is_writer.counts_buffer in
+      let number : 1 + ((spec_at setup.writers place).buffer - 1) ≡ (spec_at setup.writers place).buffer = omega (arith, least) in
+      first_at setup 1 (buffer_specs scenario) ((spec_at setup.writers place).buffer - 1) made made_there
+      ∙ ap (λ (m : ℕ). empty_buffer made.size made.policy (sequences_from setup m 0 setup.writers)) number
+
+  own_first : first_buffer scenario setup place ≡ first
+  own_first =
+      ap (λ (specs : List WriterSpec). buffer_at buffers ((spec_at specs place).buffer - 1)) (sym (setup_writers scenario setup is_setup)) ∙ first_is
+
+  abbrev history : List Event
+  history = history_of read.service
+
+  account_of_writer : (p : ℕ) (low : p < length setup.writers) → (spec_at setup.writers p).buffer ≡ (spec_at setup.writers place).buffer
+      → IsAccountOf (payload_at setup p) (writer read p).calls (at_read.wrote p low).cut.cut.pages sequences (p + 2) (record_size (size_of setup (spec_at setup.writers p).producer)) history
+  account_of_writer p low into =
+      let set = set_at setup p (spec_at setup.writers p) (there p low) (spec_at setup.writers place).buffer in
+      let own = eq-eqb (spec_at setup.writers p).buffer (spec_at setup.writers place).buffer into in
+      account_in setup read flush.owned_now p (at_read.wrote p low) at_read.sorted low sequences (record_size (size_of setup (spec_at setup.writers p).producer))
+      (set.known ∙ own) (set.start own)
+
+  -- ---- the read
+
+  abbrev each : ℕ → ℕ
+  each p = begun_count (writer read p).calls
+
+  few_at : (p : ℕ) → p < length setup.writers → (spec_at setup.writers p).buffer ≡ (spec_at setup.writers place).buffer
+      → IsFew first history (spec_at setup.writers place).buffer last_count each p
+  few_at p low into =
+      let account = account_of_writer p low into in
+      let told = every_writer_is_told (payload_at setup p) (writer read p).calls (at_read.wrote p low).cut.cut.pages made.size made.policy sequences (p + 2)
+      (record_size (size_of setup (spec_at setup.writers p).producer)) history account in
+      let records = told_few (emissions_of (writer read p).calls) (p + 2)
+      (map (λ (delivery : Delivery). record_of delivery.body (p + 2) delivery.marked) (delivered_to (p + 2) first history)) told in
+      let long = length-map (delivered_to (p + 2) first history) (λ (delivery : Delivery). record_of delivery.body (p + 2) delivery.marked) in
+      let emitted = emitted_few (writer read p).calls in
+      record { known = account.known; few = omega (arith, records, long, emitted) }
+
+  abbrev so_far : List Event
+  so_far = history_of flush.reading.service
+
+  abbrev reads : List Event
+  reads = reads_in setup (buffers_after buffers (history_of flush.reading.service)) (spec_at setup.writers place).buffer last_count
+
+  history_is : history ≡ so_far ++ reads
+  history_is = history_read setup buffers (spec_at setup.writers place).buffer last_count flush.reading read at_reading.0 flush.reads
+
+  module _ (few : begun_in read.writers ≤ last_count) where
+    has_read : HasRead (place + 2) (begun_count (writer read place).calls) reads
+    has_read =
+        let low : (spec_at setup.writers place).buffer - 1 < length buffers =
+        let within = slice_get_within (buffer_specs scenario) ((spec_at setup.writers place).buffer - 1) made made_there in
+        let long = first_long setup 1 (buffer_specs scenario) in
+        omega (arith, within, long) in
+        let index : buffer_at (buffers_after buffers so_far) ((spec_at setup.writers place).buffer - 1) ≡ state_after first so_far =
+        after_at buffers so_far ((spec_at setup.writers place).buffer - 1) low ∙ ap (λ (b : Buffer). state_after b so_far) first_is in
+        let many = many_writers setup read flush.owned_now at_read in
+        let sum = sum_views each read.writers setup.writers 0 many (λ k. let up : 0 + k ≡ k = omega arith in ap each up) in
+        let at : 0 + place ≡ place = omega arith in
+        subst (λ (p : ℕ). HasRead (p + 2) (each p) reads) at
+        (reads_has first history (spec_at setup.writers place).buffer last_count each setup.writers 0 last_count 0 so_far []
+        (buffer_at (buffers_after buffers so_far) ((spec_at setup.writers place).buffer - 1)) index
+        (history_is ∙ ap (λ (es : List Event). so_far ++ es) (sym (append-nil reads))) (omega arith) (omega (arith, sum, few))
+        (λ j below into. subst (λ (p : ℕ). IsFew first history (spec_at setup.writers place).buffer last_count each p) (let up : j ≡ 0 + j = omega arith in up) (few_at j below into))
+        place inside refl)
+
+    come_now : length pages_then ≤ arrivals_of (place + 2) so_far
+    come_now =
+        let lead = lead_arrivals setup flush.reading at_reading.1 place (at_reading.0.wrote place inside) flush.reading.service.events beginning
+        (at_stage (taken_of flush.reading.service place).count (is_shut (sequence_of place) flush.reading.service.events)) (at_reading.0.sorted.lead place inside) in
+        let level = at_reading.0.sorted.level place in
+        let come = come_then in
+        let kept = all_stay (length pages_then) come in
+        omega (arith, lead, level, kept)
+      where
+        all_stay : (n : ℕ) → n ≤ length (taken_of flush.taken.service place).contents → n ≤ length (taken_of flush.reading.service place).contents
+        all_stay zero low = omega arith
+        all_stay (suc n) low =
+            let content = get_there (taken_of flush.taken.service place).contents n (omega (arith, low)) in
+            slice_get_within (taken_of flush.reading.service place).contents n content.0 (stays flush.reading.service grows_to_reading n content.0 content.1)
+
+    has_settled : HasSettled scenario setup place asked read
+    has_settled =
+        let among = read_among (place + 2) (begun_count (writer read place).calls) reads has_read in
+        let early : List Event = so_far ++ among.front in
+        let whole : history ≡ early ++ model.Read (place + 2) among.limit ∷ among.back =
+        history_is ∙ ap (λ (es : List Event). so_far ++ es) among.is ∙ sym (append_assoc so_far among.front (model.Read (place + 2) among.limit ∷ among.back)) in
+        let account : IsAccountOf size (writer read place).calls pages_now sequences (place + 2) (record_size (size_of setup (spec_at setup.writers place).producer))
+        (early ++ model.Read (place + 2) among.limit ∷ among.back) =
+        subst (IsAccountOf size (writer read place).calls pages_now sequences (place + 2) (record_size (size_of setup (spec_at setup.writers place).producer))) whole
+        (account_of_writer place inside refl) in
+        let parts = arrivals_parts (place + 2) so_far among.front in
+        let come = come_now in
+        let settled = delivery.every_flush_is_settled size (writer read place).calls pages_now made.size made.policy sequences (place + 2)
+        (record_size (size_of setup (spec_at setup.writers place).producer)) early among.back among.limit before pages_then account is_flushed
+        (omega (arith, parts, come)) among.enough in
+        let fixed : fixed_after (place + 2) first history
+        ≡ fixed_after (place + 2) first (early ++ model.Read (place + 2) among.limit ∷ [])
+        ++ fixed_after (place + 2) (state_after first (early ++ model.Read (place + 2) among.limit ∷ [])) among.back =
+        ap (fixed_after (place + 2) first) (whole ∙ sym (append_assoc early (model.Read (place + 2) among.limit ∷ []) among.back))
+        ∙ fixed_parts (place + 2) first (early ++ model.Read (place + 2) among.limit ∷ []) among.back in
+        record {
+          pages = pages_then;
+          cut = cut_then;
+          settled = subst (λ (b : Buffer). AreSettled (fixed_after (sequence_of place) b history) (packets_of before) (chains_of pages_then)) (sym own_first)
+              (subst (λ fs. AreSettled fs (packets_of before) (chains_of pages_then)) (sym fixed)
+              (settled_still (fixed_after (place + 2) first (early ++ model.Read (place + 2) among.limit ∷ []))
+              (fixed_after (place + 2) (state_after first (early ++ model.Read (place + 2) among.limit ∷ [])) among.back) (packets_of before) (chains_of pages_then) settled));
+        }
+
+pub every_flush_is_settled : EveryFlushIsSettled
+every_flush_is_settled scenario setup is_setup set_up acts asked read notes plays place inside flush few =
+    has_settled scenario setup is_setup set_up acts asked read notes plays place inside flush few

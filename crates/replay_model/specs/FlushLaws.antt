@@ -1,0 +1,77 @@
+-- What a flush promises to who asks for it: once as many chunks of a writer are taken as it had completed when it flushed, the next read of its buffer
+-- without limit settles what became of each packet that it had emitted by then.
+use Rattle.std.specs.Prelude.{◌≡◌, ◌≢◌, ℕ, ◌+◌, ◌<◌, ◌≤◌, false, List, [], ◌∷◌, length, ⊤}
+use Rattle.trace_model.specs.Buffers.{Buffer}
+use Rattle.trace_model.specs.Calls.{Flushed}
+use Rattle.trace_model.specs.Causes.{fixed_after}
+use Rattle.trace_model.specs.Counts.{last_count}
+use Rattle.trace_model.specs.Cut.{CutsInto}
+use Rattle.trace_model.specs.Packets.{packets_of, is_writing, begun_count}
+use Rattle.trace_model.specs.Pages.{Page}
+use Rattle.trace_model.specs.Written.{chains_of}
+use Rattle.delivery_laws.specs.FlushLaws.{AreSettled}
+use Rattle.chunk_plain.specs.Setup.{Setup, sequence_of}
+use Rattle.chunk_plain.specs.Plain.{first_world}
+use Rattle.chunk_plain.specs.Views.{WriterView, taken_of}
+use Rattle.chunk_plain.specs.World.{World, writer}
+use Rattle.chunk_plain.specs.Owned.{IsOwned}
+use Rattle.chunk_plain.specs.Histories.{completed_images, history_of}
+use Rattle.world_model.specs.FirstBuffers.{payload_at}
+use Rattle.scenario_text.specs.Scenario.{Parts}
+use Rattle.scenario_text.specs.Limits.{IsSetUp}
+use Rattle.service_core.specs.Agreement.{spec_at}
+use Rattle.replay_model.specs.Acts.{Act, Ask, Answer}
+use Rattle.replay_model.specs.Does.{Asks, Reads}
+use Rattle.replay_model.specs.Flushes.{FlushNote}
+use Rattle.replay_model.specs.Plays.{Plays}
+use Rattle.replay_model.specs.Played.{IsSetupOf, buffers_of, first_buffer}
+
+-- the acts ask nothing of the writer at this place
+abbrev pub LeaveAlone : (place : ℕ) → List Act → Type 0
+LeaveAlone place [] = ⊤
+LeaveAlone place (Ask other call ∷ acts) = (other ≢ place) × LeaveAlone place acts
+LeaveAlone place (Answer other ∷ acts) = (other ≢ place) × LeaveAlone place acts
+LeaveAlone place (act ∷ acts) = LeaveAlone place acts
+
+-- how many packets these writers have begun
+abbrev pub begun_in : List WriterView → ℕ
+begun_in [] = 0
+begun_in (view ∷ views) = begun_count view.calls + begun_in views
+
+-- The writer at this place flushes between two packets, as it does for an answer, for a line and at the end. Before it is asked for anything more, as
+-- many chunks of it are taken as it has completed then: so an answer to a flush request is met. Whatever is done then, its buffer is read without
+-- limit at last.
+pub record IsFlushRead (setup : Setup) (buffers : List Buffer) (place : ℕ) (asked read : World) : Type 0 where
+  pub answered : World
+  pub taken : World
+  pub reading : World
+  pub ended : is_writing (packets_of (writer asked place).calls) ≡ false
+  pub answers : Asks setup place Flushed asked answered
+  pub owned_then : ∥ IsOwned answered ∥₁
+  pub between : List Act
+  pub notes : List FlushNote
+  pub alone : LeaveAlone place between
+  pub takes : Plays setup buffers between answered taken notes
+  pub met : length (completed_images (writer answered place).begun) ≤ (taken_of taken.service place).count
+  pub onward : List Act
+  pub later : List FlushNote
+  pub goes_on : Plays setup buffers onward taken reading later
+  pub reads : Reads setup buffers (spec_at setup.writers place).buffer last_count reading read
+  pub owned_now : ∥ IsOwned read ∥₁
+
+-- In the world behind the read, the outcome is fixed of each packet that the writer had begun when it flushed, and it had finished all of them: the
+-- packet is delivered, in a record of that world's history, or absent under one cause.
+pub record HasSettled (scenario : Parts) (setup : Setup) (place : ℕ) (asked read : World) : Type 0 where
+  pub pages : List Page
+  pub cut : CutsInto (payload_at setup place) (packets_of (writer asked place).calls) pages
+  pub settled : AreSettled (fixed_after (sequence_of place) (first_buffer scenario setup place) (history_of read.service))
+      (packets_of (writer asked place).calls) (chains_of pages)
+
+-- So it is wherever acts lead, of a scenario's set-up, while no more packets are begun than a count can tell. A line `q`, and at any later point a line
+-- `r` for each buffer without a limit, are such acts for each writer of an open producer that has no packet begun: the line makes the request, has each
+-- of these writers flush, and then takes what each open producer has complete.
+abbrev pub EveryFlushIsSettled : Type 0
+EveryFlushIsSettled = (scenario : Parts) (setup : Setup) → IsSetupOf scenario setup → IsSetUp scenario.buffers scenario.producers scenario.writers
+    → (acts : List Act) (asked read : World) (notes : List FlushNote) → Plays setup (buffers_of scenario setup) acts (first_world setup) asked notes
+    → (place : ℕ) → place < length setup.writers → IsFlushRead setup (buffers_of scenario setup) place asked read
+    → begun_in read.writers ≤ last_count → HasSettled scenario setup place asked read
