@@ -58,6 +58,7 @@ fn read_any_size(bytes: &[u8]) -> Option<(usize, usize)>
 
 /// The fragment in front of `bytes`, which stand from the place `at` on in a payload. The drop mark
 /// is read only where it is the `last` one.
+#[inline]
 pub fn read_fragment(bytes: &[u8], at: u32, last: bool) -> Option<Fragment<'_>>
     requires { at + length bytes.now ≤ MAX_INPUT }
     ensures value { option_map fragment_value result ≡ fragment_of last at bytes.now (size_of MAX_SIZE_WIDTH bytes.now) }

@@ -137,7 +137,8 @@ fn end_at_gap(lost: bool) -> Fate
     Fate::CutOff
 }
 
-/// The chain with what stands behind it.
+/// The chain with what stands behind it. It stays a call: few packets run on.
+#[inline(never)]
 fn go_on(buffer: &TraceBuffer, bounds: Bounds, chain: Chain) -> Chain
     requires bounds { AreBounds buffer.now bounds }
     requires chain { IsWalked buffer.now bounds chain }

@@ -38,7 +38,8 @@ pub enum Step<'a> {
     Stop { why: Why, may: bool },
 }
 
-/// What stands at a spot.
+/// What stands at a spot. It is no call, so that a step doesn't go through memory in parts.
+#[inline(always)]
 pub fn look_at(buffer: &TraceBuffer, bounds: Bounds, spot: Spot) -> Step<'_>
     requires bounds { AreBounds buffer.now bounds }
     requires spot { IsSpot buffer.now bounds spot }
@@ -89,6 +90,7 @@ fn absent(buffer: &TraceBuffer, bounds: Bounds, spot: Spot) -> Step<'_>
 }
 
 /// What stands where a chunk has a record with this header and this payload.
+#[inline(always)]
 fn present(key: RecordKey, payload: &[u8], closed: bool, spot: Spot) -> Step<'_>
     requires small { length payload.now ≤ 2 ^ 26 }
     requires reads { is_readable (reading_of key.count payload.now) ≡ true }
