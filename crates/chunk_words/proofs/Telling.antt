@@ -1,14 +1,14 @@
 -- What writers told stays true: what was completed stays so, and each look shows it.
-use Rattle.std.proofs.Common.{◌≡◌, ℕ, ◌≤◌, Option, List, ◌++◌, set, get_or, subst, sym, ap, ◌∙◌, arith, ⊎_elim}
+use Rattle.std.proofs.Common.{◌≡◌, ℕ, ◌≤◌, Option, List, ◌++◌, set, get_or, subst, sym, ap, ◌∙◌, arith, ⊎_elim, ◌+◌, ◌*◌, ◌<◌, length, lt_of_not-le}
 use Rattle.std.proofs.Math.ListN.{get_or-map}
-use native.Mathlib.Decide.{ℕ_discrete}
+use native.Mathlib.Decide.{ℕ_discrete, dec_le}
 use mathlib.Core.Logic.{dite}
 use Rattle.atomic_table.proofs.Lists.{at_longer, set_else}
 use Rattle.page_geometry.specs.Header.{packed, unpacked}
 use Rattle.page_geometry.specs.declared.chunk_state.ChunkState.TheVariants.{Complete}
 use Rattle.page_geometry.specs.PageBits.{HasState}
 use Rattle.chunk_plain.specs.Setup.{Setup, spot}
-use Rattle.chunk_plain.specs.Views.{At, Head, Draft, Content, Begun, Held, Completed, Taken, none_taken, Found, Look, taken_of}
+use Rattle.chunk_plain.specs.Views.{At, Head, Draft, Content, Begun, Held, Completed, Taken, none_taken, Found, Look, taken_of, ServiceView}
 use Rattle.chunk_plain.specs.World.{World, Ready, status}
 use Rattle.chunk_plain.specs.Steps.{looks_at, taken_counts}
 use Rattle.chunk_plain.specs.Owned.{IsOwned}
@@ -16,7 +16,7 @@ use Rattle.chunk_plain.specs.Shows.{IsHeader}
 use Rattle.chunk_plain.proofs.Lists.{at_one, at_more}
 use Rattle.chunk_plain.proofs.KeptService.{header_reads}
 use Rattle.chunk_words.specs.Knows.{Tale, Desk}
-use Rattle.chunk_words.specs.Told.{StaysCompleted, ShowsComplete, ShowsTold}
+use Rattle.chunk_words.specs.Told.{StaysCompleted, ShowsComplete, ShowsTold, PassesOver}
 use Rattle.chunk_words.specs.Rule.{IsTrue}
 
 -- ---- what a writer completed
@@ -62,3 +62,30 @@ look_shows setup world desk chunk word header found owned now i tale there true_
     let shows = now i id tale content there mine low (told_ready setup world tale id chunk content owned true_ mine low) in
     subst (λ (l : Look). ShowsComplete setup tale.place id l) last.1 (record { complete = shows.0; head = shows.1.0; header = shows.1.1 }))
     (at_more world.service.looks new look n at)
+
+-- ---- all that was told is taken
+
+-- a header word has one writer and one id
+one_header : (word chunk_id writer_id count flags id place number bits : ℕ) → word ≡ chunk_id + writer_id * 4294967296 + count * 281474976710656 + flags * 288230376151711744
+    → word ≡ id + place * 4294967296 + number * 281474976710656 + bits * 288230376151711744
+    → chunk_id < 4294967296 → writer_id < 65536 → id < 4294967296 → place < 65536 → (writer_id ≡ place) × (chunk_id ≡ id)
+one_header word chunk_id writer_id count flags id place number bits one other low small few less =
+    let both : chunk_id + writer_id * 4294967296 ≡ id + place * 4294967296 = omega (arith, one, other, low, small, few, less) in
+    (omega (arith, both, low, few), omega (arith, both, low, few))
+
+pub told_taken : (setup : Setup) (view : ServiceView) (tale : Tale) (count : ℕ) → ShowsTold setup view tale
+    → ((id : ℕ) → id < length tale.begun → (chunk : ℕ) × (content : Content) × At tale.begun id (Completed chunk content))
+    → ((chunk : ℕ) (content : Content) → At tale.begun count (Completed chunk content) → PassesOver setup view tale count chunk) → length tale.begun ≤ count
+unfolding packed
+told_taken setup view tale count shows completed passed = dite (dec_le (length tale.begun) count)
+    (λ most. most)
+    (λ more. absurd (
+    let next = completed count (lt_of_not-le more) in
+    let over = passed next.0 next.1 next.2 in
+    let mine : At tale.begun count (Completed over.look.chunk next.1) = subst (λ c. At tale.begun count (Completed c next.1)) (sym over.chunk_is) next.2 in
+    let free : get_or over.look.taken tale.place 0 ≤ count = let same = over.taken in omega arith in
+    let shown = shows over.n count over.look next.1 over.since over.at mine free in
+    let header = over.header in
+    let same = one_header over.look.header header.chunk_id header.writer_id header.count header.flags count (tale.place + 1) shown.head.count shown.head.flags
+    (over.header_is) (shown.header.word_is) over.id_fits over.writer_fits shown.header.id_fits shown.header.writer_fits in
+    over.other shown.complete same.0 same.1))

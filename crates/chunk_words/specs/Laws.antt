@@ -1,15 +1,16 @@
 -- What the rule of a table that threads share says, part by part: ownership in the words of a page word, a header word, payload words and views, between
--- any two steps of any seats.
-use Rattle.std.specs.Prelude.{◌≡◌, ℕ, Option, List}
+-- any two steps of any seats. And what the looks show of what writers told.
+use Rattle.std.specs.Prelude.{◌≡◌, ℕ, ◌<◌, ◌≤◌, Option, List, length}
 use Rattle.atomic_table.specs.Table.{State}
 use Rattle.commit_body.specs.declared.body.CommitBody.{CommitBody}
 use Rattle.chunk_plain.specs.Setup.{Setup}
-use Rattle.chunk_plain.specs.Views.{At, WriterView, ServiceView}
+use Rattle.chunk_plain.specs.Views.{At, Content, Completed, WriterView, ServiceView}
 use Rattle.chunk_plain.specs.World.{World, writer}
 use Rattle.chunk_plain.specs.Stored.{Stored}
 use Rattle.chunk_plain.specs.Ownership.{Ownership}
-use Rattle.chunk_words.specs.Knows.{Watch, Desk, Knows, Writer, Service, Pass}
+use Rattle.chunk_words.specs.Knows.{Watch, Tale, Desk, Knows, Writer, Service, Pass}
 use Rattle.chunk_words.specs.GoesOn.{GoesOn}
+use Rattle.chunk_words.specs.Told.{ShowsTold, PassesOver}
 use Rattle.chunk_words.specs.Rule.{HoldsWords, Roll, HoldsBodies, IsShared}
 
 -- The table's words are those of chunks in a world that is owned in its eight parts, and each writer and the service have one seat at most, whose view is
@@ -37,3 +38,9 @@ pub record SharedOwnership (setup : Setup) (state : State (Option CommitBody) Kn
 -- Each step is allowed by the rule alone, so between any two steps of any number of threads ownership holds.
 abbrev pub SharedIsOwnership : Type 0
 SharedIsOwnership = (setup : Setup) (state : State (Option CommitBody) Knows) → IsShared setup state → SharedOwnership setup state
+
+-- Where the writer had completed all that it told of, and looks since pass over each chunk that may be the next one, so many were taken as it told of.
+abbrev pub ToldIsTaken : Type 0
+ToldIsTaken = (setup : Setup) (view : ServiceView) (tale : Tale) (count : ℕ) → ShowsTold setup view tale
+    → ((id : ℕ) → id < length tale.begun → (chunk : ℕ) × (content : Content) × At tale.begun id (Completed chunk content))
+    → ((chunk : ℕ) (content : Content) → At tale.begun count (Completed chunk content) → PassesOver setup view tale count chunk) → length tale.begun ≤ count

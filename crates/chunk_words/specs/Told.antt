@@ -1,6 +1,8 @@
 -- What writers told the service, and what its looks show of that.
-use Rattle.std.specs.Prelude.{ℕ, ◌≤◌, List, slice_index_or}
+use Rattle.std.specs.Prelude.{◌≡◌, ℕ, ◌+◌, ◌^◌, ◌<◌, ◌≤◌, List, slice_index_or}
 use Rattle.page_geometry.specs.declared.chunk_state.ChunkState.TheVariants.{Complete}
+use Rattle.page_geometry.specs.declared.chunk_header.ChunkHeader.{ChunkHeader}
+use Rattle.page_geometry.specs.Header.{packed}
 use Rattle.page_geometry.specs.PageBits.{HasState}
 use Rattle.chunk_plain.specs.Setup.{Setup, spot}
 use Rattle.chunk_plain.specs.Views.{At, Head, Content, Begun, Completed, Look, ServiceView, taken_of}
@@ -30,3 +32,18 @@ ShowsAllTold setup view desk = (i : ℕ) (tale : Tale) → At desk.told i tale �
 abbrev pub TellsComplete : Setup → (chunk word : ℕ) → ServiceView → Desk → Type 0
 TellsComplete setup chunk word view desk = (i id : ℕ) (tale : Tale) (content : Content) → At desk.told i tale → At tale.begun id (Completed chunk content)
     → (taken_of view tale.place).count ≤ id → HasState word (spot setup chunk).place Complete
+
+-- A look since the tale shows that the chunk isn't the next one to be taken of this writer, of which so many were taken then: it found another state than
+-- complete, or another writer or another id in its header.
+pub record PassesOver (setup : Setup) (view : ServiceView) (tale : Tale) (count chunk : ℕ) : Type 0 where
+  pub n : ℕ
+  pub look : Look
+  pub header : ChunkHeader
+  pub since : tale.looks ≤ n
+  pub at : At view.looks n look
+  pub chunk_is : look.chunk ≡ chunk
+  pub taken : slice_index_or look.taken tale.place 0 ≡ count
+  pub header_is : look.header ≡ packed header
+  pub id_fits : header.chunk_id < 2 ^ 32
+  pub writer_fits : header.writer_id < 2 ^ 16
+  pub other : HasState look.word (spot setup look.chunk).place Complete → header.writer_id ≡ tale.place + 1 → header.chunk_id ≡ count → ⊥
