@@ -54,3 +54,7 @@ known_by_service seat = service_of seat.seat.me.0
 -- what the reading pass knows: the service's view as it was once its last read was noted
 abbrev pub known_by_pass : ReadPass → ServiceView
 known_by_pass pass = passed_of pass.seat.me.0
+
+-- what the service's seat has of the other seats
+abbrev pub desk_by_service : ServiceSeat → Desk
+desk_by_service seat = desk_of seat.seat.me.0

@@ -98,8 +98,8 @@ impl HostTable {
         ensures seat { service.new.seat.table_id ≡ service.old.seat.table_id }
         ensures me { service.new.seat.me
             ≡ (
-              Service 0 (made_of service.old.seat.me.0) (with_views (desk_of service.old.seat.me.0) (views_of seats.items)) (watch_of service.old.seat.me.0)
-                  (service_of service.old.seat.me.0),
+              Service 0 (made_of service.old.seat.me.0) (with_views (desk_of service.old.seat.me.0) (views_of seats.items))
+                  (watch_of service.old.seat.me.0) (service_of service.old.seat.me.0),
               [],
             ) }
     {

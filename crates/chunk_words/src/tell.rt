@@ -41,7 +41,8 @@ impl HostTable {
         requires from { Sits self.now from.old }
         requires service { Attends self.now service.old }
         ensures told { desk_of service.new.seat.me.0
-            ≡ with_tale (desk_of service.old.seat.me.0) (service_of service.old.seat.me.0) from.old.place (view_of from.old.seat.me.0).begun }
+            ≡ with_tale (desk_of service.old.seat.me.0) (service_of service.old.seat.me.0) from.old.place
+            (view_of from.old.seat.me.0).begun }
         ensures service_view { service_of service.new.seat.me.0 ≡ service_of service.old.seat.me.0 }
         ensures view { view_of from.new.seat.me.0 ≡ view_of from.old.seat.me.0 }
         ensures place { from.new.place ≡ from.old.place }
