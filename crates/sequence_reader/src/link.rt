@@ -84,7 +84,24 @@ fn follow(buffer: &TraceBuffer, bounds: Bounds, spot: Spot, first: Piece<'_>) ->
     ensures at { result.at ≡ spot }
     ensures ended { result.goes_on ≡ false }
 {
-    let mut chain = begun(spot, first);
+    let chain = begun(spot, first);
+    if chain.goes_on {
+        return follow_on(buffer, bounds, chain);
+    }
+    chain
+}
+
+/// The same behind what was met of it. It stays a call: few packets run on, and the chain of one that
+/// doesn't stays out of memory.
+#[inline(never)]
+fn follow_on(buffer: &TraceBuffer, bounds: Bounds, chain: Chain) -> Chain
+    requires bounds { AreBounds buffer.now bounds }
+    requires chain { IsWalked buffer.now bounds chain }
+    ensures chain { IsWalked buffer.now bounds result }
+    ensures at { result.at ≡ chain.at }
+    ensures ended { result.goes_on ≡ false }
+{
+    let mut chain = chain;
     while chain.goes_on {
         chain = go_on(buffer, bounds, chain);
     }
@@ -137,8 +154,7 @@ fn end_at_gap(lost: bool) -> Fate
     Fate::CutOff
 }
 
-/// The chain with what stands behind it. It stays a call: few packets run on.
-#[inline(never)]
+/// The chain with what stands behind it.
 fn go_on(buffer: &TraceBuffer, bounds: Bounds, chain: Chain) -> Chain
     requires bounds { AreBounds buffer.now bounds }
     requires chain { IsWalked buffer.now bounds chain }

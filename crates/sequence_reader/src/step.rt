@@ -38,7 +38,8 @@ pub enum Step<'a> {
     Stop { why: Why, may: bool },
 }
 
-/// What stands at a spot. It is no call, so that a step doesn't go through memory in parts.
+/// What stands at a spot. It and its cases are no calls, so that a step doesn't go through memory, in
+/// parts that would have to be waited for.
 #[inline(always)]
 pub fn look_at(buffer: &TraceBuffer, bounds: Bounds, spot: Spot) -> Step<'_>
     requires bounds { AreBounds buffer.now bounds }
@@ -74,6 +75,7 @@ fn missing(spot: Spot) -> Step<'static>
 }
 
 /// What stands where no record of the chunk is.
+#[inline(always)]
 fn absent(buffer: &TraceBuffer, bounds: Bounds, spot: Spot) -> Step<'_>
     requires bounds { AreBounds buffer.now bounds }
     requires before { spot.chunk_id < bounds.end }
