@@ -18,7 +18,7 @@ use Rattle.trace_writer.specs.OwnSteps.{IsQuiet}
 use Rattle.thread_writer.specs.declared.helper.Asks.{Asks}
 use Rattle.thread_writer.specs.declared.writer.TraceWriter.{TraceWriter}
 use Rattle.thread_writer.specs.Lent.{identity_of}
-use Rattle.thread_writer.specs.Asking.{MayAsk, GivesTurn}
+use Rattle.thread_writer.specs.Asking.{MayAsk, IsHelp}
 use Rattle.thread_writer.specs.Writing.{core_of, view_in, Writes, IsCall, IsQuietCall}
 use Rattle.thread_writer.specs.Standing.{step_stays}
 use Rattle.thread_writer.proofs.Identity.{works_stay, sits_back}
@@ -36,7 +36,7 @@ either : {P : Type 0} (asked : Option CallFault) → ((fault : CallFault) → as
 either None refused done = done refl
 either (Some fault) refused done = refused fault refl
 
-module _ {A H : Type 0} (turns : H → ℕ) (of_table : H → TableId → Type 0) (table behind : Shared) (old new : WriterCore WriterSeat) (help left : Asks H) (steps later : ℕ)
+module _ {A H : Type 0} (helps : H → ℕ → Bool → H → Type 0) (of_table : H → TableId → Type 0) (table behind : Shared) (old new : WriterCore WriterSeat) (help left : Asks H) (steps later : ℕ)
     (answer : Result A CallFault) (reason : Option CallFault) where
   -- what a call says of a writer that refuses it, and of one that does it
   abbrev pub Refuses : Type 0
@@ -48,7 +48,7 @@ module _ {A H : Type 0} (turns : H → ℕ) (of_table : H → TableId → Type 0
       → MatchResult answer (λ _. is_stalled new ≡ false) (λ fault. (fault ≡ call_fault.Stalled) × (is_stalled new ≡ true))
 
   abbrev pub DoesIt : Bool → List Call → Type 0
-  DoesIt stopped noted = IsAsked shared.means (MayAsk of_table) (GivesTurn turns) (route_of old) help table old.seat steps stopped noted
+  DoesIt stopped noted = IsAsked shared.means (MayAsk of_table) (IsHelp helps) (route_of old) help table old.seat steps stopped noted
       (is_stalled new) left behind new.seat later
 
   -- the table behind it is the lent one
@@ -56,12 +56,12 @@ module _ {A H : Type 0} (turns : H → ℕ) (of_table : H → TableId → Type 0
       → identity_of behind.table.now ≡ identity_of table.table.now
   same_table noted refused done = either (refusal_of old reason)
       (λ fault is. ap (λ (s : Shared). identity_of s.table.now) (refused fault is).table_stays)
-      (λ is. works_stay turns (route_of old) (done is).1.works)
+      (λ is. works_stay helps (route_of old) (done is).1.works)
 
   pub call_is : (stopped : Bool) (noted : List Call) → Refuses → Answers → (refusal_of old reason ≡ None → DoesIt stopped noted)
       → ((route_of old).spec.policy ≡ Drops → (left ≡ help) × IsWriterStep shared.means table old.seat behind new.seat)
       → route_of new ≡ route_of old
-      → IsCall turns of_table table old new help left steps later answer reason stopped noted
+      → IsCall helps of_table table old new help left steps later answer reason stopped noted
   call_is stopped noted refused answers done alone route = record {
     behind = behind;
     same_table = same_table (λ _. noted) refused (λ is. (stopped, done is));
@@ -76,7 +76,7 @@ module _ {A H : Type 0} (turns : H → ℕ) (of_table : H → TableId → Type 0
   pub some_call : (noted : Bool → List Call) → Refuses → Answers → (refusal_of old reason ≡ None → (stopped : Bool) × DoesIt stopped (noted stopped))
       → ((route_of old).spec.policy ≡ Drops → (left ≡ help) × IsWriterStep shared.means table old.seat behind new.seat)
       → route_of new ≡ route_of old
-      → (stopped : Bool) × IsCall turns of_table table old new help left steps later answer reason stopped (noted stopped)
+      → (stopped : Bool) × IsCall helps of_table table old new help left steps later answer reason stopped (noted stopped)
   some_call noted refused answers done alone route = either (refusal_of old reason)
       (λ fault is. (false, call_is false (noted false) refused answers (λ none. absurd (let same : Some fault ≡ None = sym is ∙ none in cc)) alone route))
       (λ is. let does = done is in (does.0, call_is does.0 (noted does.0) refused answers (λ _. does.1) alone route))

@@ -13,22 +13,22 @@ use Rattle.trace_writer.specs.Helping.{LeavesWriters, Works, Done, Silent, Gets,
 use Rattle.trace_writer.specs.OwnSteps.{IsQuiet, IsSilent, GetsChunk, IsOutNow}
 use Rattle.thread_writer.specs.declared.helper.Asks.{Asks}
 use Rattle.thread_writer.specs.Lent.{identity_of}
-use Rattle.thread_writer.specs.Asking.{GivesTurn}
+use Rattle.thread_writer.specs.Asking.{IsHelp}
 use Rattle.thread_writer.specs.Standing.{step_stays}
 
-module _ {H : Type 0} (turns : H → ℕ) (route : Route) where
+module _ {H : Type 0} (helps : H → ℕ → Bool → H → Type 0) (route : Route) where
   pub works_stay : {policy : WriterPolicy} {helper left : Asks H} {old new : Shared} {seat after : WriterSeat} {stopped : Bool}
       → Works policy (IsSilent shared.means) (IsQuiet shared.means) (GetsChunk shared.means route) (IsOutNow shared.means route)
-      (λ asks table answer behind freed. GivesTurn turns asks table route.spec.producer answer behind freed × LeavesWriters shared.means table freed)
+      (λ asks table answer behind freed. IsHelp helps asks table route.spec.producer answer behind freed × LeavesWriters shared.means table freed)
       helper old seat stopped left new after
       → identity_of new.table.now ≡ identity_of old.table.now
   works_stay (Done helper old seat new after last) = step_stays old new seat after last.step
   works_stay (Silent helper old seat next moved stopped left new after silent more) = works_stay more ∙ step_stays old next seat moved silent.quiet.step
   works_stay (Gets helper old seat next moved stopped left new after gets more) = works_stay more ∙ step_stays old next seat moved gets.step
-  works_stay (Helped helper old seat asking asker helped freed stopped left new after stalls out helps more) =
-      works_stay more ∙ (ap (λ (s : Shared). identity_of s.table.now) helps.0.0 ∙ step_stays old asking seat asker out.step)
-  works_stay (Refused helper old seat asking asker left kept new after stalls out helps last) =
-      step_stays kept new asker after last.step ∙ (ap (λ (s : Shared). identity_of s.table.now) helps.0.0 ∙ step_stays old asking seat asker out.step)
+  works_stay (Helped helper old seat asking asker helped freed stopped left new after stalls out helped_it more) =
+      works_stay more ∙ (ap (λ (s : Shared). identity_of s.table.now) helped_it.0.0 ∙ step_stays old asking seat asker out.step)
+  works_stay (Refused helper old seat asking asker left kept new after stalls out helped_it last) =
+      step_stays kept new asker after last.step ∙ (ap (λ (s : Shared). identity_of s.table.now) helped_it.0.0 ∙ step_stays old asking seat asker out.step)
   works_stay (Lost helper old seat mid between new after drops out last) = step_stays mid new between after last.step ∙ step_stays old mid seat between out.step
 
 -- the seat sits at the table again, where the lent one is the same

@@ -1,5 +1,5 @@
 -- A helper as a writer over a lent table asks it.
-use Rattle.std.specs.Prelude.{◌≡◌, ℕ, ◌<◌, Bool, true}
+use Rattle.std.specs.Prelude.{◌≡◌, ℕ, Bool}
 use Rattle.atomic_table.specs.Seated.{TableId}
 use Rattle.chunk_words.specs.declared.shared.Shared.{Shared}
 use Rattle.thread_writer.specs.declared.helper.Asks.{Asks}
@@ -9,6 +9,6 @@ use Rattle.thread_writer.specs.Lent.{identity_of}
 abbrev pub MayAsk : {H : Type 0} → (H → TableId → Type 0) → Asks H → Shared → Type 0
 MayAsk of_table asks shared = of_table asks.help (identity_of shared.table.now)
 
--- One help leaves the writer with the same table, and has one turn less where it says that claiming is worth while.
-abbrev pub GivesTurn : {H : Type 0} → (H → ℕ) → Asks H → Shared → ℕ → Bool → Asks H → Shared → Type 0
-GivesTurn turns asks shared producer answer after left = (left ≡ shared) × (answer ≡ true → turns after.help < turns asks.help)
+-- One help is one of the helper's own, and leaves the writer with the same table.
+abbrev pub IsHelp : {H : Type 0} → (H → ℕ → Bool → H → Type 0) → Asks H → Shared → ℕ → Bool → Asks H → Shared → Type 0
+IsHelp helps asks shared producer answer after left = (left ≡ shared) × helps asks.help producer answer after.help

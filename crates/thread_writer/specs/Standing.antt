@@ -36,9 +36,11 @@ attends_there table seat = record {
   };
 }
 
+-- a step of a writer's own leaves the lent table the same one
 pub step_stays : (old new : Shared) (seat after : WriterSeat) → IsWriterStep shared.means old seat new after → identity_of new.table.now ≡ identity_of old.table.now
 step_stays old new seat after step = sym (step.service_stays (a_service old.table.now seat) (attends_there old.table.now seat)).0.joined
 
+-- and a helper may be asked behind it as before
 pub still_asks : {H : Type 0} (of_table : H → TableId → Type 0) (asks : Asks H) (old new : Shared) (seat after : WriterSeat)
     → IsWriterStep shared.means old seat new after → MayAsk of_table asks old → MayAsk of_table asks new
 still_asks of_table asks old new seat after step may = subst (of_table asks.help) (sym (step_stays old new seat after step)) may

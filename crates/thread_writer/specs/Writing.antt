@@ -20,7 +20,7 @@ use Rattle.trace_writer.specs.OwnSteps.{IsQuiet}
 use Rattle.thread_writer.specs.declared.helper.Asks.{Asks}
 use Rattle.thread_writer.specs.declared.writer.TraceWriter.{TraceWriter}
 use Rattle.thread_writer.specs.Lent.{identity_of}
-use Rattle.thread_writer.specs.Asking.{MayAsk, GivesTurn}
+use Rattle.thread_writer.specs.Asking.{MayAsk, IsHelp}
 
 -- the writer with its seat, alone on its cache lines
 abbrev pub core_of : TraceWriter → WriterCore WriterSeat
@@ -37,7 +37,7 @@ pub record Writes (table : HostTable) (writer : TraceWriter) : Type 0 where
 
 -- A call that may ask the helper, over the lent table: what it leaves where it is refused, its answer where it isn't, and what it then did, as the
 -- same call of a writer over any table. A writer that drops leaves its helper as it was.
-pub record IsCall {A H : Type 0} (turns : H → ℕ) (of_table : H → TableId → Type 0) (table : Shared) (old new : WriterCore WriterSeat) (help left : Asks H) (steps later : ℕ)
+pub record IsCall {A H : Type 0} (helps : H → ℕ → Bool → H → Type 0) (of_table : H → TableId → Type 0) (table : Shared) (old new : WriterCore WriterSeat) (help left : Asks H) (steps later : ℕ)
     (answer : Result A CallFault) (reason : Option CallFault) (stopped : Bool) (noted : List Call) : Type 0 where
   -- the table as the call leaves it
   pub behind : Shared
@@ -45,7 +45,7 @@ pub record IsCall {A H : Type 0} (turns : H → ℕ) (of_table : H → TableId �
   pub refused : (fault : CallFault) → refusal_of old reason ≡ Some fault → LeavesAll fault answer old new table behind help left steps later
   pub answers : refusal_of old reason ≡ None
       → MatchResult answer (λ _. is_stalled new ≡ false) (λ fault. (fault ≡ call_fault.Stalled) × (is_stalled new ≡ true))
-  pub done : refusal_of old reason ≡ None → IsAsked shared.means (MayAsk of_table) (GivesTurn turns)
+  pub done : refusal_of old reason ≡ None → IsAsked shared.means (MayAsk of_table) (IsHelp helps)
       (route_of old) help table old.seat steps stopped noted (is_stalled new) left behind new.seat later
   pub alone : (route_of old).spec.policy ≡ Drops → (left ≡ help) × IsWriterStep shared.means table old.seat behind new.seat
   pub route : route_of new ≡ route_of old

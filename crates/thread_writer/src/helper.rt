@@ -1,5 +1,5 @@
 //! Whom a writer that stalls asks for chunks of the table that threads share.
-ghost use Rattle.std.specs.Prelude.{◌≡◌, ℕ, ◌<◌, true};
+ghost use Rattle.std.specs.Prelude.{◌≡◌, ℕ, ◌<◌, Bool, true, false};
 ghost use Rattle.atomic_table.specs.Seated.{TableId};
 ghost use Rattle.chunk_plain.specs.Setup.{HasProducer};
 ghost use Rattle.chunk_words.specs.Sits.{setup_in};
@@ -16,10 +16,14 @@ pub trait Helper {
     // it helps at the table with this identity
     ghost of_table: { Self → TableId → Type 0 };
 
+    // what one help is: the helper, the producer and the answer, and the helper behind it
+    ghost helps: { Self → ℕ → Bool → Self → Type 0 };
+
     /// Frees chunks of a producer; true says that it is worth while to claim again.
     fn help(&mut self, table: &HostTable, producer: u16) -> bool
         requires table { of_table self.old (identity_of table.now) }
         requires producer { HasProducer (setup_in table.now) producer }
+        ensures helps { helps self.old producer result self.new }
         ensures table { (id : TableId) → of_table self.old id → of_table self.new id }
         ensures turns { result ≡ true → turns self.new < turns self.old };
 }
@@ -29,6 +33,8 @@ impl Helper for NoHelp {
     ghost turns = { λ _. 0 };
 
     ghost of_table = { λ _ _. Unit {0} };
+
+    ghost helps = { λ helper producer answer after. (answer ≡ false) × (after ≡ helper) };
 
     fn help(&mut self, _table: &HostTable, _producer: u16) -> bool {
         false
@@ -42,14 +48,14 @@ pub struct Asks<H> {
 }
 
 impl<'t, H: Helper> HelperOn<Shared<'t>> for Asks<H> {
-    ghost use Rattle.thread_writer.specs.Asking.{MayAsk, GivesTurn};
+    ghost use Rattle.thread_writer.specs.Asking.{MayAsk, IsHelp};
     ghost use Rattle.thread_writer.specs.Standing.{still_asks};
 
     ghost turns = { λ asks. H.turns asks.help };
 
     ghost needs = { λ asks shared. MayAsk H.of_table asks shared };
 
-    ghost helps = { λ asks shared producer answer after left. GivesTurn H.turns asks shared producer answer after left };
+    ghost helps = { λ asks shared producer answer after left. IsHelp H.helps asks shared producer answer after left };
 
     ghost needs_stay = { λ asks old new seat after step may. still_asks H.of_table asks old new seat after step may };
 

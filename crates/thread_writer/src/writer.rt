@@ -73,7 +73,7 @@ impl TraceWriter {
         requires ids { length (view_in self.old).begun + PACKET_IDS ≤ ID_LIMIT }
         ensures writes { Writes table.now self.new }
         ensures help { H.of_table help.new.help (identity_of table.now) }
-        ensures call { IsCall H.turns H.of_table (lent table.entry) (core_of self.old) (core_of self.new)
+        ensures call { IsCall H.helps H.of_table (lent table.entry) (core_of self.old) (core_of self.new)
             help.old help.new steps.old steps.new result None (stops_with result)
             (begun_as (stops_with result) (route_of (core_of self.old)).spec.policy) }
         ensures asked { begins_here (core_of self.old) → (view_in self.new).asked ≡ (view_in self.old).asked }
@@ -100,7 +100,7 @@ impl TraceWriter {
         requires most { field ≤ MAX_FIELD }
         ensures writes { Writes table.now self.new }
         ensures help { H.of_table help.new.help (identity_of table.now) }
-        ensures call { (stopped : Bool) × IsCall H.turns H.of_table (lent table.entry) (core_of self.old) (core_of self.new)
+        ensures call { (stopped : Bool) × IsCall H.helps H.of_table (lent table.entry) (core_of self.old) (core_of self.new)
             help.old help.new steps.old steps.new result (field_fault (view_in self.old) field (length (number_field field value))) stopped
             (written_as stopped (route_of (core_of self.old)).spec.policy (call.Number field value)) }
         ensures asked { FitsHere (core_of self.old) (length (number_field field value))
@@ -130,7 +130,7 @@ impl TraceWriter {
         requires text { length value.now ≤ MAX_INPUT }
         ensures writes { Writes table.now self.new }
         ensures help { H.of_table help.new.help (identity_of table.now) }
-        ensures call { (stopped : Bool) × IsCall H.turns H.of_table (lent table.entry) (core_of self.old) (core_of self.new)
+        ensures call { (stopped : Bool) × IsCall H.helps H.of_table (lent table.entry) (core_of self.old) (core_of self.new)
             help.old help.new steps.old steps.new result (field_fault (view_in self.old) field (bytes_size field times value.now)) stopped
             (written_as stopped (route_of (core_of self.old)).spec.policy (call.Bytes field value.now times)) }
         ensures asked { FitsHere (core_of self.old) (bytes_size field times value.now)
@@ -158,7 +158,7 @@ impl TraceWriter {
         requires most { field ≤ MAX_FIELD }
         ensures writes { Writes table.now self.new }
         ensures help { H.of_table help.new.help (identity_of table.now) }
-        ensures call { (stopped : Bool) × IsCall H.turns H.of_table (lent table.entry) (core_of self.old) (core_of self.new)
+        ensures call { (stopped : Bool) × IsCall H.helps H.of_table (lent table.entry) (core_of self.old) (core_of self.new)
             help.old help.new steps.old steps.new result (nested_fault (view_in self.old) field) stopped
             (written_as stopped (route_of (core_of self.old)).spec.policy (call.Nested field)) }
         ensures asked { FitsHere (core_of self.old) (length (nested_tag field) + 4)

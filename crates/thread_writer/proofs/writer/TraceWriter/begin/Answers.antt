@@ -13,7 +13,7 @@ use Rattle.thread_writer.proofs.writer.TraceWriter.begin.Goals as goal
 pub returns-clause-writes : goal.returns-clause-writes
 returns-clause-writes g c =
     let before = c.deref_mut.result.now in let did = c.begin.ensures in
-    let same = same_table g.H.Helper.turns g.H.Helper.of_table (lent c.args.table) c.begin.new.table c.deref_mut.result.now c.begin.new.self c.args.help.now c.begin.new.help c.args.steps.now c.begin.new.steps c.begin.result
+    let same = same_table g.H.Helper.helps g.H.Helper.of_table (lent c.args.table) c.begin.new.table c.deref_mut.result.now c.begin.new.self c.args.help.now c.begin.new.help c.args.steps.now c.begin.new.steps c.begin.result
     None
     (λ stopped. begun_as stopped (route_of before).spec.policy)
     did.refused (λ none. (stops_with c.begin.result, did.done none)) in
@@ -23,7 +23,7 @@ returns-clause-writes g c =
 pub returns-clause-help : goal.returns-clause-help
 returns-clause-help g c =
     let before = c.deref_mut.result.now in let did = c.begin.ensures in
-    let same = same_table g.H.Helper.turns g.H.Helper.of_table (lent c.args.table) c.begin.new.table c.deref_mut.result.now c.begin.new.self c.args.help.now c.begin.new.help c.args.steps.now c.begin.new.steps c.begin.result
+    let same = same_table g.H.Helper.helps g.H.Helper.of_table (lent c.args.table) c.begin.new.table c.deref_mut.result.now c.begin.new.self c.args.help.now c.begin.new.help c.args.steps.now c.begin.new.steps c.begin.result
     None
     (λ stopped. begun_as stopped (route_of before).spec.policy)
     did.refused (λ none. (stops_with c.begin.result, did.done none)) in
@@ -32,9 +32,9 @@ returns-clause-help g c =
 pub returns-clause-call : goal.returns-clause-call
 returns-clause-call g c =
     let before = c.deref_mut.result.now in let did = c.begin.ensures in
-    let made = call_is g.H.Helper.turns g.H.Helper.of_table (lent c.args.table) c.begin.new.table c.deref_mut.result.now c.begin.new.self c.args.help.now c.begin.new.help c.args.steps.now c.begin.new.steps c.begin.result
+    let made = call_is g.H.Helper.helps g.H.Helper.of_table (lent c.args.table) c.begin.new.table c.deref_mut.result.now c.begin.new.self c.args.help.now c.begin.new.help c.args.steps.now c.begin.new.steps c.begin.result
     None (stops_with c.begin.result) (begun_as (stops_with c.begin.result) (route_of before).spec.policy)
     did.refused did.answers did.done did.alone did.route in
-    subst (λ (core : WriterCore WriterSeat). IsCall g.H.Helper.turns g.H.Helper.of_table (lent c.args.table) core c.begin.new.self c.args.help.now c.begin.new.help c.args.steps.now c.begin.new.steps c.begin.result
+    subst (λ (core : WriterCore WriterSeat). IsCall g.H.Helper.helps g.H.Helper.of_table (lent c.args.table) core c.begin.new.self c.args.help.now c.begin.new.help c.args.steps.now c.begin.new.steps c.begin.result
     None (stops_with c.begin.result) (begun_as (stops_with c.begin.result) (route_of core).spec.policy))
     c.deref_mut.ensures.value made

@@ -16,7 +16,7 @@ use Rattle.thread_writer.proofs.writer.TraceWriter.begin_nested.Goals as goal
 pub returns-clause-writes : goal.returns-clause-writes
 returns-clause-writes g c =
     let before = c.deref_mut.result.now in let did = c.begin_nested.ensures in
-    let same = same_table g.H.Helper.turns g.H.Helper.of_table (lent c.args.table) c.begin_nested.new.table c.deref_mut.result.now c.begin_nested.new.self c.args.help.now c.begin_nested.new.help c.args.steps.now c.begin_nested.new.steps c.begin_nested.result
+    let same = same_table g.H.Helper.helps g.H.Helper.of_table (lent c.args.table) c.begin_nested.new.table c.deref_mut.result.now c.begin_nested.new.self c.args.help.now c.begin_nested.new.help c.args.steps.now c.begin_nested.new.steps c.begin_nested.result
     (nested_fault (known_by before.seat) c.args.field)
     (λ stopped. written_as stopped (route_of before).spec.policy (call.Nested c.args.field))
     did.refused did.done in
@@ -26,7 +26,7 @@ returns-clause-writes g c =
 pub returns-clause-help : goal.returns-clause-help
 returns-clause-help g c =
     let before = c.deref_mut.result.now in let did = c.begin_nested.ensures in
-    let same = same_table g.H.Helper.turns g.H.Helper.of_table (lent c.args.table) c.begin_nested.new.table c.deref_mut.result.now c.begin_nested.new.self c.args.help.now c.begin_nested.new.help c.args.steps.now c.begin_nested.new.steps c.begin_nested.result
+    let same = same_table g.H.Helper.helps g.H.Helper.of_table (lent c.args.table) c.begin_nested.new.table c.deref_mut.result.now c.begin_nested.new.self c.args.help.now c.begin_nested.new.help c.args.steps.now c.begin_nested.new.steps c.begin_nested.result
     (nested_fault (known_by before.seat) c.args.field)
     (λ stopped. written_as stopped (route_of before).spec.policy (call.Nested c.args.field))
     did.refused did.done in
@@ -35,10 +35,10 @@ returns-clause-help g c =
 pub returns-clause-call : goal.returns-clause-call
 returns-clause-call g c =
     let before = c.deref_mut.result.now in let did = c.begin_nested.ensures in
-    let made = some_call g.H.Helper.turns g.H.Helper.of_table (lent c.args.table) c.begin_nested.new.table c.deref_mut.result.now c.begin_nested.new.self c.args.help.now c.begin_nested.new.help c.args.steps.now c.begin_nested.new.steps c.begin_nested.result
+    let made = some_call g.H.Helper.helps g.H.Helper.of_table (lent c.args.table) c.begin_nested.new.table c.deref_mut.result.now c.begin_nested.new.self c.args.help.now c.begin_nested.new.help c.args.steps.now c.begin_nested.new.steps c.begin_nested.result
     (nested_fault (known_by before.seat) c.args.field)
     (λ stopped. written_as stopped (route_of before).spec.policy (call.Nested c.args.field))
     did.refused did.answers did.done did.alone did.route in
-    subst (λ (core : WriterCore WriterSeat). (stopped : Bool) × IsCall g.H.Helper.turns g.H.Helper.of_table (lent c.args.table) core c.begin_nested.new.self c.args.help.now c.begin_nested.new.help c.args.steps.now c.begin_nested.new.steps c.begin_nested.result
+    subst (λ (core : WriterCore WriterSeat). (stopped : Bool) × IsCall g.H.Helper.helps g.H.Helper.of_table (lent c.args.table) core c.begin_nested.new.self c.args.help.now c.begin_nested.new.help c.args.steps.now c.begin_nested.new.steps c.begin_nested.result
     (nested_fault (known_by core.seat) c.args.field) stopped (written_as stopped (route_of core).spec.policy (call.Nested c.args.field)))
     c.deref_mut.ensures.value made

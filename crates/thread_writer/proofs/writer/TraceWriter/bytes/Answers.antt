@@ -16,7 +16,7 @@ use Rattle.thread_writer.proofs.writer.TraceWriter.bytes.Goals as goal
 pub returns-clause-writes : goal.returns-clause-writes
 returns-clause-writes g c =
     let before = c.deref_mut.result.now in let did = c.bytes.ensures in
-    let same = same_table g.H.Helper.turns g.H.Helper.of_table (lent c.args.table) c.bytes.new.table c.deref_mut.result.now c.bytes.new.self c.args.help.now c.bytes.new.help c.args.steps.now c.bytes.new.steps c.bytes.result
+    let same = same_table g.H.Helper.helps g.H.Helper.of_table (lent c.args.table) c.bytes.new.table c.deref_mut.result.now c.bytes.new.self c.args.help.now c.bytes.new.help c.args.steps.now c.bytes.new.steps c.bytes.result
     (field_fault (known_by before.seat) c.args.field (bytes_size c.args.field c.args.times c.args.value.now))
     (λ stopped. written_as stopped (route_of before).spec.policy (call.Bytes c.args.field c.args.value.now c.args.times))
     did.refused did.done in
@@ -26,7 +26,7 @@ returns-clause-writes g c =
 pub returns-clause-help : goal.returns-clause-help
 returns-clause-help g c =
     let before = c.deref_mut.result.now in let did = c.bytes.ensures in
-    let same = same_table g.H.Helper.turns g.H.Helper.of_table (lent c.args.table) c.bytes.new.table c.deref_mut.result.now c.bytes.new.self c.args.help.now c.bytes.new.help c.args.steps.now c.bytes.new.steps c.bytes.result
+    let same = same_table g.H.Helper.helps g.H.Helper.of_table (lent c.args.table) c.bytes.new.table c.deref_mut.result.now c.bytes.new.self c.args.help.now c.bytes.new.help c.args.steps.now c.bytes.new.steps c.bytes.result
     (field_fault (known_by before.seat) c.args.field (bytes_size c.args.field c.args.times c.args.value.now))
     (λ stopped. written_as stopped (route_of before).spec.policy (call.Bytes c.args.field c.args.value.now c.args.times))
     did.refused did.done in
@@ -35,10 +35,10 @@ returns-clause-help g c =
 pub returns-clause-call : goal.returns-clause-call
 returns-clause-call g c =
     let before = c.deref_mut.result.now in let did = c.bytes.ensures in
-    let made = some_call g.H.Helper.turns g.H.Helper.of_table (lent c.args.table) c.bytes.new.table c.deref_mut.result.now c.bytes.new.self c.args.help.now c.bytes.new.help c.args.steps.now c.bytes.new.steps c.bytes.result
+    let made = some_call g.H.Helper.helps g.H.Helper.of_table (lent c.args.table) c.bytes.new.table c.deref_mut.result.now c.bytes.new.self c.args.help.now c.bytes.new.help c.args.steps.now c.bytes.new.steps c.bytes.result
     (field_fault (known_by before.seat) c.args.field (bytes_size c.args.field c.args.times c.args.value.now))
     (λ stopped. written_as stopped (route_of before).spec.policy (call.Bytes c.args.field c.args.value.now c.args.times))
     did.refused did.answers did.done did.alone did.route in
-    subst (λ (core : WriterCore WriterSeat). (stopped : Bool) × IsCall g.H.Helper.turns g.H.Helper.of_table (lent c.args.table) core c.bytes.new.self c.args.help.now c.bytes.new.help c.args.steps.now c.bytes.new.steps c.bytes.result
+    subst (λ (core : WriterCore WriterSeat). (stopped : Bool) × IsCall g.H.Helper.helps g.H.Helper.of_table (lent c.args.table) core c.bytes.new.self c.args.help.now c.bytes.new.help c.args.steps.now c.bytes.new.steps c.bytes.result
     (field_fault (known_by core.seat) c.args.field (bytes_size c.args.field c.args.times c.args.value.now)) stopped (written_as stopped (route_of core).spec.policy (call.Bytes c.args.field c.args.value.now c.args.times)))
     c.deref_mut.ensures.value made

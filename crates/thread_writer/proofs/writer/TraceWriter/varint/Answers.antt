@@ -17,7 +17,7 @@ use Rattle.thread_writer.proofs.writer.TraceWriter.varint.Goals as goal
 pub returns-clause-writes : goal.returns-clause-writes
 returns-clause-writes g c =
     let before = c.deref_mut.result.now in let did = c.varint.ensures in
-    let same = same_table g.H.Helper.turns g.H.Helper.of_table (lent c.args.table) c.varint.new.table c.deref_mut.result.now c.varint.new.self c.args.help.now c.varint.new.help c.args.steps.now c.varint.new.steps c.varint.result
+    let same = same_table g.H.Helper.helps g.H.Helper.of_table (lent c.args.table) c.varint.new.table c.deref_mut.result.now c.varint.new.self c.args.help.now c.varint.new.help c.args.steps.now c.varint.new.steps c.varint.result
     (field_fault (known_by before.seat) c.args.field (length (number_field c.args.field c.args.value)))
     (λ stopped. written_as stopped (route_of before).spec.policy (call.Number c.args.field c.args.value))
     did.refused did.done in
@@ -27,7 +27,7 @@ returns-clause-writes g c =
 pub returns-clause-help : goal.returns-clause-help
 returns-clause-help g c =
     let before = c.deref_mut.result.now in let did = c.varint.ensures in
-    let same = same_table g.H.Helper.turns g.H.Helper.of_table (lent c.args.table) c.varint.new.table c.deref_mut.result.now c.varint.new.self c.args.help.now c.varint.new.help c.args.steps.now c.varint.new.steps c.varint.result
+    let same = same_table g.H.Helper.helps g.H.Helper.of_table (lent c.args.table) c.varint.new.table c.deref_mut.result.now c.varint.new.self c.args.help.now c.varint.new.help c.args.steps.now c.varint.new.steps c.varint.result
     (field_fault (known_by before.seat) c.args.field (length (number_field c.args.field c.args.value)))
     (λ stopped. written_as stopped (route_of before).spec.policy (call.Number c.args.field c.args.value))
     did.refused did.done in
@@ -36,10 +36,10 @@ returns-clause-help g c =
 pub returns-clause-call : goal.returns-clause-call
 returns-clause-call g c =
     let before = c.deref_mut.result.now in let did = c.varint.ensures in
-    let made = some_call g.H.Helper.turns g.H.Helper.of_table (lent c.args.table) c.varint.new.table c.deref_mut.result.now c.varint.new.self c.args.help.now c.varint.new.help c.args.steps.now c.varint.new.steps c.varint.result
+    let made = some_call g.H.Helper.helps g.H.Helper.of_table (lent c.args.table) c.varint.new.table c.deref_mut.result.now c.varint.new.self c.args.help.now c.varint.new.help c.args.steps.now c.varint.new.steps c.varint.result
     (field_fault (known_by before.seat) c.args.field (length (number_field c.args.field c.args.value)))
     (λ stopped. written_as stopped (route_of before).spec.policy (call.Number c.args.field c.args.value))
     did.refused did.answers did.done did.alone did.route in
-    subst (λ (core : WriterCore WriterSeat). (stopped : Bool) × IsCall g.H.Helper.turns g.H.Helper.of_table (lent c.args.table) core c.varint.new.self c.args.help.now c.varint.new.help c.args.steps.now c.varint.new.steps c.varint.result
+    subst (λ (core : WriterCore WriterSeat). (stopped : Bool) × IsCall g.H.Helper.helps g.H.Helper.of_table (lent c.args.table) core c.varint.new.self c.args.help.now c.varint.new.help c.args.steps.now c.varint.new.steps c.varint.result
     (field_fault (known_by core.seat) c.args.field (length (number_field c.args.field c.args.value))) stopped (written_as stopped (route_of core).spec.policy (call.Number c.args.field c.args.value)))
     c.deref_mut.ensures.value made
