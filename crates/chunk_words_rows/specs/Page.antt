@@ -1,11 +1,17 @@
 -- The table of the tests, with one page of 14 chunks and two writers.
-use Rattle.std.specs.Prelude.{◌≡◌, ℕ, ◌<◌, [], length}
-use Rattle.chunk_plain.specs.Setup.{IsChunkOf, producer_of, spot}
+use Rattle.std.specs.Prelude.{◌≡◌, ℕ, ◌<◌, [], length, Some, slice_get}
+use Rattle.trace_base.specs.declared.policy.WriterPolicy.TheVariants.{Drops}
+use Rattle.trace_base.specs.declared.policy.WriterSpec.{WriterSpec}
+use Rattle.chunk_plain.specs.Setup.{HasProducer, IsChunkOf, producer_of, spot}
 use Rattle.chunk_plain.specs.Views.{taken_of}
 use Rattle.chunk_words.specs.declared.host.HostTable.{HostTable}
 use Rattle.chunk_words.specs.declared.seats.ServiceSeat.{ServiceSeat}
 use Rattle.chunk_words.specs.Knows.{service_of}
 use Rattle.chunk_words.specs.Sits.{setup_in}
+
+-- both writers drop packets where no chunk is free
+abbrev pub page_spec : WriterSpec
+page_spec = record { producer = 1; buffer = 1; policy = Drops }
 
 -- each chunk of the page is one that both writers may claim
 pub record IsOnePage (table : HostTable) : Type 0 where
@@ -13,8 +19,18 @@ pub record IsOnePage (table : HostTable) : Type 0 where
   pub inside : (chunk : ℕ) → chunk < 14 → chunk < length (setup_in table).spots
   pub size : (chunk : ℕ) → chunk < 14 → (spot (setup_in table) chunk).payload_size ≡ 284
   pub writers : length (setup_in table).writers ≡ 2
+  pub specs : (place : ℕ) → place < 2 → slice_get (setup_in table).writers place ≡ Some page_spec
+  pub producer : HasProducer (setup_in table) 1
+  pub producers : (place : ℕ) → place < 2 → producer_of (setup_in table) place ≡ 1
+  pub sizes : (chunk : ℕ) → IsChunkOf (setup_in table) 1 chunk → (spot (setup_in table) chunk).payload_size ≡ 284
 
 -- the service has taken so many chunks of the first writer, and reads none
 pub record HasTaken (count : ℕ) (seat : ServiceSeat) : Type 0 where
   pub count_is : (taken_of (service_of seat.seat.me.0) 0).count ≡ count
+  pub none_out : (service_of seat.seat.me.0).reading ≡ []
+
+-- the service has taken so many chunks of each of the two writers, and reads none
+pub record HasTakenOf (first second : ℕ) (seat : ServiceSeat) : Type 0 where
+  pub first_is : (taken_of (service_of seat.seat.me.0) 0).count ≡ first
+  pub second_is : (taken_of (service_of seat.seat.me.0) 1).count ≡ second
   pub none_out : (service_of seat.seat.me.0).reading ≡ []

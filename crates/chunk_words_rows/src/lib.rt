@@ -9,3 +9,5 @@ mod serving;
 mod threads;
 #[cfg(test)]
 mod words;
+#[cfg(test)]
+mod writing;
