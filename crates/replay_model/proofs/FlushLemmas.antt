@@ -1,5 +1,5 @@
 -- A flush whose chunks were taken and read settles what its writer had emitted.
-use Rattle.std.proofs.Common.{◌≡◌, ◌∙◌, ℕ, zero, suc, ◌+◌, ◌-◌, ◌*◌, ◌<◌, ◌≤◌, true, not, ◌&&◌, List, [], ◌∷◌, ◌++◌, length, map, drop, get_or, Some, refl, sym, ap, subst, arith, inl, inr, append_assoc, append-nil, length-append}
+use Rattle.std.proofs.Common.{◌≡◌, ◌∙◌, ℕ, zero, suc, ◌+◌, ◌-◌, ◌*◌, ◌<◌, ◌≤◌, true, false, not, ◌&&◌, List, [], ◌∷◌, ◌++◌, length, map, drop, get_or, Some, refl, sym, ap, subst, arith, inl, inr, append_assoc, append-nil, length-append}
 use Rattle.std.specs.Prelude.{slice_get}
 use Rattle.std.proofs.lemmas.Bool.{false≢true, eq-eqb, and_parts}
 use Rattle.std.proofs.lemmas.List.{length-map}
@@ -48,7 +48,7 @@ use Rattle.service_core.specs.Reading.{reads_in}
 use Rattle.service_core.specs.Routing.{buffer_at}
 use Rattle.service_core.proofs.HistoryLemmas.{Grows}
 use Rattle.replay_model.specs.Acts.{Act, Ask, ReadAll}
-use Rattle.replay_model.specs.Does.{Notes, Wrote, is_shut}
+use Rattle.replay_model.specs.Does.{Asks, Notes, Wrote, is_shut}
 use Rattle.replay_model.specs.Flushes.{FlushNote}
 use Rattle.replay_model.specs.FlushLaws.{begun_in, IsFlushRead, HasSettled, EveryFlushIsSettled}
 use Rattle.replay_model.specs.Plays.{Plays}
@@ -99,7 +99,7 @@ read_among q packets (model.Committed image patches ∷ events) has = absurd has
 read_among q packets (model.Closed sequence ∷ events) has = absurd has
 
 -- the packets of all writers, as a sum over their places
-sum_views : (each : ℕ → ℕ) (views : List WriterView) (specs : List WriterSpec) (first : ℕ) → length views ≡ length specs
+pub sum_views : (each : ℕ → ℕ) (views : List WriterView) (specs : List WriterSpec) (first : ℕ) → length views ≡ length specs
     → ((k : ℕ) → each (first + k) ≡ begun_count (get_or views k newcomer).calls) → sum_all each first specs ≡ begun_in views
 sum_views each [] [] first long is = refl
 sum_views each [] (spec ∷ specs) first long is = absurd (omega (arith, long))
@@ -110,8 +110,24 @@ sum_views each (view ∷ views) (spec ∷ specs) first long is =
     let rest = sum_views each views specs (suc first) (omega (arith, long)) (λ k. let at : suc first + k ≡ first + suc k = omega arith in ap each at ∙ is (suc k)) in
     omega (arith, here, rest)
 
+-- a writer that flushes between two packets notes that alone
+pub flush_calls : (setup : Setup) (place : ℕ) (old new : World) → Asks setup place Flushed old new → is_writing (packets_of (writer old place).calls) ≡ false
+    → (writer new place).calls ≡ (writer old place).calls ++ Flushed ∷ []
+flush_calls setup place old new asks ended = by_notes asks.notes
+  where
+    by_notes : Notes setup place Flushed old new → (writer new place).calls ≡ (writer old place).calls ++ Flushed ∷ []
+    by_notes (inl is) = is
+    by_notes (inr is) =
+        let before : List Call = (writer old place).calls in
+        let possible : are_possible_after nothing_yet (before ++ Flushed ∷ GivenUp ∷ []) ≡ true =
+        subst (λ (cs : List Call). are_possible_after nothing_yet cs ≡ true) is.0 asks.wrote.cut.possible in
+        let behind = (possible_parts nothing_yet before (Flushed ∷ GivenUp ∷ []) possible).1 in
+        let both = and_parts (not (is_writing (packets_of before))) (newest_is_kept (packets_of before) && true) behind in
+        let kept = and_parts (newest_is_kept (packets_of before)) true both.1 in
+        absurd (false≢true (sym ended ∙ (and_parts (is_writing (packets_of before)) (not (newest_is_lost (packets_of before))) kept.0).0))
+
 -- a flush changes no packet
-flush_packets : (calls : List Call) → packets_of (calls ++ Flushed ∷ []) ≡ packets_of calls
+pub flush_packets : (calls : List Call) → packets_of (calls ++ Flushed ∷ []) ≡ packets_of calls
 flush_packets calls = ap (λ (a : Account). a.packets) (fold-append noted nothing_yet calls (Flushed ∷ []))
 
 module _ (scenario : Parts) (setup : Setup) (is_setup : IsSetupOf scenario setup) (set_up : IsSetUp scenario.buffers scenario.producers scenario.writers)
@@ -151,17 +167,7 @@ module _ (scenario : Parts) (setup : Setup) (is_setup : IsSetupOf scenario setup
   -- ---- calls
 
   calls_then : (writer flush.answered place).calls ≡ before ++ Flushed ∷ []
-  calls_then = by_notes flush.answers.notes
-    where
-      by_notes : Notes setup place Flushed asked flush.answered → (writer flush.answered place).calls ≡ before ++ Flushed ∷ []
-      by_notes (inl is) = is
-      by_notes (inr is) =
-          let possible : are_possible_after nothing_yet (before ++ Flushed ∷ GivenUp ∷ []) ≡ true =
-          subst (λ (cs : List Call). are_possible_after nothing_yet cs ≡ true) is.0 then.cut.possible in
-          let behind = (possible_parts nothing_yet before (Flushed ∷ GivenUp ∷ []) possible).1 in
-          let both = and_parts (not (is_writing (packets_of before))) (newest_is_kept (packets_of before) && true) behind in
-          let kept = and_parts (newest_is_kept (packets_of before)) true both.1 in
-          absurd (false≢true (sym flush.ended ∙ (and_parts (is_writing (packets_of before)) (not (newest_is_lost (packets_of before))) kept.0).0))
+  calls_then = flush_calls setup place asked flush.answered flush.answers flush.ended
 
   calls_on : HasMore (writer flush.answered place).calls (writer read place).calls
   calls_on =

@@ -18,6 +18,7 @@ pub mod PlayedLemmas
 pub mod PlayedOnLemmas
 pub mod ReadOutLemmas
 pub mod ReplayLemmas
+pub mod RequestLemmas
 pub mod RoomLemmas
 pub mod ScrapedLemmas
 pub mod SortedLemmas

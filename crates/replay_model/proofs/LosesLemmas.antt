@@ -237,6 +237,14 @@ schedule_writes scenario place =
     ∙ append-nil (written_calls (calls_in (acts_from scenario [] scenario.lines) place))
     ∙ ap written_calls (lines_ask scenario [] scenario.lines place)
 
+-- behind the acts of these lines, from the first world on, each writer has noted what they ask of it, but for losses and flushes
+pub lines_lose : (scenario : Parts) (setup : Setup) (buffers : List Buffer) (lines : List NumberedLine) (world : World) (notes : List FlushNote)
+    → Plays setup buffers (acts_from scenario [] lines) (first_world setup) world notes → (place : ℕ) → Loses (calls_asked (suc place) lines) (writer world place).calls
+lines_lose scenario setup buffers lines world notes plays place =
+    plays_written setup buffers (acts_from scenario [] lines) (first_world setup) world notes place plays
+    ∙ ap (λ (view : WriterView). written_calls view.calls ++ written_calls (calls_in (acts_from scenario [] lines) place)) (all_same newcomer setup.writers place)
+    ∙ ap written_calls (lines_ask scenario [] lines place)
+
 -- behind a schedule each writer has noted what the lines ask of it, but for losses and flushes
 pub schedule_loses : (scenario : Parts) (setup : Setup) (buffers : List Buffer) (world : World) (notes : List FlushNote)
     → Plays setup buffers (schedule_of scenario) (first_world setup) world notes → (place : ℕ)

@@ -13,7 +13,6 @@ use Rattle.page_geometry.proofs.SizeLemmas.{payload_size_least}
 use Rattle.trace_model.specs.Enough.{most_chunks}
 use Rattle.trace_model.specs.Images.{Image}
 use Rattle.trace_model.specs.Packets.{packets_of, emissions_of, is_writing}
-use Rattle.trace_model.specs.Pages.{Page, images_from}
 use Rattle.model_laws.specs.ChunkCounts.{lost_count}
 use Rattle.model_laws.specs.Losses.{HasShapeOf}
 use Rattle.model_laws.proofs.LossLemmas.{losses_change_no_shape}
@@ -27,6 +26,7 @@ use Rattle.chunk_plain.specs.World.{World, writer}
 use Rattle.chunk_plain.specs.Histories.{completed_images}
 use Rattle.chunk_plain.specs.Owned.{IsOwned, Won, stamps_in}
 use Rattle.world_model.specs.FirstBuffers.{payload_at}
+use Rattle.world_model.proofs.OwnLemmas.{images_long}
 use Rattle.scenario_text.specs.declared.scenario.ProducerLine.{ProducerLine}
 use Rattle.scenario_text.specs.Scenario.{Parts}
 use Rattle.scenario_text.specs.Accepted.{calls_asked, is_closed_by}
@@ -44,21 +44,17 @@ use Rattle.replay_model.proofs.PigeonLemmas.{ranges_apart, wins_on, range_wins, 
 use Rattle.replay_model.proofs.PlayedLemmas.{played_stands, setup_writers, writers_lose}
 use Rattle.replay_model.proofs.RoomLemmas.{most_from, chunks_enough, none_closed, size_is, count_is}
 
-large_sizes : (specs : List ProducerSpec) (i : ℕ) → i < length (sizes_of specs) → 284 ≤ get_or (sizes_of specs) i 0
+pub large_sizes : (specs : List ProducerSpec) (i : ℕ) → i < length (sizes_of specs) → 284 ≤ get_or (sizes_of specs) i 0
 large_sizes [] i low = absurd (omega (arith, low))
 large_sizes (spec ∷ specs) zero low = payload_size_least spec.geometry
 large_sizes (spec ∷ specs) (suc i) low = large_sizes specs i (omega (arith, low))
 
-as_many : (lines : List ProducerLine) (specs : List ProducerSpec) (i : ℕ) (line : ProducerLine) → AllZip IsSpecOf lines specs → slice_get lines i ≡ Some line
+pub as_many : (lines : List ProducerLine) (specs : List ProducerSpec) (i : ℕ) (line : ProducerLine) → AllZip IsSpecOf lines specs → slice_get lines i ≡ Some line
     → i < length (sizes_of specs)
 as_many [] specs i line all get = absurd (cc)
 as_many (one ∷ lines) [] i line all get = absurd all
 as_many (one ∷ lines) (spec ∷ specs) zero line all get = omega arith
 as_many (one ∷ lines) (spec ∷ specs) (suc i) line all get = let rest = as_many lines specs i line all.1 get in omega (arith, rest)
-
-images_long : (sequence id : ℕ) (pages : List Page) → length (images_from sequence id pages) ≡ length pages
-images_long sequence id [] = refl
-images_long sequence id (page ∷ pages) = ap suc (images_long sequence (suc id) pages)
 
 -- ---- one writer
 

@@ -1,23 +1,28 @@
 -- What a flush promises to who asks for it: once as many chunks of a writer are taken as it had completed when it flushed, the next read of its buffer
 -- without limit settles what became of each packet that it had emitted by then.
-use Rattle.std.specs.Prelude.{◌≡◌, ◌≢◌, ℕ, ◌+◌, ◌<◌, ◌≤◌, false, List, [], ◌∷◌, length, ⊤}
+use Rattle.std.specs.Prelude.{◌≡◌, ◌≢◌, ℕ, suc, ◌+◌, ◌<◌, ◌≤◌, false, List, [], ◌∷◌, ◌++◌, length, ⊤}
 use Rattle.trace_model.specs.Buffers.{Buffer}
 use Rattle.trace_model.specs.Calls.{Flushed}
 use Rattle.trace_model.specs.Causes.{fixed_after}
 use Rattle.trace_model.specs.Counts.{last_count}
 use Rattle.trace_model.specs.Cut.{CutsInto}
-use Rattle.trace_model.specs.Packets.{packets_of, is_writing, begun_count}
+use Rattle.trace_model.specs.Enough.{most_chunks}
+use Rattle.trace_model.specs.Packets.{packets_of, is_writing, emissions_of, begun_count}
 use Rattle.trace_model.specs.Pages.{Page}
 use Rattle.trace_model.specs.Written.{chains_of}
 use Rattle.delivery_laws.specs.FlushLaws.{AreSettled}
-use Rattle.chunk_plain.specs.Setup.{Setup, sequence_of}
+use Rattle.chunk_plain.specs.declared.tokens.TheConstants.{ID_LIMIT}
+use Rattle.chunk_plain.specs.Setup.{Setup, producer_of, sequence_of}
 use Rattle.chunk_plain.specs.Plain.{first_world}
 use Rattle.chunk_plain.specs.Views.{WriterView, taken_of}
 use Rattle.chunk_plain.specs.World.{World, writer}
 use Rattle.chunk_plain.specs.Owned.{IsOwned}
 use Rattle.chunk_plain.specs.Histories.{completed_images, history_of}
 use Rattle.world_model.specs.FirstBuffers.{payload_at}
+use Rattle.scenario_text.specs.declared.scenario.NumberedLine.{NumberedLine}
+use Rattle.scenario_text.specs.declared.scenario.LineKind.TheVariants as line
 use Rattle.scenario_text.specs.Scenario.{Parts}
+use Rattle.scenario_text.specs.Accepted.{calls_asked, is_closed_by}
 use Rattle.scenario_text.specs.Limits.{IsSetUp}
 use Rattle.service_core.specs.Agreement.{spec_at}
 use Rattle.replay_model.specs.Acts.{Act, Ask, Answer}
@@ -25,6 +30,7 @@ use Rattle.replay_model.specs.Does.{Asks, Reads}
 use Rattle.replay_model.specs.Flushes.{FlushNote}
 use Rattle.replay_model.specs.Plays.{Plays}
 use Rattle.replay_model.specs.Played.{IsSetupOf, buffers_of, first_buffer}
+use Rattle.replay_model.specs.Schedule.{acts_from}
 
 -- the acts ask nothing of the writer at this place
 abbrev pub LeaveAlone : (place : ℕ) → List Act → Type 0
@@ -67,11 +73,26 @@ pub record HasSettled (scenario : Parts) (setup : Setup) (place : ℕ) (asked re
   pub settled : AreSettled (fixed_after (sequence_of place) (first_buffer scenario setup place) (history_of read.service))
       (packets_of (writer asked place).calls) (chains_of pages)
 
--- So it is wherever acts lead, of a scenario's set-up, while no more packets are begun than a count can tell. A line `q`, and at any later point a line
--- `r` for each buffer without a limit, are such acts for each writer of an open producer that has no packet begun: the line makes the request, has each
--- of these writers flush, and then takes what each open producer has complete.
+-- So it is wherever acts lead, of a scenario's set-up, while no more packets are begun than a count can tell.
 abbrev pub EveryFlushIsSettled : Type 0
 EveryFlushIsSettled = (scenario : Parts) (setup : Setup) → IsSetupOf scenario setup → IsSetUp scenario.buffers scenario.producers scenario.writers
     → (acts : List Act) (asked read : World) (notes : List FlushNote) → Plays setup (buffers_of scenario setup) acts (first_world setup) asked notes
     → (place : ℕ) → place < length setup.writers → IsFlushRead setup (buffers_of scenario setup) place asked read
     → begun_in read.writers ≤ last_count → HasSettled scenario setup place asked read
+
+-- A line `q`, and at any later point a line `r` for the writer's buffer without a limit, are such acts: the first makes the request, has each writer
+-- flush that may, and then takes what each open producer has complete. Of a writer whose producer is open, and of which the lines before the request
+-- leave no packet begun, each packet that it had emitted by then is settled behind the read. All is said by the lines: there are no more than a count
+-- can tell, and what those before the request ask of the writer takes no more chunks than it has ids.
+abbrev pub EveryRequestIsSettled : Type 0
+EveryRequestIsSettled = (scenario : Parts) (setup : Setup) → IsSetupOf scenario setup → IsSetUp scenario.buffers scenario.producers scenario.writers
+    → (before between : List NumberedLine) (request last : NumberedLine) (world : World) (notes : List FlushNote)
+    → Plays setup (buffers_of scenario setup) (acts_from scenario [] (before ++ (request ∷ (between ++ (last ∷ []))))) (first_world setup) world notes
+    → (place : ℕ) → place < length setup.writers → is_closed_by before (producer_of setup place) ≡ false
+    → request.what ≡ line.Request → last.what ≡ line.Read (spec_at setup.writers place).buffer last_count
+    → length (before ++ (request ∷ (between ++ (last ∷ [])))) ≤ last_count
+    → is_writing (packets_of (calls_asked (suc place) before)) ≡ false
+    → most_chunks (payload_at setup place) (emissions_of (calls_asked (suc place) before)) ≤ ID_LIMIT
+    → (asked : World) × (earlier : List FlushNote)
+    × Plays setup (buffers_of scenario setup) (acts_from scenario [] before) (first_world setup) asked earlier
+    × HasSettled scenario setup place asked world

@@ -1,7 +1,7 @@
 //! Laws on what acts make of a world, and on what a scenario's acts lead to: contracts of functions with
 //! nothing to do.
 ghost use Rattle.replay_model.specs.Laws.{NothingPlaysNothing, WritersWrote, WritersLose, ReplaysAreAccounts, EveryReplayIsFaithful};
-ghost use Rattle.replay_model.specs.FlushLaws.{EveryFlushIsSettled};
+ghost use Rattle.replay_model.specs.FlushLaws.{EveryFlushIsSettled, EveryRequestIsSettled};
 ghost use Rattle.replay_model.specs.Laws.{EveryReportIsBalanced, EveryReportCountsPackets, EnoughLosesNothing, EveryEnoughReplayIsComplete};
 
 /// No acts lead from a world to itself.
@@ -54,4 +54,11 @@ pub fn every_report_counts_packets()
 /// buffer without limit fixes the outcome of each packet that it had emitted by then.
 pub fn every_flush_is_settled()
     ensures { EveryFlushIsSettled }
+{}
+
+/// So behind a line that makes a flush request, and later one that reads a buffer without limit, each
+/// packet is settled that a writer of an open producer into that buffer had emitted at the request, if
+/// none of it was begun.
+pub fn every_request_is_settled()
+    ensures { EveryRequestIsSettled }
 {}
