@@ -178,7 +178,7 @@ kept_outcome at (one ∷ fixed) more outcome e = step (is_same_place one.at at) 
     step true h k = h
     step false h k = k h
 
-kept_fates : (fixed more : List Fixed) (packets : List Packet) (chains : List Chain) (outcomes : List Outcome) → fates_of fixed packets chains ≡ map Some outcomes
+pub kept_fates : (fixed more : List Fixed) (packets : List Packet) (chains : List Chain) (outcomes : List Outcome) → fates_of fixed packets chains ≡ map Some outcomes
     → fates_of (fixed ++ more) packets chains ≡ map Some outcomes
 kept_fates fixed more [] chains outcomes e = e
 kept_fates fixed more (packet ∷ packets) chains [] e = absurd (some chains e)

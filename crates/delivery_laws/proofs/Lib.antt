@@ -17,6 +17,7 @@ pub mod KeepLemmas
 pub mod KnownLemmas
 pub mod LossLemmas
 pub mod OrderLemmas
+pub mod OutcomeLemmas
 pub mod OwnEvents
 pub mod PieceLemmas
 pub mod ReadTells

@@ -1,6 +1,6 @@
 -- What a flush promises: once the chunks that the writer had completed by then have come, the next read of all that is
 -- due settles what became of each packet that it had emitted.
-use Rattle.std.specs.Prelude.{◌≡◌, ℕ, suc, ◌≤◌, ◌==◌, List, [], ◌∷◌, ◌++◌, length, map, Option, Some, if◌then◌else◌}
+use Rattle.std.specs.Prelude.{◌≡◌, ℕ, suc, ◌≤◌, ◌==◌, List, [], ◌∷◌, ◌++◌, length, map, take, reverse, Option, Some, if◌then◌else◌}
 use Rattle.trace_base.specs.declared.policy.FullPolicy.{FullPolicy}
 use Rattle.trace_model.specs.Calls.{Call, Flushed}
 use Rattle.trace_model.specs.Packets.{Packet, packets_of, begun_count}
@@ -13,6 +13,7 @@ use Rattle.trace_model.specs.Buffers.{empty_buffer}
 use Rattle.trace_model.specs.Reads.{Dropped}
 use Rattle.trace_model.specs.History.{Event, Arrives, Read}
 use Rattle.trace_model.specs.Causes.{Outcome, Absent, Fixed, fixed_after, outcome_at}
+use Rattle.trace_model.specs.Balance.{packet_outcomes}
 use Rattle.delivery_laws.specs.DeliveryLaws.{IsAccountOf}
 
 -- how many chunks of the sequence come whole in these events
@@ -59,3 +60,13 @@ EveryFlushIsSettled =
     → IsFlushed size calls pages before flushed → length flushed ≤ arrivals_of sequence early → begun_count calls ≤ limit
     → AreSettled (fixed_after sequence (empty_buffer room policy sequences) (early ++ Read sequence limit ∷ []))
     (packets_of before) (chains_of flushed)
+
+-- And it stays what it is then: in the end these are the outcomes of the writer's first packets, which the report counts.
+abbrev pub EveryOutcomeStays : Type 0
+EveryOutcomeStays =
+    (size : ℕ) (calls : List Call) (pages : List Page) (room : ℕ) (policy : FullPolicy) (sequences : List Sequence)
+    (sequence record_size : ℕ) (early later : List Event) (before : List Call) (flushed : List Page)
+    → IsAccountOf size calls pages sequences sequence record_size (early ++ later) → IsFlushed size calls pages before flushed
+    → (settled : AreSettled (fixed_after sequence (empty_buffer room policy sequences) early) (packets_of before) (chains_of flushed))
+    → take (begun_count before) (packet_outcomes (fixed_after sequence (empty_buffer room policy sequences) (early ++ later)) calls pages)
+    ≡ reverse settled.outcomes

@@ -1,7 +1,7 @@
 //! Laws about what histories deliver: each is the contract of a function with nothing to do.
 ghost use Rattle.delivery_laws.specs.DeliveryLaws.{AccountsAreHistories, EveryHistoryTells, EveryWriterIsTold};
 ghost use Rattle.delivery_laws.specs.EnoughLaws.{EveryAskIsCounted, EveryPacketIsDelivered};
-ghost use Rattle.delivery_laws.specs.FlushLaws.{EveryFlushIsSettled};
+ghost use Rattle.delivery_laws.specs.FlushLaws.{EveryFlushIsSettled, EveryOutcomeStays};
 ghost use Rattle.delivery_laws.specs.WorkedAccounts.{WorkedAccount, WorkedEnough};
 
 /// Whatever a history does with the chunks of a writer, what its reads deliver are packets that the
@@ -35,6 +35,11 @@ pub fn every_ask_is_counted()
 /// that was emitted before it.
 pub fn every_flush_is_settled()
     ensures { EveryFlushIsSettled }
+{}
+
+/// What is fixed then are the outcomes of the writer's first packets in the end.
+pub fn every_outcome_stays()
+    ensures { EveryOutcomeStays }
 {}
 
 /// There is an account that meets all that the law asks for, with a part of a chunk, a patch and a
