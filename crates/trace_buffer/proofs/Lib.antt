@@ -24,3 +24,4 @@ pub mod PutLemmas
 pub mod PatchedLemmas
 pub mod EndLemmas
 pub mod ReadyLemmas
+pub mod UnfinishedLemmas

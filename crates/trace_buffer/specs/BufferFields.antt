@@ -11,6 +11,7 @@ use Rattle.trace_model.specs.Arrivals.{is_too_far}
 use Rattle.trace_model.specs.Buffers.{Buffer, BufferRecord, is_of}
 use Rattle.trace_model.specs.Reading.{reading_of}
 use Rattle.trace_model.specs.Sequences.{Sequence, is_known, sequence_in, has_arrived}
+use Rattle.trace_buffer.specs.Closing.{unfinished_of}
 use Rattle.trace_buffer.specs.Records.{record_of, is_readable, is_at_key}
 use Rattle.trace_buffer.specs.declared.buffer.TraceBuffer.TheInside.{Inside}
 
@@ -104,5 +105,6 @@ pub record AreParts (ring : RingValue) (index : IndexValue) (rows : List Sequenc
   pub fit : AllFit ring.room index.capacity rows
 
 -- the fields of a buffer hold together
-abbrev pub IsBuffer : Inside → Type 0
-IsBuffer a = AreParts a.ring a.index a.rows.items
+pub record IsBuffer (a : Inside) : Type 0 where
+  pub parts : AreParts a.ring a.index a.rows.items
+  pub counted : a.unfinished ≡ unfinished_of a.ring.live

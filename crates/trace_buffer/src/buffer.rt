@@ -12,18 +12,20 @@ ghost use Rattle.chunk_image.specs.Values.{image_value};
 ghost use Rattle.commit_body.specs.Patches.{patch_value};
 ghost use Rattle.trace_buffer.specs.Answers.{arrived_value, patch_told, counts_of, state_of, cursor_value, turn_value};
 ghost use Rattle.trace_buffer.specs.Records.{chunk_of, is_readable};
-ghost use Rattle.trace_buffer.specs.Made.{sequence_of, AreDistinct, AllSmall, AllTakeLeast};
+ghost use Rattle.trace_buffer.specs.Made.{sequence_of, AreDistinct, AllSmall};
 ghost use Rattle.trace_buffer.specs.Calls.{with_advance, is_lost, IsImageOf};
 ghost use Rattle.trace_buffer.specs.BufferFields.{NoPart, IsPartNear};
 
 use crate::answers::{
     Arrived, BufferCounts, BufferSpec, Cursor, Passed, PatchFault, SequenceSpec, SequenceState,
 };
-use crate::closing::mark_parts;
+use crate::closing::{mark_parts, unfinished_in};
 use crate::patching::last_holds;
 use crate::room::{find_place, make_room, meets_unread};
 use crate::row::SequenceRow;
-use crate::rows::{advance, find_row, has_row, make_rows, note_arrived, note_discarded};
+use crate::rows::{
+    advance, find_row, has_row, least_size, make_rows, note_arrived, note_discarded,
+};
 use chunk_image::{Image, ImageFault};
 use chunk_index::Index;
 use commit_body::Patch;
@@ -40,6 +42,8 @@ pub struct TraceBuffer {
     ring: Ring,
     /// Where the live records lie.
     index: Index,
+    /// How many of the live records are parts of chunks or await a patch: what a close looks for.
+    unfinished: u32,
     policy: FullPolicy,
     /// A record was refused by the discard policy.
     shut: bool,
@@ -85,6 +89,7 @@ impl TraceBuffer {
         Ok(TraceBuffer {
             ring,
             index,
+            unfinished: 0,
             policy: spec.policy,
             shut: false,
             placed: 0,
@@ -177,6 +182,11 @@ impl TraceBuffer {
         }
         self.ring.patch_at(place, patch.offset, patch.bytes);
         self.ring.set_awaits(place, !patch.last);
+        let after = RecordKey {
+            awaits: !patch.last,
+            ..key
+        };
+        self.unfinished = self.unfinished - 1 + unfinished_in(after);
         Ok(())
     }
 
@@ -189,7 +199,7 @@ impl TraceBuffer {
         let i = find_row(&self.rows, sequence);
         let row = &mut self.rows[i];
         row.close();
-        self.unpatched = mark_parts(&self.ring, row, self.unpatched);
+        self.unpatched = mark_parts(&self.ring, row, self.unfinished, self.unpatched);
     }
 
     /// Whether the sequence is one of the buffer's.
@@ -416,6 +426,7 @@ impl TraceBuffer {
             &mut self.ring,
             &mut self.index,
             &mut self.rows,
+            &mut self.unfinished,
             size,
             self.overwritten,
         );
@@ -439,6 +450,7 @@ impl TraceBuffer {
         let padding = self.ring.place_next(size).padding;
         let at = self.ring.write(key, payload);
         self.index.add(key.sequence, key.chunk_id, at);
+        self.unfinished += unfinished_in(key);
         self.placed = self.placed.saturating_add(1);
         self.padding = self.padding.saturating_add(u64::from(padding));
     }
@@ -462,7 +474,12 @@ impl TraceBuffer {
         ) else {
             return;
         };
+        // The ring has bytes for few records, so that the count of them fits.
+        let _room = self.ring.size();
+        let _few = self.ring.place_next(0);
+        let before = self.ring.key_at(place);
         self.ring.rewrite(place, key, payload);
+        self.unfinished = self.unfinished - unfinished_in(before) + unfinished_in(key);
         self.rewritten = self.rewritten.saturating_add(1);
     }
 
@@ -478,18 +495,4 @@ impl TraceBuffer {
             note_discarded(&mut self.rows, key);
         }
     }
-}
-
-/// The size of the smallest records of a buffer.
-fn least_size(sequences: &[SequenceSpec], most: u32) -> u32
-    requires some { 0 < most }
-    requires small { AllSmall MAX_RING_SIZE sequences.now }
-    ensures some { 0 < result }
-    ensures least { AllTakeLeast result sequences.now }
-{
-    let mut least = most;
-    for spec in sequences {
-        least = least.min(size_of_record(spec.payload));
-    }
-    least
 }

@@ -3,15 +3,17 @@ ghost use Rattle.std.specs.Prelude.{◌≡◌, ◌&&◌, ◌==◌, true, [], map
 ghost use Rattle.trace_model.specs.Counts.{raised};
 ghost use Rattle.trace_model.specs.Buffers.{BufferRecord};
 ghost use Rattle.trace_buffer.specs.Records.{record_of};
-ghost use Rattle.trace_buffer.specs.Closing.{finals_of, final_with, IsStillNear, PartsAreNear};
+ghost use Rattle.trace_buffer.specs.Closing.{finals_of, final_with, is_unfinished, unfinished_of, IsStillNear, PartsAreNear};
 ghost use Rattle.trace_buffer.specs.BufferFields.{PlacesOnce};
 
 use crate::row::SequenceRow;
 use ring_bytes::{RecordKey, Ring};
 
 /// Marks the ids of which a part is there. Answers the count of records that await a patch, raised
-/// by those of the sequence.
-pub fn mark_parts(ring: &Ring, row: &mut SequenceRow, unpatched: u64) -> u64
+/// by those of the sequence. Both are looked for in all records of the ring, but not where it is
+/// known that there is none.
+pub fn mark_parts(ring: &Ring, row: &mut SequenceRow, unfinished: u32, unpatched: u64) -> u64
+    requires counted { unfinished ≡ unfinished_of ring.now.live }
     requires closed { row.old.closed ≡ true }
     requires none { row.old.final ≡ [] }
     requires near { PartsAreNear row.old ring.now.live }
@@ -20,6 +22,9 @@ pub fn mark_parts(ring: &Ring, row: &mut SequenceRow, unpatched: u64) -> u64
     ensures unpatched { result ≡ raised unpatched
         (count_by (λ (r : BufferRecord). (r.sequence == row.old.number) && r.chunk.awaits) (map record_of ring.now.live)) }
 {
+    if unfinished == 0 {
+        return unpatched;
+    }
     let mut unpatched = unpatched;
     let mut next = ring.live_behind(None);
     while let Some(place) = next {
@@ -53,4 +58,11 @@ fn awaiting(row: &SequenceRow, key: RecordKey) -> u64
         return 0;
     }
     if key.awaits { 1 } else { 0 }
+}
+
+/// How many records a close has to see in one with this header.
+pub fn unfinished_in(key: RecordKey) -> u32
+    ensures { result ≡ (if is_unfinished key then 1 else 0) }
+{
+    if key.partial || key.awaits { 1 } else { 0 }
 }

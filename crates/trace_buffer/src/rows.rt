@@ -5,7 +5,7 @@ ghost use Rattle.trace_model.specs.Arrivals.{is_too_far, with_arrived};
 ghost use Rattle.trace_model.specs.Reads.{advanced};
 ghost use Rattle.trace_buffer.specs.Answers.{cursor_value, turn_value};
 ghost use Rattle.trace_buffer.specs.Keys.{LosesAt, discarded_by};
-ghost use Rattle.trace_buffer.specs.Made.{sequence_of, AllSmall};
+ghost use Rattle.trace_buffer.specs.Made.{sequence_of, AllSmall, AllTakeLeast};
 ghost use Rattle.trace_buffer.specs.BufferFields.{NumbersOnce};
 
 use crate::answers::{Cursor, Passed, SequenceSpec};
@@ -22,6 +22,20 @@ pub fn make_rows(alloc: Global, specs: &[SequenceSpec]) -> Result<Vec<SequenceRo
         rows.push(SequenceRow::make(alloc, spec.sequence, size_of_record(spec.payload))?)?;
     }
     Ok(rows)
+}
+
+/// The size of the smallest records of a buffer.
+pub fn least_size(sequences: &[SequenceSpec], most: u32) -> u32
+    requires some { 0 < most }
+    requires small { AllSmall MAX_RING_SIZE sequences.now }
+    ensures some { 0 < result }
+    ensures least { AllTakeLeast result sequences.now }
+{
+    let mut least = most;
+    for spec in sequences {
+        least = least.min(size_of_record(spec.payload));
+    }
+    least
 }
 
 /// Where the sequence with this number stands.

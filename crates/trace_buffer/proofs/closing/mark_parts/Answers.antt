@@ -5,11 +5,26 @@ use Rattle.ring_bytes.proofs.ListLemmas.{only_found}
 use Rattle.ring_bytes.proofs.LiveLemmas.{alone_found}
 use Rattle.trace_buffer.proofs.ClosingLemmas.{IsMarked, begun, still_marked, ended_row, ended_count, near_here}
 use Rattle.trace_buffer.proofs.FindLemmas.{mapped}
+use Rattle.trace_buffer.proofs.UnfinishedLemmas.{none_to_mark}
 use Rattle.trace_buffer.proofs.WalkLemmas.{left, left_here, all_left, left_next, left_none}
 use Rattle.trace_buffer.proofs.closing.mark_parts.Goals as goal
 
 its_alone : (ring : RingValue) (place : ℕ) (next : Option ℕ) → next ≡ Some place → IfSome next (IsAlone ring) → IsAlone ring place
 its_alone ring place next is alone = subst (λ o. IfSome o (IsAlone ring)) is alone
+
+pub returns-then-unfinished-eq0-clause-row : goal.returns-then-unfinished-eq0-clause-row
+returns-then-unfinished-eq0-clause-row c =
+    let live : List Stored = c.args.ring.now.live in
+    ended_row c.args.row.now c.args.unpatched live c.args.row.now c.args.unpatched
+    (none_to_mark c.args.row.now c.args.unpatched live c.args.row.now c.args.unpatched live (sym c.requires.counted ∙ c.if-unfinished-eq0.true)
+    (begun c.args.row.now c.args.unpatched live (omega arith) c.requires.near c.requires.none))
+
+pub returns-then-unfinished-eq0-clause-unpatched : goal.returns-then-unfinished-eq0-clause-unpatched
+returns-then-unfinished-eq0-clause-unpatched c =
+    let live : List Stored = c.args.ring.now.live in
+    ended_count c.args.row.now c.args.unpatched live c.args.row.now c.args.unpatched
+    (none_to_mark c.args.row.now c.args.unpatched live c.args.row.now c.args.unpatched live (sym c.requires.counted ∙ c.if-unfinished-eq0.true)
+    (begun c.args.row.now c.args.unpatched live (omega arith) c.requires.near c.requires.none))
 
 pub loop-next-init : goal.loop-next-init
 loop-next-init c =

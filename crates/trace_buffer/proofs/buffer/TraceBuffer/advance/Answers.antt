@@ -5,6 +5,9 @@ use Rattle.trace_buffer.proofs.buffer.TraceBuffer.advance.Goals as goal
 
 pub invariant_of-self : goal.invariant_of-self
 invariant_of-self c =
-    parts_after c.self.inside.ring c.self.inside.index c.self.inside.rows c.deref_mut.result.now c.advance.new.rows c.args.sequence
-    (advanced (cursor_value c.args.to) (turn_value c.args.passed)) (keeps_advanced (cursor_value c.args.to) (turn_value c.args.passed))
-    c.self.invariant c.deref_mut.ensures.value c.advance.ensures
+    record {
+      parts = parts_after c.self.inside.ring c.self.inside.index c.self.inside.rows c.deref_mut.result.now c.advance.new.rows c.args.sequence
+          (advanced (cursor_value c.args.to) (turn_value c.args.passed)) (keeps_advanced (cursor_value c.args.to) (turn_value c.args.passed))
+          c.self.invariant.parts c.deref_mut.ensures.value c.advance.ensures;
+      counted = c.self.invariant.counted;
+    }

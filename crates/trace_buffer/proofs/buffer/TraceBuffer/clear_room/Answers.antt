@@ -1,15 +1,27 @@
-use Rattle.std.proofs.Common.{◌≡◌, ℕ, List, length, map, sum_by, ap, ◌∙◌}
+use Rattle.std.proofs.Common.{◌≡◌, ℕ, List, length, map, sum_by, sym, ap, ◌∙◌, subst}
 use Rattle.std.proofs.lemmas.List.{length-map}
 use Rattle.std.specs.Vec.{with_items}
 use Rattle.ring_bytes.specs.Value.{RingValue}
 use Rattle.trace_model.specs.Buffers.{Buffer, BufferRecord, made_room, with_losses}
 use Rattle.trace_model.specs.Counts.{raised}
 use Rattle.trace_model.specs.Sequences.{Sequence}
-use Rattle.trace_buffer.specs.BufferFields.{buffer_view}
+use Rattle.trace_buffer.specs.BufferFields.{buffer_view, AreParts}
 use Rattle.trace_buffer.specs.Records.{record_of, meets_record, met_records, displaced, unread_losses}
 use Rattle.trace_buffer.proofs.PartLemmas.{items_of}
 use Rattle.trace_buffer.proofs.RoomLemmas.{map_stay}
 use Rattle.trace_buffer.proofs.buffer.TraceBuffer.clear_room.Goals as goal
+
+pub invariant_of-self : goal.invariant_of-self
+invariant_of-self c =
+    let gone : List BufferRecord = met_records c.self.inside.ring c.args.size in
+    let all : c.make_room-self-inside.new.rows ≡ map (with_losses gone) c.self.inside.rows.items =
+    c.make_room-self-inside.ensures.rows ∙ ap (map (with_losses gone)) c.deref_mut.ensures.value in
+    record {
+      parts = subst (AreParts c.make_room-self-inside.new.ring c.make_room-self-inside.new.index)
+          (sym (items_of c.self.inside.rows c.make_room-self-inside.new.rows (ap length all ∙ length-map c.self.inside.rows.items (with_losses gone))))
+          c.make_room-self-inside.ensures.parts;
+      counted = c.make_room-self-inside.ensures.counted;
+    }
 
 pub returns : goal.returns
 returns c =

@@ -14,34 +14,37 @@ use Rattle.trace_buffer.proofs.buffer.TraceBuffer.close_sequence.Goals as goal
 
 pub close-requires : goal.close-requires
 close-requires c =
-    let row = row_of c.self.inside.rows.items c.deref.result.now c.find_row-i.result c.args.sequence _ _ c.index_mut-row.result.now c.self.invariant.once
+    let row = row_of c.self.inside.rows.items c.deref.result.now c.find_row-i.result c.args.sequence _ _ c.index_mut-row.result.now c.self.invariant.parts.once
     c.deref.ensures.value c.find_row-i.ensures.within c.find_row-i.ensures.number c.index_mut-row.ensures.value in
     ap (λ (s : Sequence). s.closed) row ∙ ap (λ (b : Buffer). (sequence_in b.sequences c.args.sequence).closed) c.self.view_is ∙ c.requires.open
 
 pub mark_parts-self-inside-requires-clause-near : goal.mark_parts-self-inside-requires-clause-near
 mark_parts-self-inside-requires-clause-near c =
-    let row = row_of c.self.inside.rows.items c.deref.result.now c.find_row-i.result c.args.sequence _ _ c.index_mut-row.result.now c.self.invariant.once
+    let row = row_of c.self.inside.rows.items c.deref.result.now c.find_row-i.result c.args.sequence _ _ c.index_mut-row.result.now c.self.invariant.parts.once
     c.deref.ensures.value c.find_row-i.ensures.within c.find_row-i.ensures.number c.index_mut-row.ensures.value in
     subst (λ (s : Sequence). PartsAreNear s c.self.inside.ring.live) (sym c.close.ensures.after)
-    (parts_near c.self.inside.rows.items c.index_mut-row.result.now c.args.sequence c.self.inside.ring.live row (ap (λ (s : Sequence). s.number) row ∙ its_number c.self.inside.rows.items c.args.sequence (ap (λ (b : Buffer). is_known b.sequences c.args.sequence) c.self.view_is ∙ c.requires.known)) c.self.invariant.kept)
+    (parts_near c.self.inside.rows.items c.index_mut-row.result.now c.args.sequence c.self.inside.ring.live row (ap (λ (s : Sequence). s.number) row ∙ its_number c.self.inside.rows.items c.args.sequence (ap (λ (b : Buffer). is_known b.sequences c.args.sequence) c.self.view_is ∙ c.requires.known)) c.self.invariant.parts.kept)
 
 pub invariant_of-self : goal.invariant_of-self
 invariant_of-self c =
-    let row = row_of c.self.inside.rows.items c.deref.result.now c.find_row-i.result c.args.sequence _ _ c.index_mut-row.result.now c.self.invariant.once
+    let row = row_of c.self.inside.rows.items c.deref.result.now c.find_row-i.result c.args.sequence _ _ c.index_mut-row.result.now c.self.invariant.parts.once
     c.deref.ensures.value c.find_row-i.ensures.within c.find_row-i.ensures.number c.index_mut-row.ensures.value in
     let live : List BufferRecord = map record_of c.self.inside.ring.live in
-    let rows = changed_is c.self.inside.rows.items c.find_row-i.result c.args.sequence _ _ (closed_sequence live) c.mark_parts-self-inside.new.row c.self.invariant.once
+    let rows = changed_is c.self.inside.rows.items c.find_row-i.result c.args.sequence _ _ (closed_sequence live) c.mark_parts-self-inside.new.row c.self.invariant.parts.once
     (subst (λ (ss : List Sequence). c.find_row-i.result < length ss) c.deref.ensures.value c.find_row-i.ensures.within)
     (ap (λ (ss : List Sequence). (get_or ss c.find_row-i.result (fresh 0 0)).number) (sym c.deref.ensures.value) ∙ c.find_row-i.ensures.number)
     (closed_is live c.index_mut-row.result.now c.close.new.self c.mark_parts-self-inside.new.row c.close.ensures.after c.mark_parts-self-inside.ensures.row ∙ ap (closed_sequence live) c.index_mut-row.ensures.value) in
-    parts_at c.self.inside.ring c.self.inside.index c.self.inside.rows.items _ c.args.sequence (closed_sequence live) (keeps_closed live) c.self.invariant rows
+    record {
+      parts = parts_at c.self.inside.ring c.self.inside.index c.self.inside.rows.items _ c.args.sequence (closed_sequence live) (keeps_closed live) c.self.invariant.parts rows;
+      counted = c.self.invariant.counted;
+    }
 
 pub returns : goal.returns
 returns c =
-    let row = row_of c.self.inside.rows.items c.deref.result.now c.find_row-i.result c.args.sequence _ _ c.index_mut-row.result.now c.self.invariant.once
+    let row = row_of c.self.inside.rows.items c.deref.result.now c.find_row-i.result c.args.sequence _ _ c.index_mut-row.result.now c.self.invariant.parts.once
     c.deref.ensures.value c.find_row-i.ensures.within c.find_row-i.ensures.number c.index_mut-row.ensures.value in
     let live : List BufferRecord = map record_of c.self.inside.ring.live in
-    let rows = changed_is c.self.inside.rows.items c.find_row-i.result c.args.sequence _ _ (closed_sequence live) c.mark_parts-self-inside.new.row c.self.invariant.once
+    let rows = changed_is c.self.inside.rows.items c.find_row-i.result c.args.sequence _ _ (closed_sequence live) c.mark_parts-self-inside.new.row c.self.invariant.parts.once
     (subst (λ (ss : List Sequence). c.find_row-i.result < length ss) c.deref.ensures.value c.find_row-i.ensures.within)
     (ap (λ (ss : List Sequence). (get_or ss c.find_row-i.result (fresh 0 0)).number) (sym c.deref.ensures.value) ∙ c.find_row-i.ensures.number)
     (closed_is live c.index_mut-row.result.now c.close.new.self c.mark_parts-self-inside.new.row c.close.ensures.after c.mark_parts-self-inside.ensures.row ∙ ap (closed_sequence live) c.index_mut-row.ensures.value) in

@@ -14,8 +14,11 @@ use Rattle.trace_buffer.proofs.buffer.TraceBuffer.discard.Goals as goal
 
 pub invariant_of-self : goal.invariant_of-self
 invariant_of-self c =
-    parts_after c.self.inside.ring c.self.inside.index c.self.inside.rows c.deref_mut.result.now c.note_discarded.new.rows c.args.key.sequence
-    (discarded_by c.args.key) (keeps_discarded c.args.key) c.self.invariant c.deref_mut.ensures.value c.note_discarded.ensures
+    record {
+      parts = parts_after c.self.inside.ring c.self.inside.index c.self.inside.rows c.deref_mut.result.now c.note_discarded.new.rows c.args.key.sequence
+          (discarded_by c.args.key) (keeps_discarded c.args.key) c.self.invariant.parts c.deref_mut.ensures.value c.note_discarded.ensures;
+      counted = c.self.invariant.counted;
+    }
 
 no_part : (b : Bool) → not b ≡ true → b ≡ false
 no_part true is = absurd (true≢false (sym is))

@@ -19,7 +19,7 @@ returns-in-None c =
 pub returns-in-Some : goal.returns-in-Some
 returns-in-Some c =
     let f = is_found c.self.inside.ring c.args.sequence c.args.chunk_id c.in-Some.place c.find_place.result c.in-Some.is c.find_place.ensures.place c.find_place.ensures.there in
-    let kept = kept_found (is_at_key c.args.sequence c.args.chunk_id) c.self.inside.rows.items c.self.inside.ring.live f.stored c.self.invariant.kept f.found in
+    let kept = kept_found (is_at_key c.args.sequence c.args.chunk_id) c.self.inside.rows.items c.self.inside.ring.live f.stored c.self.invariant.parts.kept f.found in
     let key : c.key_at.result ≡ f.stored.key = mapped (λ (s : Stored). s.key) _ f.stored c.key_at.result f.there c.key_at.ensures in
     ap (λ (k : RecordKey). nat_le c.args.count k.count) key
     ∙ ap (λ n. nat_le c.args.count n) (sym (reading_length f.stored.key.count f.stored.payload kept.reads))

@@ -9,6 +9,6 @@ pub returns-clause-is : goal.returns-clause-is
 returns-clause-is c =
     c.horizon.ensures.is
     ∙ ap horizon
-    (row_of c.self.inside.rows.items c.deref.result.now c.find_row.result c.args.sequence _ _ c.index.result.now c.self.invariant.once
+    (row_of c.self.inside.rows.items c.deref.result.now c.find_row.result c.args.sequence _ _ c.index.result.now c.self.invariant.parts.once
     c.deref.ensures.value c.find_row.ensures.within c.find_row.ensures.number c.index.ensures)
     ∙ ap (λ (b : Buffer). horizon (sequence_in b.sequences c.args.sequence)) c.self.view_is

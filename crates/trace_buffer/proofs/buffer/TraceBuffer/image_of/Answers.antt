@@ -11,7 +11,7 @@ use Rattle.trace_buffer.proofs.buffer.TraceBuffer.image_of.Goals as goal
 pub returns-in_default-clause-none : goal.returns-in_default-clause-none
 returns-in_default-clause-none c =
     live_is c.self.inside.ring c.args.self.now.live c.args.sequence c.args.chunk_id (ap (λ (b : Buffer). b.live) c.self.view_is)
-    ∙ ap (option_map record_of) (far_none c.self.inside.rows.items c.self.inside.ring.live c.args.sequence c.args.chunk_id c.self.invariant.kept (c.in_default.ensures))
+    ∙ ap (option_map record_of) (far_none c.self.inside.rows.items c.self.inside.ring.live c.args.sequence c.args.chunk_id c.self.invariant.parts.kept (c.in_default.ensures))
 
 pub returns-in_err-place-clause-none : goal.returns-in_err-place-clause-none
 returns-in_err-place-clause-none c =
@@ -25,7 +25,7 @@ pub returns-clause-some : goal.returns-clause-some
 returns-clause-some c =
     let same : c.in-Ok.id ≡ c.args.chunk_id = c.in-Ok.ensures.1 in
     let f = is_found c.self.inside.ring c.args.sequence c.in-Ok.id c.in_ok-place.place c.find_place.result c.in_ok-place.was c.find_place.ensures.place c.find_place.ensures.there in
-    let kept = kept_found (is_at_key c.args.sequence c.in-Ok.id) c.self.inside.rows.items c.self.inside.ring.live f.stored c.self.invariant.kept f.found in
+    let kept = kept_found (is_at_key c.args.sequence c.in-Ok.id) c.self.inside.rows.items c.self.inside.ring.live f.stored c.self.invariant.parts.kept f.found in
     let key : c.key_at.result ≡ f.stored.key = mapped (λ (s : Stored). s.key) _ f.stored c.key_at.result f.there c.key_at.ensures in
     let payload : c.payload_at.result.now ≡ f.stored.payload = mapped (λ (s : Stored). s.payload) _ f.stored c.payload_at.result.now f.there c.payload_at.ensures in
     let live : live_at c.args.self.now c.args.sequence c.in-Ok.id ≡ Some (record_of f.stored) =
@@ -36,8 +36,8 @@ returns-clause-some c =
 pub returns-clause-small : goal.returns-clause-small
 returns-clause-small c =
     let f = is_found c.self.inside.ring c.args.sequence c.in-Ok.id c.in_ok-place.place c.find_place.result c.in_ok-place.was c.find_place.ensures.place c.find_place.ensures.there in
-    let kept = kept_found (is_at_key c.args.sequence c.in-Ok.id) c.self.inside.rows.items c.self.inside.ring.live f.stored c.self.invariant.kept f.found in
+    let kept = kept_found (is_at_key c.args.sequence c.in-Ok.id) c.self.inside.rows.items c.self.inside.ring.live f.stored c.self.invariant.parts.kept f.found in
     let payload : c.payload_at.result.now ≡ f.stored.payload = mapped (λ (s : Stored). s.payload) _ f.stored c.payload_at.result.now f.there c.payload_at.ensures in
-    let fits = size_fits c.self.inside.ring.room c.self.inside.index.capacity f.stored.key.sequence c.self.inside.rows.items c.self.invariant.fit kept.known in
+    let fits = size_fits c.self.inside.ring.room c.self.inside.index.capacity f.stored.key.sequence c.self.inside.rows.items c.self.invariant.parts.fit kept.known in
     subst (λ (bytes : List ℕ). length bytes ≤ 67108864) (sym payload)
     (payload_small (length f.stored.payload) _ c.self.inside.ring.room kept.size fits c.size-room.ensures.most)

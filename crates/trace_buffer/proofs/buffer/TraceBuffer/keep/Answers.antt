@@ -1,16 +1,18 @@
-use Rattle.std.proofs.Common.{◌≡◌, ℕ, ◌+◌, ◌*◌, ◌<◌, ◌≤◌, true, false, List, ◌++◌, [], ◌∷◌, length, sum_by, sym, ap, ◌∙◌, subst, arith, length-append}
+use Rattle.std.proofs.Common.{◌≡◌, ℕ, ◌+◌, ◌*◌, ◌<◌, ◌≤◌, true, false, List, ◌++◌, [], ◌∷◌, length, sum_by, sym, ap, ap₂, ◌∙◌, subst, arith, length-append}
 use Rattle.std.specs.List.{find}
 use Rattle.page_geometry.specs.Sizes.{record_size}
-use Rattle.ring_bytes.specs.Value.{Stored, RingValue, placed, size_of}
+use Rattle.ring_bytes.specs.Value.{Stored, RingValue, placed, size_of, written}
 use Rattle.ring_bytes.specs.declared.key.RecordKey.{RecordKey}
 use Rattle.trace_model.specs.Arrivals.{is_too_far}
 use Rattle.trace_model.specs.Buffers.{Buffer, meets, live_at, is_of}
 use Rattle.trace_model.specs.Sequences.{is_known, sequence_in, has_arrived}
 use Rattle.trace_buffer.specs.BufferFields.{IsKept}
+use Rattle.trace_buffer.specs.Closing.{unfinished_of}
 use Rattle.trace_buffer.specs.Records.{meets_record}
 use Rattle.trace_buffer.proofs.FindLemmas.{find_no_record}
 use Rattle.trace_buffer.proofs.KeptLemmas.{parts_more}
 use Rattle.trace_buffer.proofs.KeepLemmas.{free_is, absent_is, roomy, roomy_kept, roomy_with, few_entries}
+use Rattle.trace_buffer.proofs.UnfinishedLemmas.{one_of, count_placed, few_unfinished}
 use Rattle.trace_buffer.proofs.buffer.TraceBuffer.keep.Goals as goal
 
 pub write-at-requires-clause-free : goal.write-at-requires-clause-free
@@ -20,7 +22,7 @@ write-at-requires-clause-free c =
 
 pub add-requires-clause-absent : goal.add-requires-clause-absent
 add-requires-clause-absent c =
-    c.self.invariant.indexed.found c.args.key.sequence c.args.key.chunk_id (omega arith) (omega arith)
+    c.self.invariant.parts.indexed.found c.args.key.sequence c.args.key.chunk_id (omega arith) (omega arith)
     ∙ absent_is c.self.inside.ring c.args.key.sequence c.args.key.chunk_id
     (ap (λ (b : Buffer). live_at b c.args.key.sequence c.args.key.chunk_id) c.self.view_is ∙ c.requires.none)
 
@@ -34,13 +36,26 @@ add-requires-clause-room c =
     c.requires.size ∙ sym (ap (λ (b : Buffer). (sequence_in b.sequences c.args.key.sequence).size) c.self.view_is) in
     let one : ring.room < size_of new * (c.self.inside.index.capacity + 1) =
     subst (λ n. ring.room < n * (c.self.inside.index.capacity + 1)) (sym size)
-    (roomy ring.room c.self.inside.index.capacity c.args.key.sequence c.self.inside.rows.items c.self.invariant.fit known) in
+    (roomy ring.room c.self.inside.index.capacity c.args.key.sequence c.self.inside.rows.items c.self.invariant.parts.fit known) in
     let few : sum_by size_of (ring.live ++ new ∷ []) ≤ ring.room =
     subst (λ (r : RingValue). sum_by size_of r.live ≤ r.room) c.write-at.ensures.after c.write-at.ensures.few in
     let most = few_entries ring.room c.self.inside.index.capacity (ring.live ++ new ∷ [])
-    (roomy_with ring.room c.self.inside.index.capacity ring.live new (roomy_kept ring.room c.self.inside.index.capacity c.self.inside.rows.items ring.live c.self.invariant.fit c.self.invariant.kept) one)
+    (roomy_with ring.room c.self.inside.index.capacity ring.live new (roomy_kept ring.room c.self.inside.index.capacity c.self.inside.rows.items ring.live c.self.invariant.parts.fit c.self.invariant.parts.kept) one)
     few in
-    omega (arith, most, length-append ring.live (new ∷ []), c.self.invariant.indexed.few)
+    omega (arith, most, length-append ring.live (new ∷ []), c.self.invariant.parts.indexed.few)
+
+counted_more : (ring new : RingValue) (key : RecordKey) (payload : List ℕ) (count one : ℕ) → count ≡ unfinished_of ring.live → one ≡ one_of key → new ≡ written ring key payload → count + one ≡ unfinished_of new.live
+counted_more ring new key payload count one count_is one_is new_is =
+    ap₂ (λ n m. n + m) count_is one_is
+    ∙ sym (ap (λ (r : RingValue). unfinished_of r.live) new_is ∙ count_placed ring.live (placed ring key payload))
+
+pub overflow_add-self : goal.overflow_add-self
+overflow_add-self c =
+    let total = counted_more c.self.inside.ring c.write-at.new.self c.args.key c.args.payload.now c.self.inside.unfinished c.unfinished_in.result c.self.invariant.counted c.unfinished_in.ensures c.write-at.ensures.after in
+    let few = few_unfinished c.write-at.new.self.room c.write-at.new.self.live c.write-at.ensures.few in
+    let room_is : c.write-at.new.self.room ≡ c.self.inside.ring.room = ap (λ (r : RingValue). r.room) c.write-at.ensures.after in
+    let view : c.self.inside.ring.room ≡ c.args.self.now.room = ap (λ (b : Buffer). b.room) c.self.view_is in
+    omega (arith, total, few, room_is, view, c.requires.small)
 
 pub invariant_of-self : goal.invariant_of-self
 invariant_of-self c =
@@ -56,8 +71,11 @@ invariant_of-self c =
       id = omega arith;
       part = λ partial. subst (λ (b : Buffer). (has_arrived (sequence_in b.sequences key.sequence) key.chunk_id ≡ false) × (is_too_far (sequence_in b.sequences key.sequence) key.chunk_id ≡ false)) (sym view) (c.requires.part partial);
     } in
-    parts_more ring c.write-at.new.self c.self.inside.index c.add.new.self c.self.inside.rows.items key payload c.write-at.result
-    c.self.invariant c.write-at.ensures.after c.write-at.ensures.at c.add.ensures
-    (find_no_record (is_of key.sequence key.chunk_id) ring.live (ap (λ (b : Buffer). live_at b key.sequence key.chunk_id) view ∙ c.requires.none))
-    (find_no_record (meets_record ring (record_size (length payload))) ring.live (ap (λ (b : Buffer). find (meets b (record_size (length payload))) b.live) view ∙ c.requires.free))
-    kept
+    record {
+      parts = parts_more ring c.write-at.new.self c.self.inside.index c.add.new.self c.self.inside.rows.items key payload c.write-at.result
+          c.self.invariant.parts c.write-at.ensures.after c.write-at.ensures.at c.add.ensures
+          (find_no_record (is_of key.sequence key.chunk_id) ring.live (ap (λ (b : Buffer). live_at b key.sequence key.chunk_id) view ∙ c.requires.none))
+          (find_no_record (meets_record ring (record_size (length payload))) ring.live (ap (λ (b : Buffer). find (meets b (record_size (length payload))) b.live) view ∙ c.requires.free))
+          kept;
+      counted = counted_more ring c.write-at.new.self key payload c.self.inside.unfinished c.unfinished_in.result c.self.invariant.counted c.unfinished_in.ensures c.write-at.ensures.after;
+    }

@@ -23,7 +23,7 @@ or_false x y is = sym (ap (λ b. b || y) is)
 
 pub returns-then-has_arrived : goal.returns-then-has_arrived
 returns-then-has_arrived c =
-    let row = row_of c.self.inside.rows.items c.deref.result.now c.find_row.result c.args.sequence _ _ c.index-row.result.now c.self.invariant.once
+    let row = row_of c.self.inside.rows.items c.deref.result.now c.find_row.result c.args.sequence _ _ c.index-row.result.now c.self.invariant.parts.once
     c.deref.ensures.value c.find_row.ensures.within c.find_row.ensures.number c.index-row.ensures
     ∙ ap (λ (b : Buffer). sequence_in b.sequences c.args.sequence) c.self.view_is in
     or_true c.has_arrived.result (is_among c.args.chunk_id c.index-row.result.now.final) c.if-has_arrived.true
@@ -33,7 +33,7 @@ returns-then-has_arrived c =
 
 pub returns-else-has_arrived : goal.returns-else-has_arrived
 returns-else-has_arrived c =
-    let row = row_of c.self.inside.rows.items c.deref.result.now c.find_row.result c.args.sequence _ _ c.index-row.result.now c.self.invariant.once
+    let row = row_of c.self.inside.rows.items c.deref.result.now c.find_row.result c.args.sequence _ _ c.index-row.result.now c.self.invariant.parts.once
     c.deref.ensures.value c.find_row.ensures.within c.find_row.ensures.number c.index-row.ensures
     ∙ ap (λ (b : Buffer). sequence_in b.sequences c.args.sequence) c.self.view_is in
     or_false c.has_arrived.result c.is_final.result c.if-has_arrived.false

@@ -1,3 +1,6 @@
+use Rattle.std.proofs.Common.{sym, ap}
+use Rattle.ring_bytes.specs.Value.{RingValue}
+use Rattle.trace_buffer.specs.Closing.{unfinished_of}
 use Rattle.trace_buffer.proofs.MadeLemmas.{small_more, parts_made}
 use Rattle.trace_buffer.proofs.buffer.TraceBuffer.make.Goals as goal
 
@@ -8,6 +11,8 @@ pub make_rows-requires : goal.make_rows-requires
 make_rows-requires c = small_more c.args.spec.size 67108864 c.args.sequences.now c.requires.most c.requires.small
 
 pub invariant_of-result : goal.invariant_of-result
-invariant_of-result c =
-    parts_made c.in_ok-ring.ring c.in_ok-index.index c.in_ok-rows.rows.items c.args.spec.size c.least_size-least.result c.args.sequences.now
-    c.in_ok-ring.ensures c.in_ok-index.ensures c.in_ok-rows.ensures c.least_size-least.ensures.some c.requires.small c.least_size-least.ensures.least c.requires.distinct
+invariant_of-result c = record {
+  parts = parts_made c.in_ok-ring.ring c.in_ok-index.index c.in_ok-rows.rows.items c.args.spec.size c.least_size-least.result c.args.sequences.now
+      c.in_ok-ring.ensures c.in_ok-index.ensures c.in_ok-rows.ensures c.least_size-least.ensures.some c.requires.small c.least_size-least.ensures.least c.requires.distinct;
+  counted = ap (λ (r : RingValue). unfinished_of r.live) (sym c.in_ok-ring.ensures);
+}

@@ -17,7 +17,10 @@ arrives o is =
 
 pub invariant_of-self : goal.invariant_of-self
 invariant_of-self c =
-    parts_noted c.self.inside.ring c.self.inside.index c.self.inside.rows c.deref_mut.result.now c.note_arrived.new.rows c.args.key.sequence c.args.key.chunk_id c.args.key.count
-    (find_no_record (λ (r : BufferRecord). is_of c.args.key.sequence c.args.key.chunk_id r && r.chunk.partial) c.self.inside.ring.live
-    (ap (λ (b : Buffer). find (λ (r : BufferRecord). is_of c.args.key.sequence c.args.key.chunk_id r && r.chunk.partial) b.live) c.self.view_is ∙ c.requires.whole (arrives c.args.outcome c.in-Kept.is)))
-    c.self.invariant c.deref_mut.ensures.value c.note_arrived.ensures
+    record {
+      parts = parts_noted c.self.inside.ring c.self.inside.index c.self.inside.rows c.deref_mut.result.now c.note_arrived.new.rows c.args.key.sequence c.args.key.chunk_id c.args.key.count
+          (find_no_record (λ (r : BufferRecord). is_of c.args.key.sequence c.args.key.chunk_id r && r.chunk.partial) c.self.inside.ring.live
+          (ap (λ (b : Buffer). find (λ (r : BufferRecord). is_of c.args.key.sequence c.args.key.chunk_id r && r.chunk.partial) b.live) c.self.view_is ∙ c.requires.whole (arrives c.args.outcome c.in-Kept.is)))
+          c.self.invariant.parts c.deref_mut.ensures.value c.note_arrived.ensures;
+      counted = c.self.invariant.counted;
+    }

@@ -11,7 +11,7 @@ one x y is = ap (λ b. b || y) is
 
 pub returns-then-has_arrived : goal.returns-then-has_arrived
 returns-then-has_arrived c =
-    let row = row_of c.self.inside.rows.items c.deref.result.now c.find_row.result c.args.sequence _ _ c.index-row.result.now c.self.invariant.once
+    let row = row_of c.self.inside.rows.items c.deref.result.now c.find_row.result c.args.sequence _ _ c.index-row.result.now c.self.invariant.parts.once
     c.deref.ensures.value c.find_row.ensures.within c.find_row.ensures.number c.index-row.ensures
     ∙ ap (λ (b : Buffer). sequence_in b.sequences c.args.sequence) c.self.view_is in
     no_new c.args.self.now c.args.sequence c.args.chunk_id c.args.count
@@ -29,7 +29,7 @@ returns-then-has_arrived c =
 
 pub returns-then-is_too_far : goal.returns-then-is_too_far
 returns-then-is_too_far c =
-    let row = row_of c.self.inside.rows.items c.deref.result.now c.find_row.result c.args.sequence _ _ c.index-row.result.now c.self.invariant.once
+    let row = row_of c.self.inside.rows.items c.deref.result.now c.find_row.result c.args.sequence _ _ c.index-row.result.now c.self.invariant.parts.once
     c.deref.ensures.value c.find_row.ensures.within c.find_row.ensures.number c.index-row.ensures
     ∙ ap (λ (b : Buffer). sequence_in b.sequences c.args.sequence) c.self.view_is in
     let new = sym (no_new_is c.args.self.now c.args.sequence c.args.chunk_id c.from.result c.args.count c.index-row.result.now c.has_arrived.result c.has_as_many.result (c.unread_of.result == 0) row c.from.ensures c.has_arrived.ensures c.has_as_many.ensures (ap (λ n. n == 0) c.unread_of.ensures))
@@ -38,7 +38,7 @@ returns-then-is_too_far c =
 
 pub returns : goal.returns
 returns c =
-    let row = row_of c.self.inside.rows.items c.deref.result.now c.find_row.result c.args.sequence _ _ c.index-row.result.now c.self.invariant.once
+    let row = row_of c.self.inside.rows.items c.deref.result.now c.find_row.result c.args.sequence _ _ c.index-row.result.now c.self.invariant.parts.once
     c.deref.ensures.value c.find_row.ensures.within c.find_row.ensures.number c.index-row.ensures
     ∙ ap (λ (b : Buffer). sequence_in b.sequences c.args.sequence) c.self.view_is in
     let new = sym (no_new_is c.args.self.now c.args.sequence c.args.chunk_id c.from.result c.args.count c.index-row.result.now c.has_arrived.result c.has_as_many.result (c.unread_of.result == 0) row c.from.ensures c.has_arrived.ensures c.has_as_many.ensures (ap (λ n. n == 0) c.unread_of.ensures))

@@ -3,7 +3,7 @@ use Rattle.std.specs.List.{find}
 use Rattle.std.specs.Option.{IsSomeAnd}
 use Rattle.page_geometry.specs.Sizes.{record_size}
 use Rattle.ring_bytes.specs.declared.key.RecordKey.{RecordKey}
-use Rattle.ring_bytes.specs.Value.{Stored}
+use Rattle.ring_bytes.specs.Value.{Stored, RingValue}
 use Rattle.ring_bytes.proofs.RowLemmas.{size_least}
 use Rattle.commit_body.specs.Patches.{patch_value}
 use Rattle.trace_model.specs.Buffers.{Buffer, BufferRecord, is_of}
@@ -12,11 +12,13 @@ use Rattle.trace_model.specs.Patches.{BadOffset, Applied, awaits_at, answer_to, 
 use Rattle.trace_model.specs.Reading.{reading_of}
 use Rattle.trace_model.specs.Sequences.{sequence_in}
 use Rattle.trace_buffer.specs.BufferFields.{buffer_view}
+use Rattle.trace_buffer.specs.Closing.{unfinished_of}
 use Rattle.trace_buffer.specs.Patching.{last_has}
 use Rattle.trace_buffer.specs.Records.{record_of, is_at_key, fragments_of}
 use Rattle.trace_buffer.proofs.FindLemmas.{is_found, none_is, kept_found, mapped, place_had, its_sequence, readable_is}
-use Rattle.trace_buffer.proofs.PatchedLemmas.{none_with, one_with, none_changes, both_changes, still_there, taken}
+use Rattle.trace_buffer.proofs.PatchedLemmas.{none_with, one_with, none_changes, both_changes, patched_stored, still_there, taken}
 use Rattle.trace_buffer.proofs.PutLemmas.{payload_patched}
+use Rattle.trace_buffer.proofs.UnfinishedLemmas.{one_of, dropped_count, changed_count, awaiting_one, only_of}
 use Rattle.trace_buffer.proofs.buffer.TraceBuffer.patch.Goals as goal
 
 -- the same records, where none takes the patch
@@ -49,29 +51,29 @@ returns-in_default-clause-after c =
 pub returns-then-not-key-clause-answer : goal.returns-then-not-key-clause-answer
 returns-then-not-key-clause-answer c =
     let f = is_found c.self.inside.ring c.args.sequence c.args.patch.now.chunk_id c.in-Some.place c.find_place.result c.in-Some.is c.find_place.ensures.place c.find_place.ensures.there in
-    let kept = kept_found (is_at_key c.args.sequence c.args.patch.now.chunk_id) c.self.inside.rows.items c.self.inside.ring.live f.stored c.self.invariant.kept f.found in
+    let kept = kept_found (is_at_key c.args.sequence c.args.patch.now.chunk_id) c.self.inside.rows.items c.self.inside.ring.live f.stored c.self.invariant.parts.kept f.found in
     let key : c.key_at-key.result ≡ f.stored.key = mapped (λ (s : Stored). s.key) _ f.stored c.key_at-key.result f.there c.key_at-key.ensures in
     let awaits : f.stored.key.awaits ≡ false = sym (ap (λ (k : RecordKey). k.awaits) key) ∙ no c.key_at-key.result.awaits c.if-not-key.true in
     sym
     (ap (λ live. answer_to (patch_value c.args.patch.now) (find (awaits_at c.args.sequence c.args.patch.now.chunk_id) live)) (sym (ap (λ (b : Buffer). b.live) c.self.view_is))
     ∙ ap (answer_to (patch_value c.args.patch.now))
-    (one_with c.args.sequence c.args.patch.now.chunk_id (λ (r : BufferRecord). r.chunk.awaits) c.self.inside.ring.live f.stored c.self.invariant.indexed.keys f.found
+    (one_with c.args.sequence c.args.patch.now.chunk_id (λ (r : BufferRecord). r.chunk.awaits) c.self.inside.ring.live f.stored c.self.invariant.parts.indexed.keys f.found
     ∙ ap (λ b. cond b (Some (record_of f.stored)) None) awaits))
 
 pub returns-then-not-key-clause-after : goal.returns-then-not-key-clause-after
 returns-then-not-key-clause-after c =
     let f = is_found c.self.inside.ring c.args.sequence c.args.patch.now.chunk_id c.in-Some.place c.find_place.result c.in-Some.is c.find_place.ensures.place c.find_place.ensures.there in
-    let kept = kept_found (is_at_key c.args.sequence c.args.patch.now.chunk_id) c.self.inside.rows.items c.self.inside.ring.live f.stored c.self.invariant.kept f.found in
+    let kept = kept_found (is_at_key c.args.sequence c.args.patch.now.chunk_id) c.self.inside.rows.items c.self.inside.ring.live f.stored c.self.invariant.parts.kept f.found in
     let key : c.key_at-key.result ≡ f.stored.key = mapped (λ (s : Stored). s.key) _ f.stored c.key_at-key.result f.there c.key_at-key.ensures in
     let awaits : f.stored.key.awaits ≡ false = sym (ap (λ (k : RecordKey). k.awaits) key) ∙ no c.key_at-key.result.awaits c.if-not-key.true in
     unchanged_buffer c.args.self.now c.args.sequence (patch_value c.args.patch.now) _ (ap (λ (b : Buffer). b.live) c.self.view_is)
-    (one_with c.args.sequence c.args.patch.now.chunk_id (λ (r : BufferRecord). r.chunk.awaits && last_holds r.chunk.fragments (patch_value c.args.patch.now)) c.self.inside.ring.live f.stored c.self.invariant.indexed.keys f.found
+    (one_with c.args.sequence c.args.patch.now.chunk_id (λ (r : BufferRecord). r.chunk.awaits && last_holds r.chunk.fragments (patch_value c.args.patch.now)) c.self.inside.ring.live f.stored c.self.invariant.parts.indexed.keys f.found
     ∙ ap (λ b. cond (b && last_holds (record_of f.stored).chunk.fragments (patch_value c.args.patch.now)) (Some (record_of f.stored)) None) awaits)
 
 pub last_holds-requires : goal.last_holds-requires
 last_holds-requires c =
     let f = is_found c.self.inside.ring c.args.sequence c.args.patch.now.chunk_id c.in-Some.place c.find_place.result c.in-Some.is c.find_place.ensures.place c.find_place.ensures.there in
-    let kept = kept_found (is_at_key c.args.sequence c.args.patch.now.chunk_id) c.self.inside.rows.items c.self.inside.ring.live f.stored c.self.invariant.kept f.found in
+    let kept = kept_found (is_at_key c.args.sequence c.args.patch.now.chunk_id) c.self.inside.rows.items c.self.inside.ring.live f.stored c.self.invariant.parts.kept f.found in
     let key : c.key_at-key.result ≡ f.stored.key = mapped (λ (s : Stored). s.key) _ f.stored c.key_at-key.result f.there c.key_at-key.ensures in
     let payload : c.payload_at.result.now ≡ f.stored.payload = mapped (λ (s : Stored). s.payload) _ f.stored c.payload_at.result.now f.there c.payload_at.ensures in
     let size : record_size (length f.stored.payload) ≡ (sequence_in c.args.self.now.sequences c.args.sequence).size =
@@ -83,7 +85,7 @@ last_holds-requires c =
 pub returns-then-not-last_holds-clause-answer : goal.returns-then-not-last_holds-clause-answer
 returns-then-not-last_holds-clause-answer c =
     let f = is_found c.self.inside.ring c.args.sequence c.args.patch.now.chunk_id c.in-Some.place c.find_place.result c.in-Some.is c.find_place.ensures.place c.find_place.ensures.there in
-    let kept = kept_found (is_at_key c.args.sequence c.args.patch.now.chunk_id) c.self.inside.rows.items c.self.inside.ring.live f.stored c.self.invariant.kept f.found in
+    let kept = kept_found (is_at_key c.args.sequence c.args.patch.now.chunk_id) c.self.inside.rows.items c.self.inside.ring.live f.stored c.self.invariant.parts.kept f.found in
     let key : c.key_at-key.result ≡ f.stored.key = mapped (λ (s : Stored). s.key) _ f.stored c.key_at-key.result f.there c.key_at-key.ensures in
     let payload : c.payload_at.result.now ≡ f.stored.payload = mapped (λ (s : Stored). s.payload) _ f.stored c.payload_at.result.now f.there c.payload_at.ensures in
     let awaits : f.stored.key.awaits ≡ true = sym (ap (λ (k : RecordKey). k.awaits) key) ∙ does c.key_at-key.result.awaits c.if-not-key.false in
@@ -91,26 +93,26 @@ returns-then-not-last_holds-clause-answer c =
     sym
     (ap (λ live. answer_to (patch_value c.args.patch.now) (find (awaits_at c.args.sequence c.args.patch.now.chunk_id) live)) (sym (ap (λ (b : Buffer). b.live) c.self.view_is))
     ∙ ap (answer_to (patch_value c.args.patch.now))
-    (one_with c.args.sequence c.args.patch.now.chunk_id (λ (r : BufferRecord). r.chunk.awaits) c.self.inside.ring.live f.stored c.self.invariant.indexed.keys f.found
+    (one_with c.args.sequence c.args.patch.now.chunk_id (λ (r : BufferRecord). r.chunk.awaits) c.self.inside.ring.live f.stored c.self.invariant.parts.indexed.keys f.found
     ∙ ap (λ b. cond b (Some (record_of f.stored)) None) awaits)
     ∙ ap (λ b. cond b Applied BadOffset) held)
 
 pub returns-then-not-last_holds-clause-after : goal.returns-then-not-last_holds-clause-after
 returns-then-not-last_holds-clause-after c =
     let f = is_found c.self.inside.ring c.args.sequence c.args.patch.now.chunk_id c.in-Some.place c.find_place.result c.in-Some.is c.find_place.ensures.place c.find_place.ensures.there in
-    let kept = kept_found (is_at_key c.args.sequence c.args.patch.now.chunk_id) c.self.inside.rows.items c.self.inside.ring.live f.stored c.self.invariant.kept f.found in
+    let kept = kept_found (is_at_key c.args.sequence c.args.patch.now.chunk_id) c.self.inside.rows.items c.self.inside.ring.live f.stored c.self.invariant.parts.kept f.found in
     let key : c.key_at-key.result ≡ f.stored.key = mapped (λ (s : Stored). s.key) _ f.stored c.key_at-key.result f.there c.key_at-key.ensures in
     let payload : c.payload_at.result.now ≡ f.stored.payload = mapped (λ (s : Stored). s.payload) _ f.stored c.payload_at.result.now f.there c.payload_at.ensures in
     let awaits : f.stored.key.awaits ≡ true = sym (ap (λ (k : RecordKey). k.awaits) key) ∙ does c.key_at-key.result.awaits c.if-not-key.false in
     let held = sym (c.last_holds.ensures ∙ ap₂ (λ (k : RecordKey) p. last_has k.count p (patch_value c.args.patch.now)) key payload) ∙ c.if-not-last_holds.true in
     unchanged_buffer c.args.self.now c.args.sequence (patch_value c.args.patch.now) _ (ap (λ (b : Buffer). b.live) c.self.view_is)
-    (one_with c.args.sequence c.args.patch.now.chunk_id (λ (r : BufferRecord). r.chunk.awaits && last_holds r.chunk.fragments (patch_value c.args.patch.now)) c.self.inside.ring.live f.stored c.self.invariant.indexed.keys f.found
+    (one_with c.args.sequence c.args.patch.now.chunk_id (λ (r : BufferRecord). r.chunk.awaits && last_holds r.chunk.fragments (patch_value c.args.patch.now)) c.self.inside.ring.live f.stored c.self.invariant.parts.indexed.keys f.found
     ∙ ap (λ b. cond b (Some (record_of f.stored)) None) (ap₂ (λ x y. x && y) awaits held))
 
 pub patch_at-requires : goal.patch_at-requires
 patch_at-requires c =
     let f = is_found c.self.inside.ring c.args.sequence c.args.patch.now.chunk_id c.in-Some.place c.find_place.result c.in-Some.is c.find_place.ensures.place c.find_place.ensures.there in
-    let kept = kept_found (is_at_key c.args.sequence c.args.patch.now.chunk_id) c.self.inside.rows.items c.self.inside.ring.live f.stored c.self.invariant.kept f.found in
+    let kept = kept_found (is_at_key c.args.sequence c.args.patch.now.chunk_id) c.self.inside.rows.items c.self.inside.ring.live f.stored c.self.invariant.parts.kept f.found in
     let key : c.key_at-key.result ≡ f.stored.key = mapped (λ (s : Stored). s.key) _ f.stored c.key_at-key.result f.there c.key_at-key.ensures in
     let payload : c.payload_at.result.now ≡ f.stored.payload = mapped (λ (s : Stored). s.payload) _ f.stored c.payload_at.result.now f.there c.payload_at.ensures in
     let awaits : f.stored.key.awaits ≡ true = sym (ap (λ (k : RecordKey). k.awaits) key) ∙ does c.key_at-key.result.awaits c.if-not-key.false in
@@ -123,24 +125,39 @@ set_awaits-requires c =
     let f = is_found c.self.inside.ring c.args.sequence c.args.patch.now.chunk_id c.in-Some.place c.find_place.result c.in-Some.is c.find_place.ensures.place c.find_place.ensures.there in
     still_there c.self.inside.ring c.patch_at.new.self c.in-Some.place (patch_value c.args.patch.now) f.stored c.patch_at.ensures f.there
 
+pub overflow_sub-self : goal.overflow_sub-self
+overflow_sub-self c =
+    let f = is_found c.self.inside.ring c.args.sequence c.args.patch.now.chunk_id c.in-Some.place c.find_place.result c.in-Some.is c.find_place.ensures.place c.find_place.ensures.there in
+    let key : c.key_at-key.result ≡ f.stored.key = mapped (λ (s : Stored). s.key) _ f.stored c.key_at-key.result f.there c.key_at-key.ensures in
+    let awaits : f.stored.key.awaits ≡ true = sym (ap (λ (k : RecordKey). k.awaits) key) ∙ does c.key_at-key.result.awaits c.if-not-key.false in
+    let only = only_of c.in-Some.place c.self.inside.ring.live f.stored c.self.invariant.parts.indexed.places_once f.there in
+    (dropped_count c.in-Some.place c.self.inside.unfinished 1 f.stored.key c.self.inside.ring.live f.stored only refl c.self.invariant.counted (awaiting_one f.stored.key awaits)).0
+
 pub invariant_of-self : goal.invariant_of-self
 invariant_of-self c =
     let f = is_found c.self.inside.ring c.args.sequence c.args.patch.now.chunk_id c.in-Some.place c.find_place.result c.in-Some.is c.find_place.ensures.place c.find_place.ensures.there in
-    let kept = kept_found (is_at_key c.args.sequence c.args.patch.now.chunk_id) c.self.inside.rows.items c.self.inside.ring.live f.stored c.self.invariant.kept f.found in
+    let kept = kept_found (is_at_key c.args.sequence c.args.patch.now.chunk_id) c.self.inside.rows.items c.self.inside.ring.live f.stored c.self.invariant.parts.kept f.found in
     let key : c.key_at-key.result ≡ f.stored.key = mapped (λ (s : Stored). s.key) _ f.stored c.key_at-key.result f.there c.key_at-key.ensures in
     let payload : c.payload_at.result.now ≡ f.stored.payload = mapped (λ (s : Stored). s.payload) _ f.stored c.payload_at.result.now f.there c.payload_at.ensures in
     let awaits : f.stored.key.awaits ≡ true = sym (ap (λ (k : RecordKey). k.awaits) key) ∙ does c.key_at-key.result.awaits c.if-not-key.false in
     let held = sym (c.last_holds.ensures ∙ ap₂ (λ (k : RecordKey) p. last_has k.count p (patch_value c.args.patch.now)) key payload) ∙ c.if-not-last_holds.false in
-    let done = taken c.self.inside.ring c.set_awaits.new.self c.self.inside.index c.self.inside.rows.items c.args.sequence c.in-Some.place (patch_value c.args.patch.now) f.stored c.self.invariant f.found
+    let only = only_of c.in-Some.place c.self.inside.ring.live f.stored c.self.invariant.parts.indexed.places_once f.there in
+    let counted = changed_count c.in-Some.place c.self.inside.unfinished 1 c.unfinished_in.result (patched_stored (patch_value c.args.patch.now)) c.self.inside.ring.live f.stored only
+    c.self.invariant.counted (awaiting_one f.stored.key awaits) (c.unfinished_in.ensures ∙ ap (λ (k : RecordKey). one_of (record k { awaits = not c.args.patch.now.last })) key) in
+    let done = taken c.self.inside.ring c.set_awaits.new.self c.self.inside.index c.self.inside.rows.items c.args.sequence c.in-Some.place (patch_value c.args.patch.now) f.stored c.self.invariant.parts f.found
     (place_had c.self.inside.ring c.args.sequence c.args.patch.now.chunk_id c.in-Some.place c.find_place.result f.stored c.in-Some.is c.find_place.ensures.place f.found)
     (both_changes c.self.inside.ring c.patch_at.new.self c.set_awaits.new.self c.in-Some.place (patch_value c.args.patch.now) c.patch_at.ensures c.set_awaits.ensures)
     (omega arith) kept awaits held in
-    done.parts
+    record {
+      parts = done.parts;
+      counted = counted.1
+          ∙ ap (λ (r : RingValue). unfinished_of r.live) (sym (both_changes c.self.inside.ring c.patch_at.new.self c.set_awaits.new.self c.in-Some.place (patch_value c.args.patch.now) c.patch_at.ensures c.set_awaits.ensures));
+    }
 
 pub returns-clause-answer : goal.returns-clause-answer
 returns-clause-answer c =
     let f = is_found c.self.inside.ring c.args.sequence c.args.patch.now.chunk_id c.in-Some.place c.find_place.result c.in-Some.is c.find_place.ensures.place c.find_place.ensures.there in
-    let kept = kept_found (is_at_key c.args.sequence c.args.patch.now.chunk_id) c.self.inside.rows.items c.self.inside.ring.live f.stored c.self.invariant.kept f.found in
+    let kept = kept_found (is_at_key c.args.sequence c.args.patch.now.chunk_id) c.self.inside.rows.items c.self.inside.ring.live f.stored c.self.invariant.parts.kept f.found in
     let key : c.key_at-key.result ≡ f.stored.key = mapped (λ (s : Stored). s.key) _ f.stored c.key_at-key.result f.there c.key_at-key.ensures in
     let payload : c.payload_at.result.now ≡ f.stored.payload = mapped (λ (s : Stored). s.payload) _ f.stored c.payload_at.result.now f.there c.payload_at.ensures in
     let awaits : f.stored.key.awaits ≡ true = sym (ap (λ (k : RecordKey). k.awaits) key) ∙ does c.key_at-key.result.awaits c.if-not-key.false in
@@ -148,19 +165,19 @@ returns-clause-answer c =
     sym
     (ap (λ live. answer_to (patch_value c.args.patch.now) (find (awaits_at c.args.sequence c.args.patch.now.chunk_id) live)) (sym (ap (λ (b : Buffer). b.live) c.self.view_is))
     ∙ ap (answer_to (patch_value c.args.patch.now))
-    (one_with c.args.sequence c.args.patch.now.chunk_id (λ (r : BufferRecord). r.chunk.awaits) c.self.inside.ring.live f.stored c.self.invariant.indexed.keys f.found
+    (one_with c.args.sequence c.args.patch.now.chunk_id (λ (r : BufferRecord). r.chunk.awaits) c.self.inside.ring.live f.stored c.self.invariant.parts.indexed.keys f.found
     ∙ ap (λ b. cond b (Some (record_of f.stored)) None) awaits)
     ∙ ap (λ b. cond b Applied BadOffset) held)
 
 pub returns-clause-after : goal.returns-clause-after
 returns-clause-after c =
     let f = is_found c.self.inside.ring c.args.sequence c.args.patch.now.chunk_id c.in-Some.place c.find_place.result c.in-Some.is c.find_place.ensures.place c.find_place.ensures.there in
-    let kept = kept_found (is_at_key c.args.sequence c.args.patch.now.chunk_id) c.self.inside.rows.items c.self.inside.ring.live f.stored c.self.invariant.kept f.found in
+    let kept = kept_found (is_at_key c.args.sequence c.args.patch.now.chunk_id) c.self.inside.rows.items c.self.inside.ring.live f.stored c.self.invariant.parts.kept f.found in
     let key : c.key_at-key.result ≡ f.stored.key = mapped (λ (s : Stored). s.key) _ f.stored c.key_at-key.result f.there c.key_at-key.ensures in
     let payload : c.payload_at.result.now ≡ f.stored.payload = mapped (λ (s : Stored). s.payload) _ f.stored c.payload_at.result.now f.there c.payload_at.ensures in
     let awaits : f.stored.key.awaits ≡ true = sym (ap (λ (k : RecordKey). k.awaits) key) ∙ does c.key_at-key.result.awaits c.if-not-key.false in
     let held = sym (c.last_holds.ensures ∙ ap₂ (λ (k : RecordKey) p. last_has k.count p (patch_value c.args.patch.now)) key payload) ∙ c.if-not-last_holds.false in
-    let done = taken c.self.inside.ring c.set_awaits.new.self c.self.inside.index c.self.inside.rows.items c.args.sequence c.in-Some.place (patch_value c.args.patch.now) f.stored c.self.invariant f.found
+    let done = taken c.self.inside.ring c.set_awaits.new.self c.self.inside.index c.self.inside.rows.items c.args.sequence c.in-Some.place (patch_value c.args.patch.now) f.stored c.self.invariant.parts f.found
     (place_had c.self.inside.ring c.args.sequence c.args.patch.now.chunk_id c.in-Some.place c.find_place.result f.stored c.in-Some.is c.find_place.ensures.place f.found)
     (both_changes c.self.inside.ring c.patch_at.new.self c.set_awaits.new.self c.in-Some.place (patch_value c.args.patch.now) c.patch_at.ensures c.set_awaits.ensures)
     (omega arith) kept awaits held in

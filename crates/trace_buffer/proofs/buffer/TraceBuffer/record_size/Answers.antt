@@ -8,6 +8,6 @@ pub returns : goal.returns
 returns c =
     c.size.ensures
     ∙ ap (λ (s : Sequence). s.size)
-    (row_of c.self.inside.rows.items c.deref.result.now c.find_row.result c.args.sequence _ _ c.index.result.now c.self.invariant.once
+    (row_of c.self.inside.rows.items c.deref.result.now c.find_row.result c.args.sequence _ _ c.index.result.now c.self.invariant.parts.once
     c.deref.ensures.value c.find_row.ensures.within c.find_row.ensures.number c.index.ensures)
     ∙ ap (λ (b : Buffer). (sequence_in b.sequences c.args.sequence).size) c.self.view_is

@@ -9,15 +9,15 @@ use Rattle.trace_buffer.proofs.buffer.TraceBuffer.refuses.Goals as goal
 
 pub meets_unread-requires-clause-len : goal.meets_unread-requires-clause-len
 meets_unread-requires-clause-len c =
-    let row = row_of c.self.inside.rows.items c.deref.result.now c.find_row.result c.args.sequence _ _ c.index.result.now c.self.invariant.once
+    let row = row_of c.self.inside.rows.items c.deref.result.now c.find_row.result c.args.sequence _ _ c.index.result.now c.self.invariant.parts.once
     c.deref.ensures.value c.find_row.ensures.within c.find_row.ensures.number c.index.ensures in
     subst (λ n. n ≤ c.self.inside.ring.room) (sym (c.size-size.ensures ∙ ap (λ (s : Sequence). s.size) row))
-    (size_fits c.self.inside.ring.room c.self.inside.index.capacity c.args.sequence c.self.inside.rows.items c.self.invariant.fit
+    (size_fits c.self.inside.ring.room c.self.inside.index.capacity c.args.sequence c.self.inside.rows.items c.self.invariant.parts.fit
     (ap (λ (b : Buffer). is_known b.sequences c.args.sequence) c.self.view_is ∙ c.requires))
 
 pub returns-else-self : goal.returns-else-self
 returns-else-self c =
-    let row = row_of c.self.inside.rows.items c.deref.result.now c.find_row.result c.args.sequence _ _ c.index.result.now c.self.invariant.once
+    let row = row_of c.self.inside.rows.items c.deref.result.now c.find_row.result c.args.sequence _ _ c.index.result.now c.self.invariant.parts.once
     c.deref.ensures.value c.find_row.ensures.within c.find_row.ensures.number c.index.ensures in
     c.meets_unread.ensures
     ∙ ap₂ (λ (rows : List Sequence) n. list_any (λ (r : BufferRecord). meets_record c.self.inside.ring n r && is_unread rows r) (map record_of c.self.inside.ring.live))

@@ -1,21 +1,23 @@
 use Rattle.std.proofs.Common.{◌≡◌, Some, sym, ap, ◌∙◌, subst, arith, false, None, is_some, true≢false}
 use Rattle.std.specs.Option.{option_map}
 use Rattle.ring_bytes.specs.declared.key.RecordKey.{RecordKey}
-use Rattle.ring_bytes.specs.Value.{RingValue, size_of}
+use Rattle.ring_bytes.specs.Value.{Stored, RingValue, size_of, with_contents}
 use Rattle.trace_model.specs.Arrivals.{is_too_far, with_rewritten}
 use Rattle.trace_model.specs.Buffers.{Buffer, live_at}
 use Rattle.trace_model.specs.Counts.{raised}
 use Rattle.trace_model.specs.Sequences.{is_known, sequence_in, has_arrived}
 use Rattle.trace_buffer.specs.BufferFields.{buffer_view}
+use Rattle.trace_buffer.specs.Closing.{unfinished_of}
 use Rattle.trace_buffer.specs.Records.{record_of, chunk_of, is_at_key}
 use Rattle.trace_buffer.proofs.ChangeLemmas.{parts_rewritten, records_rewritten}
-use Rattle.trace_buffer.proofs.FindLemmas.{is_found, kept_found, place_had, its_sequence, none_is, live_is}
+use Rattle.trace_buffer.proofs.FindLemmas.{is_found, kept_found, mapped, place_had, its_sequence, none_is, live_is}
+use Rattle.trace_buffer.proofs.UnfinishedLemmas.{one_of, dropped_count, changed_count, one_at_most, few_unfinished, only_of}
 use Rattle.trace_buffer.proofs.buffer.TraceBuffer.rewrite.Goals as goal
 
 pub rewrite-requires-clause-there : goal.rewrite-requires-clause-there
 rewrite-requires-clause-there c =
     let f = is_found c.self.inside.ring c.args.key.sequence c.args.key.chunk_id c.in-Some.place c.find_place.result c.in-Some.is c.find_place.ensures.place c.find_place.ensures.there in
-    let kept = kept_found (is_at_key c.args.key.sequence c.args.key.chunk_id) c.self.inside.rows.items c.self.inside.ring.live f.stored c.self.invariant.kept f.found in
+    let kept = kept_found (is_at_key c.args.key.sequence c.args.key.chunk_id) c.self.inside.rows.items c.self.inside.ring.live f.stored c.self.invariant.parts.kept f.found in
     ap (option_map size_of) f.there
     ∙ ap (λ n. Some n)
     (kept.size
@@ -23,28 +25,52 @@ rewrite-requires-clause-there c =
     ∙ ap (λ (b : Buffer). (sequence_in b.sequences c.args.key.sequence).size) c.self.view_is
     ∙ sym c.requires.size)
 
+pub overflow_sub-self : goal.overflow_sub-self
+overflow_sub-self c =
+    let f = is_found c.self.inside.ring c.args.key.sequence c.args.key.chunk_id c.in-Some.place c.find_place.result c.in-Some.is c.find_place.ensures.place c.find_place.ensures.there in
+    let before : c.key_at-before.result ≡ f.stored.key = mapped (λ (t : Stored). t.key) _ f.stored c.key_at-before.result f.there c.key_at-before.ensures in
+    let only = only_of c.in-Some.place c.self.inside.ring.live f.stored c.self.invariant.parts.indexed.places_once f.there in
+    (dropped_count c.in-Some.place c.self.inside.unfinished c.unfinished_in.result c.key_at-before.result c.self.inside.ring.live f.stored only before c.self.invariant.counted c.unfinished_in.ensures).0
+
+pub overflow_add-self : goal.overflow_add-self
+overflow_add-self c =
+    omega (
+      arith,
+      c.self.invariant.counted,
+      few_unfinished c.self.inside.ring.room c.self.inside.ring.live c.place_next-few.ensures.few,
+      c.size-room.ensures.most,
+      one_at_most c.unfinished_in-2.result c.args.key c.unfinished_in-2.ensures,
+    )
+
 pub invariant_of-self : goal.invariant_of-self
 invariant_of-self c =
     let f = is_found c.self.inside.ring c.args.key.sequence c.args.key.chunk_id c.in-Some.place c.find_place.result c.in-Some.is c.find_place.ensures.place c.find_place.ensures.there in
     let key : RecordKey = c.args.key in
     let view = c.self.view_is in
-    parts_rewritten c.self.inside.ring c.rewrite.new.self c.self.inside.index c.self.inside.rows.items key c.args.payload.now f.stored c.in-Some.place c.self.invariant f.found
-    (place_had c.self.inside.ring key.sequence key.chunk_id c.in-Some.place c.find_place.result f.stored c.in-Some.is c.find_place.ensures.place f.found)
-    (λ t. record {
-      known = ap (λ (b : Buffer). is_known b.sequences key.sequence) view ∙ c.requires.known;
-      size = c.requires.size ∙ sym (ap (λ (b : Buffer). (sequence_in b.sequences key.sequence).size) view);
-      reads = c.requires.reads;
-      number = omega arith;
-      id = omega arith;
-      part = λ partial. subst (λ (b : Buffer). (has_arrived (sequence_in b.sequences key.sequence) key.chunk_id ≡ false) × (is_too_far (sequence_in b.sequences key.sequence) key.chunk_id ≡ false)) (sym view) (c.requires.part partial);
-    })
-    c.rewrite.ensures
+    let before : c.key_at-before.result ≡ f.stored.key = mapped (λ (t : Stored). t.key) _ f.stored c.key_at-before.result f.there c.key_at-before.ensures in
+    let only = only_of c.in-Some.place c.self.inside.ring.live f.stored c.self.invariant.parts.indexed.places_once f.there in
+    let counted = changed_count c.in-Some.place c.self.inside.unfinished c.unfinished_in.result c.unfinished_in-2.result (with_contents c.args.key c.args.payload.now) c.self.inside.ring.live f.stored only
+    c.self.invariant.counted (c.unfinished_in.ensures ∙ ap one_of before) c.unfinished_in-2.ensures in
+    record {
+      parts = parts_rewritten c.self.inside.ring c.rewrite.new.self c.self.inside.index c.self.inside.rows.items key c.args.payload.now f.stored c.in-Some.place c.self.invariant.parts f.found
+          (place_had c.self.inside.ring key.sequence key.chunk_id c.in-Some.place c.find_place.result f.stored c.in-Some.is c.find_place.ensures.place f.found)
+          (λ t. record {
+            known = ap (λ (b : Buffer). is_known b.sequences key.sequence) view ∙ c.requires.known;
+            size = c.requires.size ∙ sym (ap (λ (b : Buffer). (sequence_in b.sequences key.sequence).size) view);
+            reads = c.requires.reads;
+            number = omega arith;
+            id = omega arith;
+            part = λ partial. subst (λ (b : Buffer). (has_arrived (sequence_in b.sequences key.sequence) key.chunk_id ≡ false) × (is_too_far (sequence_in b.sequences key.sequence) key.chunk_id ≡ false)) (sym view) (c.requires.part partial);
+          })
+          c.rewrite.ensures;
+      counted = counted.1 ∙ ap (λ (r : RingValue). unfinished_of r.live) (sym c.rewrite.ensures);
+    }
 
 pub returns : goal.returns
 returns c =
     let f = is_found c.self.inside.ring c.args.key.sequence c.args.key.chunk_id c.in-Some.place c.find_place.result c.in-Some.is c.find_place.ensures.place c.find_place.ensures.there in
     let key : RecordKey = c.args.key in
-    let live = records_rewritten c.self.inside.ring c.rewrite.new.self c.self.inside.index c.self.inside.rows.items key c.args.payload.now f.stored c.in-Some.place c.self.invariant f.found
+    let live = records_rewritten c.self.inside.ring c.rewrite.new.self c.self.inside.index c.self.inside.rows.items key c.args.payload.now f.stored c.in-Some.place c.self.invariant.parts f.found
     (place_had c.self.inside.ring key.sequence key.chunk_id c.in-Some.place c.find_place.result f.stored c.in-Some.is c.find_place.ensures.place f.found)
     (c.requires.size ∙ sym (ap (λ (b : Buffer). (sequence_in b.sequences key.sequence).size) c.self.view_is))
     c.rewrite.ensures in

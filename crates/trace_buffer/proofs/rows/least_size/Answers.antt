@@ -3,7 +3,7 @@ use Rattle.ring_bytes.proofs.RowLemmas.{size_least}
 use Rattle.trace_buffer.specs.declared.answers.SequenceSpec.{SequenceSpec}
 use Rattle.trace_buffer.specs.Made.{AllTakeLeast}
 use Rattle.trace_buffer.proofs.MadeLemmas.{payload_small, least_step, least_all}
-use Rattle.trace_buffer.proofs.buffer.least_size.Goals as goal
+use Rattle.trace_buffer.proofs.rows.least_size.Goals as goal
 
 pub size_of_record-requires : goal.size_of_record-requires
 size_of_record-requires c =
