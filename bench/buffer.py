@@ -7,7 +7,8 @@ The buffer has 64 MB, and chunks of 284 bytes of one sequence arrive in it, each
 overwrites an unread one once the ring has wrapped. The ring alone takes records of 304 bytes, each with what it overwrites
 dropped; beside it stand plain copies of as many bytes to as large a place. The index has 200,000 entries of 64 sequences; each turn finds and takes out the oldest
 entry of a sequence, looks for a new one, and adds it. The best of five runs counts, by processor time, so that other work
-on the machine matters little; the time of a run without records, or turns, is taken off.
+on the machine matters little; the time of a run without records, or turns, is taken off. A ring's memory is first touched as
+it is written, so that is counted.
 """
 import os
 import subprocess
