@@ -237,7 +237,9 @@ impl Ring {
         header
     }
 
-    /// Puts a record at its place, which is answered.
+    /// Puts a record at its place, which is answered. It is no call, as it has one place in a buffer and
+    /// is a fifth slower as one.
+    #[inline(always)]
     pub fn write(&mut self, key: RecordKey, payload: &[u8]) -> u32
         requires count { key.count ≤ MAX_FRAGMENTS }
         requires flags { key.flags ≤ MAX_FLAGS }
