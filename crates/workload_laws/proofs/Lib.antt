@@ -1,0 +1,10 @@
+pub mod CutLemmas
+pub mod FieldsLemmas
+pub mod LengthLemmas
+pub mod LineLemmas
+pub mod NumeralLemmas
+pub mod PacketLemmas
+pub mod SetUpLemmas
+pub mod TurnLemmas
+pub mod WalkLemmas
+pub mod WorkloadLemmas
