@@ -1,0 +1,4 @@
+pub mod HeldLemmas
+pub mod SeatLemmas
+pub mod TakenLemmas
+pub mod TimedLemmas

@@ -1,0 +1,31 @@
+-- What the service took of each writer, call by call.
+use Rattle.std.proofs.Common.{◌≡◌, ℕ, ◌+◌, ◌<◌, zero, suc, List, length, set, get_or, replicate, refl, sym, subst, ◌∙◌}
+use Rattle.chunk_plain.proofs.Lists.{changed}
+use Rattle.chunk_words.specs.declared.seats.ServiceSeat.{ServiceSeat}
+use Rattle.table_speed.specs.Taking.{HasTakenEach, HasTakenNone, TakesOne, TakesNone, count_of}
+
+zeros : (n place : ℕ) → get_or (replicate n zero) place zero ≡ zero
+zeros zero place = refl
+zeros (suc n) zero = refl
+zeros (suc n) (suc place) = zeros n place
+
+pub none_yet : (seat : ServiceSeat) → HasTakenNone seat → HasTakenEach (replicate 4 0) seat
+none_yet seat none = record {
+  counts_are = λ place below. none.counts_are place below ∙ sym (zeros 4 place);
+  none_out = none.none_out;
+}
+
+pub as_before : (counts : List ℕ) (old new : ServiceSeat) → HasTakenEach counts old → TakesNone old new → HasTakenEach counts new
+as_before counts old new each none = record {
+  counts_are = λ place below. none.all place ∙ each.counts_are place below;
+  none_out = none.none_out;
+}
+
+pub one_more : (counts : List ℕ) (old new : ServiceSeat) (place more : ℕ) → place < length counts → more ≡ count_of old place + 1
+    → HasTakenEach counts old → TakesOne place old new → HasTakenEach (set counts place more) new
+one_more counts old new place more inside is each one = record {
+  counts_are = λ other below. changed (λ (n : ℕ). count_of new other ≡ n) counts place other more 0 inside
+      (λ same. subst (λ p. count_of new p ≡ more) (sym same) (one.more ∙ sym is))
+      (λ differs. one.others other differs ∙ each.counts_are other below);
+  none_out = one.none_out;
+}

@@ -1,0 +1,21 @@
+use Rattle.std.proofs.Common.{◌≡◌, ◌∙◌, ap, length, subst, sym}
+use Rattle.chunk_plain.specs.Setup.{spot}
+use Rattle.chunk_plain.specs.Views.{WriterView}
+use Rattle.chunk_plain.specs.Words.{HasClaimed}
+use Rattle.chunk_plain.proofs.Holding.{claims_has}
+use Rattle.chunk_words.specs.Sits.{setup_in, known_by}
+use Rattle.table_speed.proofs.HeldLemmas.{just_begun}
+use Rattle.table_speed.proofs.rounds.begin.Goals as goal
+
+pub begin-requires-clause-claimed : goal.begin-requires-clause-claimed
+begin-requires-clause-claimed c =
+    let won = c.in_ok-claimed.ensures.won in
+    subst (λ k. HasClaimed (known_by c.claim_try.new.seat) k) (sym c.in_ok-claimed.ensures.chunk)
+    (claims_has (known_by c.args.seat.now) (known_by c.claim_try.new.seat) c.args.chunk won.found won.view)
+
+pub returns-clause-held : goal.returns-clause-held
+returns-clause-held c =
+    let won = c.in_ok-claimed.ensures.won in
+    just_begun c.args.host.now (known_by c.claim_try.new.seat) c.begin.new.seat c.in_ok-claimed.claimed.chunk c.args.id c.begin.result c.begin.ensures.seat
+    (c.requires.id ∙ sym (ap (λ (v : WriterView). length v.begun) won.view)) (subst (λ k. (spot (setup_in c.args.host.now) k).payload_size ≡ 284) (sym c.in_ok-claimed.ensures.chunk) c.requires.size)
+    c.begin.ensures.held c.begin.ensures.view

@@ -1,0 +1,4 @@
+pub mod Going
+pub mod Holding
+pub mod Taking
+pub mod Timed
