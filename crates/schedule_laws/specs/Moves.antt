@@ -1,0 +1,144 @@
+-- The atomic steps that writers and the service make on a table of chunks, as moves of its world. Each is made by one of them and changes that seat's
+-- view and one chunk at most. A step that changes no view, as when a page word or a payload word is loaded, is no move.
+use Rattle.std.specs.Prelude.{◌≡◌, ℕ, ◌+◌, ◌*◌, ◌<◌, ◌≤◌, true, false, Option, Some, None, List, length, slice_index_or}
+use Rattle.trace_model.specs.Calls.{Call}
+use Rattle.chunk_plain.specs.Setup.{sequence_of}
+use Rattle.chunk_plain.specs.Payload.{byte_of, byte_at, byte_in, sealed_to}
+use Rattle.chunk_plain.specs.Views.{At, Head, Draft, fresh, Content, Completed, Found, Noted, Arrive, Partial, Patched, Closed, Read, Commit, Committed, taken_of}
+use Rattle.chunk_plain.specs.World.{World, Status, Unclaimed, Claimed, Stamped, Writing, Ready, Reading, status, writer}
+use Rattle.chunk_plain.specs.Steps.{claims, stamps, begins, redrafts, with_head, with_word, completes, notes_call, looks_at, takes_in, learns, lets_go, notes, notes_commit, drafted, moved, served, noted, serviced}
+use Rattle.chunk_plain.specs.Owned.{times}
+use Rattle.chunk_plain.specs.Drafts.{MayFollow, IsDraft, IsFound, IsThere, IsHolding, head_of, draft_at, head_at, ends_by}
+use Rattle.chunk_plain.specs.Plain.{read_as}
+
+-- A writer is named by its place, from 0. The page words and header words that a step found are kept in views; what they say of the chunk is said by
+-- the world, so that they are free here.
+pub data Move : Type 0 where
+  -- a writer sets the claim bit of a chunk, and found this page word
+  Claims : (place chunk found : ℕ) → Move
+  -- it stores the header of a chunk that it claimed, with its next id
+  Stamps : (place chunk : ℕ) → Move
+  -- it begins this chunk, in which these payload words stand
+  Begins : (place chunk : ℕ) → (words : List ℕ) → Move
+  -- it stores another header in a chunk that it holds
+  SetsHeader : (place chunk id : ℕ) → Head → Move
+  -- or a payload word, at this index
+  Publishes : (place chunk id index word : ℕ) → Move
+  -- it completes the chunk, which has this content
+  Completes : (place chunk id : ℕ) → Content → Move
+  -- it notes a call
+  Calls : (place : ℕ) → Call → Move
+  -- the service looks at a chunk, and found this of it
+  Looks : (chunk word header : ℕ) → Option Found → Move
+  -- it takes a complete chunk of this writer
+  Takes : (place chunk word header : ℕ) → Move
+  -- the content of a chunk that it took joins its view
+  Learns : (place chunk : ℕ) → Content → Move
+  -- it frees a chunk that it read
+  Releases : (chunk : ℕ) → Move
+  -- it notes an event
+  Notes : Noted → Move
+  -- it notes a commit
+  Commits : Committed → Move
+
+-- What each move makes of a world
+
+-- a claim wins exactly where nobody has the chunk
+abbrev pub claimed_in : World → (place chunk found : ℕ) → Status → World
+claimed_in world place chunk found Unclaimed = moved world place (claims (writer world place) chunk found true) chunk (Claimed place)
+claimed_in world place chunk found _ = noted world place (claims (writer world place) chunk found false)
+
+-- the world behind a move
+abbrev pub behind : World → Move → World
+behind world (Claims place chunk found) = claimed_in world place chunk found (status world chunk)
+behind world (Stamps place chunk) =
+    moved world place (stamps (writer world place) chunk) chunk (Stamped place (length (writer world place).begun))
+behind world (Begins place chunk words) =
+    moved world place (begins (writer world place) chunk words) chunk (Writing place (length (writer world place).begun) (fresh words))
+behind world (SetsHeader place chunk id head) =
+    drafted world place chunk id (with_head (draft_at (writer world place) id) head (ends_by (writer world place) id head.count))
+behind world (Publishes place chunk id index word) = drafted world place chunk id (with_word (draft_at (writer world place) id) index word)
+behind world (Completes place chunk id content) =
+    moved world place (completes (writer world place) chunk id content) chunk (Ready place id content)
+behind world (Calls place call) = noted world place (notes_call (writer world place) call)
+behind world (Looks chunk word header found) = serviced world (looks_at world.service chunk word header found)
+behind world (Takes place chunk word header) =
+    served world (takes_in (looks_at world.service chunk word header None) place chunk) chunk (read_as (status world chunk))
+behind world (Learns place chunk content) = serviced world (learns world.service place content)
+behind world (Releases chunk) = served world (lets_go world.service chunk) chunk Unclaimed
+behind world (Notes event) = serviced world (notes world.service event)
+behind world (Commits committed) = serviced world (notes_commit world.service committed)
+
+-- Where each move is possible
+
+-- there is such a writer
+abbrev pub IsWriter : World → ℕ → Type 0
+IsWriter world place = place < length world.writers
+
+-- there is such a chunk
+abbrev pub IsChunk : World → ℕ → Type 0
+IsChunk world chunk = chunk < length world.chunks
+
+-- a held chunk's header may be followed by this one, and the chunk's bytes read as the fragments that are finished then
+pub record MaySetHeader (draft : Draft) (head : Head) (ends : List ℕ) : Type 0 where
+  pub follows : MayFollow draft.head head
+  pub reads : IsDraft (with_head draft head ends)
+
+-- a payload word keeps each byte of the fragments that are finished
+pub record MayPublish (draft : Draft) (index word : ℕ) : Type 0 where
+  pub inside : index < length draft.words
+  pub kept : (m : ℕ) → m < 8 → 8 * index + m < sealed_to draft.ends → byte_of word m ≡ byte_of (slice_index_or draft.words index 0) m
+
+-- the content is that of a held chunk: its writer's, with its id, its header and the bytes of its finished fragments
+pub record MayComplete (place id : ℕ) (draft : Draft) (content : Content) : Type 0 where
+  pub id_is : content.image.chunk_id ≡ id
+  pub sequence_is : content.image.sequence ≡ sequence_of place
+  pub head_is : head_of content ≡ draft.head
+  pub inside : sealed_to draft.ends ≤ length content.image.payload
+  pub bytes : (j : ℕ) → j < sealed_to draft.ends → byte_at draft.words j ≡ byte_in content.image.payload j
+
+-- what a look found of a chunk that was begun is there
+abbrev pub FindsWhatIsThere : World → (chunk : ℕ) → Option Found → Type 0
+FindsWhatIsThere world chunk found = (one : Found) → found ≡ Some one → IsFound one × IsThere (writer world one.place) chunk one
+
+-- the chunk is complete, and the next one of this writer to be taken
+abbrev pub IsNext : World → (place chunk : ℕ) → Type 0
+IsNext world place chunk = (content : Content) × (status world chunk ≡ Ready place (taken_of world.service place).count content)
+
+-- the content is that of the first chunk which was taken of this writer and whose content isn't in the view yet
+pub record MayLearn (world : World) (place chunk : ℕ) (content : Content) : Type 0 where
+  pub taken : length (taken_of world.service place).contents < (taken_of world.service place).count
+  pub completed : At (writer world place).begun (length (taken_of world.service place).contents) (Completed chunk content)
+
+-- the service is reading the chunk
+abbrev pub IsRead : World → (chunk : ℕ) → Type 0
+IsRead world chunk = (place : ℕ) × (id : ℕ) × (content : Content) × (status world chunk ≡ Reading place id content)
+
+-- a commit is noted with its image, and else an event alone
+abbrev pub IsPlainNote : Noted → Type 0
+IsPlainNote (Commit place) = ⊥
+IsPlainNote _ = Unit {0}
+
+-- Whether a move is possible in a world: the table's words allow it, and the seat that makes it has what it is about.
+abbrev pub MayMove : World → Move → Type 0
+MayMove world (Claims place chunk found) = IsWriter world place × IsChunk world chunk
+MayMove world (Stamps place chunk) =
+    IsWriter world place × IsChunk world chunk × (0 < times chunk (writer world place).claimed) × ((writer world place).stamped ≡ None)
+MayMove world (Begins place chunk words) =
+    IsWriter world place × IsChunk world chunk
+    × ((writer world place).stamped ≡ Some (record { chunk = chunk; id = length (writer world place).begun }))
+MayMove world (SetsHeader place chunk id head) =
+    IsWriter world place × IsChunk world chunk × IsHolding (writer world place) chunk id
+    × MaySetHeader (draft_at (writer world place) id) head (ends_by (writer world place) id head.count)
+MayMove world (Publishes place chunk id index word) =
+    IsWriter world place × IsChunk world chunk × IsHolding (writer world place) chunk id × MayPublish (draft_at (writer world place) id) index word
+MayMove world (Completes place chunk id content) =
+    IsWriter world place × IsChunk world chunk × IsHolding (writer world place) chunk id
+    × MayComplete place id (draft_at (writer world place) id) content
+MayMove world (Calls place call) = IsWriter world place
+MayMove world (Looks chunk word header found) = FindsWhatIsThere world chunk found
+MayMove world (Takes place chunk word header) = IsWriter world place × IsChunk world chunk × IsNext world place chunk
+MayMove world (Learns place chunk content) = IsWriter world place × MayLearn world place chunk content
+MayMove world (Releases chunk) = IsChunk world chunk × IsRead world chunk
+MayMove world (Notes event) = IsPlainNote event
+MayMove world (Commits committed) = Unit {0}
