@@ -1,3 +1,5 @@
 pub mod Laws
 pub mod Moves
+pub mod ReportLaws
+pub mod Resting
 pub mod Schedules

@@ -1,5 +1,7 @@
 //! The laws: contracts of functions with nothing to do.
-ghost use Rattle.schedule_laws.specs.Laws.{SchedulesJoin, SchedulesKeepOwnership};
+ghost use Rattle.schedule_laws.specs.Laws.{SchedulesJoin, SchedulesKeepOwnership, SchedulesAreAccounts, EveryScheduleIsFaithful};
+ghost use Rattle.schedule_laws.specs.Laws.{EverySequenceIsTold, ServingIsInOrder, EveryServedScheduleIsFaithful};
+ghost use Rattle.schedule_laws.specs.ReportLaws.{SequencesHaveAccounts, EveryPacketIsCounted};
 
 /// Schedules go on one behind another, and each front of a schedule is one.
 pub fn schedules_join()
@@ -9,4 +11,41 @@ pub fn schedules_join()
 /// Each chunk is owned by exactly one in each world that a schedule leads to.
 pub fn schedules_keep_ownership()
     ensures { SchedulesKeepOwnership }
+{}
+
+/// What a schedule leads to is an account, where each writer is between two calls and the service noted
+/// in order.
+pub fn schedules_are_accounts()
+    ensures { SchedulesAreAccounts }
+{}
+
+/// So the records that are written are faithful to the emitted packets.
+pub fn every_schedule_is_faithful()
+    ensures { EveryScheduleIsFaithful }
+{}
+
+/// The same of one sequence, whatever the other writers are in the middle of.
+pub fn every_sequence_is_told()
+    ensures { EverySequenceIsTold }
+{}
+
+/// A service that agrees with its view noted in order, but for what came by commits.
+pub fn serving_is_in_order<S>()
+    ensures { ServingIsInOrder S }
+{}
+
+/// So the records are faithful where the service is between two calls too, and nothing of a writer's
+/// sequence came by a commit.
+pub fn every_served_schedule_is_faithful<S>()
+    ensures { EveryServedScheduleIsFaithful S }
+{}
+
+/// The history is an account of each sequence whose writer is between two calls.
+pub fn sequences_have_accounts()
+    ensures { SequencesHaveAccounts }
+{}
+
+/// So the report counts each packet that its writer began once.
+pub fn every_packet_is_counted()
+    ensures { EveryPacketIsCounted }
 {}

@@ -1,9 +1,15 @@
-//! Schedules of steps: the atomic steps of writers and the service on a table of chunks, in whatever order
-//! threads make them, and what they lead to. There is no program code here.
+//! The delivery law over any schedule of steps: the atomic steps of writers and the service on a table of
+//! chunks, in whatever order threads make them, lead to an account, so its trace is faithful to the packets
+//! that its writers emitted. There is no program code here.
 //! A layer above may cite the laws: they are public functions with empty bodies whose contracts are the
 //! statements.
 #![tactic(auto)]
 
 mod laws;
 
-pub use laws::{schedules_join, schedules_keep_ownership};
+pub use laws::{
+    every_packet_is_counted,
+    every_schedule_is_faithful, every_sequence_is_told, every_served_schedule_is_faithful,
+    schedules_are_accounts, schedules_join, schedules_keep_ownership, sequences_have_accounts,
+    serving_is_in_order,
+};

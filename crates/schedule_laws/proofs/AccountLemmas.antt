@@ -1,0 +1,96 @@
+-- What a schedule leads to is an account, and so it is faithful.
+use Rattle.std.proofs.Common.{◌≡◌, ◌∙◌, ℕ, ◌+◌, ◌<◌, ◌≤◌, ◌⊎◌, false, List, [], length, get_or, Some, refl, sym, arith, inl, inr}
+use Rattle.std.proofs.lemmas.Bool.{cases_lt}
+use Rattle.std.proofs.lemmas.List.{length-map}
+use Rattle.std.proofs.lemmas.Option.{slice_get-get_or}
+use Rattle.trace_base.specs.declared.policy.WriterPolicy.TheVariants.{Drops}
+use Rattle.trace_base.specs.declared.policy.WriterSpec.{WriterSpec}
+use Rattle.trace_model.specs.Images.{Image}
+use Rattle.chunk_plain.specs.Setup.{Setup, IsLaid, sequence_of}
+use Rattle.chunk_plain.specs.Views.{WriterView, newcomer}
+use Rattle.chunk_plain.specs.World.{World, writer}
+use Rattle.chunk_plain.specs.Plain.{first_world}
+use Rattle.chunk_plain.specs.Owned.{IsOwned}
+use Rattle.chunk_plain.proofs.MadeLemmas.{first_owned}
+use Rattle.world_model.specs.FirstBuffers.{payload_at}
+use Rattle.world_model.specs.Accounts.{all_images, HasCut, InOrder, IsAccount}
+use Rattle.world_model.proofs.FaithfulLemmas.{told_of, every_account_is_faithful}
+use Rattle.service_core.proofs.AccountLemmas.{leads_are_in_order}
+use Rattle.schedule_laws.specs.Moves.{Move}
+use Rattle.schedule_laws.specs.Schedules.{IsSchedule}
+use Rattle.schedule_laws.specs.Resting.{IsBetweenCalls, AreBetweenCalls, IsNotedInOrder, AreNotedInOrder}
+use Rattle.schedule_laws.specs.Laws.{SchedulesAreAccounts, EveryScheduleIsFaithful, EverySequenceIsTold, EveryServedScheduleIsFaithful}
+use Rattle.schedule_laws.proofs.BetweenLemmas.{HasWritten, has_written}
+use Rattle.schedule_laws.proofs.CommitLemmas.{none_committed, serving_is_in_order}
+use Rattle.schedule_laws.proofs.ScheduleLemmas.{schedules_keep_ownership}
+
+-- the world that a schedule leads to is owned, with as many writers as the set-up
+pub owned_behind : (setup : Setup) (moves : List Move) (world : World) → IsSchedule (first_world setup) moves world → IsOwned world
+owned_behind setup moves world schedule = (schedules_keep_ownership (first_world setup) world moves (first_owned setup) schedule).0
+
+many_behind : (setup : Setup) (moves : List Move) (world : World) → IsSchedule (first_world setup) moves world → length world.writers ≡ length setup.writers
+many_behind setup moves world schedule =
+    (schedules_keep_ownership (first_world setup) world moves (first_owned setup) schedule).1 ∙ length-map setup.writers (λ (_ : WriterSpec). newcomer)
+
+-- notes that lead on are in order
+pub in_order : (setup : Setup) (world : World) (place : ℕ) → IsOwned world → (wrote : HasWritten setup place (writer world place)) → IsNotedInOrder world.service place
+    → InOrder (all_images (writer world place) wrote.held) world.service (sequence_of place) 0 false [] world.service.events
+in_order setup world place owned wrote noted =
+    leads_are_in_order world place (all_images (writer world place) wrote.held) noted.last owned wrote.images noted.leads noted.none_due
+
+-- ---- the account
+
+module _ (setup : Setup) (world : World) (laid : IsLaid setup) (owned : IsOwned world) (between : AreBetweenCalls setup world)
+    (noted : AreNotedInOrder setup world.service) where
+  wrote : (place : ℕ) → place < length setup.writers → HasWritten setup place (writer world place)
+  wrote place inside = has_written setup place (writer world place) laid (between place inside)
+
+  abbrev held_by : (place : ℕ) → (place < length setup.writers) ⊎ (length setup.writers ≤ place) → List Image
+  held_by place (inl inside) = (wrote place inside).held
+  held_by place (inr past) = []
+
+  cut_by : (place : ℕ) (c : (place < length setup.writers) ⊎ (length setup.writers ≤ place)) → place < length setup.writers
+      → HasCut (payload_at setup place) place (writer world place) (held_by place c)
+  cut_by place (inl inside) low = (wrote place inside).cut
+  cut_by place (inr past) low = absurd (omega (arith, past, low))
+
+  order_by : (place : ℕ) (c : (place < length setup.writers) ⊎ (length setup.writers ≤ place)) → place < length setup.writers
+      → InOrder (all_images (writer world place) (held_by place c)) world.service (sequence_of place) 0 false [] world.service.events
+  order_by place (inl inside) low = in_order setup world place owned (wrote place inside) (noted place inside)
+  order_by place (inr past) low = absurd (omega (arith, past, low))
+
+  account_of : length world.writers ≡ length setup.writers → IsAccount setup world
+  account_of many = record {
+    owned = owned;
+    writers = many;
+    held = λ place. held_by place (cases_lt place (length setup.writers));
+    cuts = λ place low. cut_by place (cases_lt place (length setup.writers)) (omega (arith, low, many));
+    order = λ place low. order_by place (cases_lt place (length setup.writers)) (omega (arith, low, many));
+  }
+
+pub schedules_are_accounts : SchedulesAreAccounts
+schedules_are_accounts setup moves world laid schedule between noted =
+    account_of setup world laid (owned_behind setup moves world schedule) between noted (many_behind setup moves world schedule)
+
+-- ---- the law
+
+pub every_schedule_is_faithful : EveryScheduleIsFaithful
+every_schedule_is_faithful setup buffers moves world laid schedule between noted =
+    every_account_is_faithful setup buffers world (schedules_are_accounts setup moves world laid schedule between noted)
+
+pub every_sequence_is_told : EverySequenceIsTold
+every_sequence_is_told setup buffers moves world laid schedule place inside between noted =
+    let owned = owned_behind setup moves world schedule in
+    let view : WriterView = writer world place in
+    let wrote = has_written setup place view laid between in
+    let counts = owned.counts place in
+    let spec : WriterSpec = get_or setup.writers place (record { producer = 0; buffer = 0; policy = Drops }) in
+    let get = slice_get-get_or setup.writers place (record { producer = 0; buffer = 0; policy = Drops }) inside in
+    told_of (payload_at setup place) place view wrote.held wrote.cut world.service counts.learnt
+    (λ n chunk content at. (counts.named n chunk content at).0) (λ n look found at is. (owned.looks n look found at is).0)
+    setup buffers spec get (in_order setup world place owned wrote noted)
+
+pub every_served_schedule_is_faithful : (S : Type 0) → EveryServedScheduleIsFaithful S
+every_served_schedule_is_faithful S setup buffers moves world core laid schedule between agrees none =
+    every_schedule_is_faithful setup buffers moves world laid schedule between
+    (λ place inside. serving_is_in_order S setup world.service core agrees place inside (none_committed setup moves world (sequence_of place) schedule (none place inside)))

@@ -1,0 +1,78 @@
+-- What comes by commits in a schedule, and what is noted in order.
+use Rattle.std.proofs.Common.{◌≡◌, ◌∙◌, ℕ, zero, suc, ◌<◌, Bool, false, List, [], ◌∷◌, ◌++◌, length, Some, refl, sym, ap, subst}
+use Rattle.std.specs.Prelude.{◌==◌, slice_get}
+use Rattle.chunk_plain.specs.Setup.{Setup, sequence_of}
+use Rattle.chunk_plain.specs.Views.{Committed, ServiceView, taken_of}
+use Rattle.chunk_plain.specs.World.{World, Status, Unclaimed, Claimed, Stamped, Writing, Ready, Reading, status}
+use Rattle.chunk_plain.specs.Plain.{first_world}
+use Rattle.service_core.specs.declared.service.ServiceCore.{ServiceCore}
+use Rattle.service_core.specs.Agreement.{ServiceAgrees, NoneCommitted, is_closed}
+use Rattle.schedule_laws.specs.Moves.{Move, Claims, Stamps, Begins, SetsHeader, Publishes, Completes, Calls, Looks, Takes, Learns, Releases, Notes, Commits, claimed_in, behind}
+use Rattle.schedule_laws.specs.Schedules.{IsSchedule, CommitsNone}
+use Rattle.schedule_laws.specs.Resting.{IsNotedInOrder}
+use Rattle.schedule_laws.specs.Laws.{ServingIsInOrder}
+
+-- none of these commits brought an image of the sequence
+abbrev AllElsewhere : ℕ → List Committed → Type 0
+AllElsewhere sequence commits = (at : ℕ) (one : Committed) → slice_get commits at ≡ Some one → (one.image.sequence == sequence) ≡ false
+
+one_more : (sequence : ℕ) (commits : List Committed) (next : Committed) → AllElsewhere sequence commits → (next.image.sequence == sequence) ≡ false
+    → AllElsewhere sequence (commits ++ next ∷ [])
+one_more sequence [] next all last zero one is =
+    let same : next ≡ one = cc in subst (λ (c : Committed). (c.image.sequence == sequence) ≡ false) same last
+one_more sequence [] next all last (suc at) one is = absurd (cc)
+one_more sequence (first ∷ commits) next all last zero one is = all 0 one is
+one_more sequence (first ∷ commits) next all last (suc at) one is = one_more sequence commits next (λ n other e. all (suc n) other e) last at one is
+
+claimed_commits : (world : World) (place chunk found : ℕ) (is : Status) → (claimed_in world place chunk found is).service ≡ world.service
+claimed_commits world place chunk found Unclaimed = refl
+claimed_commits world place chunk found (Claimed other) = refl
+claimed_commits world place chunk found (Stamped other id) = refl
+claimed_commits world place chunk found (Writing other id draft) = refl
+claimed_commits world place chunk found (Ready other id content) = refl
+claimed_commits world place chunk found (Reading other id content) = refl
+
+commits_elsewhere : (sequence : ℕ) (old new : World) (moves : List Move) → IsSchedule old moves new → CommitsNone sequence moves
+    → AllElsewhere sequence old.service.commits → AllElsewhere sequence new.service.commits
+commits_elsewhere sequence old new [] schedule none all = subst (λ (world : World). AllElsewhere sequence world.service.commits) (sym schedule) all
+commits_elsewhere sequence old new (Claims place chunk found ∷ moves) schedule none all =
+    commits_elsewhere sequence (behind old (Claims place chunk found)) new moves schedule.1 none
+    (subst (λ (service : ServiceView). AllElsewhere sequence service.commits) (sym (claimed_commits old place chunk found (status old chunk))) all)
+commits_elsewhere sequence old new (Stamps place chunk ∷ moves) schedule none all =
+    commits_elsewhere sequence (behind old (Stamps place chunk)) new moves schedule.1 none all
+commits_elsewhere sequence old new (Begins place chunk words ∷ moves) schedule none all =
+    commits_elsewhere sequence (behind old (Begins place chunk words)) new moves schedule.1 none all
+commits_elsewhere sequence old new (SetsHeader place chunk id head ∷ moves) schedule none all =
+    commits_elsewhere sequence (behind old (SetsHeader place chunk id head)) new moves schedule.1 none all
+commits_elsewhere sequence old new (Publishes place chunk id index word ∷ moves) schedule none all =
+    commits_elsewhere sequence (behind old (Publishes place chunk id index word)) new moves schedule.1 none all
+commits_elsewhere sequence old new (Completes place chunk id content ∷ moves) schedule none all =
+    commits_elsewhere sequence (behind old (Completes place chunk id content)) new moves schedule.1 none all
+commits_elsewhere sequence old new (Calls place call ∷ moves) schedule none all =
+    commits_elsewhere sequence (behind old (Calls place call)) new moves schedule.1 none all
+commits_elsewhere sequence old new (Looks chunk word header found ∷ moves) schedule none all =
+    commits_elsewhere sequence (behind old (Looks chunk word header found)) new moves schedule.1 none all
+commits_elsewhere sequence old new (Takes place chunk word header ∷ moves) schedule none all =
+    commits_elsewhere sequence (behind old (Takes place chunk word header)) new moves schedule.1 none all
+commits_elsewhere sequence old new (Learns place chunk content ∷ moves) schedule none all =
+    commits_elsewhere sequence (behind old (Learns place chunk content)) new moves schedule.1 none all
+commits_elsewhere sequence old new (Releases chunk ∷ moves) schedule none all =
+    commits_elsewhere sequence (behind old (Releases chunk)) new moves schedule.1 none all
+commits_elsewhere sequence old new (Notes event ∷ moves) schedule none all =
+    commits_elsewhere sequence (behind old (Notes event)) new moves schedule.1 none all
+commits_elsewhere sequence old new (Commits committed ∷ moves) schedule none all =
+    commits_elsewhere sequence (behind old (Commits committed)) new moves schedule.1 none.1 (one_more sequence old.service.commits committed all none.0)
+
+-- where no move commits an image of the sequence, none came
+pub none_committed : (setup : Setup) (moves : List Move) (world : World) (sequence : ℕ) → IsSchedule (first_world setup) moves world → CommitsNone sequence moves
+    → NoneCommitted world.service sequence
+none_committed setup moves world sequence schedule none =
+    commits_elsewhere sequence (first_world setup) world moves schedule none (λ at one is. absurd (cc))
+
+-- a service that agrees with its view noted in order
+pub serving_is_in_order : (S : Type 0) → ServingIsInOrder S
+serving_is_in_order S setup view core agrees place inside none = record {
+  last = record { come = (taken_of view place).count; closed = is_closed setup core place; due = [] };
+  leads = agrees.order place inside none;
+  none_due = refl;
+}
