@@ -1,5 +1,5 @@
 -- What a schedule leads to is an account, and so it is faithful.
-use Rattle.std.proofs.Common.{◌≡◌, ◌∙◌, ℕ, ◌+◌, ◌<◌, ◌≤◌, ◌⊎◌, false, List, [], length, get_or, Some, refl, sym, arith, inl, inr}
+use Rattle.std.proofs.Common.{◌≡◌, ◌∙◌, ℕ, ◌<◌, ◌≤◌, ◌⊎◌, false, List, [], length, get_or, arith, inl, inr}
 use Rattle.std.proofs.lemmas.Bool.{cases_lt}
 use Rattle.std.proofs.lemmas.List.{length-map}
 use Rattle.std.proofs.lemmas.Option.{slice_get-get_or}
@@ -18,7 +18,7 @@ use Rattle.world_model.proofs.FaithfulLemmas.{told_of, every_account_is_faithful
 use Rattle.service_core.proofs.AccountLemmas.{leads_are_in_order}
 use Rattle.schedule_laws.specs.Moves.{Move}
 use Rattle.schedule_laws.specs.Schedules.{IsSchedule}
-use Rattle.schedule_laws.specs.Resting.{IsBetweenCalls, AreBetweenCalls, IsNotedInOrder, AreNotedInOrder}
+use Rattle.schedule_laws.specs.Resting.{AreBetweenCalls, IsNotedInOrder, AreNotedInOrder}
 use Rattle.schedule_laws.specs.Laws.{SchedulesAreAccounts, EveryScheduleIsFaithful, EverySequenceIsTold, EveryServedScheduleIsFaithful}
 use Rattle.schedule_laws.proofs.BetweenLemmas.{HasWritten, has_written}
 use Rattle.schedule_laws.proofs.CommitLemmas.{none_committed, serving_is_in_order}
@@ -28,7 +28,7 @@ use Rattle.schedule_laws.proofs.ScheduleLemmas.{schedules_keep_ownership}
 pub owned_behind : (setup : Setup) (moves : List Move) (world : World) → IsSchedule (first_world setup) moves world → IsOwned world
 owned_behind setup moves world schedule = (schedules_keep_ownership (first_world setup) world moves (first_owned setup) schedule).0
 
-many_behind : (setup : Setup) (moves : List Move) (world : World) → IsSchedule (first_world setup) moves world → length world.writers ≡ length setup.writers
+pub many_behind : (setup : Setup) (moves : List Move) (world : World) → IsSchedule (first_world setup) moves world → length world.writers ≡ length setup.writers
 many_behind setup moves world schedule =
     (schedules_keep_ownership (first_world setup) world moves (first_owned setup) schedule).1 ∙ length-map setup.writers (λ (_ : WriterSpec). newcomer)
 

@@ -1,15 +1,13 @@
 -- What comes by commits in a schedule, and what is noted in order.
-use Rattle.std.proofs.Common.{◌≡◌, ◌∙◌, ℕ, zero, suc, ◌<◌, Bool, false, List, [], ◌∷◌, ◌++◌, length, Some, refl, sym, ap, subst}
+use Rattle.std.proofs.Common.{◌≡◌, ℕ, zero, suc, false, List, [], ◌∷◌, ◌++◌, Some, refl, sym, subst}
 use Rattle.std.specs.Prelude.{◌==◌, slice_get}
-use Rattle.chunk_plain.specs.Setup.{Setup, sequence_of}
+use Rattle.chunk_plain.specs.Setup.{Setup}
 use Rattle.chunk_plain.specs.Views.{Committed, ServiceView, taken_of}
 use Rattle.chunk_plain.specs.World.{World, Status, Unclaimed, Claimed, Stamped, Writing, Ready, Reading, status}
 use Rattle.chunk_plain.specs.Plain.{first_world}
-use Rattle.service_core.specs.declared.service.ServiceCore.{ServiceCore}
-use Rattle.service_core.specs.Agreement.{ServiceAgrees, NoneCommitted, is_closed}
+use Rattle.service_core.specs.Agreement.{NoneCommitted, is_closed}
 use Rattle.schedule_laws.specs.Moves.{Move, Claims, Stamps, Begins, SetsHeader, Publishes, Completes, Calls, Looks, Takes, Learns, Releases, Notes, Commits, claimed_in, behind}
 use Rattle.schedule_laws.specs.Schedules.{IsSchedule, CommitsNone}
-use Rattle.schedule_laws.specs.Resting.{IsNotedInOrder}
 use Rattle.schedule_laws.specs.Laws.{ServingIsInOrder}
 
 -- none of these commits brought an image of the sequence

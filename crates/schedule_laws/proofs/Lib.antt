@@ -1,6 +1,8 @@
 pub mod AccountLemmas
 pub mod BetweenLemmas
 pub mod CommitLemmas
+pub mod CompleteLemmas
+pub mod EnoughLemmas
 pub mod MoveLemmas
 pub mod ReportLemmas
 pub mod ScheduleLemmas

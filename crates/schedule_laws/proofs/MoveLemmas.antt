@@ -1,8 +1,7 @@
 -- Each move keeps a world owned, with as many writers and chunks.
-use Rattle.std.proofs.Common.{◌≡◌, ℕ, List, length, None, refl, sym, ap, subst, length-set}
-use Rattle.chunk_plain.specs.Views.{Content, Noted, taken_of}
+use Rattle.std.proofs.Common.{◌≡◌, ℕ, length, None, refl, sym, ap, subst, length-set}
 use Rattle.chunk_plain.specs.World.{World, Status, Unclaimed, Claimed, Stamped, Writing, Ready, Reading, status, writer}
-use Rattle.chunk_plain.specs.Steps.{claims, looks_at, takes_in, notes, notes_commit, served, serviced}
+use Rattle.chunk_plain.specs.Steps.{looks_at, takes_in, notes, notes_commit, served, serviced}
 use Rattle.chunk_plain.specs.Owned.{IsOwned}
 use Rattle.chunk_plain.specs.Drafts.{draft_at, ends_by}
 use Rattle.chunk_plain.specs.Plain.{read_as}

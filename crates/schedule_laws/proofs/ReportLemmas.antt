@@ -17,7 +17,7 @@ use Rattle.world_model.specs.FirstBuffers.{payload_at, sequences_from}
 use Rattle.world_model.proofs.FaithfulLemmas.{order_events}
 use Rattle.world_model.proofs.MakingLemmas.{set_at}
 use Rattle.schedule_laws.specs.Resting.{IsNotedInOrder}
-use Rattle.schedule_laws.specs.ReportLaws.{HasAccount, SequencesHaveAccounts, EveryPacketIsCounted}
+use Rattle.schedule_laws.specs.ReportLaws.{SequencesHaveAccounts, EveryPacketIsCounted}
 use Rattle.schedule_laws.proofs.AccountLemmas.{owned_behind, in_order}
 use Rattle.schedule_laws.proofs.BetweenLemmas.{HasWritten, has_written}
 

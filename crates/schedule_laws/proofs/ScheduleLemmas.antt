@@ -1,5 +1,5 @@
 -- Schedules join, and keep a world owned.
-use Rattle.std.proofs.Common.{◌≡◌, ◌∙◌, List, [], ◌∷◌, ◌++◌, length, refl, sym, ap, subst}
+use Rattle.std.proofs.Common.{◌∙◌, List, [], ◌∷◌, ◌++◌, length, refl, sym, ap, subst}
 use Rattle.chunk_plain.specs.World.{World}
 use Rattle.chunk_plain.specs.Owned.{IsOwned}
 use Rattle.schedule_laws.specs.Moves.{Move, behind}

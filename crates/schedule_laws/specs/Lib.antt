@@ -1,3 +1,4 @@
+pub mod EnoughLaws
 pub mod Laws
 pub mod Moves
 pub mod ReportLaws

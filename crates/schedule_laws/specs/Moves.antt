@@ -4,11 +4,11 @@ use Rattle.std.specs.Prelude.{◌≡◌, ℕ, ◌+◌, ◌*◌, ◌<◌, ◌≤�
 use Rattle.trace_model.specs.Calls.{Call}
 use Rattle.chunk_plain.specs.Setup.{sequence_of}
 use Rattle.chunk_plain.specs.Payload.{byte_of, byte_at, byte_in, sealed_to}
-use Rattle.chunk_plain.specs.Views.{At, Head, Draft, fresh, Content, Completed, Found, Noted, Arrive, Partial, Patched, Closed, Read, Commit, Committed, taken_of}
+use Rattle.chunk_plain.specs.Views.{At, Head, Draft, fresh, Content, Completed, Found, Noted, Commit, Committed, taken_of}
 use Rattle.chunk_plain.specs.World.{World, Status, Unclaimed, Claimed, Stamped, Writing, Ready, Reading, status, writer}
-use Rattle.chunk_plain.specs.Steps.{claims, stamps, begins, redrafts, with_head, with_word, completes, notes_call, looks_at, takes_in, learns, lets_go, notes, notes_commit, drafted, moved, served, noted, serviced}
+use Rattle.chunk_plain.specs.Steps.{claims, stamps, begins, with_head, with_word, completes, notes_call, looks_at, takes_in, learns, lets_go, notes, notes_commit, drafted, moved, served, noted, serviced}
 use Rattle.chunk_plain.specs.Owned.{times}
-use Rattle.chunk_plain.specs.Drafts.{MayFollow, IsDraft, IsFound, IsThere, IsHolding, head_of, draft_at, head_at, ends_by}
+use Rattle.chunk_plain.specs.Drafts.{MayFollow, IsDraft, IsFound, IsThere, IsHolding, head_of, draft_at, ends_by}
 use Rattle.chunk_plain.specs.Plain.{read_as}
 
 -- A writer is named by its place, from 0. The page words and header words that a step found are kept in views; what they say of the chunk is said by

@@ -1,7 +1,6 @@
 -- Schedules: any list of moves, by writers and the service in any order, of which each is possible where it stands.
 use Rattle.std.specs.Prelude.{◌≡◌, ℕ, ◌==◌, false, List, [], ◌∷◌}
 use Rattle.chunk_plain.specs.World.{World}
-use Rattle.chunk_plain.specs.Views.{Committed}
 use Rattle.schedule_laws.specs.Moves.{Move, Commits, MayMove, behind}
 
 -- the moves lead from one world to another

@@ -2,6 +2,7 @@
 ghost use Rattle.schedule_laws.specs.Laws.{SchedulesJoin, SchedulesKeepOwnership, SchedulesAreAccounts, EveryScheduleIsFaithful};
 ghost use Rattle.schedule_laws.specs.Laws.{EverySequenceIsTold, ServingIsInOrder, EveryServedScheduleIsFaithful};
 ghost use Rattle.schedule_laws.specs.ReportLaws.{SequencesHaveAccounts, EveryPacketIsCounted};
+ghost use Rattle.schedule_laws.specs.EnoughLaws.{SetupsAreApart, EnoughChunksLoseNothing, EnoughMissesNothing};
 
 /// Schedules go on one behind another, and each front of a schedule is one.
 pub fn schedules_join()
@@ -48,4 +49,19 @@ pub fn sequences_have_accounts()
 /// So the report counts each packet that its writer began once.
 pub fn every_packet_is_counted()
     ensures { EveryPacketIsCounted }
+{}
+
+/// No chunk is of two producers in a set-up that is laid out for producers.
+pub fn setups_are_apart()
+    ensures { SetupsAreApart }
+{}
+
+/// Where chunks are enough no writer has lost a packet.
+pub fn enough_chunks_lose_nothing()
+    ensures { EnoughChunksLoseNothing }
+{}
+
+/// And where bytes are enough too, and all has come and was read, no packet is missing.
+pub fn enough_misses_nothing()
+    ensures { EnoughMissesNothing }
 {}
