@@ -22,18 +22,6 @@ use Rattle.field_stream.specs.Progress.{MayFollow, depth_behind, Writing, IsUnde
 use Rattle.field_stream.proofs.ByteLemmas.{put_more, put_inside, put_none, length_put}
 use Rattle.field_stream.proofs.LevelLemmas.{flat_written, flat_begun, places_written, tree_gives}
 
--- ---- the node that comes next
-
-pub next_node : (nodes : List Shown) (i : ℕ) (node : FieldNode) (text : List ℕ)
-    → option_map (λ (n : Shown). n.0) (slice_get nodes i) ≡ Some node → option_map (λ (n : Shown). n.1) (slice_get nodes i) ≡ Some text
-    → drop i nodes ≡ (node, text) ∷ drop (suc i) nodes
-next_node [] i node text is shows = absurd (cc)
-next_node (first ∷ others) zero node text is shows =
-    let a : first.0 ≡ node = cc in
-    let b : first.1 ≡ text = cc in
-    ap (λ (n : FieldNode). (n, first.1) ∷ others) a ∙ ap (λ (t : List ℕ). (node, t) ∷ others) b
-next_node (first ∷ others) (suc i) node text is shows = next_node others i node text is shows
-
 -- ---- a field that is written whole
 
 pub length-bytes_field : (field : ℕ) (text : List ℕ) (times : ℕ)

@@ -50,8 +50,9 @@ pub fn stream_fields(cursor: &mut ChunkCursor<'_>, fields: &FieldTree)
     ensures at { (tree : Fields) → fields.now ≡ nodes_of tree → cursor_at cursor.new ≡ cursor_at cursor.old + length (encoding_of tree) }
 {
     let mut holes = ArrayVec::<u32, MAX_OPEN_HOLES>::new();
-    for i in 0..fields.len() {
-        stream_node(cursor, &mut holes, fields.node(i), fields.text(i));
+    let mut coming = fields.fields();
+    'nodes: while let Some((node, text)) = coming.next() {
+        stream_node(cursor, &mut holes, node, text);
     }
 }
 

@@ -10,10 +10,10 @@ use Rattle.field_tree.specs.declared.mode.Action.{Action}
 use Rattle.field_tree.specs.declared.mode.Action.TheVariants.{Refuse, Go, Keep, Open, Close}
 use Rattle.field_tree.specs.Nodes.{Shown, nodes_of}
 use Rattle.field_tree.specs.Grammar.{number, Quoted as AsQuoted, Repeated, InPairs, IsTextOf, Spells}
-use Rattle.field_tree.specs.Machine.{Reading, act, settled, before_byte, moved, applied, next, then_run, run, is_after, finish, beginning}
+use Rattle.field_tree.specs.Machine.{Reading, act, settled, before_byte, moved, applied, next, then_run, run, is_after, finish, beginning, IsValid}
 use Rattle.field_tree.proofs.TestLemmas.{number_digit}
 use Rattle.field_tree.proofs.Messages.{InMessage, AField, ends_here, number_before, bytes_before}
-use Rattle.field_tree.proofs.Steps.{IsValid, Follows, Back, act_back}
+use Rattle.field_tree.proofs.Steps.{Follows, Back, act_back}
 
 -- the nodes of all, where the text behind a place ends it
 abbrev pub accepted : Reading → List ℕ → Option (List Shown)

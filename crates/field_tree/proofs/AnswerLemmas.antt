@@ -1,13 +1,10 @@
 -- From what a text comes to, to what the answer means.
 use Rattle.std.proofs.Common.{◌≡◌, ℕ, ◌+◌, ◌≤◌, sum_by, map, Bool, true, false, ◌==◌, nat_lt, Option, Some, None, Result, Ok, Err, List, [], ◌∷◌, length, take, drop, refl, sym, ap, subst, arith, ◌∙◌, length-drop}
-use Rattle.std.proofs.lemmas.List.{length-take-le}
 use Rattle.std.proofs.lemmas.Bool.{cond_both}
-use Rattle.std.proofs.lemmas.List.Sums.{sum_by-cons}
 use Rattle.std.specs.List.{AllByRecursion}
 use Rattle.trace_base.specs.declared.limits.TheConstants.{MAX_NESTING, MAX_PACKET_LEN}
 use Rattle.trace_model.specs.Encoding.{Fields, encoding_len, depth_of}
 use Rattle.field_tree.specs.declared.node.FieldNode.{FieldNode}
-use Rattle.field_tree.specs.declared.node.Node.{Node}
 use Rattle.field_tree.specs.declared.fault.FieldFault.{FieldFault}
 use Rattle.field_tree.specs.declared.fault.FieldFault.TheVariants.{BadField, Reserved, TooDeep, PacketTooLong}
 use Rattle.field_tree.specs.declared.fault.FieldError.{FieldError}
@@ -15,38 +12,16 @@ use Rattle.field_tree.specs.declared.fault.FieldError.TheVariants.{OutOfMemory, 
 use Rattle.field_tree.specs.declared.tree.FieldTree.{FieldTree}
 use Rattle.field_tree.specs.Nodes.{Shown, nodes_of, IsFit}
 use Rattle.field_tree.specs.Grammar.{IsTextOf, IsFaultAt, Spells}
-use Rattle.field_tree.specs.Ranges.{shown, IsRange, IsWhole}
 use Rattle.field_tree.specs.Refusals.{first_reserved, reserved_fault, when, or_else, refusal_by, refusal_of}
-use Rattle.field_tree.specs.Judged.{node_len_at, node_len, nodes_len, placed_len, kind_of, deepest, reserved_from, nodes_refusal, placed_refusal}
+use Rattle.field_tree.specs.Judged.{nodes_refusal}
 use Rattle.field_tree.specs.Machine.{nodes_or_column}
 use Rattle.field_tree.specs.Answers.{IsRefused, Means, unless, judged, outcome, Parses, Gives}
-use Rattle.field_tree.proofs.FitLemmas.{spelled_fit, fit_shown}
+use Rattle.field_tree.proofs.FitLemmas.{spelled_fit}
 use Rattle.field_tree.proofs.Faults.{one_fault, fault_no_text}
 use Rattle.field_tree.proofs.Outcomes.{Says, outcome_says, read_as}
 use Rattle.field_tree.proofs.NodeLaws.{refusal_tree, one_tree_of_nodes}
 
--- ---- by the ranges of the texts
-
-pub kinds_shown : (bytes : List ℕ) (ns : List Node) → map (λ n. n.0) (map (shown bytes) ns) ≡ map kind_of ns
-kinds_shown bytes [] = refl
-kinds_shown bytes (n ∷ ns) = ap (λ (ks : List FieldNode). n.node ∷ ks) (kinds_shown bytes ns)
-
-pub len_shown : (bytes : List ℕ) (ns : List Node) → AllByRecursion (IsRange bytes) ns → nodes_len (map (shown bytes) ns) ≡ sum_by placed_len ns
-len_shown bytes [] all = refl
-len_shown bytes (n ∷ ns) all =
-    let inside : n.start + n.len ≤ length bytes = all.0 in
-    let size : length (take n.len (drop n.start bytes)) ≡ n.len = length-take-le n.len (drop n.start bytes) (omega (arith, length-drop n.start bytes)) in
-    sum_by-cons node_len (shown bytes n) (map (shown bytes) ns)
-    ∙ ap (λ (len : ℕ). node_len_at n.node len + nodes_len (map (shown bytes) ns)) size
-    ∙ ap (λ (sum : ℕ). placed_len n + sum) (len_shown bytes ns all.1)
-    ∙ sym (sum_by-cons placed_len n ns)
-
-pub refusal_shown : (depth : ℕ) (bytes : List ℕ) (ns : List Node) → AllByRecursion (IsRange bytes) ns
-    → nodes_refusal depth (map (shown bytes) ns) ≡ placed_refusal depth ns
-unfolding nodes_refusal placed_refusal
-refusal_shown depth bytes ns all =
-    ap (λ (ks : List FieldNode). refusal_by depth (reserved_from 0 ks) (deepest 0 0 ks) (nodes_len (map (shown bytes) ns))) (kinds_shown bytes ns)
-    ∙ ap (λ (n : ℕ). refusal_by depth (reserved_from 0 (map kind_of ns)) (deepest 0 0 (map kind_of ns)) n) (len_shown bytes ns all)
+-- ---- what is given
 
 read_fit : (nodes : List Shown) (text : List ℕ) (r : Result (List Shown) ℕ) → Says text r → r ≡ Ok nodes → AllByRecursion (λ n. IsFit n.0) nodes
 read_fit nodes text (Ok read) says is =
@@ -55,28 +30,18 @@ read_fit nodes text (Ok read) says is =
     subst P (sym says.nodes_are ∙ same) (spelled_fit says.fields false text says.text_of.spelled)
 read_fit nodes text (Err column) says is = absurd (cc)
 
-pub whole_parts : (text bytes : List ℕ) (ns : List Node) (encoded : ℕ) → nodes_or_column text ≡ Ok (map (shown bytes) ns)
-    → AllByRecursion (IsRange bytes) ns → encoded ≡ sum_by placed_len ns → encoded ≤ MAX_PACKET_LEN → IsWhole bytes ns encoded
-whole_parts text bytes ns encoded read all is most = record {
-  ranges = all;
-  fit = fit_shown bytes ns (read_fit (map (shown bytes) ns) text (nodes_or_column text) (outcome_says text) read);
-  encoded_is = is ∙ sym (len_shown bytes ns all);
-  most = most;
-}
+pub nodes_fit : (text : List ℕ) (nodes : List Shown) → nodes_or_column text ≡ Ok nodes → AllByRecursion (λ n. IsFit n.0) nodes
+nodes_fit text nodes read = read_fit nodes text (nodes_or_column text) (outcome_says text) read
 
--- ---- what is given
-
-pub given_taken : (depth : ℕ) (text : List ℕ) (bytes : List ℕ) (ns : List Node) → nodes_or_column text ≡ Ok (map (shown bytes) ns) → AllByRecursion (IsRange bytes) ns
-    → placed_refusal depth ns ≡ None → outcome depth text ≡ Ok (map (shown bytes) ns)
+pub given_taken : (depth : ℕ) (text : List ℕ) (nodes : List Shown) → nodes_or_column text ≡ Ok nodes
+    → nodes_refusal depth nodes ≡ None → outcome depth text ≡ Ok nodes
 unfolding outcome
-given_taken depth text bytes ns is all none =
-    ap (judged depth) is ∙ ap (λ (o : Option FieldFault). unless o (map (shown bytes) ns)) (refusal_shown depth bytes ns all ∙ none)
+given_taken depth text nodes is none = ap (judged depth) is ∙ ap (λ (o : Option FieldFault). unless o nodes) none
 
-pub given_refused : (depth : ℕ) (text : List ℕ) (bytes : List ℕ) (ns : List Node) (fault : FieldFault) → nodes_or_column text ≡ Ok (map (shown bytes) ns)
-    → AllByRecursion (IsRange bytes) ns → placed_refusal depth ns ≡ Some fault → outcome depth text ≡ Err fault
+pub given_refused : (depth : ℕ) (text : List ℕ) (nodes : List Shown) (fault : FieldFault) → nodes_or_column text ≡ Ok nodes
+    → nodes_refusal depth nodes ≡ Some fault → outcome depth text ≡ Err fault
 unfolding outcome
-given_refused depth text bytes ns fault is all some =
-    ap (judged depth) is ∙ ap (λ (o : Option FieldFault). unless o (map (shown bytes) ns)) (refusal_shown depth bytes ns all ∙ some)
+given_refused depth text nodes fault is some = ap (judged depth) is ∙ ap (λ (o : Option FieldFault). unless o nodes) some
 
 pub given_column : (depth column : ℕ) (text : List ℕ) → nodes_or_column text ≡ Err column → outcome depth text ≡ Err (BadField column)
 unfolding outcome

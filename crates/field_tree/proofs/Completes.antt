@@ -5,8 +5,7 @@ use Rattle.field_tree.specs.declared.mode.Mode.{Mode}
 use Rattle.field_tree.specs.declared.mode.Mode.TheVariants.{Start, Field, Value, Zero, Digits, Text, Quoted, Star, Times, Tick, Pairs, Half, Packed, After}
 use Rattle.field_tree.specs.Nodes.{Shown, nodes_of}
 use Rattle.field_tree.specs.Grammar.{IsTextOf, IsFrontOfFields, Spells}
-use Rattle.field_tree.specs.Machine.{Reading, act, settled, applied, next, then_run, run, finish, beginning}
-use Rattle.field_tree.proofs.Steps.{IsValid}
+use Rattle.field_tree.specs.Machine.{Reading, act, settled, applied, next, then_run, run, finish, beginning, IsValid}
 use Rattle.field_tree.proofs.Accepted.{accepted, Steps, next_back, accepted_spelled}
 use Rattle.field_tree.proofs.Runs.{place, run-append}
 use Rattle.field_tree.proofs.Spelled.{after_at, end_next, settled_after, end_of, spelled_accepted}

@@ -9,9 +9,8 @@ use Rattle.field_tree.specs.declared.mode.Action.{Action}
 use Rattle.field_tree.specs.declared.mode.Action.TheVariants.{Refuse, Go, Keep, Open, Close}
 use Rattle.field_tree.specs.Nodes.{Shown}
 use Rattle.field_tree.specs.Grammar.{number, is_digit}
-use Rattle.field_tree.specs.Machine.{Reading, is_first_digit, is_text_byte, grown, hex_value, go_on, act, settled, moved, applied, next, then_run, run, beginning}
+use Rattle.field_tree.specs.Machine.{Reading, is_first_digit, is_text_byte, grown, hex_value, go_on, act, settled, moved, applied, next, then_run, run, beginning, IsValid}
 use Rattle.field_tree.proofs.TestLemmas.{first_digit_range, by_grown, by_hex, number_digit, number_more}
-use Rattle.field_tree.proofs.Steps.{IsValid}
 use Rattle.field_tree.proofs.Accepted.{Steps, next_back}
 use Rattle.field_tree.proofs.Runs.{place}
 use Rattle.field_tree.proofs.Words.{EndsPlain, Empty, Ends}

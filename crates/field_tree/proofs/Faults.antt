@@ -8,9 +8,8 @@ use Rattle.field_tree.specs.declared.mode.Mode.{Mode}
 use Rattle.field_tree.specs.declared.mode.Mode.TheVariants.{Start, Field, Value, Zero, Digits, Text, Quoted, Star, Times, Tick, Pairs, Half, Packed, After}
 use Rattle.field_tree.specs.Nodes.{Shown, nodes_of}
 use Rattle.field_tree.specs.Grammar.{IsTextByte, number, is_digit, hex_digit, leading_digits, first_word, IsTextOf, Spells, IsFrontOfFields, IsFaultAt}
-use Rattle.field_tree.specs.Machine.{Reading, is_first_digit, next, then_run, run, finish, beginning, open_digits, taken_back}
+use Rattle.field_tree.specs.Machine.{Reading, is_first_digit, next, then_run, run, finish, beginning, open_digits, taken_back, IsValid}
 use Rattle.field_tree.proofs.TestLemmas.{digit_range, hex_digit_low}
-use Rattle.field_tree.proofs.Steps.{IsValid}
 use Rattle.field_tree.proofs.Accepted.{accepted}
 use Rattle.field_tree.proofs.Runs.{place, run-append, text_step, pair_first, pair_last}
 use Rattle.field_tree.proofs.Spelled.{spelled_accepted}

@@ -4,9 +4,7 @@ use Rattle.std.specs.List.{AllByRecursion}
 use Rattle.trace_base.specs.declared.limits.TheConstants.{MAX_PACKET_LEN}
 use Rattle.trace_model.specs.Encoding.{Fields, NoFields, NumberField, BytesField, NestedField}
 use Rattle.field_tree.specs.declared.node.FieldNode.TheVariants.{End}
-use Rattle.field_tree.specs.declared.node.Node.{Node}
 use Rattle.field_tree.specs.Nodes.{Shown, nodes_of, IsFit}
-use Rattle.field_tree.specs.Ranges.{shown}
 use Rattle.field_tree.specs.Grammar.{BytesSpelling, Quoted, Repeated, InPairs, IsSpelling}
 
 all_joined : (a b : List Shown) → AllByRecursion (λ n. IsFit n.0) a → AllByRecursion (λ n. IsFit n.0) b → AllByRecursion (λ n. IsFit n.0) (a ++ b)
@@ -26,12 +24,3 @@ spelled_fit (BytesField f t k others) after text spelled =
     ((spelled.0, times.0, times.1), spelled_fit others _ spelled.3 spelled.5)
 spelled_fit (NestedField f inner others) after text spelled =
     (spelled.0, all_joined (nodes_of inner) ((End, []) ∷ nodes_of others) (spelled_fit inner _ spelled.1 spelled.2) (tt, spelled_fit others _ spelled.3 spelled.5))
-
-pub fit_shown : (bytes : List ℕ) (ns : List Node) → AllByRecursion (λ n. IsFit n.0) (map (shown bytes) ns) → AllByRecursion (λ n. IsFit n.node) ns
-fit_shown bytes [] all = tt
-fit_shown bytes (n ∷ ns) all = (all.0, fit_shown bytes ns all.1)
-
-pub fit_at : (ns : List Node) (i : ℕ) (d : Node) → AllByRecursion (λ n. IsFit n.node) ns → i < length ns → IsFit (get_or ns i d).node
-fit_at [] i d all inside = absurd (omega arith)
-fit_at (n ∷ ns) zero d all inside = all.0
-fit_at (n ∷ ns) (suc i) d all inside = fit_at ns i d all.1 (omega arith)

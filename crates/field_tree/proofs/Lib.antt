@@ -2,7 +2,9 @@ pub mod Accepted
 pub mod AnswerLemmas
 pub mod Completes
 pub mod Cuts
+pub mod EncodedLemmas
 pub mod Faults
+pub mod FirstLemmas
 pub mod FitLemmas
 pub mod JudgedLemmas
 pub mod LoopLemmas
@@ -10,9 +12,10 @@ pub mod Messages
 pub mod NodeLaws
 pub mod NumberLemmas
 pub mod Outcomes
-pub mod RangeLemmas
+pub mod ParserLemmas
 pub mod Runs
 pub mod Spelled
 pub mod Steps
 pub mod TestLemmas
 pub mod Words
+pub mod WrittenLemmas

@@ -2,11 +2,8 @@
 use Rattle.std.proofs.Common.{◌≡◌, ℕ, ◌+◌, ◌-◌, ◌<◌, ◌≤◌, Option, Some, None, Err, List, [], ◌∷◌, ◌++◌, length, take, drop, get_or, sym, ap, subst, arith, ◌∙◌, add-one}
 use Rattle.std.proofs.lemmas.List.{take_more, length-take-le, take-append-drop, take_all}
 use Rattle.std.proofs.Math.Seq.{drop-cons}
-use Rattle.field_tree.specs.declared.mode.Mode.{Mode}
-use Rattle.field_tree.specs.declared.mode.Mode.TheVariants.{Start, Field, Value, Zero, Digits, Text, Quoted, Star, Times, Tick, Pairs, Half, Packed, After}
 use Rattle.field_tree.specs.Nodes.{Shown}
-use Rattle.field_tree.specs.Machine.{Reading, HalfFits, next, run, finish, beginning, taken_back, at_end, nodes_or_column}
-use Rattle.field_tree.proofs.Steps.{IsValid}
+use Rattle.field_tree.specs.Machine.{Reading, next, run, finish, beginning, taken_back, at_end, nodes_or_column, IsValid}
 use Rattle.field_tree.proofs.Completes.{valid_here}
 use Rattle.field_tree.proofs.Cuts.{depth_within}
 use Rattle.field_tree.proofs.Runs.{run_joins, run_last}
@@ -21,24 +18,8 @@ depth_before text i r given inside =
     let within = depth_within (take i text) r given in
     omega (arith, within, length-take-le i text inside)
 
-half_fits : (m : Mode) (t : List ℕ) → IsValid m t → HalfFits m
-half_fits (Start opened) t valid = tt
-half_fits (Field n) t valid = tt
-half_fits (Value n) t valid = tt
-half_fits (Zero n) t valid = tt
-half_fits (Digits n v) t valid = tt
-half_fits (Text n) t valid = tt
-half_fits (Quoted n) t valid = tt
-half_fits (Star n) t valid = tt
-half_fits (Times n k) t valid = tt
-half_fits (Tick n) t valid = tt
-half_fits (Pairs n) t valid = tt
-half_fits (Half n high) t valid = valid.2
-half_fits (Packed n) t valid = tt
-half_fits After t valid = tt
-
-pub half_before : (text : List ℕ) (i : ℕ) (r : Reading) → run beginning (take i text) ≡ Some r → HalfFits r.mode
-half_before text i r given = half_fits r.mode r.text (valid_here (take i text) r given)
+pub valid_before : (text : List ℕ) (i : ℕ) (r : Reading) → run beginning (take i text) ≡ Some r → IsValid r.mode r.text
+valid_before text i r given = valid_here (take i text) r given
 
 pub back_before : (text : List ℕ) (i b : ℕ) (r : Reading) → run beginning (take i text) ≡ Some r → i ≤ length text → next r b ≡ None
     → length (taken_back r.mode b) ≤ i

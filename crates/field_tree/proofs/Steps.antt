@@ -10,7 +10,7 @@ use Rattle.field_tree.specs.declared.mode.Action.{Action}
 use Rattle.field_tree.specs.declared.mode.Action.TheVariants.{Refuse, Go, Keep, Open, Close}
 use Rattle.field_tree.specs.Nodes.{Shown, IsField}
 use Rattle.field_tree.specs.Grammar.{IsTextByte, IsByte, number, hex_digit, pairs}
-use Rattle.field_tree.specs.Machine.{is_first_digit, is_text_byte, grown, hex_value, go_on, act}
+use Rattle.field_tree.specs.Machine.{is_first_digit, is_text_byte, grown, hex_value, go_on, act, IsValid}
 use Rattle.field_tree.proofs.TestLemmas.{first_digit_range, text_byte, by_grown, by_hex, number_digit, number_more, pairs-push}
 use Rattle.field_tree.proofs.Messages.{InMessage, AField, closes_here, spaced, nested_before}
 
@@ -30,23 +30,6 @@ body (Pairs n) t = number n ++ 58 ∷ 120 ∷ 39 ∷ pairs t
 body (Half n high) t = number n ++ 58 ∷ 120 ∷ 39 ∷ (pairs t ++ hex_digit high ∷ [])
 body (Packed n) t = number n ++ 58 ∷ 120 ∷ 39 ∷ (pairs t ++ 39 ∷ [])
 body After t = []
-
--- all numbers are in their ranges, and so are the bytes of the text
-abbrev pub IsValid : Mode → List ℕ → Type 0
-IsValid (Start opened) t = t ≡ []
-IsValid (Field n) t = IsField n × (t ≡ [])
-IsValid (Value n) t = IsField n × (t ≡ [])
-IsValid (Zero n) t = IsField n × (t ≡ [])
-IsValid (Digits n value) t = IsField n × (1 ≤ value) × (value < 2 ^ 64) × (t ≡ [])
-IsValid (Text n) t = IsField n × AllByRecursion IsTextByte t
-IsValid (Quoted n) t = IsField n × AllByRecursion IsTextByte t
-IsValid (Star n) t = IsField n × AllByRecursion IsTextByte t
-IsValid (Times n times) t = IsField n × AllByRecursion IsTextByte t × (1 ≤ times) × (times ≤ MAX_PACKET_LEN)
-IsValid (Tick n) t = IsField n × (t ≡ [])
-IsValid (Pairs n) t = IsField n × AllByRecursion IsByte t
-IsValid (Half n high) t = IsField n × AllByRecursion IsByte t × (high < 16)
-IsValid (Packed n) t = IsField n × AllByRecursion IsByte t
-IsValid After t = t ≡ []
 
 -- what follows, with its nodes
 abbrev pub Follows : Mode → List ℕ → ℕ → List Shown → List ℕ → Type 0

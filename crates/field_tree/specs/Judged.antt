@@ -4,7 +4,6 @@ use Rattle.trace_base.specs.declared.limits.TheConstants.{MAX_PACKET_LEN}
 use Rattle.trace_model.specs.Encoding.{number_field, bytes_head, nested_tag}
 use Rattle.field_tree.specs.declared.node.FieldNode.{FieldNode}
 use Rattle.field_tree.specs.declared.node.FieldNode.TheVariants.{Number, Bytes, Begin, End}
-use Rattle.field_tree.specs.declared.node.Node.{Node}
 use Rattle.field_tree.specs.declared.fault.FieldFault.{FieldFault}
 use Rattle.field_tree.specs.Nodes.{Shown}
 use Rattle.field_tree.specs.Refusals.{reserved_or, refusal_by}
@@ -26,10 +25,6 @@ node_len n = node_len_at n.0 (length n.1)
 abbrev pub nodes_len : List Shown → ℕ
 nodes_len nodes = sum_by node_len nodes
 
--- the same by the ranges of the texts
-abbrev pub placed_len : Node → ℕ
-placed_len n = node_len_at n.node n.len
-
 -- a length, and none where it is more than a packet may have
 abbrev pub Measures : ℕ → Option ℕ → Type 0
 Measures len (Some n) = (n ≡ len) × (n ≤ MAX_PACKET_LEN)
@@ -37,8 +32,9 @@ Measures len None = MAX_PACKET_LEN < len
 
 -- ---- nested messages
 
-abbrev pub kind_of : Node → FieldNode
-kind_of n = n.node
+-- the nodes without their texts
+abbrev pub kinds_of : List Shown → List FieldNode
+kinds_of nodes = map (λ n. n.0) nodes
 
 -- how many messages are open behind a node
 unfoldable pub level : ℕ → FieldNode → ℕ
@@ -77,9 +73,4 @@ Judges len (Err fault) given = given ≡ Some fault
 
 unfoldable pub nodes_refusal : ℕ → List Shown → Option FieldFault
 nodes_refusal depth nodes =
-    refusal_by depth (reserved_from 0 (map (λ n. n.0) nodes)) (deepest 0 0 (map (λ n. n.0) nodes)) (nodes_len nodes)
-
--- the same by the ranges of the texts
-unfoldable pub placed_refusal : ℕ → List Node → Option FieldFault
-placed_refusal depth nodes =
-    refusal_by depth (reserved_from 0 (map kind_of nodes)) (deepest 0 0 (map kind_of nodes)) (sum_by placed_len nodes)
+    refusal_by depth (reserved_from 0 (kinds_of nodes)) (deepest 0 0 (kinds_of nodes)) (nodes_len nodes)

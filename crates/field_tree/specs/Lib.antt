@@ -1,10 +1,11 @@
 pub mod Answers
+pub mod Encoded
 pub mod Grammar
 pub mod Judged
 pub mod Laws
 pub mod Machine
 pub mod Nodes
-pub mod Ranges
 pub mod Refusals
 pub mod Trees
 pub mod Views
+pub mod Written

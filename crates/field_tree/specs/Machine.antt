@@ -1,6 +1,7 @@
 -- Reading byte by byte: what the private calls do, and what a text comes to by them. What that means is said by the
 -- grammar alone; the laws tie the two together.
-use Rattle.std.specs.Prelude.{ℕ, suc, ◌+◌, ◌-◌, ◌*◌, ◌<◌, List, [], ◌∷◌, ◌++◌, length, Bool, true, false, nat_lt, nat_le, ◌==◌, ◌&&◌, ◌||◌, not, if◌then◌else◌, Option, Some, None, Result, Ok, Err}
+use Rattle.std.specs.Prelude.{◌≡◌, ℕ, suc, ◌+◌, ◌-◌, ◌*◌, ◌^◌, ◌<◌, ◌≤◌, List, [], ◌∷◌, ◌++◌, length, Bool, true, false, nat_lt, nat_le, ◌==◌, ◌&&◌, ◌||◌, not, if◌then◌else◌, Option, Some, None, Result, Ok, Err}
+use Rattle.std.specs.List.{AllByRecursion}
 use Rattle.trace_base.specs.declared.limits.TheConstants.{MAX_FIELD, MAX_PACKET_LEN}
 use Rattle.field_tree.specs.declared.node.FieldNode.{FieldNode}
 use Rattle.field_tree.specs.declared.node.FieldNode.TheVariants.{Number, Bytes, Begin, End}
@@ -8,8 +9,8 @@ use Rattle.field_tree.specs.declared.mode.Mode.{Mode}
 use Rattle.field_tree.specs.declared.mode.Mode.TheVariants.{Start, Field, Value, Zero, Digits, Text, Quoted, Star, Times, Tick, Pairs, Half, Packed, After}
 use Rattle.field_tree.specs.declared.mode.Action.{Action}
 use Rattle.field_tree.specs.declared.mode.Action.TheVariants.{Refuse, Go, Keep, Open, Close}
-use Rattle.field_tree.specs.Nodes.{Shown}
-use Rattle.field_tree.specs.Grammar.{number, is_digit}
+use Rattle.field_tree.specs.Nodes.{Shown, IsField}
+use Rattle.field_tree.specs.Grammar.{IsTextByte, IsByte, number, is_digit}
 
 -- a digit that a number may begin with
 abbrev pub is_first_digit : ℕ → Bool
@@ -137,6 +138,34 @@ finish r = ended (settled r)
 -- the reading of nothing
 unfoldable pub beginning : Reading
 beginning = record { nodes = []; depth = 0; text = []; mode = Start false }
+
+-- where a reading stands: all numbers are in their ranges, and so are the bytes of the text
+abbrev pub IsValid : Mode → List ℕ → Type 0
+IsValid (Start opened) t = t ≡ []
+IsValid (Field n) t = IsField n × (t ≡ [])
+IsValid (Value n) t = IsField n × (t ≡ [])
+IsValid (Zero n) t = IsField n × (t ≡ [])
+IsValid (Digits n value) t = IsField n × (1 ≤ value) × (value < 2 ^ 64) × (t ≡ [])
+IsValid (Text n) t = IsField n × AllByRecursion IsTextByte t
+IsValid (Quoted n) t = IsField n × AllByRecursion IsTextByte t
+IsValid (Star n) t = IsField n × AllByRecursion IsTextByte t
+IsValid (Times n times) t = IsField n × AllByRecursion IsTextByte t × (1 ≤ times) × (times ≤ MAX_PACKET_LEN)
+IsValid (Tick n) t = IsField n × (t ≡ [])
+IsValid (Pairs n) t = IsField n × AllByRecursion IsByte t
+IsValid (Half n high) t = IsField n × AllByRecursion IsByte t × (high < 16)
+IsValid (Packed n) t = IsField n × AllByRecursion IsByte t
+IsValid After t = t ≡ []
+
+-- an action that has a message begin or end comes where no text is being read
+abbrev pub IsBetween : Action → List ℕ → Type 0
+IsBetween (Open n) t = t ≡ []
+IsBetween Close t = t ≡ []
+IsBetween action t = Unit {0}
+
+-- a node that isn't a text has none
+abbrev pub MayHave : FieldNode → List ℕ → Type 0
+MayHave (Bytes n times) t = Unit {0}
+MayHave node t = t ≡ []
 
 -- the first digit of a pair is one of sixteen
 abbrev pub HalfFits : Mode → Type 0

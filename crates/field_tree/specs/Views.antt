@@ -1,25 +1,23 @@
 -- What the types of the code are in the words of the grammar.
-use Rattle.std.specs.Prelude.{◌≡◌, ℕ, Bool, true, false, List, [], ◌∷◌, ◌++◌, map, drop, Option, Some, None, Result, Ok, Err}
-use Rattle.std.specs.List.{AllByRecursion}
+use Rattle.std.specs.Prelude.{◌≡◌, ℕ, Bool, true, false, List, [], ◌∷◌, ◌++◌, Option, Some, None, Result, Ok, Err}
 use Rattle.field_tree.specs.declared.parser.Parser.{Parser}
 use Rattle.field_tree.specs.declared.parser.Parsed.{Parsed}
 use Rattle.field_tree.specs.declared.mode.Mode.{Mode}
 use Rattle.field_tree.specs.declared.node.FieldNode.{FieldNode}
-use Rattle.field_tree.specs.declared.node.Node.{Node}
 use Rattle.field_tree.specs.declared.fault.FieldFault.TheVariants.{BadField}
 use Rattle.field_tree.specs.declared.fault.FieldError.{FieldError}
 use Rattle.field_tree.specs.declared.fault.FieldError.TheVariants.{OutOfMemory, Fault}
 use Rattle.field_tree.specs.Nodes.{Shown}
 use Rattle.field_tree.specs.Machine.{Reading}
-use Rattle.field_tree.specs.Ranges.{shown, listed, IsRange, IsKept}
+use Rattle.field_tree.specs.Written.{shown_in, AreWritten, AreFitNodes}
 
 -- the nodes that a parser has read
 abbrev pub nodes_read : Parser → List Shown
-nodes_read p = map (shown p.bytes.items) p.nodes.items
+nodes_read p = shown_in p.code.items
 
 -- the text that is being read
 abbrev pub text_read : Parser → List ℕ
-text_read p = drop p.start p.bytes.items
+text_read p = p.text.items
 
 -- what a parser has read, as the grammar's machine sees it
 abbrev pub reading : Parser → Mode → Reading
@@ -35,35 +33,23 @@ abbrev pub AddsByte : ℕ → Parser → Parser → Type 0
 AddsByte byte old new =
     (nodes_read new ≡ nodes_read old) × (text_read new ≡ text_read old ++ byte ∷ []) × (new.depth ≡ old.depth)
 
--- the texts that a parser keeps are its nodes', one behind another
+-- what a parser keeps says its nodes
 abbrev pub Keeps : Parser → Type 0
-Keeps p = IsKept p.bytes.items p.nodes.items p.start
+Keeps p = AreWritten p.code.items
 
 -- whether a byte was taken, and where the reading stands then
 abbrev pub Takes : Bool → Option Reading → Reading → Type 0
 Takes true given new = given ≡ Some new
 Takes false given new = given ≡ None
 
--- the nodes with their texts
-abbrev pub nodes_in : Parsed → List Shown
-nodes_in parsed = map (shown parsed.bytes.items) (listed parsed.nodes)
-
--- the texts of all nodes lie inside the bytes
-abbrev pub HasRanges : Parsed → Type 0
-HasRanges parsed = AllByRecursion (IsRange parsed.bytes.items) (listed parsed.nodes)
-
 -- whether the text may end, and its nodes where it may
 abbrev pub Ends : Bool → Option (List Shown) → Parser → Type 0
 Ends true given p = given ≡ Some (nodes_read p)
 Ends false given p = given ≡ None
 
--- the text may end, and this is its only node
-abbrev pub IsOnly : Node → Option (List Shown) → List ℕ → Type 0
-IsOnly n given bytes = (given ≡ Some (shown bytes n ∷ [])) × IsRange bytes n
-
 -- what was answered is what the text comes to, unless memory ran out
 abbrev pub GivesNodes : Result Parsed FieldError → Result (List Shown) ℕ → Type 0
-GivesNodes (Ok parsed) given = (given ≡ Ok (nodes_in parsed)) × HasRanges parsed
+GivesNodes (Ok parsed) given = (given ≡ Ok (shown_in parsed.code.items)) × AreFitNodes parsed.code.items
 GivesNodes (Err OutOfMemory) given = Unit {0}
 GivesNodes (Err (Fault (BadField column))) given = given ≡ Err column
 GivesNodes (Err (Fault fault)) given = ⊥

@@ -2,12 +2,14 @@
 ghost use Rattle.std.specs.Prelude.{◌≡◌, ℕ, ◌+◌, ◌*◌, ◌<◌, ◌≤◌, ◌↔◌, IsTrue, List, length, map, sum_by, drop, Option, Some, None};
 ghost use Rattle.std.specs.Option.{option_or};
 ghost use Rattle.field_tree.specs.Judged as judged;
-ghost use Rattle.field_tree.specs.Judged.{Measures, node_len_at, placed_len, kind_of, deepest, reserved_from, reserved_at, placed_refusal, Judges};
+ghost use Rattle.field_tree.specs.Judged.{Measures, node_len_at, nodes_len, kinds_of, deepest, reserved_from, reserved_at, nodes_refusal, Judges};
 ghost use Rattle.field_tree.specs.Refusals as refusals;
+ghost use Rattle.field_tree.specs.Written.{shown_in, AreFitNodes};
 ghost use Rattle.wire_varint.specs.Varint.{varint, tag};
 
 use crate::fault::FieldFault;
-use crate::node::{FieldNode, Node};
+use crate::fields::Fields;
+use crate::node::FieldNode;
 use trace_base::limits::{MAX_NESTING, MAX_PACKET_LEN};
 use trace_base::reserved::is_reserved;
 use wire_varint::put_varint;
@@ -65,12 +67,14 @@ fn node_len(node: FieldNode, len: usize) -> Option<u32>
 }
 
 /// How many bytes the nodes take in the encoding.
-fn encoded_len(nodes: &[Node]) -> Option<u32>
-    ensures { Measures (sum_by placed_len nodes.now) result }
+fn encoded_len(code: &[u8]) -> Option<u32>
+    requires { AreFitNodes code.now }
+    ensures { Measures (nodes_len (shown_in code.now)) result }
 {
     let mut sum = 0u32;
-    for placed in nodes {
-        match node_len(placed.node, placed.len) {
+    let mut fields = Fields::new(code);
+    'nodes: while let Some((node, text)) = fields.next() {
+        match node_len(node, text.len()) {
             Some(len) => {
                 if len > MAX_PACKET_LEN - sum {
                     return None;
@@ -97,26 +101,22 @@ fn level(now: usize, node: FieldNode) -> usize
     }
 }
 
-/// How many nested messages stand inside one another.
-#[tactic(auto, unfolding(crate::specs::Judged::deepest))]
-fn most_open(nodes: &[Node]) -> usize
-    ensures { result ≡ deepest 0 0 (map kind_of nodes.now) }
+/// Whether more nested messages stand inside one another.
+#[tactic(auto, unfolding(crate::specs::Judged::deepest), using(crate::proofs::JudgedLemmas::deepest_least))]
+fn is_deeper(code: &[u8], most: usize) -> bool
+    requires fit { AreFitNodes code.now }
+    requires few { most ≤ MAX_NESTING }
+    ensures { IsTrue result ↔ (most < deepest 0 0 (kinds_of (shown_in code.now))) }
 {
     let mut now = 0usize;
-    let mut most = 0usize;
-    for placed in nodes {
-        now = level(now, placed.node);
-        most = most.max(now);
+    let mut fields = Fields::new(code);
+    'nodes: while let Some((node, _)) = fields.next() {
+        now = level(now, node);
+        if now > most {
+            return true;
+        }
     }
-    most
-}
-
-/// Whether more nested messages stand inside one another. So many take as many nodes at least.
-#[tactic(auto, using(crate::proofs::JudgedLemmas::deepest_within))]
-fn is_deeper(nodes: &[Node], most: usize) -> bool
-    ensures { IsTrue result ↔ (most < deepest 0 0 (map kind_of nodes.now)) }
-{
-    nodes.len() > most && most_open(nodes) > most
+    false
 }
 
 /// A node's field, where it is the service's own and no message is open.
@@ -139,46 +139,50 @@ fn reserved_node(now: usize, node: FieldNode) -> Option<u32>
 
 /// The first field at the top level that is the service's own.
 #[tactic(auto, unfolding(crate::specs::Judged::reserved_from))]
-fn first_reserved(nodes: &[Node]) -> Option<u32>
-    ensures { result ≡ reserved_from 0 (map kind_of nodes.now) }
+fn first_reserved(code: &[u8]) -> Option<u32>
+    requires { AreFitNodes code.now }
+    ensures { result ≡ reserved_from 0 (kinds_of (shown_in code.now)) }
 {
     let mut now = 0usize;
-    for placed in nodes {
-        if let Some(field) = reserved_node(now, placed.node) {
+    let mut fields = Fields::new(code);
+    'nodes: while let Some((node, _)) = fields.next() {
+        if let Some(field) = reserved_node(now, node) {
             return Some(field);
         }
-        now = level(now, placed.node);
+        now = level(now, node);
     }
     None
 }
 
 /// The first reserved field, where no message is around the nodes.
-fn reserved_fault(nodes: &[Node], depth: u8) -> Option<FieldFault>
-    ensures { result ≡ refusals.reserved_fault depth (reserved_from 0 (map kind_of nodes.now)) }
+fn reserved_fault(code: &[u8], depth: u8) -> Option<FieldFault>
+    requires { AreFitNodes code.now }
+    ensures { result ≡ refusals.reserved_fault depth (reserved_from 0 (kinds_of (shown_in code.now))) }
 {
     if depth > 0 {
         return None;
     }
-    match first_reserved(nodes) {
+    match first_reserved(code) {
         Some(field) => Some(FieldFault::Reserved { field }),
         None => None,
     }
 }
 
-/// The length of the encoding, or the first reason for which the nodes aren't taken inside `depth`
-/// messages.
-#[tactic(auto, unfolding(crate::specs::Judged::placed_refusal))]
-pub(crate) fn judge(nodes: &[Node], depth: u8) -> Result<u32, FieldFault>
-    requires { depth ≤ MAX_NESTING }
-    ensures { Judges (sum_by placed_len nodes.now) result (placed_refusal depth nodes.now) }
+/// The length of the encoding of the nodes that these bytes say, or the first reason for which they
+/// aren't taken inside `depth` messages.
+#[tactic(auto, unfolding(crate::specs::Judged::nodes_refusal))]
+pub(crate) fn judge(code: &[u8], depth: u8) -> Result<u32, FieldFault>
+    requires fit { AreFitNodes code.now }
+    requires depth { depth ≤ MAX_NESTING }
+    ensures { Judges (nodes_len (shown_in code.now)) result (nodes_refusal depth (shown_in code.now)) }
 {
-    if let Some(fault) = reserved_fault(nodes, depth) {
+    if let Some(fault) = reserved_fault(code, depth) {
         return Err(fault);
     }
-    if is_deeper(nodes, usize::from(MAX_NESTING - depth)) {
+    if is_deeper(code, usize::from(MAX_NESTING - depth)) {
         return Err(FieldFault::TooDeep);
     }
-    match encoded_len(nodes) {
+    match encoded_len(code) {
         Some(len) => Ok(len),
         None => Err(FieldFault::PacketTooLong),
     }

@@ -2,11 +2,12 @@
 //! of nodes, and refuses it for the first reason that it gives.
 //! A layer above may rely on a text being accepted exactly where the grammar spells a tree of
 //! fields so, on the nodes being those of this one tree, on the column of a fault, and on
-//! `enc_len` being the length of the tree's encoding. The laws are functions with empty bodies.
+//! `enc_len` being the length of the tree's encoding. A tree keeps its nodes as few bytes. The laws are functions with empty bodies.
 #![tactic(auto)]
 
 mod act;
 mod fault;
+mod fields;
 mod judge;
 mod laws;
 mod mode;
@@ -14,8 +15,10 @@ mod node;
 mod parse;
 mod parser;
 mod tree;
+mod written;
 
 pub use fault::{FieldError, FieldFault};
+pub use fields::Fields;
 pub use laws::{
     faults_have_no_tree, fields_begin_before_faults, no_other_is_right, nodes_are_as_long,
     nodes_tell_the_tree, one_fault_of_a_text, one_tree_of_a_text, outcomes_are_right,

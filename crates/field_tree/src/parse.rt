@@ -20,15 +20,15 @@ pub fn parse_fields(alloc: Global, text: &[u8], depth: u8) -> Result<FieldTree, 
     parse(alloc, text, depth)
 }
 
-#[tactic(auto, using(crate::proofs::AnswerLemmas::given_taken, crate::proofs::AnswerLemmas::given_refused, crate::proofs::AnswerLemmas::given_column, crate::proofs::AnswerLemmas::whole_parts))]
+#[tactic(auto, using(crate::proofs::AnswerLemmas::given_taken, crate::proofs::AnswerLemmas::given_refused, crate::proofs::AnswerLemmas::given_column))]
 fn parse(alloc: Global, text: &[u8], depth: u8) -> Result<FieldTree, FieldError>
     requires text { length text.now ≤ MAX_INPUT }
     requires depth { depth ≤ MAX_NESTING }
     ensures { Gives result (outcome depth text.now) }
 {
     let parsed = read(alloc, text)?;
-    match judge(parsed.nodes.as_slice(), depth) {
-        Ok(encoded) => Ok(FieldTree::from_parts(parsed.nodes, parsed.bytes, encoded)),
+    match judge(&parsed.code, depth) {
+        Ok(encoded) => Ok(FieldTree::from_parts(parsed.code, encoded)),
         Err(fault) => Err(FieldError::Fault(fault)),
     }
 }

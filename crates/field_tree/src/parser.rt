@@ -1,37 +1,36 @@
 //! Reading a text byte by byte, without recursion.
 ghost use Rattle.std.specs.Prelude.{◌≡◌, ℕ, ◌+◌, ◌-◌, ◌<◌, ◌≤◌, ◌==◌, ◌||◌, length, List, [], drop, IfOk, IfSome, OnOk, Some, None, false};
-ghost use Rattle.field_tree.specs.Machine.{HalfFits, settled, before_byte, applied, next, finish, nodes_or_column, beginning};
-ghost use Rattle.field_tree.specs.Views.{reading, AddsNode, AddsByte, Takes, Keeps, IsOnly, Ends, GivesNodes};
+ghost use Rattle.field_tree.specs.Machine.{IsValid, IsBetween, MayHave, settled, before_byte, applied, next, finish, nodes_or_column, beginning};
+ghost use Rattle.field_tree.specs.Views.{reading, text_read, AddsNode, AddsByte, Takes, Keeps, Ends, GivesNodes};
 
 use crate::act::{act, may_end, pending_node, taken_back};
 use crate::fault::{FieldError, FieldFault};
 use crate::mode::{Action, Mode};
-use crate::node::{FieldNode, Node, NodeList};
+use crate::node::FieldNode;
+use crate::written::push_node;
 use std::alloc::{AllocError, Global};
 use trace_base::limits::MAX_INPUT;
 
-/// Room for as many nodes as most packets have is taken at once, and so is room for their texts
-/// with the first byte of one.
-const FIRST_NODES: usize = 8;
+/// Room for what most packets are written in is taken at once, and so is room for a text with its
+/// first byte.
+const FIRST_CODE: usize = 256;
 
 const FIRST_BYTES: usize = 64;
 
-/// What was read so far of a text of `len` bytes: the nodes, and the bytes of all texts, one behind
-/// another. The text that is being read begins at `start`.
+/// What was read so far of a text of `len` bytes: the nodes as they are written, and the text that
+/// is being read.
 #[derive(Drop)]
 pub(crate) struct Parser {
-    pub nodes: Vec<Node>,
-    pub bytes: Vec<u8>,
-    pub start: usize,
+    pub code: Vec<u8>,
+    pub text: Vec<u8>,
     pub depth: u32,
     pub len: usize,
 }
 
-/// The nodes of a text, and the bytes of their texts.
+/// The nodes of a text, as they are written.
 #[derive(Drop)]
 pub(crate) struct Parsed {
-    pub nodes: NodeList,
-    pub bytes: Vec<u8>,
+    pub code: Vec<u8>,
 }
 
 /// Whether a field ends before this byte.
@@ -51,15 +50,14 @@ fn make_room(bytes: &mut Vec<u8>) -> Result<(), AllocError>
     Ok(())
 }
 
-/// The same for the nodes of a text of this length: a field takes three bytes of text at least,
-/// and has two nodes where it is a message. It stays a call, so that the loop over the bytes
-/// stays short.
+/// The same for the nodes of a text of this length, which mostly are written in no more bytes than
+/// it has. It stays a call, so that the loop over the bytes stays short.
 #[inline(never)]
-fn make_node_room(nodes: &mut Vec<Node>, len: usize) -> Result<(), AllocError>
-    ensures { OnOk result (nodes.new.items ≡ nodes.old.items) }
+fn make_code_room(code: &mut Vec<u8>, len: usize) -> Result<(), AllocError>
+    ensures { OnOk result (code.new.items ≡ code.old.items) }
 {
-    if nodes.is_empty() {
-        nodes.reserve_exact((len - len / 3).min(FIRST_NODES))?;
+    if code.is_empty() {
+        code.reserve_exact(len.min(FIRST_CODE))?;
     }
     Ok(())
 }
@@ -72,60 +70,44 @@ impl Parser {
         ensures kept { Keeps result }
     {
         Parser {
-            nodes: Vec::new(alloc),
-            bytes: Vec::new(alloc),
-            start: 0,
+            code: Vec::new(alloc),
+            text: Vec::new(alloc),
             depth: 0,
             len,
         }
     }
 
-    /// The node whose text is the one that was being read.
-    fn placed(&self, node: FieldNode) -> Node
-        requires { Keeps self.now }
-        ensures { result ≡ record {
-          node = node;
-          start = self.now.start;
-          len = length self.now.bytes.items - self.now.start;
-        } }
-    {
-        Node {
-            node,
-            start: self.start,
-            len: self.bytes.len() - self.start,
-        }
-    }
-
     /// Adds a node whose text is the one that was being read.
-    #[tactic(auto, using(crate::proofs::RangeLemmas::node_kept, crate::proofs::RangeLemmas::node_shown, crate::proofs::RangeLemmas::node_open))]
+    #[tactic(auto, using(crate::proofs::ParserLemmas::node_kept, crate::proofs::ParserLemmas::node_shown))]
     fn push_node(&mut self, node: FieldNode) -> Result<(), AllocError>
-        requires { Keeps self.old }
+        requires kept { Keeps self.old }
+        requires text { MayHave node (text_read self.old) }
         ensures pushed { OnOk result (AddsNode node self.old self.new) }
         ensures kept { OnOk result (Keeps self.new) }
     {
-        let placed = self.placed(node);
-        make_node_room(&mut self.nodes, self.len)?;
-        self.nodes.push(placed)?;
-        self.start = self.bytes.len();
+        make_code_room(&mut self.code, self.len)?;
+        push_node(&mut self.code, node, &self.text)?;
+        self.text.clear();
         Ok(())
     }
 
     /// Adds a byte to the text that is being read.
-    #[tactic(auto, using(crate::proofs::RangeLemmas::byte_kept, crate::proofs::RangeLemmas::byte_shown, crate::proofs::RangeLemmas::byte_open))]
     fn push_byte(&mut self, byte: u8) -> Result<(), AllocError>
         requires { Keeps self.old }
         ensures pushed { OnOk result (AddsByte byte self.old self.new) }
         ensures kept { OnOk result (Keeps self.new) }
     {
-        make_room(&mut self.bytes)?;
-        self.bytes.push(byte)?;
+        make_room(&mut self.text)?;
+        self.text.push(byte)?;
         Ok(())
     }
 
     /// Ends the field that may end here, if one may.
-    #[tactic(auto, unfolding(crate::specs::Machine::settled))]
+    #[tactic(auto, unfolding(crate::specs::Machine::settled), using(crate::proofs::ParserLemmas::pending_may))]
     fn settle(&mut self, mode: &mut Mode) -> Result<(), AllocError>
-        requires { Keeps self.old }
+        requires kept { Keeps self.old }
+        requires valid { IsValid mode.old (text_read self.old) }
+        ensures valid { OnOk result (IsValid mode.new (text_read self.new)) }
         ensures settled { OnOk result (reading self.new mode.new ≡ settled (reading self.old mode.old)) }
         ensures kept { OnOk result (Keeps self.new) }
     {
@@ -143,6 +125,7 @@ impl Parser {
     #[tactic(auto, unfolding(crate::specs::Machine::applied))]
     fn perform(&mut self, mode: &mut Mode, action: Action) -> Result<bool, AllocError>
         requires kept { Keeps self.old }
+        requires between { IsBetween action (text_read self.old) }
         requires depth { self.old.depth < u32.MAX }
         ensures taken { IfOk result (λ taken. Takes taken (applied action (reading self.old mode.old)) (reading self.new mode.new)) }
         ensures kept { OnOk result (Keeps self.new) }
@@ -169,7 +152,9 @@ impl Parser {
     }
 
     fn before(&mut self, mode: &mut Mode, byte: u8) -> Result<(), AllocError>
-        requires { Keeps self.old }
+        requires kept { Keeps self.old }
+        requires valid { IsValid mode.old (text_read self.old) }
+        ensures valid { OnOk result (IsValid mode.new (text_read self.new)) }
         ensures before { OnOk result (reading self.new mode.new ≡ before_byte byte (reading self.old mode.old)) }
         ensures kept { OnOk result (Keeps self.new) }
     {
@@ -180,11 +165,11 @@ impl Parser {
     }
 
     /// Reads one byte, and answers whether the text so far begins some fields.
-    #[tactic(auto, unfolding(crate::specs::Machine::next, crate::specs::Machine::settled))]
+    #[tactic(auto, unfolding(crate::specs::Machine::next, crate::specs::Machine::settled), using(crate::proofs::ParserLemmas::acts_between, crate::proofs::ParserLemmas::half_fits))]
     fn step(&mut self, mode: &mut Mode, byte: u8) -> Result<bool, AllocError>
         requires kept { Keeps self.old }
         requires depth { self.old.depth < u32.MAX }
-        requires half { HalfFits mode.old }
+        requires valid { IsValid mode.old (text_read self.old) }
         ensures taken { IfOk result (λ taken. Takes taken (next (reading self.old mode.old) byte) (reading self.new mode.new)) }
         ensures kept { OnOk result (Keeps self.new) }
     {
@@ -192,25 +177,11 @@ impl Parser {
         self.perform(mode, act(*mode, self.depth > 0, byte))
     }
 
-    /// The node that ends here and is the only one, where the text may end.
-    #[tactic(auto, using(crate::proofs::RangeLemmas::only_ends), unfolding(crate::specs::Machine::finish, crate::specs::Machine::settled))]
-    fn only_node(&self, mode: Mode) -> Option<Node>
-        requires { Keeps self.now }
-        ensures { IfSome result (λ node. IsOnly node (finish (reading self.now mode)) self.now.bytes.items) }
-    {
-        if self.depth > 0 || !self.nodes.is_empty() {
-            return None;
-        }
-        match pending_node(mode) {
-            Some(node) => Some(self.placed(node)),
-            None => None,
-        }
-    }
-
     /// Ends the last field, and answers whether the text may end here.
     #[tactic(auto, unfolding(crate::specs::Machine::finish))]
     fn end(&mut self, mode: &mut Mode) -> Result<bool, AllocError>
-        requires { Keeps self.old }
+        requires kept { Keeps self.old }
+        requires valid { IsValid mode.old (text_read self.old) }
         ensures ended { IfOk result (λ ended. Ends ended (finish (reading self.old mode.old)) self.new) }
         ensures kept { OnOk result (Keeps self.new) }
     {
@@ -243,17 +214,8 @@ pub(crate) fn read(alloc: Global, text: &[u8]) -> Result<Parsed, FieldError>
             Err(_) => return Err(FieldError::OutOfMemory),
         }
     }
-    if let Some(node) = parser.only_node(mode) {
-        return Ok(Parsed {
-            nodes: NodeList::One(node),
-            bytes: parser.bytes,
-        });
-    }
     match parser.end(&mut mode) {
-        Ok(true) => Ok(Parsed {
-            nodes: NodeList::Many(parser.nodes),
-            bytes: parser.bytes,
-        }),
+        Ok(true) => Ok(Parsed { code: parser.code }),
         Ok(false) => Err(bad_field(text.len() + 1)),
         Err(_) => Err(FieldError::OutOfMemory),
     }

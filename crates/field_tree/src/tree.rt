@@ -1,11 +1,10 @@
 //! A tree of fields that was read: its nodes one after another, each with its text.
-ghost use Rattle.std.specs.Prelude.{◌≡◌, ℕ, ◌≤◌, ◌<◌, List, [], length, map, Some, slice_get};
-ghost use Rattle.std.specs.Option.{option_map};
+ghost use Rattle.std.specs.Prelude.{◌≡◌, ◌≤◌, []};
 ghost use Rattle.field_tree.specs.Judged.{nodes_len};
-ghost use Rattle.field_tree.specs.Nodes.{IsFit};
-ghost use Rattle.field_tree.specs.Ranges.{shown, listed, IsWhole};
+ghost use Rattle.field_tree.specs.Written.{shown_in};
+ghost use Rattle.field_tree.specs.Encoded.{IsEncoded};
 
-use crate::node::{FieldNode, NodeList};
+use crate::fields::Fields;
 use std::alloc::Global;
 use std::marker::Model;
 use trace_base::limits::MAX_PACKET_LEN;
@@ -14,53 +13,48 @@ use trace_base::limits::MAX_PACKET_LEN;
 /// other than `Bytes`. It is made by `parse_fields` alone, or without nodes by `empty`.
 #[derive(Drop)]
 pub struct FieldTree {
-    nodes: NodeList,
-    bytes: Vec<u8>,
+    code: Vec<u8>,
     encoded: u32,
 }
 
 impl Model for FieldTree {
-    ghost use Rattle.std.specs.Prelude.{List, map};
+    ghost use Rattle.std.specs.Prelude.{List};
     ghost use Rattle.field_tree.specs.Nodes.{Shown};
-    ghost use Rattle.field_tree.specs.Ranges.{shown, listed, IsWhole};
+    ghost use Rattle.field_tree.specs.Written.{shown_in};
+    ghost use Rattle.field_tree.specs.Encoded.{IsEncoded};
 
     ghost Value = { List Shown };
 
-    ghost view = { λ tree. map (shown tree.bytes.items) (listed tree.nodes) };
+    ghost view = { λ tree. shown_in tree.code.items };
 
-    ghost invariant = { λ tree. IsWhole tree.bytes.items (listed tree.nodes) tree.encoded };
+    ghost invariant = { λ tree. IsEncoded tree.code.items tree.encoded };
 }
 
 impl FieldTree {
-    /// The tree of some nodes with their texts, whose encoding has this length. It takes no more
+    /// The tree of the nodes that these bytes say, whose encoding has this length. It takes no more
     /// room than it needs: a scenario keeps the trees of all its lines.
-    pub(crate) fn from_parts(nodes: NodeList, bytes: Vec<u8>, encoded: u32) -> Self
-        requires { IsWhole bytes.items (listed nodes) encoded }
-        ensures { result ≡ map (shown bytes.items) (listed nodes) }
+    pub(crate) fn from_parts(code: Vec<u8>, encoded: u32) -> Self
+        requires { IsEncoded code.items encoded }
+        ensures { result ≡ shown_in code.items }
     {
-        let mut nodes = nodes;
-        let mut bytes = bytes;
-        nodes.shrink_to_fit();
-        bytes.shrink_to_fit();
-        FieldTree {
-            nodes,
-            bytes,
-            encoded,
-        }
+        let mut code = code;
+        code.shrink_to_fit();
+        FieldTree { code, encoded }
     }
 
     /// The tree without nodes, which no text spells: that of a packet without fields.
+    #[tactic(auto, using(crate::proofs::EncodedLemmas::nothing_encoded, crate::proofs::EncodedLemmas::nothing_shown))]
     pub fn empty(alloc: Global) -> Self
         ensures { result ≡ [] }
     {
-        FieldTree::from_parts(NodeList::Many(Vec::new(alloc)), Vec::new(alloc), 0)
+        FieldTree::from_parts(Vec::new(alloc), 0)
     }
 
-    /// How many nodes there are.
-    pub fn len(&self) -> usize
-        ensures { result ≡ length self.now }
+    /// Its nodes, one after another.
+    pub fn fields(&self) -> Fields<'_>
+        ensures { result ≡ self.now }
     {
-        self.nodes.as_slice().len()
+        Fields::new(&self.code)
     }
 
     /// The length of the encoding: nested messages have their lengths in four bytes, all other
@@ -70,23 +64,5 @@ impl FieldTree {
         ensures most { result ≤ MAX_PACKET_LEN }
     {
         self.encoded
-    }
-
-    #[tactic(auto, using(crate::proofs::FitLemmas::fit_at))]
-    pub fn node(&self, i: usize) -> FieldNode
-        requires { i < length self.now }
-        ensures node { option_map (λ n. n.0) (slice_get self.now i) ≡ Some result }
-        ensures fit { IsFit result }
-    {
-        self.nodes.as_slice()[i].node
-    }
-
-    /// The text of one repetition, which is empty for nodes other than `Bytes`.
-    pub fn text(&self, i: usize) -> &[u8]
-        requires { i < length self.now }
-        ensures { option_map (λ n. n.1) (slice_get self.now i) ≡ Some result.now }
-    {
-        let placed = &self.nodes.as_slice()[i];
-        &self.bytes[placed.start..placed.start + placed.len]
     }
 }

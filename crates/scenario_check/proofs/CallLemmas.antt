@@ -1,10 +1,9 @@
 -- How an emitter takes calls, one after another.
-use Rattle.std.proofs.Common.{◌≡◌, ◌≢◌, ◌∙◌, ℕ, zero, suc, ◌+◌, ◌*◌, ◌^◌, ◌<◌, ◌≤◌, Bool, true, false, List, [], ◌∷◌, ◌++◌, Option, Some, None, Result, Ok, Err, OnOk, length, map, take, drop, refl, sym, ap, subst, arith, length-append}
+use Rattle.std.proofs.Common.{◌≡◌, ◌≢◌, ◌∙◌, ℕ, zero, suc, ◌+◌, ◌*◌, ◌^◌, ◌<◌, ◌≤◌, Bool, true, false, List, [], ◌∷◌, ◌++◌, Option, Some, None, Result, Ok, Err, OnOk, length, map, take, drop, refl, sym, ap, subst, arith, append_assoc, length-append}
 use Rattle.std.specs.Prelude.{fold, not, slice_get}
 use Rattle.std.specs.List.{repeat}
-use Rattle.std.specs.Option.{option_map}
 use Rattle.std.proofs.lemmas.Bool.{false≢true}
-use Rattle.std.proofs.lemmas.List.{map-append, length-map, length-reverse, take_all}
+use Rattle.std.proofs.lemmas.List.{append-nil, map-append, length-map, length-reverse}
 use Rattle.std.proofs.lemmas.List.Sums.{fold-append, sum_by-append, sum_by-cons, sum_by_push}
 use Rattle.trace_base.specs.declared.limits.TheConstants.{MAX_OPEN_HOLES, MAX_PACKET_LEN}
 use Rattle.trace_model.specs.Calls.{Call}
@@ -247,57 +246,53 @@ split_there (first ∷ xs) zero x there =
 split_there (first ∷ xs) (suc i) x there =
     let more = split_there xs i x there in (ap (λ ys. first ∷ ys) more.0, ap (λ ys. first ∷ ys) more.1)
 
-pub node_there : (nodes : List Shown) (i : ℕ) (n : FieldNode) (text : List ℕ) → option_map (λ (s : Shown). s.0) (slice_get nodes i) ≡ Some n
-    → option_map (λ (s : Shown). s.1) (slice_get nodes i) ≡ Some text → slice_get nodes i ≡ Some (n, text)
-node_there nodes i n text first second = by_value (slice_get nodes i) first second
-  where
-    by_value : (o : Option Shown) → option_map (λ (s : Shown). s.0) o ≡ Some n → option_map (λ (s : Shown). s.1) o ≡ Some text → o ≡ Some (n, text)
-    by_value None first second = absurd cc
-    by_value (Some (m, other)) first second =
-        let one : m ≡ n = cc in
-        let two : other ≡ text = cc in
-        ap (λ (k : FieldNode). Some (k, other)) one ∙ ap (λ (t : List ℕ). Some (n, t)) two
+-- the emitter has taken the nodes in front of those that are still to come
+pub record HasTakenNodes (nodes coming : List Shown) (old new : Emitter) : Type 0 where
+  pub before : List Shown
+  pub cut : nodes ≡ before ++ coming
+  pub takes : Takes (map node_call before) (nodes_len before) 0 old new
 
--- the emitter has taken the first so many nodes
-abbrev pub TakesNodes : List Shown → ℕ → Emitter → Emitter → Type 0
-TakesNodes nodes i old new = Takes (map node_call (take i nodes)) (nodes_len (take i nodes)) 0 old new
+pub no_node : (nodes : List Shown) (old : Emitter) → HasTakenNodes nodes nodes old old
+no_node nodes old = record {
+  before = [];
+  cut = refl;
+  takes = record { holds = λ account holds accepts. holds; long = omega arith; few = omega arith };
+}
 
-pub node_may : (nodes : List Shown) (i : ℕ) (n : FieldNode) (text : List ℕ) (old mid : Emitter) → slice_get nodes i ≡ Some (n, text)
-    → MayTake (map node_call nodes) (nodes_len nodes) old → TakesNodes nodes i old mid → MayTake (node_call (n, text) ∷ []) (node_len (n, text)) mid
-node_may nodes i n text old mid there may takes =
-    let split = (split_there nodes i (n, text) there).1 in
-    let back : List Shown = (n, text) ∷ drop (suc i) nodes in
-    let calls : map node_call nodes ≡ map node_call (take i nodes) ++ map node_call back =
-    ap (map node_call) split ∙ map-append node_call (take i nodes) back in
-    let len : nodes_len nodes ≡ nodes_len (take i nodes) + nodes_len back =
-    ap nodes_len split ∙ sum_by-append node_len (take i nodes) back in
-    let whole : MayTake (map node_call (take i nodes) ++ map node_call back) (nodes_len (take i nodes) + nodes_len back) old =
-    subst (λ (cs : List Call). MayTake cs (nodes_len (take i nodes) + nodes_len back) old) calls
+pub node_may : (nodes coming : List Shown) (one : Shown) (old mid : Emitter) → HasTakenNodes nodes (one ∷ coming) old mid
+    → MayTake (map node_call nodes) (nodes_len nodes) old → MayTake (node_call one ∷ []) (node_len one) mid
+node_may nodes coming one old mid so_far may =
+    let before = so_far.before in
+    let back : List Shown = one ∷ coming in
+    let calls : map node_call nodes ≡ map node_call before ++ map node_call back =
+    ap (map node_call) so_far.cut ∙ map-append node_call before back in
+    let len : nodes_len nodes ≡ nodes_len before + nodes_len back =
+    ap nodes_len so_far.cut ∙ sum_by-append node_len before back in
+    let whole : MayTake (map node_call before ++ map node_call back) (nodes_len before + nodes_len back) old =
+    subst (λ (cs : List Call). MayTake cs (nodes_len before + nodes_len back) old) calls
     (subst (λ (m : ℕ). MayTake (map node_call nodes) m old) len may) in
-    let rest = may_back (map node_call (take i nodes)) (map node_call back) (nodes_len (take i nodes)) (nodes_len back) 0 old mid whole takes in
-    let sum : nodes_len back ≡ node_len (n, text) + nodes_len (drop (suc i) nodes) = sum_by-cons node_len (n, text) (drop (suc i) nodes) in
-    may_front (node_call (n, text) ∷ []) (map node_call (drop (suc i) nodes)) (node_len (n, text)) (nodes_len (drop (suc i) nodes)) mid
+    let rest = may_back (map node_call before) (map node_call back) (nodes_len before) (nodes_len back) 0 old mid whole so_far.takes in
+    let sum : nodes_len back ≡ node_len one + nodes_len coming = sum_by-cons node_len one coming in
+    may_front (node_call one ∷ []) (map node_call coming) (node_len one) (nodes_len coming) mid
     (subst (λ (m : ℕ). MayTake (map node_call back) m mid) sum rest)
 
-pub node_more : (nodes : List Shown) (i : ℕ) (n : FieldNode) (text : List ℕ) (old mid new : Emitter) → slice_get nodes i ≡ Some (n, text)
-    → TakesNodes nodes i old mid → Takes (node_call (n, text) ∷ []) (node_len (n, text)) 0 mid new → TakesNodes nodes (i + 1) old new
-node_more nodes i n text old mid new there takes one =
-    let next : i + 1 ≡ suc i = omega arith in
-    let split : take (i + 1) nodes ≡ take i nodes ++ (n, text) ∷ [] =
-    ap (λ (k : ℕ). take k nodes) next ∙ (split_there nodes i (n, text) there).0 in
-    let both = takes_on (map node_call (take i nodes)) (node_call (n, text) ∷ []) (nodes_len (take i nodes)) (node_len (n, text)) 0 0 old mid new takes one in
-    let calls : map node_call (take (i + 1) nodes) ≡ map node_call (take i nodes) ++ node_call (n, text) ∷ [] =
-    ap (map node_call) split ∙ map-append node_call (take i nodes) ((n, text) ∷ []) in
-    let len : nodes_len (take (i + 1) nodes) ≡ nodes_len (take i nodes) + node_len (n, text) =
-    ap nodes_len split ∙ sum_by_push node_len (take i nodes) (n, text) in
-    subst (λ (cs : List Call). Takes cs (nodes_len (take (i + 1) nodes)) 0 old new) (sym calls)
-    (subst (λ (m : ℕ). Takes (map node_call (take i nodes) ++ node_call (n, text) ∷ []) m 0 old new) (sym len) both)
+pub node_more : (nodes coming : List Shown) (one : Shown) (old mid new : Emitter) → HasTakenNodes nodes (one ∷ coming) old mid
+    → Takes (node_call one ∷ []) (node_len one) 0 mid new → HasTakenNodes nodes coming old new
+node_more nodes coming one old mid new so_far takes =
+    let before = so_far.before in
+    let both = takes_on (map node_call before) (node_call one ∷ []) (nodes_len before) (node_len one) 0 0 old mid new so_far.takes takes in
+    let calls : map node_call (before ++ one ∷ []) ≡ map node_call before ++ node_call one ∷ [] = map-append node_call before (one ∷ []) in
+    let len : nodes_len (before ++ one ∷ []) ≡ nodes_len before + node_len one = sum_by_push node_len before one in
+    record {
+      before = before ++ one ∷ [];
+      cut = so_far.cut ∙ sym (append_assoc before (one ∷ []) coming);
+      takes = subst (λ (cs : List Call). Takes cs (nodes_len (before ++ one ∷ [])) 0 old new) (sym calls)
+          (subst (λ (m : ℕ). Takes (map node_call before ++ node_call one ∷ []) m 0 old new) (sym len) both);
+    }
 
-pub nodes_all : (nodes : List Shown) (i : ℕ) (old new : Emitter) → length nodes ≤ i → TakesNodes nodes i old new
-    → Takes (map node_call nodes) (nodes_len nodes) 0 old new
-nodes_all nodes i old new past takes =
-    let all : take i nodes ≡ nodes = take_all i nodes past in
-    subst (λ (ns : List Shown). Takes (map node_call ns) (nodes_len ns) 0 old new) all takes
+pub nodes_all : (nodes : List Shown) (old new : Emitter) → HasTakenNodes nodes [] old new → Takes (map node_call nodes) (nodes_len nodes) 0 old new
+nodes_all nodes old new so_far =
+    subst (λ (ns : List Shown). Takes (map node_call ns) (nodes_len ns) 0 old new) (sym (so_far.cut ∙ append-nil so_far.before)) so_far.takes
 
 -- ---- a whole packet
 

@@ -33,8 +33,9 @@ fn emit_fields(emitter: &mut Emitter, fields: &FieldTree) -> Result<(), AllocErr
     requires { MayTake (map node_call fields.now) (nodes_len fields.now) emitter.old }
     ensures { OnOk result (Takes (map node_call fields.now) (nodes_len fields.now) 0 emitter.old emitter.new) }
 {
-    for i in 0..fields.len() {
-        emit_node(emitter, fields.node(i), fields.text(i))?;
+    let mut coming = fields.fields();
+    'nodes: while let Some((node, text)) = coming.next() {
+        emit_node(emitter, node, text)?;
     }
     Ok(())
 }

@@ -1,0 +1,86 @@
+-- What the parser keeps, and which node and which action may come where it stands.
+use Rattle.std.proofs.Common.{◌≡◌, ℕ, ◌^◌, ◌<◌, Bool, Option, Some, None, List, [], ◌∷◌, ◌++◌, length, refl, arith}
+use Rattle.field_tree.specs.declared.node.FieldNode.{FieldNode}
+use Rattle.field_tree.specs.declared.node.FieldNode.TheVariants.{Number, Bytes, Begin, End}
+use Rattle.field_tree.specs.declared.mode.Mode.{Mode}
+use Rattle.field_tree.specs.declared.mode.Mode.TheVariants.{Start, Field, Value, Zero, Digits, Text, Quoted, Star, Times, Tick, Pairs, Half, Packed, After}
+use Rattle.field_tree.specs.declared.mode.Action.{Action}
+use Rattle.field_tree.specs.declared.mode.Action.TheVariants.{Refuse, Go, Keep, Open, Close}
+use Rattle.field_tree.specs.Machine.{act, pending, IsValid, IsBetween, MayHave, HalfFits}
+use Rattle.field_tree.specs.Written.{written_node, shown_in, HasItsNumbers, HasItsText, IsWritable, AreWritten}
+use Rattle.field_tree.proofs.Steps.{Back, act_back}
+use Rattle.field_tree.proofs.WrittenLemmas.{node_added}
+
+-- ---- the node that may end where the reading stands
+
+bytes_may : (node : FieldNode) (t : List ℕ) (n times : ℕ) → Some (Bytes n times) ≡ Some node → MayHave node t
+bytes_may (Number f v) t n times is = absurd (cc)
+bytes_may (Bytes f k) t n times is = tt
+bytes_may (Begin f) t n times is = absurd (cc)
+bytes_may End t n times is = absurd (cc)
+
+pub pending_may : (m : Mode) (t : List ℕ) (node : FieldNode) → IsValid m t → pending m ≡ Some node → MayHave node t
+pending_may (Start opened) t node valid is = absurd (cc)
+pending_may (Field n) t node valid is = absurd (cc)
+pending_may (Value n) t node valid is = absurd (cc)
+pending_may (Zero n) t (Number f v) valid is = valid.1
+pending_may (Zero n) t (Bytes f k) valid is = tt
+pending_may (Zero n) t (Begin f) valid is = valid.1
+pending_may (Zero n) t End valid is = valid.1
+pending_may (Digits n value) t (Number f v) valid is = valid.3
+pending_may (Digits n value) t (Bytes f k) valid is = tt
+pending_may (Digits n value) t (Begin f) valid is = valid.3
+pending_may (Digits n value) t End valid is = valid.3
+pending_may (Text n) t node valid is = absurd (cc)
+pending_may (Quoted n) t node valid is = bytes_may node t n 1 is
+pending_may (Star n) t node valid is = absurd (cc)
+pending_may (Times n times) t node valid is = bytes_may node t n times is
+pending_may (Tick n) t node valid is = absurd (cc)
+pending_may (Pairs n) t node valid is = absurd (cc)
+pending_may (Half n high) t node valid is = absurd (cc)
+pending_may (Packed n) t node valid is = bytes_may node t n 1 is
+pending_may After t node valid is = absurd (cc)
+
+-- ---- the action at a byte
+
+between : (m : Mode) (t : List ℕ) (inner : Bool) (b : ℕ) (action : Action) → Back m t inner b action → IsBetween action t
+between m t inner b Refuse back = tt
+between m t inner b (Go to) back = tt
+between m t inner b (Keep to byte) back = tt
+between m t inner b (Open n) back = back.empty
+between m t inner b Close back = back.empty
+
+pub acts_between : (m : Mode) (t : List ℕ) (inner : Bool) (b : ℕ) → IsValid m t → IsBetween (act m inner b) t
+acts_between m t inner b valid = between m t inner b (act m inner b) (act_back m t inner b valid)
+
+pub half_fits : (m : Mode) (t : List ℕ) → IsValid m t → HalfFits m
+half_fits (Start opened) t valid = tt
+half_fits (Field n) t valid = tt
+half_fits (Value n) t valid = tt
+half_fits (Zero n) t valid = tt
+half_fits (Digits n v) t valid = tt
+half_fits (Text n) t valid = tt
+half_fits (Quoted n) t valid = tt
+half_fits (Star n) t valid = tt
+half_fits (Times n k) t valid = tt
+half_fits (Tick n) t valid = tt
+half_fits (Pairs n) t valid = tt
+half_fits (Half n high) t valid = valid.2
+half_fits (Packed n) t valid = tt
+half_fits After t valid = tt
+
+-- ---- one node more
+
+pub node_writable : (node : FieldNode) (t : List ℕ) → HasItsNumbers node → MayHave node t → length t < 2 ^ 64 → IsWritable (node, t)
+node_writable (Number f v) t numbers empty few = record { numbers = numbers; text = empty }
+node_writable (Bytes f k) t numbers any few = record { numbers = numbers; text = few }
+node_writable (Begin f) t numbers empty few = record { numbers = numbers; text = empty }
+node_writable End t numbers empty few = record { numbers = numbers; text = empty }
+
+pub node_kept : (code t : List ℕ) (node : FieldNode) → AreWritten code → HasItsNumbers node → MayHave node t → length t < 2 ^ 64
+    → AreWritten (code ++ written_node (node, t))
+node_kept code t node kept numbers may few = (node_added code (node, t) kept (node_writable node t numbers may few)).0
+
+pub node_shown : (code t : List ℕ) (node : FieldNode) → AreWritten code → HasItsNumbers node → MayHave node t → length t < 2 ^ 64
+    → shown_in (code ++ written_node (node, t)) ≡ shown_in code ++ (node, t) ∷ []
+node_shown code t node kept numbers may few = (node_added code (node, t) kept (node_writable node t numbers may few)).1
