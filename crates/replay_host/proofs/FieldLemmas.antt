@@ -31,42 +31,17 @@ pub some_at : {A : Type 0} (xs : List A) (i : ℕ) → i < length xs → (x : A)
 some_at [] i inside = absurd (omega (arith, inside))
 some_at (x ∷ xs) i inside = (get_or (x ∷ xs) i x, slice_get-get_or (x ∷ xs) i x inside)
 
--- a node with its text, as they are read
-pub node_is : (fields : List Shown) (i : ℕ) (node : FieldNode) (text : List ℕ) → i < length fields
-    → option_map (λ (n : Shown). n.0) (slice_get fields i) ≡ Some node → option_map (λ (n : Shown). n.1) (slice_get fields i) ≡ Some text
-    → get_or fields i (node, text) ≡ (node, text)
-node_is fields i node text inside first second =
-    let one : Shown = get_or fields i (node, text) in
-    let there : slice_get fields i ≡ Some one = slice_get-get_or fields i (node, text) inside in
-    let left : one.0 ≡ node = same_Some _ _ (ap (option_map (λ (n : Shown). n.0)) (sym there) ∙ first) in
-    let right : one.1 ≡ text = same_Some _ _ (ap (option_map (λ (n : Shown). n.1)) (sym there) ∙ second) in
-    ap (λ (n : FieldNode). (n, one.1)) left ∙ ap (λ (t : List ℕ). (node, t)) right
-
--- the calls of the nodes from this one on
-pub calls_next : (fields : List Shown) (i : ℕ) (one : Shown) → i < length fields → get_or fields i one ≡ one
-    → map node_call (drop i fields) ≡ node_call one ∷ map node_call (drop (i + 1) fields)
-calls_next fields i one inside is =
-    ap (map node_call) (drop-cons fields i one inside)
-    ∙ ap (λ (x : Shown). node_call x ∷ map node_call (drop (suc i) fields)) is
-    ∙ ap (λ (n : ℕ). node_call one ∷ map node_call (drop n fields)) (sym (add-one i))
-
--- and of those before the next one
-pub calls_before : (fields : List Shown) (i : ℕ) (one : Shown) → i < length fields → get_or fields i one ≡ one
-    → map node_call (take (i + 1) fields) ≡ map node_call (take i fields) ++ node_call one ∷ []
-calls_before fields i one inside is =
-    ap (λ (n : ℕ). map node_call (take n fields)) (add-one i)
-    ∙ ap (map node_call) (take-suc fields i one inside)
-    ∙ map-append node_call (take i fields) (get_or fields i one ∷ [])
-    ∙ ap (λ (x : Shown). map node_call (take i fields) ++ node_call x ∷ []) is
+-- the calls of the nodes up to this one
+pub calls_before : (before : List Shown) (one : Shown) → map node_call (before ++ one ∷ []) ≡ map node_call before ++ node_call one ∷ []
+calls_before before one = map-append node_call before (one ∷ [])
 
 -- all calls, where one of them stands among them
-pub calls_all : (fields : List Shown) (i : ℕ) (one : Shown) → i < length fields → get_or fields i one ≡ one
-    → map node_call fields ≡ (map node_call (take i fields) ++ node_call one ∷ []) ++ map node_call (drop (i + 1) fields)
-calls_all fields i one inside is =
-    ap (map node_call) (sym (take-append-drop i fields))
-    ∙ map-append node_call (take i fields) (drop i fields)
-    ∙ ap (λ (calls : List Call). map node_call (take i fields) ++ calls) (calls_next fields i one inside is)
-    ∙ sym (append_assoc (map node_call (take i fields)) (node_call one ∷ []) (map node_call (drop (i + 1) fields)))
+pub calls_all : (fields before others : List Shown) (one : Shown) → fields ≡ before ++ one ∷ others
+    → map node_call fields ≡ (map node_call before ++ node_call one ∷ []) ++ map node_call others
+calls_all fields before others one whole =
+    ap (map node_call) whole
+    ∙ map-append node_call before (one ∷ others)
+    ∙ sym (append_assoc (map node_call before) (node_call one ∷ []) (map node_call others))
 
 -- a text that a packet has room for is short
 pub short_is : (packets : List Packet) (node : FieldNode) (text : List ℕ) → IsFit node → Accepts packets (node_call (node, text)) → IsShortCall (node_call (node, text))

@@ -53,8 +53,9 @@ impl<W: Words> Host<W, W::Writer, W::Service> {
         ensures stops { (taken : Intake) → IfErr result (λ fault. StopsIn W.means (asks place (map node_call fields.now)) self.old taken fault taken) }
         ensures fault { IfErr result IsStall }
     {
-        for i in 0..fields.len() {
-            let call = call_of_node(fields.node(i), fields.text(i));
+        let mut left = fields.fields();
+        'nodes: while let Some((node, text)) = left.next() {
+            let call = call_of_node(node, text);
             self.ask(steps, place, call)?;
         }
         Ok(())

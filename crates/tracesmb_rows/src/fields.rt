@@ -137,10 +137,9 @@ fn a_tree_has_the_nodes_and_texts_of_its_line(rt: HostRuntime) {
         panic!(&rt; "the text is taken");
     };
     assert_eq!(rt; tree.enc_len(), 32);
-    assert_eq!(rt; tree.len(), wanted.len());
+    let mut fields = tree.fields();
     for (i, (node, text)) in wanted.iter().enumerate() {
-        assert!(rt; i < tree.len());
-        assert_eq!(rt; tree.node(i), *node, "node {i}");
-        assert_eq!(rt; tree.text(i), *text, "text {i}");
+        assert_eq!(rt; fields.next(), Some((*node, *text)), "node {i}");
     }
+    assert_eq!(rt; fields.next(), None);
 }

@@ -1,6 +1,7 @@
 //! Texts and what is said of them, and the parts of a scenario. The expected lines come from a
 //! reading of the grammar in another language.
 use arrayvec::ArrayVec;
+use field_tree::FieldTree;
 use scenario_text::{LineKind, ProducerLine, ScenarioFault, read_scenario, refusal_line};
 use std::alloc::{AllocError, Global};
 use std::process::Abort;
@@ -276,13 +277,23 @@ fn counts_up_to_the_limits(rt: HostRuntime) -> Result<(), AllocError> {
 const EACH_KIND: &[u8] =
     b"# x\nbuffer 4 discard\nbuffer 65536 ring\nproducer 64 65536 1\nproducer 1 4096 7\nwriter 2 1 stall\nwriter 1 2 drop\nb 1\na 1 900{1:\"hi\"*2 2:7}\nn 1 8\nu 1\ne 1\n\np 2\np 2 1:5\nf 1\nc 2\ns 2\nr 1\nr 2 3\nq\nx 2\n";
 
+/// How many nodes there are.
+fn count(fields: &FieldTree) -> u64 {
+    let mut many = 0u64;
+    let mut coming = fields.fields();
+    'nodes: while let Some(_) = coming.next() {
+        many = many.saturating_add(1);
+    }
+    many
+}
+
 /// The word of a line, its first number, and another number that it has or is about: nodes, a
 /// field or a limit.
 fn shown(what: &LineKind) -> (&'static str, u16, u64) {
     match what {
-        LineKind::Packet { writer, fields } => ("p", *writer, fields.len() as u64),
+        LineKind::Packet { writer, fields } => ("p", *writer, count(fields)),
         LineKind::Begin { writer } => ("b", *writer, 0),
-        LineKind::Add { writer, fields } => ("a", *writer, fields.len() as u64),
+        LineKind::Add { writer, fields } => ("a", *writer, count(fields)),
         LineKind::Nest { writer, field } => ("n", *writer, u64::from(*field)),
         LineKind::Unnest { writer } => ("u", *writer, 0),
         LineKind::End { writer } => ("e", *writer, 0),
