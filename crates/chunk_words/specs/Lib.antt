@@ -7,6 +7,7 @@ pub mod Moves
 pub mod Seats
 pub mod Seen
 pub mod Sits
+pub mod Named
 pub mod Made
 pub mod Laws
 pub mod Closed

@@ -79,6 +79,17 @@ impl HostTable {
         }
     }
 
+    /// All that the pass knows goes on to a new one, which is the table's pass from now on.
+    pub fn hand_on(&self, pass: &mut ReadPass) -> ReadPass
+        requires { Passes self.now pass.old }
+        ensures pass { Passes self.now result }
+        ensures known { passed_of result.seat.me.0 ≡ passed_of pass.old.seat.me.0 }
+    {
+        let table = &self.table;
+        let inner = table.shared.split_seat::<HandsOn>(&mut pass.seat);
+        ReadPass { seat: inner }
+    }
+
     /// The read joins the view of the service, and then that of the pass is the same. What the
     /// service noted since the read before it is no read.
     pub fn note_read(&self, seat: &mut ServiceSeat, pass: &mut ReadPass, event: ServiceEvent)

@@ -13,26 +13,32 @@ use commit_body::Patch;
 use page_geometry::ChunkHeader;
 use std::marker::{Brand, PhantomData};
 
-/// What the service's seat has of the other seats, known in proofs alone: which tales it heard, and
-/// where the reading pass is.
+/// What is known in proofs alone: which table it is, and what the service's seat has of the other
+/// seats, which tales it heard and where the reading pass is.
 pub trait Memory {
+    ghost use Rattle.atomic_table.specs.Seated.{TableId};
     ghost use Rattle.chunk_words.specs.Knows.{Desk};
+
+    ghost table: { TableId };
 
     ghost desk: { Desk };
 }
 
 impl Memory for Brand {
     ghost use Rattle.chunk_words.specs.Knows.{first_desk};
+    ghost use Rattle.chunk_words.specs.Named.{no_table};
+
+    ghost table = { no_table };
 
     ghost desk = { first_desk };
 }
 
-/// A table that threads share, as `Shared` has it, for a service that knows this of the other seats:
-/// it still does behind each call.
+/// A table that threads share, as `Shared` has it, for a service that knows which table it is and this
+/// of the other seats: it still does behind each call.
 #[derive(Drop)]
 pub struct Remembering<'t, N: Memory> {
     pub table: &'t HostTable,
-    of: PhantomData<N>,
+    pub of: PhantomData<N>,
 }
 
 impl<'t, N: Memory> Remembering<'t, N> {
@@ -56,7 +62,7 @@ impl<'t, N: Memory> Words for Remembering<'t, N> {
       sits = λ shared seat. Sits shared.table.now seat;
       place = λ seat. seat.place;
       view = λ _ seat. view_of seat.seat.me.0;
-      serves = λ shared seat. Remembers shared.table.now N.desk seat;
+      serves = λ shared seat. Remembers shared.table.now N.desk seat × (shared.table.now.table.shared.table_id ≡ N.table);
       service_view = λ _ seat. service_of seat.seat.me.0;
       told = λ _. None;
       takes_reads = λ _ seat. HasNoPass seat;
@@ -66,11 +72,11 @@ impl<'t, N: Memory> Words for Remembering<'t, N> {
 
     ghost rests = { λ shared seat sits. sits.rests.rests };
 
-    ghost serving = { λ shared seat serves. serves.attends.waits.serving };
+    ghost serving = { λ shared seat serves. serves.0.attends.waits.serving };
 
-    ghost learnt = { λ shared seat serves. learnt_as_found (service_of seat.seat.me.0) serves.attends.waits.seen };
+    ghost learnt = { λ shared seat serves. learnt_as_found (service_of seat.seat.me.0) serves.0.attends.waits.seen };
 
-    ghost looks_agree = { λ shared seat serves. looks_agree (service_of seat.seat.me.0) serves.attends.waits.seen };
+    ghost looks_agree = { λ shared seat serves. looks_agree (service_of seat.seat.me.0) serves.0.attends.waits.seen };
 
     ghost told_view = { λ shared seat world told sits. absurd (subst IsNothing told tt) };
 
