@@ -10,6 +10,7 @@ pub mod HistoryLemmas
 pub mod MakeLemmas
 pub mod OrderLemmas
 pub mod PartLemmas
+pub mod QuietLemmas
 pub mod ReadingLemmas
 pub mod RouteLemmas
 pub mod RoutedLemmas

@@ -20,7 +20,8 @@ use trace_buffer::{BufferSpec, TraceBuffer};
 /// A service with the seat that it was made with.
 #[derive(Drop)]
 pub struct ServiceCore<S> {
-    pub(crate) seat: S,
+    /// Open to the table's own calls on its seat, beside those of `Words`.
+    pub seat: S,
     /// Where the chunks of the producers lie.
     pub(crate) layout: Layout,
     /// What its buffers were made from.
@@ -74,5 +75,26 @@ impl<S: Drop> ServiceCore<S> {
             session,
             room: Room::make(alloc)?,
         })
+    }
+}
+
+impl<S> ServiceCore<S> {
+    /// Its seat, its buffers in rising number and its session, all as they stand.
+    pub fn into_parts(self) -> (S, Vec<TraceBuffer>, Session)
+        ensures seat { result.0 ≡ self.seat }
+        ensures buffers { result.1.items ≡ self.buffers.items }
+        ensures session { result.2 ≡ self.session }
+    {
+        let ServiceCore {
+            seat,
+            layout: _,
+            specs: _,
+            buffers,
+            writers: _,
+            taken: _,
+            session,
+            room: _,
+        } = self;
+        (seat, buffers, session)
     }
 }
