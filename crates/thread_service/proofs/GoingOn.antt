@@ -1,0 +1,190 @@
+-- A view that goes on from an earlier one, without a read: it knows what that one knew, and no read and no record is more.
+use Rattle.std.proofs.Common.{◌≡◌, ◌∙◌, ℕ, ◌-◌, Some, None, Result, Ok, Err, IfOk, IfErr, List, [], ◌∷◌, ◌++◌, refl, sym, ap, subst, append_assoc, append-nil}
+use Rattle.std.specs.Prelude.{slice_get}
+use Rattle.std.specs.List.{All, flat_map}
+use Rattle.std.proofs.lemmas.List.{append_cancel_left}
+use Rattle.std.proofs.lemmas.List.Concat.{flat_map-append}
+use Rattle.std.proofs.lemmas.List.Elements.{All-nil, All-cons, All-head, All-tail}
+use Rattle.trace_model.specs.History as model
+use Rattle.page_geometry.specs.declared.chunk_header.ChunkHeader.{ChunkHeader}
+use Rattle.page_geometry.specs.Header.{packed}
+use Rattle.chunk_plain.specs.declared.notes.ServiceEvent.{ServiceEvent}
+use Rattle.chunk_plain.specs.declared.notes.ServiceEvent.TheVariants as event
+use Rattle.chunk_plain.specs.declared.tokens.Taken.{Taken as TakenToken}
+use Rattle.chunk_plain.specs.declared.tokens.NotComplete.{NotComplete}
+use Rattle.chunk_plain.specs.Setup.{Setup}
+use Rattle.chunk_plain.specs.Words.{LooksAt, TakesChunk, FindsOther, IsReadEvent, event_of, taken_content}
+use Rattle.chunk_plain.specs.Views.{Noted, Arrive, Partial, Patched, Closed, Read, Commit, Committed, Look, ServiceView, taken_of}
+use Rattle.chunk_plain.specs.Histories.{found_among}
+use Rattle.chunk_plain.specs.Steps.{looks_at, takes_in, learns, lets_go, notes, notes_commit}
+use Rattle.chunk_words.specs.GoesOn.{IsFront, IsReadNote, GoesOn}
+use Rattle.chunk_words.proofs.Passing.{goes_same, goes_further, goes_look, goes_take, goes_learn, goes_free, goes_note, goes_commit, read_noted}
+use Rattle.service_core.specs.Agreement.{AreKnownNotes}
+use Rattle.service_core.specs.Reading.{noted_read}
+use Rattle.service_core.proofs.CloseLemmas.{noted_grows}
+use Rattle.service_core.proofs.HistoryLemmas.{Grows, all_known_grow, known_append, found_more, get_more}
+use Rattle.service_core.proofs.QuietLemmas.{AreSilent, Adds}
+use Rattle.thread_service.specs.Passing.{KnowsReads}
+use Rattle.thread_service.specs.Reading.{read_note, reads_among}
+
+-- no note is a read
+abbrev NoRead : Noted → Type 0
+NoRead note = IsReadNote note → ⊥
+
+front_get : {T : Type 0} (xs ys : List T) (i : ℕ) (x : T) → IsFront xs ys → slice_get xs i ≡ Some x → slice_get ys i ≡ Some x
+front_get xs ys i x front is = subst (λ l. slice_get l i ≡ Some x) (sym front.is) (get_more xs front.rest i x is)
+
+goes_grows : (old new : ServiceView) → GoesOn old new → Grows old new
+goes_grows old new goes = record {
+  contents = λ s i content is. front_get (taken_of old (s - 2)).contents (taken_of new (s - 2)).contents i content (goes.contents (s - 2)) is;
+  looks = λ place id count found is.
+      subst (λ (ls : List Look). found_among place id count ls ≡ Some found) (sym goes.looks.is) (found_more place id count old.looks goes.looks.rest found is);
+  commits = λ place committed is. front_get old.commits new.commits place committed goes.commits is;
+}
+
+silent_of : (all : List Noted) → All NoRead all → AreSilent all
+silent_of [] none = tt
+silent_of (Arrive q id ∷ all) none = silent_of all (All-tail NoRead (Arrive q id) all none)
+silent_of (Partial q id count ∷ all) none = silent_of all (All-tail NoRead (Partial q id count) all none)
+silent_of (Patched q id ∷ all) none = silent_of all (All-tail NoRead (Patched q id) all none)
+silent_of (Closed q ∷ all) none = silent_of all (All-tail NoRead (Closed q) all none)
+silent_of (Read q limit ∷ all) none = All-head NoRead (Read q limit) all none tt
+silent_of (Commit at ∷ all) none = silent_of all (All-tail NoRead (Commit at) all none)
+
+-- so it adds notes that write no record
+pub goes_adds : (old new : ServiceView) → GoesOn old new → Adds old new
+goes_adds old new goes = record { grows = goes_grows old new goes; notes = goes.rest; events = goes.events; silent = silent_of goes.rest goes.no_read }
+
+no_reads_among : (all : List Noted) → AreSilent all → reads_among all ≡ []
+no_reads_among [] silent = refl
+no_reads_among (Arrive q id ∷ all) silent = no_reads_among all silent
+no_reads_among (Partial q id count ∷ all) silent = no_reads_among all silent
+no_reads_among (Patched q id ∷ all) silent = no_reads_among all silent
+no_reads_among (Closed q ∷ all) silent = no_reads_among all silent
+no_reads_among (Read q limit ∷ all) silent = absurd silent
+no_reads_among (Commit at ∷ all) silent = no_reads_among all silent
+
+pub goes_reads : (old new : ServiceView) → GoesOn old new → reads_among new.events ≡ reads_among old.events
+goes_reads old new goes =
+    ap (λ (ns : List Noted). reads_among ns) goes.events
+    ∙ flat_map-append read_note old.events goes.rest
+    ∙ ap (λ (ns : List Noted). reads_among old.events ++ ns) (no_reads_among goes.rest (silent_of goes.rest goes.no_read))
+    ∙ append-nil (reads_among old.events)
+
+-- ---- a view goes on by each call on the table
+
+pub goes_nowhere : (old new : ServiceView) → new ≡ old → GoesOn old new
+goes_nowhere old new same = subst (λ (v : ServiceView). GoesOn old v) (sym same) (goes_same old)
+
+pub goes_looking : (setup : Setup) (chunk word : ℕ) (header : ChunkHeader) (old new : ServiceView) → LooksAt setup chunk word header old new → GoesOn old new
+goes_looking setup chunk word header old new looks =
+    subst (λ (v : ServiceView). GoesOn old v) (sym looks.view) (goes_look old chunk word (packed header) looks.found)
+
+pub goes_releasing : (chunk : ℕ) (old new : ServiceView) → new ≡ lets_go old chunk → GoesOn old new
+goes_releasing chunk old new is = subst (λ (v : ServiceView). GoesOn old v) (sym is) (goes_free old chunk)
+
+pub goes_committing : (committed : Committed) (old new : ServiceView) → new ≡ notes_commit old committed → GoesOn old new
+goes_committing committed old new is = subst (λ (v : ServiceView). GoesOn old v) (sym is) (goes_commit old committed)
+
+pub goes_noting : (noted : ServiceEvent) (old new : ServiceView) → (IsReadEvent noted → ⊥) → new ≡ notes old (event_of noted) → GoesOn old new
+goes_noting noted old new other is =
+    subst (λ (v : ServiceView). GoesOn old v) (sym is) (goes_note old (event_of noted) (λ read. other (read_noted noted read)))
+
+goes_takes : (setup : Setup) (chunk writer id : ℕ) (taken : TakenToken) (old new : ServiceView) → TakesChunk setup chunk writer id taken old new → GoesOn old new
+goes_takes setup chunk writer id taken old new takes =
+    let seen = looks_at old chunk takes.word (packed taken.header) None in
+    let read = takes_in seen (writer - 1) chunk in
+    let content = taken_content (writer - 1) taken in
+    subst (λ (v : ServiceView). GoesOn old v) (sym takes.view)
+    (goes_further old read (learns read (writer - 1) content)
+    (goes_further old seen read (goes_look old chunk takes.word (packed taken.header) None) (goes_take seen (writer - 1) chunk))
+    (goes_learn read (writer - 1) content))
+
+pub goes_taking : (setup : Setup) (chunk writer id : ℕ) (result : Result TakenToken NotComplete) (old new : ServiceView)
+    → IfOk result (λ taken. TakesChunk setup chunk writer id taken old new) → IfErr result (λ found. FindsOther setup chunk writer id found old new) → GoesOn old new
+goes_taking setup chunk writer id (Ok taken) old new takes finds = goes_takes setup chunk writer id taken old new takes
+goes_taking setup chunk writer id (Err found) old new takes finds = goes_looking setup chunk found.word.0 found.header old new finds.look
+
+-- a read is noted as one
+pub event_read : (noted : ServiceEvent) → IsReadEvent noted → IsReadNote (event_of noted)
+event_read (event.Read sequence limit) read = tt
+event_read (event.Arrive sequence chunk_id) read = absurd read
+event_read (event.Partial sequence chunk_id limit) read = absurd read
+event_read (event.Patched sequence chunk_id) read = absurd read
+event_read (event.Closed sequence) read = absurd read
+
+-- ---- lists of reads
+
+pub all_front : (xs ys : List Noted) → All IsReadNote (xs ++ ys) → All IsReadNote xs
+all_front [] ys all = All-nil IsReadNote
+all_front (x ∷ xs) ys all =
+    All-cons IsReadNote x xs (All-head IsReadNote x (xs ++ ys) all) (all_front xs ys (All-tail IsReadNote x (xs ++ ys) all))
+
+all_back : (xs ys : List Noted) → All IsReadNote (xs ++ ys) → All IsReadNote ys
+all_back [] ys all = all
+all_back (x ∷ xs) ys all = all_back xs ys (All-tail IsReadNote x (xs ++ ys) all)
+
+none_of_both : (xs : List Noted) → All IsReadNote xs → All NoRead xs → xs ≡ []
+none_of_both [] all none = refl
+none_of_both (x ∷ xs) all none = absurd (All-head NoRead x xs none (All-head IsReadNote x xs all))
+
+pub noted_are_reads : (events : List model.Event) → All IsReadNote (flat_map noted_read events)
+noted_are_reads [] = All-nil IsReadNote
+noted_are_reads (model.Arrives q id chunk ∷ events) = noted_are_reads events
+noted_are_reads (model.ArrivesInPart q id chunk ∷ events) = noted_are_reads events
+noted_are_reads (model.Patched q patches ∷ events) = noted_are_reads events
+noted_are_reads (model.Committed image patches ∷ events) = noted_are_reads events
+noted_are_reads (model.Closed q ∷ events) = noted_are_reads events
+noted_are_reads (model.Read q limit ∷ events) = All-cons IsReadNote (Read q limit) (flat_map noted_read events) tt (noted_are_reads events)
+
+pub reads_of_reads : (events : List model.Event) → reads_among (flat_map noted_read events) ≡ flat_map noted_read events
+reads_of_reads [] = refl
+reads_of_reads (model.Arrives q id chunk ∷ events) = reads_of_reads events
+reads_of_reads (model.ArrivesInPart q id chunk ∷ events) = reads_of_reads events
+reads_of_reads (model.Patched q patches ∷ events) = reads_of_reads events
+reads_of_reads (model.Committed image patches ∷ events) = reads_of_reads events
+reads_of_reads (model.Closed q ∷ events) = reads_of_reads events
+reads_of_reads (model.Read q limit ∷ events) = ap (λ (ns : List Noted). Read q limit ∷ ns) (reads_of_reads events)
+
+-- ---- what is known where only reads were noted
+
+pub knows_further : (before view next : ServiceView) → KnowsReads before view → GoesOn view next → KnowsReads before next
+knows_further before view next knows goes = record {
+  rest = knows.rest ++ goes.rest;
+  events = goes.events ∙ (ap (λ (ns : List Noted). ns ++ goes.rest) knows.events ∙ append_assoc before.events knows.rest goes.rest);
+  known = λ all.
+      let none = none_of_both goes.rest (all_back knows.rest goes.rest all) goes.no_read in
+      let same = goes.events ∙ (ap (λ (ns : List Noted). view.events ++ ns) none ∙ append-nil view.events) in
+      subst (λ (ns : List Noted). AreKnownNotes next ns) (sym same)
+      (all_known_grow view next view.events (goes_grows view next goes) (knows.known (all_front knows.rest goes.rest all)));
+}
+
+one_known : (view : ServiceView) (note : Noted) → IsReadNote note → AreKnownNotes view (note ∷ [])
+one_known view (Arrive q id) read = absurd read
+one_known view (Partial q id count) read = absurd read
+one_known view (Patched q id) read = absurd read
+one_known view (Closed q) read = absurd read
+one_known view (Read q limit) read = (tt, tt)
+one_known view (Commit at) read = absurd read
+
+pub knows_read : (before view : ServiceView) (note : Noted) → IsReadNote note → KnowsReads before view → KnowsReads before (notes view note)
+knows_read before view note read knows = record {
+  rest = knows.rest ++ note ∷ [];
+  events = ap (λ (ns : List Noted). ns ++ note ∷ []) knows.events ∙ append_assoc before.events knows.rest (note ∷ []);
+  known = λ all.
+      known_append (notes view note) view.events (note ∷ [])
+      (all_known_grow view (notes view note) view.events (noted_grows view (note ∷ [])) (knows.known (all_front knows.rest (note ∷ []) all)))
+      (one_known (notes view note) note read);
+}
+
+-- ---- what both have, once the later one has more
+
+module _ {A : Type 0} (of : ServiceView → List A) (passed before pass view : ServiceView) (more : List A) (is : of view ≡ of before ++ more) where
+  pub none_more : pass ≡ passed → of view ≡ of before → of pass ≡ of passed ++ more
+  none_more same quiet =
+      let none : [] ≡ more = append_cancel_left (of before) [] more (append-nil (of before) ∙ sym quiet ∙ is) in
+      ap of same ∙ sym (append-nil (of passed)) ∙ ap (λ (xs : List A). of passed ++ xs) none
+
+  pub some_more : (first : ServiceView) → of first ≡ of passed → of first ≡ of before → of view ≡ of pass → of pass ≡ of passed ++ more
+  some_more first from_pass from_view quiet =
+      sym quiet ∙ is ∙ ap (λ (xs : List A). xs ++ more) (sym from_view ∙ from_pass)

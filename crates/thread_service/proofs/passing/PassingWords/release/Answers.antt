@@ -1,0 +1,14 @@
+use Rattle.std.proofs.Common.{refl}
+use Rattle.chunk_words.specs.Sits.{known_by_service}
+use Rattle.thread_service.proofs.GoingOn.{goes_releasing}
+use Rattle.thread_service.proofs.PassLemmas.{passes_further}
+use Rattle.thread_service.proofs.passing.PassingWords.release.Goals as goal
+
+pub returns-clause-step : goal.returns-clause-step
+returns-clause-step g c = record {
+  setup_stays = refl;
+  seat_stays = passes_further g.N.Start.table g.N.Start.passed g.N.Start.view c.args.self.now.table.now c.args.self.now.pass c.args.seat.now c.release.new.seat c.requires.seat c.release.ensures.seat
+      (goes_releasing c.args.taken.chunk (known_by_service c.args.seat.now) (known_by_service c.release.new.seat) c.release.ensures.view);
+  writers_stay = λ other there. (there, refl);
+  reads_stay = λ takes. takes;
+}

@@ -1,0 +1,10 @@
+use Rattle.thread_service.proofs.Standing.{serves_back}
+use Rattle.thread_service.proofs.service.Service.collect_at.Goals as goal
+
+pub returns-clause-serves : goal.returns-clause-serves
+returns-clause-serves g c =
+    serves_back g.N.Memory.table g.N.Memory.desk c.args.table.now c.collect.new.table.table.now c.collect.new.self c.requires.table c.collect.ensures.step.seat_stays
+    c.collect.ensures.step.setup_stays c.collect.ensures.agrees
+
+pub returns-clause-desk : goal.returns-clause-desk
+returns-clause-desk g c = c.collect.ensures.step.seat_stays.0.desk_is

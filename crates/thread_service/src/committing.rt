@@ -1,0 +1,96 @@
+//! Images that come by a commit.
+ghost use Rattle.std.specs.Prelude.{◌≡◌, ◌≢◌, ℕ, ◌+◌, ◌-◌, ◌<◌, ◌≤◌, false, length, map, IsOkAnd, Err};
+ghost use Rattle.trace_base.specs.declared.limits.TheConstants.{MAX_FRAGMENTS, FIRST_SEQUENCE};
+ghost use Rattle.page_geometry.specs.declared.chunk_header.TheConstants.{MAX_FLAGS};
+ghost use Rattle.chunk_image.specs.Values.{image_value};
+ghost use Rattle.commit_body.specs.Patches.{patch_value};
+ghost use Rattle.trace_model.specs.Arrivals.{image_arrival_of};
+ghost use Rattle.trace_buffer.specs.Answers.{arrived_value};
+ghost use Rattle.chunk_plain.specs.Setup.{size_of, producer_of};
+ghost use Rattle.chunk_plain.specs.Steps.{notes_commit};
+ghost use Rattle.chunk_words.specs.Named.{identity_of};
+ghost use Rattle.chunk_words.specs.Sits.{setup_in};
+ghost use Rattle.service_core.specs.Agreement.{KeepsRest, is_closed, buffer_of};
+ghost use Rattle.service_core.specs.Routing.{buffer_at};
+ghost use Rattle.thread_service.specs.Serving.{core_of, view_in, desk_in, Serves};
+
+use crate::service::Service;
+use chunk_image::Image;
+use chunk_words::{HostTable, Memory, Remembering};
+use commit_body::Patch;
+use service_core::WrongTarget;
+use std::marker::{Brand, PhantomData};
+use trace_buffer::Arrived;
+
+impl Service {
+    /// An image arrives, and then the patches given with it are applied in their order, whatever
+    /// became of the image. A refused patch is passed over.
+    pub fn commit(
+        &mut self,
+        table: &HostTable,
+        target: u8,
+        image: &Image<'_>,
+        patches: &[Patch],
+    ) -> Result<Arrived, WrongTarget>
+        requires serves { Serves table.now self.old }
+        requires least { FIRST_SEQUENCE ≤ image.now.sequence }
+        requires most { image.now.sequence < FIRST_SEQUENCE + length (setup_in table.now).writers }
+        requires open { is_closed (setup_in table.now) (core_of self.old) (image.now.sequence - FIRST_SEQUENCE) ≡ false }
+        requires size { length image.now.payload.now
+            ≡ size_of (setup_in table.now) (producer_of (setup_in table.now) (image.now.sequence - FIRST_SEQUENCE)) }
+        requires count { image.now.count ≤ MAX_FRAGMENTS }
+        requires flags { image.now.flags ≤ MAX_FLAGS }
+        ensures serves { Serves table.now self.new }
+        ensures keeps { KeepsRest (setup_in table.now) (core_of self.old) (core_of self.new) }
+        ensures wrong { buffer_of (setup_in table.now) (image.now.sequence - FIRST_SEQUENCE) ≢ target
+            → (result ≡ Err (record { buffer = buffer_of (setup_in table.now) (image.now.sequence - FIRST_SEQUENCE) }))
+            × (core_of self.new ≡ core_of self.old) }
+        ensures outcome { buffer_of (setup_in table.now) (image.now.sequence - FIRST_SEQUENCE) ≡ target
+            → IsOkAnd result (λ arrived. arrived_value arrived
+            ≡ image_arrival_of (buffer_at (core_of self.old).buffers.items (target - 1)) (image_value image.now)) }
+        ensures noted { buffer_of (setup_in table.now) (image.now.sequence - FIRST_SEQUENCE) ≡ target
+            → view_in self.new ≡ notes_commit (view_in self.old)
+            (record { image = image_value image.now; patches = map patch_value patches.now }) }
+        ensures desk { desk_in self.new ≡ desk_in self.old }
+    {
+        self.commit_at::<Brand>(table, target, image, patches)
+    }
+
+    /// The same at a table and with a desk that its type names.
+    fn commit_at<N: Memory>(
+        &mut self,
+        table: &HostTable,
+        target: u8,
+        image: &Image<'_>,
+        patches: &[Patch],
+    ) -> Result<Arrived, WrongTarget>
+        requires table { identity_of table.now ≡ N.table }
+        requires desk { desk_in self.old ≡ N.desk }
+        requires serves { Serves table.now self.old }
+        requires least { FIRST_SEQUENCE ≤ image.now.sequence }
+        requires most { image.now.sequence < FIRST_SEQUENCE + length (setup_in table.now).writers }
+        requires open { is_closed (setup_in table.now) (core_of self.old) (image.now.sequence - FIRST_SEQUENCE) ≡ false }
+        requires size { length image.now.payload.now
+            ≡ size_of (setup_in table.now) (producer_of (setup_in table.now) (image.now.sequence - FIRST_SEQUENCE)) }
+        requires count { image.now.count ≤ MAX_FRAGMENTS }
+        requires flags { image.now.flags ≤ MAX_FLAGS }
+        ensures serves { Serves table.now self.new }
+        ensures keeps { KeepsRest (setup_in table.now) (core_of self.old) (core_of self.new) }
+        ensures wrong { buffer_of (setup_in table.now) (image.now.sequence - FIRST_SEQUENCE) ≢ target
+            → (result ≡ Err (record { buffer = buffer_of (setup_in table.now) (image.now.sequence - FIRST_SEQUENCE) }))
+            × (core_of self.new ≡ core_of self.old) }
+        ensures outcome { buffer_of (setup_in table.now) (image.now.sequence - FIRST_SEQUENCE) ≡ target
+            → IsOkAnd result (λ arrived. arrived_value arrived
+            ≡ image_arrival_of (buffer_at (core_of self.old).buffers.items (target - 1)) (image_value image.now)) }
+        ensures noted { buffer_of (setup_in table.now) (image.now.sequence - FIRST_SEQUENCE) ≡ target
+            → view_in self.new ≡ notes_commit (view_in self.old)
+            (record { image = image_value image.now; patches = map patch_value patches.now }) }
+        ensures desk { desk_in self.new ≡ N.desk }
+    {
+        let mut lent = Remembering::<N> {
+            table,
+            of: PhantomData,
+        };
+        self.core.commit(&mut lent, target, image, patches)
+    }
+}

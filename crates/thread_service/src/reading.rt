@@ -1,0 +1,88 @@
+//! Reading a buffer with the reading pass.
+ghost use Rattle.std.specs.Prelude.{◌≡◌, List, ◌++◌, IfOk, OnErr, OnOk};
+ghost use Rattle.byte_io.specs.Bytes.{CountsFaults, after_told};
+ghost use Rattle.trace_model.specs.Delivery.{Delivered, trace_of};
+ghost use Rattle.trace_model.specs.History as model;
+ghost use Rattle.chunk_words.specs.Named.{identity_of};
+ghost use Rattle.chunk_words.specs.Sits.{Passes, setup_in, known_by_pass};
+ghost use Rattle.service_core.specs.Agreement.{KeepsRest};
+ghost use Rattle.service_core.specs.Reading.{NotesReads, ReadsAll, FailsAmong};
+ghost use Rattle.thread_service.specs.Reading.{IsKnownWhole, PassReads, records_of};
+ghost use Rattle.thread_service.specs.Serving.{core_of, view_in, Serves};
+
+use crate::passing::{Passing, Start};
+use crate::service::Service;
+use byte_io::put::WriteFault;
+use byte_io::traits::Sink;
+use chunk_words::{HostTable, ReadPass};
+use std::marker::{Brand, PhantomData};
+
+impl Service {
+    /// Reads the sequences of a buffer in rising id, each with what is left of the limit, 0 included,
+    /// and notes each read with the reading pass. Answers how many packets were delivered. A write
+    /// that fails ends the read before the packet whose record was being written.
+    pub fn read_passing<O: Sink>(
+        &mut self,
+        table: &HostTable,
+        pass: &mut ReadPass,
+        buffer: u8,
+        limit: u64,
+        out: &mut O,
+    ) -> Result<u64, WriteFault>
+        requires serves { Serves table.now self.old }
+        requires pass { Passes table.now pass.old }
+        requires known { IsKnownWhole (known_by_pass pass.old) }
+        ensures serves { Serves table.now self.new }
+        ensures pass { Passes table.now pass.new }
+        ensures known { IsKnownWhole (known_by_pass pass.new) }
+        ensures keeps { KeepsRest (setup_in table.now) (core_of self.old) (core_of self.new) }
+        ensures reads { IfOk result (λ delivered. ReadsAll (setup_in table.now) (core_of self.old) buffer limit
+            (view_in self.old) (view_in self.new) (O.taken out.old) (O.taken out.new) delivered) }
+        ensures fails { OnErr result (FailsAmong (setup_in table.now) (core_of self.old) buffer limit
+            (view_in self.old) (view_in self.new) (O.taken out.old) (O.taken out.new)) }
+        ensures passes { (events : List model.Event)
+            → NotesReads (setup_in table.now) (core_of self.old) events (view_in self.old) (view_in self.new)
+            → PassReads (setup_in table.now) (core_of self.old) events (known_by_pass pass.old) (known_by_pass pass.new) }
+        ensures count { CountsFaults (O.faults out.old) (O.faults out.new) result }
+    {
+        self.read_at::<Brand, O>(table, pass, buffer, limit, out)
+    }
+
+    /// The same from a start that its type names.
+    fn read_at<N: Start, O: Sink>(
+        &mut self,
+        table: &HostTable,
+        pass: &mut ReadPass,
+        buffer: u8,
+        limit: u64,
+        out: &mut O,
+    ) -> Result<u64, WriteFault>
+        requires table { identity_of table.now ≡ N.table }
+        requires passed { known_by_pass pass.old ≡ N.passed }
+        requires view { view_in self.old ≡ N.view }
+        requires serves { Serves table.now self.old }
+        requires pass { Passes table.now pass.old }
+        requires known { IsKnownWhole (known_by_pass pass.old) }
+        ensures serves { Serves table.now self.new }
+        ensures pass { Passes table.now pass.new }
+        ensures known { IsKnownWhole (known_by_pass pass.new) }
+        ensures keeps { KeepsRest (setup_in table.now) (core_of self.old) (core_of self.new) }
+        ensures reads { IfOk result (λ delivered. ReadsAll (setup_in table.now) (core_of self.old) buffer limit
+            (view_in self.old) (view_in self.new) (O.taken out.old) (O.taken out.new) delivered) }
+        ensures fails { OnErr result (FailsAmong (setup_in table.now) (core_of self.old) buffer limit
+            (view_in self.old) (view_in self.new) (O.taken out.old) (O.taken out.new)) }
+        ensures passes { (events : List model.Event)
+            → NotesReads (setup_in table.now) (core_of self.old) events (view_in self.old) (view_in self.new)
+            → PassReads (setup_in table.now) (core_of self.old) events (known_by_pass pass.old) (known_by_pass pass.new) }
+        ensures count { CountsFaults (O.faults out.old) (O.faults out.new) result }
+    {
+        let mut passing = Passing::<N> {
+            table,
+            pass: table.hand_on(pass),
+            of: PhantomData,
+        };
+        let read = self.core.read_buffer(&mut passing, buffer, limit, out);
+        *pass = passing.pass;
+        read
+    }
+}
