@@ -65,7 +65,7 @@ def main():
     for kind, chunks in ((b'own', 'of their own'), (b'shared', 'that they share')):
         rate, share = packets(kind)
         print(f'{WRITERS} writers with chunks {chunks}: {rate / 1e6:.1f} million packets a second, {share:.0%} of those that were begun')
-    print('compared with LTTng-UST, on the machine of docs/PROMISES.md: 11 to 15 million events a second from four threads')
+    print('compared with LTTng-UST, on the machine of docs/PROMISES.md: 18 to 21 million events a second from four threads')
 
 
 if __name__ == '__main__':
