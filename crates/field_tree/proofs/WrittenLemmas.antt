@@ -68,14 +68,14 @@ node_read (Bytes field times, text) rest is =
     let size : number_in (behind_number whole) ≡ length text = ap number_in behind ∙ second.0 in
     let content : behind_number (behind_number whole) ≡ text ++ rest = ap behind_number behind ∙ second.1 in (
       node_as _ _ 1 field whole kind which
-      ∙ ap (λ (n : ℕ). (Bytes field n, take (number_in (behind_number whole)) (behind_number (behind_number whole)))) number
-      ∙ ap (λ (n : ℕ). (Bytes field times, take n (behind_number (behind_number whole)))) size
-      ∙ ap (λ (w : List ℕ). (Bytes field times, take (length text) w)) content
-      ∙ ap (λ (t : List ℕ). (Bytes field times, t)) (take_at text rest (length text) refl),
+          ∙ ap (λ (n : ℕ). (Bytes field n, take (number_in (behind_number whole)) (behind_number (behind_number whole)))) number
+          ∙ ap (λ (n : ℕ). (Bytes field times, take n (behind_number (behind_number whole)))) size
+          ∙ ap (λ (w : List ℕ). (Bytes field times, take (length text) w)) content
+          ∙ ap (λ (t : List ℕ). (Bytes field times, t)) (take_at text rest (length text) refl),
       ap (λ (n : ℕ). behind_node n whole) kind
-      ∙ ap (λ (n : ℕ). drop n (behind_number (behind_number whole))) size
-      ∙ ap (λ (w : List ℕ). drop (length text) w) content
-      ∙ drop_at text rest (length text) refl,
+          ∙ ap (λ (n : ℕ). drop n (behind_number (behind_number whole))) size
+          ∙ ap (λ (w : List ℕ). drop (length text) w) content
+          ∙ drop_at text rest (length text) refl,
     )
 node_read (Begin field, text) rest is =
     let kind : (4 * field + 2) % 4 ≡ 2 = omega arith in

@@ -50,11 +50,7 @@ fn push_value(code: &mut Vec<u8>, node: FieldNode, text: &[u8]) -> Result<(), Al
 
 /// Appends a node with its text.
 #[tactic(auto, unfolding(crate::specs::Written::written_node))]
-pub(crate) fn push_node(
-    code: &mut Vec<u8>,
-    node: FieldNode,
-    text: &[u8],
-) -> Result<(), AllocError>
+pub(crate) fn push_node(code: &mut Vec<u8>, node: FieldNode, text: &[u8]) -> Result<(), AllocError>
     ensures pushed { OnOk result (code.new.items ≡ code.old.items ++ written_node (node, text.now)) }
     ensures numbers { OnOk result (HasItsNumbers node) }
 {

@@ -19,7 +19,7 @@ use Rattle.replay_model.proofs.PlayLemmas.{plays_one}
 use Rattle.replay_host.specs.declared.host.Host.{Host}
 use Rattle.replay_host.specs.Playing.{AreApart, IsHost, HasDone}
 use Rattle.replay_host.specs.Standing.{IsServed, Stands}
-use Rattle.replay_host.proofs.QuietLemmas.{adds_quiet, close_adds}
+use Rattle.service_core.proofs.QuietLemmas.{adds_quiet, close_adds}
 use Rattle.replay_host.proofs.RowLemmas.{AreLaws}
 use Rattle.replay_host.proofs.ServedLemmas.{quiet_writes}
 use Rattle.replay_host.proofs.TakenLemmas.{takes_own}

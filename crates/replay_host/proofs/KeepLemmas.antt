@@ -14,7 +14,7 @@ use Rattle.service_core.proofs.AgreeLemmas.{keeps_same, keeps_both}
 use Rattle.replay_host.specs.declared.helper.Collecting.{Collecting}
 use Rattle.replay_host.specs.Asking.{KeepsService}
 use Rattle.replay_host.specs.Helping.{Helps}
-use Rattle.replay_host.proofs.QuietLemmas.{collect_adds, adds_quiet}
+use Rattle.service_core.proofs.QuietLemmas.{collect_adds, adds_quiet}
 
 pub keeps_nothing : {T W S : Type 0} (means : Meaning T W S) (table : T) (service : ServiceCore S) → KeepsService means table service table service
 keeps_nothing means table service = record { setup_is = refl; keeps = keeps_same (means.setup table) service; quiet = λ buffers. refl }

@@ -24,7 +24,6 @@ pub mod MomentLemmas
 pub mod OpenLemmas
 pub mod PlainMadeLemmas
 pub mod PlayingLemmas
-pub mod QuietLemmas
 pub mod ReadLemmas
 pub mod ReadyLemmas
 pub mod ReplayingLemmas

@@ -11,7 +11,7 @@ use Rattle.service_core.specs.Agreement.{ServiceAgrees}
 use Rattle.service_core.specs.Taking.{Takes, took, taken_more, places_of}
 use Rattle.service_core.proofs.TakingLemmas.{counts_at, taken_here, taken_other}
 use Rattle.replay_host.specs.Helping.{ids_left}
-use Rattle.replay_host.proofs.QuietLemmas.{AllBelow, long_still, places_below}
+use Rattle.service_core.proofs.QuietLemmas.{AllBelow, long_still, places_below}
 
 -- the ids that are left of each
 abbrev room_of : List Taken → ℕ

@@ -23,7 +23,7 @@ use Rattle.replay_model.proofs.PlayLemmas.{plays_one}
 use Rattle.replay_host.specs.declared.host.Host.{Host}
 use Rattle.replay_host.specs.Playing.{AreApart, IsHost, HasDone, IsTraceOf}
 use Rattle.replay_host.specs.Standing.{IsServed, Stands}
-use Rattle.replay_host.proofs.QuietLemmas.{adds_quiet, collect_adds}
+use Rattle.service_core.proofs.QuietLemmas.{adds_quiet, collect_adds}
 use Rattle.replay_host.proofs.RowLemmas.{AreLaws}
 
 -- the writers stand where the service made a step

@@ -35,8 +35,7 @@ ask-requires-clause-ready g c =
     let cores = c.nodes.self.writers.items in
     let coming = c.nodes.invariant.ready.0 in
     let next : AreReady means c.nodes.self.table cores (asked_all c.args.place (node_call one ∷ map node_call others) coming) =
-    subst (λ (nodes : List Shown). AreReady means c.nodes.self.table cores (asked_all c.args.place (map node_call nodes) coming)) c.in-Some.ensures.first c.nodes.invariant.ready.1 in
-    (
+    subst (λ (nodes : List Shown). AreReady means c.nodes.self.table cores (asked_all c.args.place (map node_call nodes) coming)) c.in-Some.ensures.first c.nodes.invariant.ready.1 in (
       asked_all c.args.place (map node_call others) coming,
       subst (λ (call : Call). AreReady means c.nodes.self.table cores (asked_all c.args.place (call ∷ []) (asked_all c.args.place (map node_call others) coming)))
           (sym c.call_of_node-call.ensures)
