@@ -30,7 +30,6 @@ pub mod ReplayingLemmas
 pub mod RequestLemmas
 pub mod RestLemmas
 pub mod ResultLemmas
-pub mod RoomLemmas
 pub mod RowLemmas
 pub mod ScrapedLemmas
 pub mod ServedLemmas

@@ -1,6 +1,5 @@
 -- What a help of the service is: it takes the complete chunks of the producer whose writers may ask.
-use Rattle.std.specs.Prelude.{◌≡◌, ℕ, ◌-◌, Bool, not, ◌==◌, sum_by, Some}
-use Rattle.chunk_plain.specs.declared.tokens.TheConstants.{ID_LIMIT}
+use Rattle.std.specs.Prelude.{◌≡◌, ℕ, Bool, not, ◌==◌, Some}
 use Rattle.chunk_plain.specs.Meaning.{Meaning, IsServiceStep}
 use Rattle.chunk_plain.specs.World.{World}
 use Rattle.service_core.specs.declared.service.ServiceCore.{ServiceCore}
@@ -9,10 +8,6 @@ use Rattle.service_core.specs.Told.{LeavesNone}
 use Rattle.service_core.specs.Taking.{Takes, places_of}
 use Rattle.replay_host.specs.declared.helper.Collecting.{Collecting}
 use Rattle.replay_host.specs.Standing.{IsServed}
-
--- how many chunks the service can still take: of each writer, the ids that are left
-abbrev pub ids_left : {S : Type 0} → ServiceCore S → ℕ
-ids_left service = sum_by (λ taken. ID_LIMIT - taken) service.taken.items
 
 -- what the service needs, to take chunks for the writers that may ask
 pub record MayHelp {T W S : Type 0} (means : Meaning T W S) (helper : Collecting S) (table : T) : Type 0 where

@@ -15,8 +15,8 @@ impl<W: Words> HelperOn<W> for Collecting<W::Service> {
     ghost use Rattle.std.proofs.Common.{refl, sym, subst};
     ghost use Rattle.chunk_plain.specs.Setup.{Setup};
     ghost use Rattle.chunk_plain.specs.Views.{ServiceView};
-    ghost use Rattle.service_core.specs.Agreement.{ServiceAgrees, IsOpen};
-    ghost use Rattle.replay_host.specs.Helping.{MayHelp, Helps, ids_left};
+    ghost use Rattle.service_core.specs.Agreement.{ServiceAgrees, IsOpen, ids_left};
+    ghost use Rattle.replay_host.specs.Helping.{MayHelp, Helps};
     ghost use Rattle.replay_host.specs.Standing.{own_still};
 
     ghost turns = { λ helper. ids_left helper.service };

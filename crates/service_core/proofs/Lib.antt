@@ -12,6 +12,7 @@ pub mod OrderLemmas
 pub mod PartLemmas
 pub mod QuietLemmas
 pub mod ReadingLemmas
+pub mod RoomLemmas
 pub mod RouteLemmas
 pub mod RoutedLemmas
 pub mod ScrapeLemmas

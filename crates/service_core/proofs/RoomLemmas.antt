@@ -7,11 +7,10 @@ use Rattle.chunk_plain.specs.declared.tokens.TheConstants.{ID_LIMIT}
 use Rattle.chunk_plain.specs.Setup.{Setup}
 use Rattle.chunk_plain.specs.Views.{Taken, none_taken, ServiceView, taken_of}
 use Rattle.service_core.specs.declared.service.ServiceCore.{ServiceCore}
-use Rattle.service_core.specs.Agreement.{ServiceAgrees}
+use Rattle.service_core.specs.Agreement.{ServiceAgrees, ids_left}
 use Rattle.service_core.specs.Taking.{Takes, took, taken_more, places_of}
-use Rattle.service_core.proofs.TakingLemmas.{counts_at, taken_here, taken_other}
-use Rattle.replay_host.specs.Helping.{ids_left}
 use Rattle.service_core.proofs.QuietLemmas.{AllBelow, long_still, places_below}
+use Rattle.service_core.proofs.TakingLemmas.{counts_at, taken_here, taken_other}
 
 -- the ids that are left of each
 abbrev room_of : List Taken → ℕ

@@ -1,10 +1,11 @@
 -- The service agrees with the view of its seat: its buffers are what the history in the view leads to.
-use Rattle.std.specs.Prelude.{◌≡◌, ℕ, ◌-◌, ◌<◌, ◌≤◌, Bool, false, List, [], ◌∷◌, length, map, Some, slice_get, slice_index_or}
+use Rattle.std.specs.Prelude.{◌≡◌, ℕ, ◌-◌, ◌<◌, ◌≤◌, Bool, false, List, [], ◌∷◌, length, map, sum_by, Some, slice_get, slice_index_or}
 use Rattle.trace_base.specs.declared.limits.TheConstants.{MAX_WRITERS}
 use Rattle.trace_base.specs.declared.policy.WriterPolicy.TheVariants.{Drops}
 use Rattle.trace_base.specs.declared.policy.WriterSpec.{WriterSpec}
 use Rattle.trace_model.specs.Buffers.{Buffer}
 use Rattle.trace_model.specs.History.{buffers_after}
+use Rattle.chunk_plain.specs.declared.tokens.TheConstants.{ID_LIMIT}
 use Rattle.chunk_plain.specs.Setup.{Setup, HasProducer, producer_of, sequence_of}
 use Rattle.chunk_plain.specs.Steps.{taken_counts}
 use Rattle.chunk_plain.specs.Views.{Content, Found, Noted, Arrive, Partial, Patched, Closed, Read, Commit, Committed, ServiceView, taken_of}
@@ -123,3 +124,7 @@ abbrev pub IsAnsweredBy : {S : Type 0} → ServiceCore S → ℕ → Type 0
 IsAnsweredBy core flush =
     (place : ℕ) → place < core.session.writers → is_closed_in core place ≡ false
     → HasAnswered (answer_at core.session place) flush (slice_index_or core.taken.items place 0)
+
+-- how many chunks the service can still take: of each writer, the ids that are left
+abbrev pub ids_left : {S : Type 0} → ServiceCore S → ℕ
+ids_left core = sum_by (λ taken. ID_LIMIT - taken) core.taken.items
