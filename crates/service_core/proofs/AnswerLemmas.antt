@@ -40,7 +40,7 @@ pub record LeavesTaken (old new : ServiceView) : Type 0 where
   pub events : new.events ≡ old.events
   pub taken : new.taken ≡ old.taken
 
-no_contents : (contents : List Content) → length contents ≡ 0 → contents ≡ []
+pub no_contents : (contents : List Content) → length contents ≡ 0 → contents ≡ []
 no_contents [] none = refl
 no_contents (content ∷ contents) none = absurd (omega (arith, none))
 

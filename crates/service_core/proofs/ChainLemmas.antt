@@ -18,7 +18,7 @@ get_behind xs ys n y is =
     let long = length-append xs ys in
     slice_get-get_or (xs ++ ys) (length xs + n) y (omega (arith, low, long)) ∙ ap (λ x. Some x) (get_or-append-add xs ys n y ∙ get_or_from_slice_get ys n y y is)
 
-shows_left : (setup : Setup) (place count chunk : ℕ) (looks more : List Look) → ShowsOther setup place count chunk looks → ShowsOther setup place count chunk (looks ++ more)
+pub shows_left : (setup : Setup) (place count chunk : ℕ) (looks more : List Look) → ShowsOther setup place count chunk looks → ShowsOther setup place count chunk (looks ++ more)
 shows_left setup place count chunk looks more s =
     record { n = s.n; look = s.look; at = get_more looks more s.n s.look s.at; chunk_is = s.chunk_is; since = s.since; shows = s.shows }
 

@@ -1,6 +1,6 @@
 -- What a view has once chunks of a writer were taken.
 use Rattle.std.proofs.Common.{◌≡◌, ◌≢◌, ◌∙◌, ℕ, ◌+◌, ◌-◌, ◌<◌, ◌⊎◌, Bool, List, [], ◌∷◌, ◌++◌, length, Some, get_or, set, refl, sym, ap, subst, arith, length-append, inl, inr}
-use Rattle.std.specs.Prelude.{slice_get, cond, None}
+use Rattle.std.specs.Prelude.{slice_get, cond, None, ◌^◌}
 use Rattle.std.proofs.Math.ListN.{get_or-map}
 use Rattle.std.proofs.lemmas.List.{get_or-set_same, get_or-set_other, set-set, get_or_read, length-map}
 use Rattle.std.proofs.Math.Seq.{get_or-append_seam}
@@ -105,13 +105,13 @@ one_of setup old mid new place chunk id taken none inside is takes after =
 
 -- a chunk that wasn't the next one was looked at
 pub other_of : (setup : Setup) (old new : ServiceView) (place chunk id : ℕ) (found : NotComplete) → id ≡ (taken_of old place).count
-    → FindsOther setup chunk (place + 1) id found old new → SeesOther setup place chunk old new
-other_of setup old new place chunk id found is finds = record {
+    → found.header.chunk_id < 2 ^ 32 → found.header.writer_id < 2 ^ 16 → FindsOther setup chunk (place + 1) id found old new → SeesOther setup place chunk old new
+other_of setup old new place chunk id found is id_fits writer_fits finds = record {
   look = record { chunk = chunk; word = found.word.0; header = packed found.header; found = finds.look.found; taken = taken_counts old };
   view = finds.look.view;
   chunk_is = refl;
   since = counts_at old place;
-  shows = record { header = found.header; header_is = refl; other = λ complete writer id_is. finds.other complete writer (id_is ∙ sym is) };
+  shows = record { header = found.header; header_is = refl; id_fits = id_fits; writer_fits = writer_fits; other = λ complete writer id_is. finds.other complete writer (id_is ∙ sym is) };
 }
 
 -- what the service keeps of a writer is how many chunks were taken of it

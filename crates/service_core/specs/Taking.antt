@@ -1,5 +1,5 @@
 -- What the service's view has more once chunks were taken.
-use Rattle.std.specs.Prelude.{◌≡◌, ℕ, suc, ◌+◌, ◌<◌, ◌≤◌, ◌⊎◌, ◌==◌, List, [], ◌∷◌, ◌++◌, length, slice_get, slice_set, slice_index_or, Some, if◌then◌else◌}
+use Rattle.std.specs.Prelude.{◌≡◌, ℕ, suc, ◌+◌, ◌^◌, ◌<◌, ◌≤◌, ◌⊎◌, ◌==◌, List, [], ◌∷◌, ◌++◌, length, slice_get, slice_set, slice_index_or, Some, if◌then◌else◌}
 use Rattle.trace_base.specs.declared.policy.WriterSpec.{WriterSpec}
 use Rattle.page_geometry.specs.declared.chunk_header.ChunkHeader.{ChunkHeader}
 use Rattle.page_geometry.specs.declared.chunk_state.ChunkState.TheVariants.{Complete}
@@ -42,6 +42,8 @@ took view place looks contents = record view {
 pub record IsOther (setup : Setup) (place id : ℕ) (look : Look) : Type 0 where
   pub header : ChunkHeader
   pub header_is : look.header ≡ packed header
+  pub id_fits : header.chunk_id < 2 ^ 32
+  pub writer_fits : header.writer_id < 2 ^ 16
   pub other : HasState look.word (spot setup look.chunk).place Complete → header.writer_id ≡ place + 1 → header.chunk_id ≡ id → ⊥
 
 -- One of these looks at the chunk shows that it isn't the next one to be taken of this writer, of which so many were taken then.

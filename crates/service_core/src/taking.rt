@@ -1,5 +1,5 @@
 //! Taking complete chunks.
-ghost use Rattle.std.specs.Prelude.{◌≡◌, ℕ, ◌+◌, ◌-◌, ◌*◌, ◌<◌, ◌≤◌, true, false, Some, None, IfSome, IsSome, List, [], ◌∷◌, length, vec_len, map, slice_set, slice_index_or};
+ghost use Rattle.std.specs.Prelude.{◌≡◌, ℕ, ◌+◌, ◌-◌, ◌*◌, ◌^◌, ◌<◌, ◌≤◌, true, false, Some, None, IfSome, IsSome, List, [], ◌∷◌, length, vec_len, map, slice_set, slice_index_or};
 ghost use Rattle.trace_base.specs.declared.limits.TheConstants.{MAX_FRAGMENTS, MAX_WRITERS, FIRST_SEQUENCE};
 ghost use Rattle.chunk_plain.specs.declared.tokens.TheConstants.{ID_LIMIT};
 ghost use Rattle.page_geometry.specs.declared.chunk_header.TheConstants.{MAX_FLAGS};
@@ -24,7 +24,14 @@ use crate::service::ServiceCore;
 use chunk_image::Image;
 use chunk_plain::{ID_LIMIT, ServiceEvent, Taken, Words};
 use commit_body::Patch;
+use page_geometry::ChunkHeader;
 use trace_base::limits::FIRST_SEQUENCE;
+
+/// Does nothing: a caller knows by this contract that the numbers of a header fit its fields.
+fn header_fits(header: ChunkHeader)
+    ensures id { header.chunk_id < 2 ^ 32 }
+    ensures writer { header.writer_id < 2 ^ 16 }
+{}
 
 /// Notes that the patches of a chunk were applied, where it brings any.
 fn note_patches<W: Words>(
@@ -120,7 +127,10 @@ impl<S> ServiceCore<S> {
                 self.take_in(table, place, taken);
                 true
             }
-            Err(_) => false,
+            Err(found) => {
+                header_fits(found.header);
+                false
+            }
         }
     }
 }

@@ -82,7 +82,7 @@ returns-in-Err-clause-agrees g c =
     let old = g.W.Words.means.service_view c.args.table.now c.args.self.now.seat in
     let core = c.args.self.now in
     let looks = c.in-Err.ensures.other.look in
-    let look : Look = record { chunk = c.args.chunk; word = c.in-Err.field-0.word.0; header = packed c.in-Err.field-0.header; found = looks.found; taken = taken_counts old } in
+    let look : Look = record { chunk = c.args.chunk; word = c.in-Err.found.word.0; header = packed c.in-Err.found.header; found = looks.found; taken = taken_counts old } in
     subst (λ (v : ServiceView). ServiceAgrees setup v (record core { seat = c.take.new.seat })) (sym looks.view)
     (agrees_looked setup old core (record core { seat = c.take.new.seat }) (look ∷ []) c.requires.agrees
     (record { layout = refl; specs = refl; writers = refl; session = refl }) refl refl)
@@ -98,7 +98,7 @@ returns-in-Err-clause-other g c _ =
     let below = c.requires.place in
     let inside : place < length old.taken = omega (arith, many, below) in
     let count = read_count old c.args.self.now.taken.items place c.index.result.now c.requires.agrees.taken inside c.index.ensures in
-    other_of setup old new place c.args.chunk c.index.result.now c.in-Err.field-0 count c.in-Err.ensures.other
+    other_of setup old new place c.args.chunk c.index.result.now c.in-Err.found count c.header_fits.ensures.id c.header_fits.ensures.writer c.in-Err.ensures.other
 
 pub returns-in-Ok-clause-told_taken : goal.returns-in-Ok-clause-told_taken
 returns-in-Ok-clause-told_taken g c _ world is =
