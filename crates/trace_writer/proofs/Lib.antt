@@ -22,7 +22,6 @@ pub mod InPlace
 pub mod KeepingClaims
 pub mod KeptChunks
 pub mod Measuring
-pub mod OneProducer
 pub mod Payloads
 pub mod Possible
 pub mod Publishing

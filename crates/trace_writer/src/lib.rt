@@ -23,8 +23,6 @@ mod packet;
 mod route;
 mod state;
 mod stream;
-#[cfg(test)]
-mod tests;
 mod writer;
 
 pub use fault::{Begun, CallFault};

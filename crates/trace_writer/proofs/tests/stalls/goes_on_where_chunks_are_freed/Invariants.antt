@@ -1,4 +1,0 @@
-use Rattle.trace_writer.proofs.tests.stalls.goes_on_where_chunks_are_freed.Given as goal
-
-abbrev pub ghosts-helped : goal.ghosts-helped
-ghosts-helped g a = record { name = a.blank.name; parts = a.blank.parts }

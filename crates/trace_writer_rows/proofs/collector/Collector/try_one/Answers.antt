@@ -1,0 +1,22 @@
+use Rattle.std.proofs.Common.{◌∙◌}
+use Rattle.page_geometry.specs.Header.{packed}
+use Rattle.chunk_plain.specs.Words.{taken_content}
+use Rattle.chunk_plain.proofs.Holding.{takes_reads}
+use Rattle.trace_writer_rows.proofs.collector.Collector.try_one.Goals as goal
+
+pub release-requires-clause-reading : goal.release-requires-clause-reading
+release-requires-clause-reading c =
+    let taken = c.in-Ok.ensures.taken in
+    takes_reads c.args.table.now.seat.me.0.service c.take.new.self.seat.me.0.service c.args.chunk c.in-Ok.token.chunk
+    taken.word (packed c.in-Ok.token.header) 0 _ (taken_content 0 c.in-Ok.token) taken.view taken.chunk_is
+
+pub returns-clause-leaves : goal.returns-clause-leaves
+returns-clause-leaves c =
+    let one = c.take.ensures.step in let two = c.release.ensures.step in
+    record {
+      setup_stays = two.setup_stays ∙ one.setup_stays;
+      writers_stay = λ seat there.
+          let first = one.writers_stay seat there in
+          let second = two.writers_stay seat first.0 in
+          (second.0, second.1 ∙ first.1);
+    }
