@@ -1,1 +1,2 @@
+pub mod NothingTaken
 pub mod TestFragments

@@ -19,8 +19,6 @@ mod routing;
 mod scraping;
 mod service;
 mod taking;
-#[cfg(test)]
-mod tests;
 
 pub use committing::WrongTarget;
 pub use service::ServiceCore;

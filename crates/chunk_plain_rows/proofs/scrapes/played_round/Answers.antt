@@ -1,4 +1,4 @@
-use Rattle.std.proofs.Common.{◌≡◌, ◌-◌, ◌∙◌, ◌<◌, ◌≤◌, ℕ, zero, suc, false, List, [], ◌∷◌, length, Option, unwrap_or, get_or, subst, sym, refl, ap, arith}
+use Rattle.std.proofs.Common.{◌≡◌, ◌-◌, ◌∙◌, ◌<◌, ◌≤◌, ℕ, false, List, [], ◌∷◌, length, Option, unwrap_or, get_or, subst, sym, refl, ap, arith}
 use Rattle.trace_base.specs.declared.policy.WriterSpec.{WriterSpec}
 use Rattle.trace_base.specs.declared.policy.WriterPolicy.TheVariants.{Drops}
 use Rattle.trace_base.specs.declared.policy.FullPolicy.TheVariants.{Ring}
@@ -6,17 +6,12 @@ use Rattle.page_geometry.specs.Sizes.{record_size, payload_size, chunk_size}
 use Rattle.chunk_plain.specs.declared.setup.ProducerSpec.{ProducerSpec}
 use Rattle.chunk_plain.specs.Setup.{Setup, size_of, producer_of}
 use Rattle.chunk_plain.specs.Laying.{setup_of}
-use Rattle.chunk_plain.specs.Views.{none_taken}
 use Rattle.chunk_plain.specs.World.{World, nowhere}
 use Rattle.trace_buffer.specs.declared.answers.BufferSpec.{BufferSpec}
 use Rattle.service_core.specs.Agreement.{ServiceAgrees, is_closed, buffer_of}
 use Rattle.service_core.specs.Making.{IsUnused, buffer_spec_at}
+use Rattle.chunk_plain_rows.proofs.NothingTaken.{nothing_taken}
 use Rattle.chunk_plain_rows.proofs.scrapes.played_round.Goals as goal
-
-nothing_taken : (place : ℕ) → (get_or (none_taken ∷ []) place none_taken).count ≡ 0
-nothing_taken zero = refl
-nothing_taken (suc zero) = refl
-nothing_taken (suc (suc place)) = refl
 
 pub make-requires-2-clause-fits : goal.make-requires-2-clause-fits
 unfolding payload_size chunk_size

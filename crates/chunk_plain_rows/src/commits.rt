@@ -1,16 +1,17 @@
-//! A round of calls on the table of one thread.
+//! A round of the service alone: a chunk comes by a commit and is read, a flush request is answered,
+//! and the producer is closed.
 ghost use Rattle.std.specs.Prelude.{◌≡◌, ℕ, ◌<◌, ◌≤◌, false, length};
 ghost use Rattle.trace_base.specs.declared.limits.TheConstants.{MAX_FRAGMENTS, FIRST_SEQUENCE};
 ghost use Rattle.page_geometry.specs.declared.chunk_header.TheConstants.{MAX_FLAGS};
 ghost use Rattle.chunk_plain.specs.Setup.{size_of, producer_of};
 ghost use Rattle.service_core.specs.Agreement.{ServiceAgrees, is_closed};
 
-use crate::ServiceCore;
 use byte_io::memory::MemSink;
 use byte_io::traits::Sink;
 use chunk_image::Image;
 use chunk_plain::{PlainTable, ProducerSpec, Words};
 use page_geometry::Geometry;
+use service_core::ServiceCore;
 use std::alloc::Global;
 use std::test::Fail;
 use trace_base::policy::{FullPolicy, WriterPolicy, WriterSpec};
