@@ -1,3 +1,4 @@
 pub mod Standing
 pub mod GoingOn
 pub mod PassLemmas
+pub mod SettlingLemmas

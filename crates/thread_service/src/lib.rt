@@ -11,6 +11,7 @@ mod flushes;
 mod passing;
 mod reading;
 mod service;
+mod settling;
 mod telling;
 
 pub use service::Service;

@@ -1,0 +1,18 @@
+use Rattle.std.proofs.Common.{◌≡◌}
+use Rattle.chunk_words.specs.Sits.{setup_in}
+use Rattle.service_core.specs.Agreement.{KeepsRest, ids_left}
+use Rattle.thread_service.specs.Serving.{core_of, view_in, desk_in, Serves}
+use Rattle.thread_service.specs.Settling.{TakesOut}
+use Rattle.thread_service.proofs.service.Service.collect_out.Given as goal
+
+abbrev pub invariant-rounds : goal.invariant-rounds
+invariant-rounds l = record {
+  serves : Serves l.table l.self;
+  keeps : KeepsRest (setup_in l.table) (core_of l.initial.self) (core_of l.self);
+  desk : desk_in l.self ≡ desk_in l.initial.self;
+  takes : TakesOut (setup_in l.table) l.producer (view_in l.initial.self) (view_in l.self);
+}
+
+-- each round but the last one takes a chunk, and so uses up an id
+abbrev pub decreases-rounds : goal.decreases-rounds
+decreases-rounds l = ids_left (core_of l.self)
