@@ -9,7 +9,7 @@ use crate::numeral::Numeral;
 use crate::open_packet::OpenPacket;
 use crate::reader::Reader;
 use crate::reason::Reason;
-use crate::scenario::{BufferLine, LineKind, NumberedLine, ProducerLine};
+use crate::scenario::{BufferLine, LineKind, ProducerLine};
 use std::alloc::Global;
 use trace_base::limits::{MAX_INPUT, MAX_PACKET_LEN, MAX_SCENARIO_PACKET_BYTES};
 use trace_base::policy::{FullPolicy, WriterPolicy, WriterSpec};
@@ -82,13 +82,15 @@ impl Reader {
     }
 
     #[tactic(auto, unfolding(crate::specs::Effects::with_line))]
-    fn add_line(&mut self, line: u32, what: LineKind) -> Result<(), LineFault>
-        ensures ok { OnOk result (state_of self.new ≡ with_line (state_of self.old) line what) }
+    fn add_line(&mut self, line: u32, what: LineKind<'_>) -> Result<(), LineFault>
+        ensures ok { OnOk result (state_of self.new ≡ with_line (state_of self.old) line what.entry) }
         ensures memory { IsOkUnless result OutOfMemory }
         ensures bytes { self.new.bytes ≡ self.old.bytes }
     {
-        self.scenario.lines.push(NumberedLine { line, what })?;
-        Ok(())
+        match self.scenario.lines.push(line, what) {
+            Ok(()) => Ok(()),
+            Err(_) => Err(LineFault::OutOfMemory),
+        }
     }
 
     #[tactic(auto, using(crate::proofs::SoundLemmas::all_with_item), unfolding(crate::specs::Effects::with_packet))]
@@ -118,7 +120,8 @@ impl Reader {
     {
         let Addition { fields, len } = addition;
         let packet = packet_after(line, self.packet(writer), step, len);
-        self.add_line(line, writer_kind(small(writer) as u16, step, fields))?;
+        let what = writer_kind(small(writer) as u16, step, fields.fields());
+        self.add_line(line, what)?;
         self.set_packet(writer, packet);
         self.bytes += len;
         Ok(())
