@@ -34,6 +34,14 @@ impl<'c> Fields<'c> {
         Fields { rest: code }
     }
 
+    /// No nodes, which no text spells: those of a packet without fields.
+    #[tactic(auto, using(crate::proofs::EncodedLemmas::nothing_encoded, crate::proofs::EncodedLemmas::nothing_shown))]
+    pub fn none() -> Fields<'c>
+        ensures { result ≡ [] }
+    {
+        Fields { rest: &[] }
+    }
+
     /// The bytes that say the nodes.
     pub fn code(&self) -> &'c [u8]
         ensures says { shown_in result.now ≡ self.now }
