@@ -9,3 +9,4 @@ pub mod Refusals
 pub mod Trees
 pub mod Views
 pub mod Written
+pub mod Found

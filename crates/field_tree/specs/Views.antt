@@ -1,14 +1,15 @@
 -- What the types of the code are in the words of the grammar.
 use Rattle.std.specs.Prelude.{◌≡◌, ℕ, Bool, true, false, List, [], ◌∷◌, ◌++◌, Option, Some, None, Result, Ok, Err}
 use Rattle.field_tree.specs.declared.parser.Parser.{Parser}
-use Rattle.field_tree.specs.declared.parser.Parsed.{Parsed}
 use Rattle.field_tree.specs.declared.mode.Mode.{Mode}
 use Rattle.field_tree.specs.declared.node.FieldNode.{FieldNode}
+use Rattle.field_tree.specs.declared.fault.FieldFault.{FieldFault}
 use Rattle.field_tree.specs.declared.fault.FieldFault.TheVariants.{BadField}
 use Rattle.field_tree.specs.declared.fault.FieldError.{FieldError}
 use Rattle.field_tree.specs.declared.fault.FieldError.TheVariants.{OutOfMemory, Fault}
 use Rattle.field_tree.specs.Nodes.{Shown}
 use Rattle.field_tree.specs.Machine.{Reading}
+use Rattle.field_tree.specs.Encoded.{IsEncoded}
 use Rattle.field_tree.specs.Written.{shown_in, AreWritten, AreFitNodes}
 
 -- the nodes that a parser has read
@@ -47,9 +48,15 @@ abbrev pub Ends : Bool → Option (List Shown) → Parser → Type 0
 Ends true given p = given ≡ Some (nodes_read p)
 Ends false given p = given ≡ None
 
--- what was answered is what the text comes to, unless memory ran out
-abbrev pub GivesNodes : Result Parsed FieldError → Result (List Shown) ℕ → Type 0
-GivesNodes (Ok parsed) given = (given ≡ Ok (shown_in parsed.code.items)) × AreFitNodes parsed.code.items
-GivesNodes (Err OutOfMemory) given = Unit {0}
-GivesNodes (Err (Fault (BadField column))) given = given ≡ Err column
-GivesNodes (Err (Fault fault)) given = ⊥
+-- what was answered, with these bytes, is what the text comes to, unless memory ran out
+abbrev pub GivesNodes : Result (Unit {0}) FieldError → List ℕ → Result (List Shown) ℕ → Type 0
+GivesNodes (Ok done) code given = (given ≡ Ok (shown_in code)) × AreFitNodes code
+GivesNodes (Err OutOfMemory) code given = Unit {0}
+GivesNodes (Err (Fault (BadField column))) code given = given ≡ Err column
+GivesNodes (Err (Fault fault)) code given = ⊥
+
+-- the same of what a packet may have, with the length of its encoding
+abbrev pub GivesCode : Result ℕ FieldError → List ℕ → Result (List Shown) FieldFault → Type 0
+GivesCode (Ok encoded) code given = (given ≡ Ok (shown_in code)) × IsEncoded code encoded
+GivesCode (Err OutOfMemory) code given = Unit {0}
+GivesCode (Err (Fault fault)) code given = given ≡ Err fault

@@ -27,11 +27,34 @@ impl<'c> Model for Fields<'c> {
 
 impl<'c> Fields<'c> {
     /// The nodes that these bytes say.
-    pub(crate) fn new(code: &'c [u8]) -> Fields<'c>
+    pub fn new(code: &'c [u8]) -> Fields<'c>
         requires { AreFitNodes code.now }
         ensures { result ≡ shown_in code.now }
     {
         Fields { rest: code }
+    }
+
+    /// No nodes, which no text spells: those of a packet without fields.
+    #[tactic(auto, using(crate::proofs::EncodedLemmas::nothing_encoded, crate::proofs::EncodedLemmas::nothing_shown))]
+    pub fn none() -> Fields<'c>
+        ensures { result ≡ [] }
+    {
+        Fields { rest: &[] }
+    }
+
+    /// The bytes that say the nodes.
+    pub fn code(&self) -> &'c [u8]
+        ensures says { shown_in result.now ≡ self.now }
+        ensures fit { AreFitNodes result.now }
+    {
+        self.rest
+    }
+
+    /// The same nodes, one after another once more.
+    pub fn fields(&self) -> Fields<'c>
+        ensures { result ≡ self.now }
+    {
+        Fields { rest: self.rest }
     }
 
     /// The next node with the text of one repetition, which is empty for nodes other than `Bytes`.

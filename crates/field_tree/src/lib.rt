@@ -24,5 +24,5 @@ pub use laws::{
     nodes_tell_the_tree, one_fault_of_a_text, one_tree_of_a_text, outcomes_are_right,
 };
 pub use node::FieldNode;
-pub use parse::parse_fields;
+pub use parse::{FieldParser, Found, parse_fields};
 pub use tree::FieldTree;

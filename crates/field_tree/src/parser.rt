@@ -27,12 +27,6 @@ pub(crate) struct Parser {
     pub len: usize,
 }
 
-/// The nodes of a text, as they are written.
-#[derive(Drop)]
-pub(crate) struct Parsed {
-    pub code: Vec<u8>,
-}
-
 /// Whether a field ends before this byte.
 fn ends_field(byte: u8) -> bool
     ensures { result ≡ (byte == 32 || byte == 125) }
@@ -63,18 +57,27 @@ fn make_code_room(code: &mut Vec<u8>, len: usize) -> Result<(), AllocError>
 }
 
 impl Parser {
-    /// The beginning of a text of this length.
-    #[tactic(auto, unfolding(crate::specs::Machine::beginning))]
-    fn new(alloc: Global, len: usize) -> Self
-        ensures reading { reading result (Mode.Start false) ≡ beginning }
-        ensures kept { Keeps result }
+    pub fn new(alloc: Global) -> Self
+        ensures { Keeps result }
     {
         Parser {
             code: Vec::new(alloc),
             text: Vec::new(alloc),
             depth: 0,
-            len,
+            len: 0,
         }
+    }
+
+    /// Begins a text of this length. What memory the texts before took is kept.
+    #[tactic(auto, unfolding(crate::specs::Machine::beginning))]
+    fn start(&mut self, len: usize)
+        ensures reading { reading self.new (Mode.Start false) ≡ beginning }
+        ensures kept { Keeps self.new }
+    {
+        self.code.clear();
+        self.text.clear();
+        self.depth = 0;
+        self.len = len;
     }
 
     /// Adds a node whose text is the one that was being read.
@@ -199,12 +202,12 @@ fn bad_field(column: usize) -> FieldError
     })
 }
 
-/// The nodes of a text, or the column of its fault.
-pub(crate) fn read(alloc: Global, text: &[u8]) -> Result<Parsed, FieldError>
+/// Reads the nodes of a text, or the column of its fault.
+pub(crate) fn read(parser: &mut Parser, text: &[u8]) -> Result<(), FieldError>
     requires { length text.now ≤ MAX_INPUT }
-    ensures { GivesNodes result (nodes_or_column text.now) }
+    ensures { GivesNodes result parser.new.code.items (nodes_or_column text.now) }
 {
-    let mut parser = Parser::new(alloc, text.len());
+    parser.start(text.len());
     let mut mode = Mode::Start { opened: false };
     for (at, byte) in text.iter().enumerate() {
         let before = mode;
@@ -215,7 +218,7 @@ pub(crate) fn read(alloc: Global, text: &[u8]) -> Result<Parsed, FieldError>
         }
     }
     match parser.end(&mut mode) {
-        Ok(true) => Ok(Parsed { code: parser.code }),
+        Ok(true) => Ok(()),
         Ok(false) => Err(bad_field(text.len() + 1)),
         Err(_) => Err(FieldError::OutOfMemory),
     }

@@ -1,7 +1,7 @@
 -- A scenario's lines, one behind another.
-use Rattle.std.proofs.Common.{◌≡◌, ◌∙◌, ℕ, zero, suc, ◌<◌, ◌≤◌, List, [], ◌∷◌, ◌++◌, length, take, drop, get_or, refl, sym, ap, subst, append_assoc, append-nil}
+use Rattle.std.proofs.Common.{◌≡◌, ◌∙◌, ℕ, zero, suc, ◌<◌, ◌≤◌, List, [], ◌∷◌, ◌++◌, length, take, drop, get_or, refl, sym, ap, subst, append_assoc, append-nil, arith}
 use Rattle.std.proofs.Math.Seq.{drop-cons, take-suc, take_all}
-use Rattle.std.proofs.lemmas.List.{take-append-drop, drop_all}
+use Rattle.std.proofs.lemmas.List.{take-append-drop, drop_all, length-drop}
 use Rattle.byte_io.specs.Bytes.{Intake}
 use Rattle.scenario_text.specs.declared.scenario.NumberedLine.{NumberedLine}
 use Rattle.scenario_text.specs.Scenario.{Parts}
@@ -24,6 +24,26 @@ took_more lines i line below is = take-suc lines i line below ∙ ap (λ (l : Nu
 -- the line there comes first of those from the place on
 left_next : (lines : List NumberedLine) (i : ℕ) (line : NumberedLine) → i < length lines → get_or lines i line ≡ line → drop i lines ≡ line ∷ drop (suc i) lines
 left_next lines i line below is = drop-cons lines i line below ∙ ap (λ (l : NumberedLine). l ∷ drop (suc i) lines) is
+
+-- where the lines from a place on begin with this one
+pub line_there : (lines rest : List NumberedLine) (i : ℕ) (line : NumberedLine) → drop i lines ≡ line ∷ rest
+    → (i < length lines) × (get_or lines i line ≡ line) × (drop (suc i) lines ≡ rest)
+line_there lines rest i line left =
+    let below : i < length lines = omega (arith, length-drop i lines, ap length left) in
+    let both : get_or lines i line ∷ drop (suc i) lines ≡ line ∷ rest = sym (drop-cons lines i line below) ∙ left in (
+      below,
+      heads (get_or lines i line) line (drop (suc i) lines) rest both,
+      tails (get_or lines i line) line (drop (suc i) lines) rest both,
+    )
+  where
+    heads : (x y : NumberedLine) (xs ys : List NumberedLine) → x ∷ xs ≡ y ∷ ys → x ≡ y
+    heads x y xs ys same = cc
+
+    tails : (x y : NumberedLine) (xs ys : List NumberedLine) → x ∷ xs ≡ y ∷ ys → xs ≡ ys
+    tails x y xs ys same = cc
+
+pub none_there : (lines : List NumberedLine) (i : ℕ) → drop i lines ≡ [] → length lines ≤ i
+none_there lines i left = omega (arith, length-drop i lines, ap length left)
 
 -- the acts from a place on are those of the line there and the later ones
 acts_next : (scenario : Parts) (i : ℕ) (line : NumberedLine) → i < length scenario.lines → get_or scenario.lines i line ≡ line

@@ -86,7 +86,7 @@ module _ {T W S : Type 0} (means : Meaning T W S) (scenario : Scenario) (is : Is
   begins = record { at = made.at; reach = scenario_is_in_reach scenario is }
 
   abbrev line_acts : List Act
-  line_acts = acts_from (parts_of scenario) [] scenario.lines.items
+  line_acts = acts_from (parts_of scenario) [] scenario.lines
 
   abbrev end_acts : List Act
   end_acts = last_acts (parts_of scenario)
@@ -106,7 +106,7 @@ module _ {T W S : Type 0} (means : Meaning T W S) (scenario : Scenario) (is : Is
   })
 
   -- the lines as they are passed on
-  module _ (lines : List NumberedLine) (seen : lines ≡ scenario.lines.items) where
+  module _ (lines : List NumberedLine) (seen : lines ≡ scenario.lines) where
     pub may_begin : (parts : Parts) × (parts.lines ≡ lines) × Begins means parts old
     may_begin = (parts_of scenario, sym seen, begins)
 

@@ -22,9 +22,9 @@ use Rattle.replay_host.proofs.MakingLemmas.{some_page, few_pages, few_producers,
 
 -- each writer accepts what the lines ask of it
 pub asks_well : (scenario : Scenario) → IsScenario scenario → (place : ℕ) → place < length scenario.writers.items
-    → AsksWell scenario.lines.items (suc place) (spec_at scenario.writers.items place)
+    → AsksWell scenario.lines (suc place) (spec_at scenario.writers.items place)
 asks_well scenario is place below =
-    subst (λ (n : ℕ). AsksWell scenario.lines.items n (spec_at scenario.writers.items place))
+    subst (λ (n : ℕ). AsksWell scenario.lines n (spec_at scenario.writers.items place))
     (let same : place + 1 ≡ suc place = omega arith in same)
     (scenario_is_accepted scenario is place (spec_at scenario.writers.items place)
     (slice_get-get_or scenario.writers.items place no_writer below))

@@ -11,7 +11,7 @@ ghost use Rattle.replay_host.specs.Replaying.{IsStall};
 use crate::fault::HostFault;
 use crate::host::Host;
 use chunk_plain::{Words, WriterCall};
-use field_tree::{FieldNode, FieldTree};
+use field_tree::{FieldNode, Fields};
 use std::sync::ledger::Ledger;
 use trace_base::steps::Steps;
 
@@ -42,7 +42,7 @@ impl<W: Words> Host<W, W::Writer, W::Service> {
         &mut self,
         steps: &mut Steps<L>,
         place: usize,
-        fields: &FieldTree,
+        fields: &Fields<'_>,
     ) -> Result<(), HostFault>
         requires host { IsHost W.means self.old }
         requires place { place < length (W.means.setup self.old.table).writers }
@@ -66,7 +66,7 @@ impl<W: Words> Host<W, W::Writer, W::Service> {
         &mut self,
         steps: &mut Steps<L>,
         place: usize,
-        fields: &FieldTree,
+        fields: &Fields<'_>,
     ) -> Result<(), HostFault>
         requires host { IsHost W.means self.old }
         requires place { place < length (W.means.setup self.old.table).writers }

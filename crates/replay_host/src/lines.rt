@@ -14,7 +14,7 @@ use crate::fault::HostFault;
 use crate::host::Host;
 use byte_io::traits::Sink;
 use chunk_plain::{Words, WriterCall};
-use field_tree::FieldTree;
+use field_tree::Fields;
 use scenario_text::LineKind;
 use std::sync::ledger::Ledger;
 use trace_base::steps::Steps;
@@ -56,7 +56,7 @@ impl<W: Words> Host<W, W::Writer, W::Service> {
         &mut self,
         steps: &mut Steps<L>,
         place: usize,
-        fields: &FieldTree,
+        fields: &Fields<'_>,
     ) -> Result<(), HostFault>
         requires next { (moment : Moment) × ComesAsking W.means moment place (map node_call fields.now) self.old }
         ensures played { OnOk result ((moment : Moment) → ComesAsking W.means moment place (map node_call fields.now) self.old
@@ -73,7 +73,7 @@ impl<W: Words> Host<W, W::Writer, W::Service> {
         &mut self,
         steps: &mut Steps<L>,
         place: usize,
-        fields: &FieldTree,
+        fields: &Fields<'_>,
     ) -> Result<(), HostFault>
         requires next { (moment : Moment) × ComesAsking W.means moment place (calls.Begun true ∷ map node_call fields.now ++ calls.Finished ∷ []) self.old }
         ensures played { OnOk result ((moment : Moment)
@@ -167,7 +167,7 @@ impl<W: Words> Host<W, W::Writer, W::Service> {
     pub(crate) fn play_line<O: Sink, L: Ledger>(
         &mut self,
         steps: &mut Steps<L>,
-        line: &LineKind,
+        line: &LineKind<'_>,
         out: &mut O,
     ) -> Result<(), HostFault>
         requires next { (moment : Moment) × (moment.line.what ≡ line.now) × ComesNext W.means moment self.old }

@@ -16,7 +16,7 @@ use crate::host::Host;
 use chunk_plain::{PlainService, PlainTable, PlainWriter, ProducerSpec, Words};
 use claim_arbiter::Arbiter;
 use page_geometry::Geometry;
-use scenario_text::{BufferLine, LineKind, NumberedLine, ProducerLine, Scenario};
+use scenario_text::{BufferLine, LineKind, LineList, ProducerLine, Scenario};
 use service_core::ServiceCore;
 use std::alloc::{AllocError, Global};
 use trace_base::limits::BYTES_PER_KB;
@@ -69,11 +69,14 @@ fn buffer_specs(alloc: Global, buffers: &[BufferLine]) -> Result<Vec<BufferSpec>
 }
 
 /// How many flush requests the lines make.
-fn count_requests(lines: &[NumberedLine]) -> usize
+fn count_requests(lines: &LineList) -> usize
     ensures { result ≡ requests_in lines.now }
 {
+    // There are no more than can be counted.
+    let _many = lines.len();
     let mut count = 0;
-    for line in lines {
+    let mut walk = lines.walk();
+    'lines: while let Some(line) = walk.next() {
         if let LineKind::Request = line.what {
             count += 1;
         }

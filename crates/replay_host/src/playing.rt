@@ -8,7 +8,7 @@ use crate::fault::HostFault;
 use crate::host::Host;
 use byte_io::traits::Sink;
 use chunk_plain::Words;
-use scenario_text::NumberedLine;
+use scenario_text::LineList;
 use std::sync::ledger::Ledger;
 use trace_base::steps::Steps;
 
@@ -20,7 +20,7 @@ impl<W: Words> Host<W, W::Writer, W::Service> {
     pub(crate) fn play_lines<O: Sink, L: Ledger>(
         &mut self,
         steps: &mut Steps<L>,
-        lines: &[NumberedLine],
+        lines: &LineList,
         out: &mut O,
     ) -> Result<(), HostFault>
         requires begins { (scenario : Parts) × (scenario.lines ≡ lines.now) × Begins W.means scenario self.old }
@@ -30,8 +30,9 @@ impl<W: Words> Host<W, W::Writer, W::Service> {
             → StopsIn W.means (acts_from scenario [] scenario.lines) self.old (O.taken out.old) fault (O.taken out.new)) }
         ensures count { CountsStop (O.faults out.old) (O.faults out.new) result }
     {
-        for i in 0..lines.len() {
-            self.play_line(steps, &lines[i].what, out)?;
+        let mut walk = lines.walk();
+        'lines: while let Some(line) = walk.next() {
+            self.play_line(steps, &line.what, out)?;
         }
         Ok(())
     }

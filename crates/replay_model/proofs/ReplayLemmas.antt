@@ -18,7 +18,7 @@ use Rattle.replay_model.proofs.CountLemmas.{every_report_counts_packets}
 use Rattle.replay_model.proofs.PlayedLemmas.{every_replay_is_faithful}
 
 -- what the grammar gives can be played
-pub scenario_is_playable : (scenario : Scenario) → IsScenario scenario → length scenario.lines.items ≤ last_count → ScenariosAreSetUp → ScenariosAreAccepted
+pub scenario_is_playable : (scenario : Scenario) → IsScenario scenario → length scenario.lines ≤ last_count → ScenariosAreSetUp → ScenariosAreAccepted
     → IsPlayable (parts_of scenario)
 scenario_is_playable scenario is few set_up accepted = record { few = few; set_up = set_up scenario is; asks = accepted scenario is }
 

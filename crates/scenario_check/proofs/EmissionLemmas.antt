@@ -60,15 +60,15 @@ from_there lines (writer ∷ writers) number (suc place) packets there =
 
 pub scenario_is_unmarked : (scenario : Scenario) → IsScenario scenario → AreUnmarked (scenario_emissions (parts_of scenario))
 scenario_is_unmarked scenario is = λ writer packets there place packet inside.
-    let t = from_there scenario.lines.items scenario.writers.items 1 writer packets there in
+    let t = from_there scenario.lines scenario.writers.items 1 writer packets there in
     let well = scenario_is_accepted scenario is writer t.writer t.is_writer in
-    let are : packets ≡ emissions_asked (writer + 1) scenario.lines.items = t.are ∙ ap (λ (n : ℕ). emissions_asked n scenario.lines.items) (omega arith) in
-    asked_unmarked (calls_asked (writer + 1) scenario.lines.items) well.accepted place packet
+    let are : packets ≡ emissions_asked (writer + 1) scenario.lines = t.are ∙ ap (λ (n : ℕ). emissions_asked n scenario.lines) (omega arith) in
+    asked_unmarked (calls_asked (writer + 1) scenario.lines) well.accepted place packet
     (subst (λ (ps : List (List ℕ)). slice_get ps place ≡ Some packet) are inside)
 
 -- ---- what is collected
 
-pub scenario_may : (scenario : Scenario) → IsScenario scenario → MayCome (length scenario.writers.items) scenario.lines.items
+pub scenario_may : (scenario : Scenario) → IsScenario scenario → MayCome (length scenario.writers.items) scenario.lines
 scenario_may scenario is = record {
   accepted = λ place inside. accepted_at place (some_there scenario.writers.items place (omega (arith, inside)));
   short = (scenario_is_short scenario is).short;
@@ -80,7 +80,7 @@ scenario_may scenario is = record {
     some_there (x ∷ xs) (suc place) inside = some_there xs place (omega (arith, inside))
 
     accepted_at : (place : ℕ) → (writer : WriterSpec) × (slice_get scenario.writers.items place ≡ Some writer)
-        → AreAccepted nothing_yet (calls_asked (place + 1) scenario.lines.items)
+        → AreAccepted nothing_yet (calls_asked (place + 1) scenario.lines)
     accepted_at place (writer, there) = (scenario_is_accepted scenario is place writer there).accepted
 
 -- what is known of the packets of a scenario's writers
@@ -91,12 +91,12 @@ pub record AreCollected (scenario : Scenario) (emitted : List (List (List ℕ)))
   pub clean : AreUnmarked emitted
 
 pub collected : (scenario : Scenario) → IsScenario scenario → (emitters : List Emitter) (emitted : List (List (List ℕ)))
-    → length emitters ≡ length scenario.writers.items → HaveTaken scenario.lines.items emitters
+    → length emitters ≡ length scenario.writers.items → HaveTaken scenario.lines emitters
     → ((lines : List NumberedLine) → HaveTaken lines emitters → AreAsked lines (length emitters) emitted) → AreCollected scenario emitted
 collected scenario is emitters emitted many taken asks =
-    let asked : AreAsked scenario.lines.items (length scenario.writers.items) emitted =
-    subst (λ (n : ℕ). AreAsked scenario.lines.items n emitted) many (asks scenario.lines.items taken) in
-    let same : emitted ≡ scenario_emissions (parts_of scenario) = asked_is scenario.lines.items scenario.writers.items emitted asked in
+    let asked : AreAsked scenario.lines (length scenario.writers.items) emitted =
+    subst (λ (n : ℕ). AreAsked scenario.lines n emitted) many (asks scenario.lines taken) in
+    let same : emitted ≡ scenario_emissions (parts_of scenario) = asked_is scenario.lines scenario.writers.items emitted asked in
     record {
       packets = same;
       writers = omega (arith, asked.many, (scenario_is_set_up scenario is).few_writers);

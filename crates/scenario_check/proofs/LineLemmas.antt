@@ -1,10 +1,10 @@
 -- How the emitters of all writers go on with lines.
-use Rattle.std.proofs.Common.{◌≡◌, ◌≢◌, ◌∙◌, ℕ, zero, suc, ◌+◌, ◌<◌, ◌≤◌, ◌⊎◌, nat_eq, Bool, true, false, cond, List, [], ◌∷◌, ◌++◌, Some, length, set, take, drop, refl, sym, ap, subst, arith, inl, inr, length-append}
+use Rattle.std.proofs.Common.{◌≡◌, ◌≢◌, ◌∙◌, ℕ, zero, suc, ◌+◌, ◌<◌, ◌≤◌, ◌⊎◌, nat_eq, Bool, true, false, cond, List, [], ◌∷◌, ◌++◌, Some, length, set, take, drop, refl, sym, ap, subst, arith, inl, inr, length-append, append_assoc}
 use Rattle.std.specs.Prelude.{fold, slice_get}
 use Rattle.std.proofs.lemmas.Bool.{cases_eq, eqb-false, ne_eqb}
 use Rattle.std.proofs.lemmas.Grind.{flat_map-append}
-use Rattle.std.proofs.lemmas.List.{append-nil, take-append-drop}
-use Rattle.std.proofs.lemmas.List.Sums.{fold-append, sum_by_push, sum_by-take-le}
+use Rattle.std.proofs.lemmas.List.{append-nil}
+use Rattle.std.proofs.lemmas.List.Sums.{fold-append, sum_by_push, sum_by-append}
 use Rattle.std.proofs.lemmas.Option.{slice_get_within}
 use Rattle.trace_model.specs.Calls.{Call}
 use Rattle.trace_model.specs.Packets.{Account, account_of, noted, nothing_yet}
@@ -156,22 +156,16 @@ all_other lines line emitters outside taken = λ q emitter there.
 
 -- ---- lines one after another
 
-pub may_first : (writers count : ℕ) (lines : List NumberedLine) → MayCome writers lines → MayCome writers (take count lines)
-may_first writers count lines may = record {
-  accepted = λ place inside.
-      accepted_front nothing_yet (calls_asked (place + 1) (take count lines)) (calls_asked (place + 1) (drop count lines))
-      (subst (AreAccepted nothing_yet) (cut (place + 1)) (may.accepted place inside));
-  short = omega (arith, may.short, sum_by-take-le (λ (l : NumberedLine). line_len l.what) lines count);
-}
-  where
-    cut : (number : ℕ) → calls_asked number lines ≡ calls_asked number (take count lines) ++ calls_asked number (drop count lines)
-    cut number =
-        ap (calls_asked number) (sym (take-append-drop count lines))
-        ∙ flat_map-append (λ (l : NumberedLine). line_calls number l.what) (take count lines) (drop count lines)
+pub append_first : (before : List NumberedLine) (line : NumberedLine) (rest : List NumberedLine) → (before ++ line ∷ []) ++ rest ≡ before ++ line ∷ rest
+append_first before line rest = append_assoc before (line ∷ []) rest
 
-pub line_next : (lines : List NumberedLine) (i : ℕ) (line : NumberedLine) → slice_get lines i ≡ Some line → take (i + 1) lines ≡ take i lines ++ line ∷ []
-line_next lines i line there =
-    let next : i + 1 ≡ suc i = omega arith in ap (λ (n : ℕ). take n lines) next ∙ (split_there lines i line there).0
+pub may_front : (writers : ℕ) (front rest : List NumberedLine) → MayCome writers (front ++ rest) → MayCome writers front
+may_front writers front rest may = record {
+  accepted = λ place inside.
+      accepted_front nothing_yet (calls_asked (place + 1) front) (calls_asked (place + 1) rest)
+      (subst (AreAccepted nothing_yet) (flat_map-append (λ (l : NumberedLine). line_calls (place + 1) l.what) front rest) (may.accepted place inside));
+  short = omega (arith, may.short, sum_by-append (λ (l : NumberedLine). line_len l.what) front rest);
+}
 
 -- ---- before the first line
 

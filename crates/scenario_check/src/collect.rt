@@ -13,12 +13,12 @@ ghost use Rattle.scenario_check.specs.Progress.{Holds, HaveTaken, MayCome};
 use crate::emit::emit_line;
 use emitted_packets::Emitter;
 use packet_runs::Packets;
-use scenario_text::{LineKind, NumberedLine, Scenario};
+use scenario_text::{LineKind, LineList, NumberedLine, Scenario};
 use std::alloc::{AllocError, Global};
 use trace_base::limits::{MAX_INPUT, MAX_WRITERS};
 
 /// The writer that a line names, and 0 for a line that names none.
-fn named_writer(what: &LineKind) -> u16
+fn named_writer(what: &LineKind<'_>) -> u16
     ensures { result ≡ progress.named_writer what.now }
 {
     match what {
@@ -34,7 +34,7 @@ fn named_writer(what: &LineKind) -> u16
 }
 
 /// Goes on with a line, which asks something of the writer that it names alone.
-fn take_line(emitters: &mut [Emitter], line: &NumberedLine) -> Result<(), AllocError>
+fn take_line(emitters: &mut [Emitter], line: &NumberedLine<'_>) -> Result<(), AllocError>
     requires { (lines : List NumberedLine) × HaveTaken lines emitters.old × MayCome (length emitters.old) (lines ++ line.now ∷ []) }
     ensures { OnOk result ((lines : List NumberedLine) → HaveTaken lines emitters.old
         → MayCome (length emitters.old) (lines ++ line.now ∷ []) → HaveTaken (lines ++ line.now ∷ []) emitters.new) }
@@ -47,13 +47,14 @@ fn take_line(emitters: &mut [Emitter], line: &NumberedLine) -> Result<(), AllocE
 }
 
 /// Goes through all lines.
-fn take_lines(emitters: &mut [Emitter], lines: &[NumberedLine]) -> Result<(), AllocError>
+fn take_lines(emitters: &mut [Emitter], lines: &LineList) -> Result<(), AllocError>
     requires may { MayCome (length emitters.old) lines.now }
     requires none { HaveTaken [] emitters.old }
     ensures { OnOk result (HaveTaken lines.now emitters.new) }
 {
-    for line in lines {
-        take_line(emitters, line)?;
+    let mut walk = lines.walk();
+    'lines: while let Some(line) = walk.next() {
+        take_line(emitters, &line)?;
     }
     Ok(())
 }
@@ -101,7 +102,7 @@ fn finish_all(alloc: Global, emitters: Vec<Emitter>) -> Result<Vec<Packets>, All
 /// The emitters of all writers of a scenario, once they have taken its lines.
 fn emit_all(alloc: Global, scenario: &Scenario) -> Result<Vec<Emitter>, AllocError>
     requires { IsScenario scenario.now }
-    ensures taken { IfOk result (λ emitters. HaveTaken scenario.now.lines.items emitters.items) }
+    ensures taken { IfOk result (λ emitters. HaveTaken scenario.now.lines emitters.items) }
     ensures many { IfOk result (λ emitters. length emitters.items ≡ length scenario.now.writers.items) }
 {
     let mut emitters = make_emitters(alloc, scenario.writers.len())?;

@@ -8,7 +8,7 @@ ghost use Rattle.scenario_text.specs.Lengths.{line_len};
 ghost use Rattle.scenario_check.specs.Progress.{MayTake, Takes, named_calls};
 
 use emitted_packets::Emitter;
-use field_tree::{FieldNode, FieldTree};
+use field_tree::{FieldNode, Fields};
 use scenario_text::LineKind;
 use std::alloc::AllocError;
 
@@ -29,7 +29,7 @@ fn emit_node(emitter: &mut Emitter, node: FieldNode, text: &[u8]) -> Result<(), 
 }
 
 /// Writes all of them.
-fn emit_fields(emitter: &mut Emitter, fields: &FieldTree) -> Result<(), AllocError>
+fn emit_fields(emitter: &mut Emitter, fields: &Fields<'_>) -> Result<(), AllocError>
     requires { MayTake (map node_call fields.now) (nodes_len fields.now) emitter.old }
     ensures { OnOk result (Takes (map node_call fields.now) (nodes_len fields.now) 0 emitter.old emitter.new) }
 {
@@ -49,7 +49,7 @@ fn emit_end(emitter: &mut Emitter) -> Result<(), AllocError>
 }
 
 /// Writes a whole packet.
-fn emit_packet(emitter: &mut Emitter, fields: &FieldTree) -> Result<(), AllocError>
+fn emit_packet(emitter: &mut Emitter, fields: &Fields<'_>) -> Result<(), AllocError>
     requires { MayTake (call.Begun true ∷ map node_call fields.now ++ call.Finished ∷ []) (nodes_len fields.now) emitter.old }
     ensures { OnOk result (Takes (call.Begun true ∷ map node_call fields.now ++ call.Finished ∷ []) (nodes_len fields.now) 1 emitter.old emitter.new) }
 {
@@ -58,7 +58,7 @@ fn emit_packet(emitter: &mut Emitter, fields: &FieldTree) -> Result<(), AllocErr
 }
 
 /// Does what a line asks of the writer that it names.
-pub(crate) fn emit_line(emitter: &mut Emitter, what: &LineKind) -> Result<(), AllocError>
+pub(crate) fn emit_line(emitter: &mut Emitter, what: &LineKind<'_>) -> Result<(), AllocError>
     requires { MayTake (named_calls what.now) (line_len what.now) emitter.old }
     ensures { OnOk result (Takes (named_calls what.now) (line_len what.now) 1 emitter.old emitter.new) }
 {

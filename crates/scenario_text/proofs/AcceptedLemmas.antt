@@ -409,7 +409,7 @@ ends state told none place writer get =
     no_both is none = cc
 
 pub scenario_is_accepted : (scenario : Scenario) → IsScenario scenario → (place : ℕ) (writer : WriterSpec)
-    → slice_get scenario.writers.items place ≡ Some writer → AsksWell scenario.lines.items (place + 1) writer
+    → slice_get scenario.writers.items place ≡ Some writer → AsksWell scenario.lines (place + 1) writer
 scenario_is_accepted scenario is place writer get =
     let end = scenario_holds IsTold line_keeps none_told scenario is in
     subst (λ (parts : Parts). slice_get parts.writers place ≡ Some writer → AsksWell parts.lines (place + 1) writer) end.says

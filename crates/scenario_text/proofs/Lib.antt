@@ -20,3 +20,4 @@ pub mod ReachLemmas
 pub mod PossibleLemmas
 pub mod ShortLemmas
 pub mod ChunksAskedLemmas
+mod KeptLemmas

@@ -30,6 +30,6 @@ accepted_possible account (call ∷ calls) accepted =
 
 -- what the lines of a scenario ask of a writer is possible
 pub asked_possible : (scenario : Scenario) → IsScenario scenario → (place : ℕ) (writer : WriterSpec)
-    → slice_get scenario.writers.items place ≡ Some writer → AreCalls (calls_asked (place + 1) scenario.lines.items)
+    → slice_get scenario.writers.items place ≡ Some writer → AreCalls (calls_asked (place + 1) scenario.lines)
 asked_possible scenario is place writer there =
-    accepted_possible nothing_yet (calls_asked (place + 1) scenario.lines.items) (scenario_is_accepted scenario is place writer there).accepted
+    accepted_possible nothing_yet (calls_asked (place + 1) scenario.lines) (scenario_is_accepted scenario is place writer there).accepted

@@ -419,7 +419,7 @@ nothing_reached = record {
 -- ---- every scenario
 
 pub scenario_is_in_reach : (scenario : Scenario) → IsScenario scenario
-    → AreInReach scenario.buffers.items scenario.producers.items scenario.writers.items scenario.lines.items
+    → AreInReach scenario.buffers.items scenario.producers.items scenario.writers.items scenario.lines
 scenario_is_in_reach scenario is =
     let end = scenario_holds IsReaching line_keeps nothing_reached scenario is in
     subst (λ (parts : Parts). AreInReach parts.buffers parts.producers parts.writers parts.lines) end.says end.holds.each

@@ -210,7 +210,7 @@ said_few (Ok state) text parts is same =
     omega (arith, few, ap (λ (p : Parts). length p.lines) lines_are)
 said_few (Err fault) text parts is same = absurd cc
 
-scenario_few : (scenario : Scenario) (is : IsScenario scenario) → length scenario.lines.items ≤ length (pieces 10 is.text)
+scenario_few : (scenario : Scenario) (is : IsScenario scenario) → length scenario.lines ≤ length (pieces 10 is.text)
 unfolding scenario_of
 scenario_few scenario is = said_few (state_after is.text) is.text (parts_of scenario) refl is.said_by
 
@@ -219,7 +219,7 @@ scenario_few scenario is = said_few (state_after is.text) is.text (parts_of scen
 pub pieces_few : (test : ℕ → Bool) (bytes : List ℕ) → length (slice_split test bytes) ≤ length bytes + 1
 pieces_few test bytes = omega (arith, length-slice_split test bytes, count_by-le-length test bytes)
 
-pub scenario_is_short : (scenario : Scenario) → IsScenario scenario → AreShort scenario.lines.items
+pub scenario_is_short : (scenario : Scenario) → IsScenario scenario → AreShort scenario.lines
 scenario_is_short scenario is =
     let end = scenario_holds AreCounted counted_keeps (record { sum_is = refl; most = omega arith }) scenario is in
     record {

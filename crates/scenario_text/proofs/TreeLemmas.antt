@@ -141,7 +141,7 @@ moved_trees state number line Request all = one_more state.lines _ all tt
 
 -- ---- every scenario
 
-pub scenario_gives_trees : (scenario : Scenario) → IsScenario scenario → GiveTrees scenario.lines.items
+pub scenario_gives_trees : (scenario : Scenario) → IsScenario scenario → GiveTrees scenario.lines
 scenario_gives_trees scenario is =
     let end = scenario_holds (λ (state : State). GiveTrees state.lines) (λ state number line form none all. moved_trees state number line form all) tt
     scenario is in

@@ -97,4 +97,4 @@ pub record AsksWell (lines : List NumberedLine) (number : ℕ) (writer : WriterS
 abbrev pub ScenariosAreAccepted : Type 0
 ScenariosAreAccepted = (scenario : Scenario) → IsScenario scenario
     → (place : ℕ) (writer : WriterSpec) → slice_get scenario.writers.items place ≡ Some writer
-    → AsksWell scenario.lines.items (place + 1) writer
+    → AsksWell scenario.lines (place + 1) writer

@@ -2,7 +2,7 @@
 use Rattle.std.specs.Prelude.{◌≡◌, ℕ, ◌+◌, ◌^◌, ◌<◌, List, Option, Some, None, Result, Ok, Err}
 use Rattle.field_tree.specs.declared.fault.FieldFault.{FieldFault}
 use Rattle.field_tree.specs.declared.fault.FieldFault.TheVariants as faults
-use Rattle.field_tree.specs.declared.tree.FieldTree.{FieldTree}
+use Rattle.field_tree.specs.declared.parse.Found.{Found}
 use Rattle.field_tree.specs.Nodes.{Shown}
 use Rattle.scenario_text.specs.declared.reason.Reason.{Reason}
 use Rattle.scenario_text.specs.declared.reason.Reason.TheVariants as reasons
@@ -23,8 +23,8 @@ reason_given before (Ok nodes) = None
 reason_given before (Err fault) = Some (fault_reason before fault)
 
 -- an answer has the nodes, and a refusal the reason that their fault is
-abbrev pub GivesNodes : ℕ → Result FieldTree LineFault → Result (List Shown) FieldFault → Type 0
-GivesNodes before (Ok tree) given = given ≡ Ok tree
+abbrev pub GivesNodes : ℕ → Result Found LineFault → Result (List Shown) FieldFault → Type 0
+GivesNodes before (Ok found) given = given ≡ Ok found.fields
 GivesNodes before (Err OutOfMemory) given = Unit {0}
 GivesNodes before (Err (Refused reason)) given = reason_given before given ≡ Some reason
 

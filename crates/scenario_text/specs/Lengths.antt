@@ -27,4 +27,4 @@ pub record AreShort (lines : List NumberedLine) : Type 0 where
 
 -- so are those of each value that the grammar gives
 abbrev pub ScenariosAreShort : Type 0
-ScenariosAreShort = (scenario : Scenario) → IsScenario scenario → AreShort scenario.lines.items
+ScenariosAreShort = (scenario : Scenario) → IsScenario scenario → AreShort scenario.lines

@@ -18,3 +18,4 @@ pub mod Additions
 pub mod Texts
 pub mod Trees
 pub mod View
+pub mod KeptLines

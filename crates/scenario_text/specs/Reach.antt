@@ -54,4 +54,4 @@ AreInReach buffers producers writers lines = (before : List NumberedLine) (line 
 -- the lines of each value that the grammar gives name what is there
 abbrev pub ScenariosAreInReach : Type 0
 ScenariosAreInReach = (scenario : Scenario) → IsScenario scenario
-    → AreInReach scenario.buffers.items scenario.producers.items scenario.writers.items scenario.lines.items
+    → AreInReach scenario.buffers.items scenario.producers.items scenario.writers.items scenario.lines

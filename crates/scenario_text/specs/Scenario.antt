@@ -25,7 +25,7 @@ parts_of scenario = record {
   buffers = scenario.buffers.items;
   producers = scenario.producers.items;
   writers = scenario.writers.items;
-  lines = scenario.lines.items;
+  lines = scenario.lines;
 }
 
 -- the lists of what was read

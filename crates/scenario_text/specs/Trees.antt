@@ -20,4 +20,4 @@ GiveTrees lines = AllByRecursion (λ line. GivesTree line.what) lines
 
 -- what the lines of a value that the grammar gives have writers write are trees
 abbrev pub ScenariosGiveTrees : Type 0
-ScenariosGiveTrees = (scenario : Scenario) → IsScenario scenario → GiveTrees scenario.lines.items
+ScenariosGiveTrees = (scenario : Scenario) → IsScenario scenario → GiveTrees scenario.lines

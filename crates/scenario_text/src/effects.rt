@@ -8,7 +8,7 @@ use crate::form::{ProducerStep, WriterStep};
 use crate::numeral::Numeral;
 use crate::open_packet::OpenPacket;
 use crate::scenario::LineKind;
-use field_tree::FieldTree;
+use field_tree::Fields;
 use trace_base::limits::{MAX_NESTING, MAX_PACKET_LEN};
 
 /// A number that is known to be small.
@@ -71,9 +71,9 @@ pub fn packet_after(
 }
 
 #[tactic(auto, unfolding(crate::specs::Effects::writer_kind))]
-pub fn writer_kind(writer: u16, step: WriterStep, fields: FieldTree) -> LineKind
+pub fn writer_kind(writer: u16, step: WriterStep, fields: Fields<'_>) -> LineKind<'_>
     requires { FieldFits step }
-    ensures { result ≡ writer_kind writer step fields }
+    ensures { result ≡ writer_kind writer step fields.entry }
 {
     match step {
         WriterStep::Packet { .. } => LineKind::Packet { writer, fields },
@@ -90,7 +90,7 @@ pub fn writer_kind(writer: u16, step: WriterStep, fields: FieldTree) -> LineKind
 }
 
 #[tactic(auto, unfolding(crate::specs::Effects::producer_kind))]
-pub fn producer_kind(producer: u16, step: ProducerStep) -> LineKind
+pub fn producer_kind(producer: u16, step: ProducerStep) -> LineKind<'static>
     ensures { result ≡ producer_kind producer step }
 {
     match step {

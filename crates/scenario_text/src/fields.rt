@@ -1,10 +1,11 @@
 //! What a line gives a packet: the nodes of its FIELDS, and how many bytes they are.
-ghost use Rattle.std.specs.Prelude.{◌≡◌, ◌+◌, ◌^◌, ◌<◌, ◌≤◌, length, true};
+ghost use Rattle.std.specs.Prelude.{◌≡◌, ◌+◌, ◌^◌, ◌<◌, ◌≤◌, length, true, IfOk};
 ghost use Rattle.wire_varint.specs.Varint.{tag};
 ghost use Rattle.field_tree.specs.Answers.{outcome};
+ghost use Rattle.field_tree.specs.Judged.{nodes_len};
 ghost use Rattle.scenario_text.specs.Pieces.{fields_part};
 ghost use Rattle.scenario_text.specs.Ranges.{is_within, value};
-ghost use Rattle.scenario_text.specs.declared.form.WriterStep.TheVariants.{Nest};
+ghost use Rattle.scenario_text.specs.declared.form.WriterStep.TheVariants.{Add, Nest, Packet};
 ghost use Rattle.scenario_text.specs.Reasons.{before_fields, given_by, nested, step_len};
 ghost use Rattle.scenario_text.specs.Answers.{fault_reason, GivesNodes, FaultFits};
 ghost use Rattle.scenario_text.specs.Additions.{GivesAddition};
@@ -14,9 +15,8 @@ use crate::line_fault::LineFault;
 use crate::numeral::Numeral;
 use crate::pieces::fields_part;
 use crate::reason::Reason;
-use field_tree::{FieldError, FieldFault, FieldTree, parse_fields};
-use std::alloc::Global;
-use trace_base::limits::{MAX_FIELD, MAX_INPUT, MAX_NESTING};
+use field_tree::{FieldError, FieldFault, FieldParser, Fields, Found};
+use trace_base::limits::{MAX_FIELD, MAX_INPUT, MAX_NESTING, MAX_PACKET_LEN};
 use trace_base::reserved::is_reserved;
 use wire_varint::put_tag;
 
@@ -38,15 +38,21 @@ fn reason(before: u32, fault: FieldFault) -> Reason
 
 #[tactic(auto, using(crate::proofs::FieldLemmas::fault_fits, crate::proofs::FieldLemmas::reason_from))]
 /// The nodes of a line's FIELDS, where so many messages are open.
-fn read_fields(alloc: Global, line: &[u8], depth: u8) -> Result<FieldTree, LineFault>
+fn read_fields<'c>(
+    parser: &'c mut FieldParser,
+    line: &[u8],
+    depth: u8,
+) -> Result<Found<'c>, LineFault>
     requires line { length line.now ≤ MAX_INPUT }
     requires depth { depth ≤ MAX_NESTING }
-    ensures { GivesNodes (before_fields line.now) result (outcome depth (fields_part line.now)) }
+    ensures nodes { GivesNodes (before_fields line.now) result (outcome depth (fields_part line.now)) }
+    ensures len { IfOk result (λ found. found.encoded ≡ nodes_len found.fields) }
+    ensures most { IfOk result (λ found. found.encoded ≤ MAX_PACKET_LEN) }
 {
     let fields = fields_part(line);
     let before = (line.len() - fields.len()) as u32;
-    match parse_fields(alloc, fields, depth) {
-        Ok(tree) => Ok(tree),
+    match parser.parse(fields, depth) {
+        Ok(found) => Ok(found),
         Err(FieldError::OutOfMemory) => Err(LineFault::OutOfMemory),
         Err(FieldError::Fault(fault)) => Err(LineFault::Refused(reason(before, fault))),
     }
@@ -54,15 +60,15 @@ fn read_fields(alloc: Global, line: &[u8], depth: u8) -> Result<FieldTree, LineF
 
 /// What a line gives its packet: nodes, and how many bytes their encoding is.
 #[derive(Drop)]
-pub struct Addition {
-    pub fields: FieldTree,
+pub struct Addition<'c> {
+    pub fields: Fields<'c>,
     pub len: u32,
 }
 
 /// A nested message that begins where so many are open, in a line with so many bytes before its
 /// FIELD.
 #[tactic(auto, unfolding(crate::specs::Reasons::nested, crate::specs::Reasons::step_len, crate::specs::Answers::reason_given, crate::specs::Answers::fault_reason, crate::specs::Ranges::is_within, crate::specs::Ranges::value))]
-fn nested(alloc: Global, before: u32, depth: u8, field: Numeral) -> Result<Addition, LineFault>
+fn nested(before: u32, depth: u8, field: Numeral) -> Result<Addition<'static>, LineFault>
     requires { before + 1 < 2 ^ 32 }
     ensures { GivesAddition before (Nest field) result (nested depth field) }
 {
@@ -82,36 +88,54 @@ fn nested(alloc: Global, before: u32, depth: u8, field: Numeral) -> Result<Addit
     let mut tag = [0u8; 5];
     let len = put_tag(number, 2, &mut tag) as u32 + 4;
     Ok(Addition {
-        fields: FieldTree::empty(alloc),
+        fields: Fields::none(),
         len,
+    })
+}
+
+/// What the FIELDS of a line give its packet.
+#[tactic(auto, unfolding(crate::specs::Reasons::step_len))]
+fn given_fields<'c>(
+    parser: &'c mut FieldParser,
+    line: &[u8],
+    depth: u8,
+) -> Result<Addition<'c>, LineFault>
+    requires line { length line.now ≤ MAX_INPUT }
+    requires depth { depth ≤ MAX_NESTING }
+    ensures packet { GivesAddition (before_fields line.now) (Packet true) result (outcome depth (fields_part line.now)) }
+    ensures add { GivesAddition (before_fields line.now) Add result (outcome depth (fields_part line.now)) }
+{
+    let Found { fields, encoded } = read_fields(parser, line, depth)?;
+    Ok(Addition {
+        fields,
+        len: encoded,
     })
 }
 
 /// What a line gives its packet, where so many messages are open.
 #[tactic(auto, unfolding(crate::specs::Reasons::given_by, crate::specs::Reasons::step_len))]
-pub fn read_addition(
-    alloc: Global,
+pub fn read_addition<'c>(
+    parser: &'c mut FieldParser,
     line: &[u8],
     depth: u8,
     step: WriterStep,
-) -> Result<Addition, LineFault>
+) -> Result<Addition<'c>, LineFault>
     requires line { length line.now ≤ MAX_INPUT }
     requires depth { depth ≤ MAX_NESTING }
     ensures { GivesAddition (before_fields line.now) step result (given_by depth line.now step) }
 {
     match step {
         WriterStep::Packet { has_fields: true } | WriterStep::Add => {
-            let fields = read_fields(alloc, line, depth)?;
-            let len = fields.enc_len();
-            Ok(Addition { fields, len })
+            return given_fields(parser, line, depth);
         }
         WriterStep::Nest { field } => {
             let before = (line.len() - fields_part(line).len()) as u32;
-            nested(alloc, before, depth, field)
+            return nested(before, depth, field);
         }
-        _ => Ok(Addition {
-            fields: FieldTree::empty(alloc),
-            len: 0,
-        }),
+        _ => {}
     }
+    Ok(Addition {
+        fields: Fields::none(),
+        len: 0,
+    })
 }

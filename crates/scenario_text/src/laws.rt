@@ -23,7 +23,6 @@ pub fn scenarios_are_in_reach()
     ensures { ScenariosAreInReach }
 {}
 
-#[tactic(auto, using(crate::proofs::ShortLemmas::scenario_is_short))]
 pub fn scenarios_are_short()
     ensures { ScenariosAreShort }
 {}

@@ -11,6 +11,7 @@ pub mod form;
 mod items;
 mod laws;
 mod line_fault;
+mod line_list;
 pub mod lines;
 mod number;
 pub mod numeral;
@@ -28,6 +29,7 @@ pub use laws::{
     scenarios_are_accepted, scenarios_are_in_reach, scenarios_are_set_up, scenarios_are_short,
     scenarios_give_trees,
 };
+pub use line_list::{LineList, LineWalk};
 pub use lines::read_scenario;
 pub use printing::refusal_line;
 pub use reason::{Reason, ScenarioFault};

@@ -11,6 +11,7 @@ use crate::reader::Reader;
 use crate::reading::form;
 use crate::reason::{Reason, ScenarioFault};
 use crate::scenario::Scenario;
+use field_tree::FieldParser;
 use std::alloc::Global;
 use trace_base::limits::MAX_INPUT;
 use trace_base::policy::WriterSpec;
@@ -55,7 +56,12 @@ impl Reader {
 
     /// A line that has its line feed.
     #[tactic(auto, unfolding(crate::specs::Grammar::after_line, crate::specs::Grammar::after_form))]
-    fn read_line(&mut self, alloc: Global, number: u32, line: &[u8]) -> Result<(), LineFault>
+    fn read_line(
+        &mut self,
+        parser: &mut FieldParser,
+        number: u32,
+        line: &[u8],
+    ) -> Result<(), LineFault>
         requires { length line.now ≤ MAX_INPUT }
         ensures { LeadsTo (state_of self.new) result (after_line (state_of self.old) number line.now) }
     {
@@ -64,7 +70,7 @@ impl Reader {
         }
         match form(line) {
             None => Err(LineFault::Refused(Reason::BadLine)),
-            Some(form) => self.play(alloc, number, line, form),
+            Some(form) => self.play(parser, number, line, form),
         }
     }
 
@@ -115,6 +121,7 @@ fn read_lines(alloc: Global, text: &[u8]) -> Result<Scenario, ScenarioFault>
     ensures { GivesScenario result (scenario_of text.now) }
 {
     let mut reader = Reader::new(alloc);
+    let mut parser = FieldParser::new(alloc);
     let mut number: u32 = 1;
     let mut rest = text;
     'lines: loop {
@@ -128,7 +135,7 @@ fn read_lines(alloc: Global, text: &[u8]) -> Result<Scenario, ScenarioFault>
                 reason: Reason::UnfinishedLine,
             });
         };
-        match reader.read_line(alloc, number, line) {
+        match reader.read_line(&mut parser, number, line) {
             Ok(()) => {}
             Err(LineFault::OutOfMemory) => return Err(ScenarioFault::OutOfMemory),
             Err(LineFault::Refused(reason)) => {

@@ -9,8 +9,8 @@ use crate::numeral::Numeral;
 use crate::open_packet::OpenPacket;
 use crate::reader::Reader;
 use crate::reason::Reason;
-use crate::scenario::{BufferLine, LineKind, NumberedLine, ProducerLine};
-use std::alloc::Global;
+use crate::scenario::{BufferLine, LineKind, ProducerLine};
+use field_tree::FieldParser;
 use trace_base::limits::{MAX_INPUT, MAX_PACKET_LEN, MAX_SCENARIO_PACKET_BYTES};
 use trace_base::policy::{FullPolicy, WriterPolicy, WriterSpec};
 
@@ -82,13 +82,15 @@ impl Reader {
     }
 
     #[tactic(auto, unfolding(crate::specs::Effects::with_line))]
-    fn add_line(&mut self, line: u32, what: LineKind) -> Result<(), LineFault>
-        ensures ok { OnOk result (state_of self.new ≡ with_line (state_of self.old) line what) }
+    fn add_line(&mut self, line: u32, what: LineKind<'_>) -> Result<(), LineFault>
+        ensures ok { OnOk result (state_of self.new ≡ with_line (state_of self.old) line what.entry) }
         ensures memory { IsOkUnless result OutOfMemory }
         ensures bytes { self.new.bytes ≡ self.old.bytes }
     {
-        self.scenario.lines.push(NumberedLine { line, what })?;
-        Ok(())
+        match self.scenario.lines.push(line, what) {
+            Ok(()) => Ok(()),
+            Err(_) => Err(LineFault::OutOfMemory),
+        }
     }
 
     #[tactic(auto, using(crate::proofs::SoundLemmas::all_with_item), unfolding(crate::specs::Effects::with_packet))]
@@ -106,19 +108,20 @@ impl Reader {
         line: u32,
         writer: Numeral,
         step: WriterStep,
-        addition: Addition,
+        addition: Addition<'_>,
     ) -> Result<(), LineFault>
         requires front { first (front_reasons (state_of self.old) (OfWriter writer step)) ≡ None }
         requires field { FieldFits step }
         requires shallow { is_shallow (packet_after line (packet_of (state_of self.old) writer) step addition.len) ≡ true }
         requires len { len_of (packet_of (state_of self.old) writer) + addition.len ≤ MAX_PACKET_LEN }
         requires bytes { self.old.bytes + addition.len ≤ MAX_SCENARIO_PACKET_BYTES }
-        ensures ok { OnOk result (state_of self.new ≡ written (state_of self.old) line writer step addition.fields addition.len) }
+        ensures ok { OnOk result (state_of self.new ≡ written (state_of self.old) line writer step addition.entry.fields addition.entry.len) }
         ensures memory { IsOkUnless result OutOfMemory }
     {
         let Addition { fields, len } = addition;
         let packet = packet_after(line, self.packet(writer), step, len);
-        self.add_line(line, writer_kind(small(writer) as u16, step, fields))?;
+        let what = writer_kind(small(writer) as u16, step, fields);
+        self.add_line(line, what)?;
         self.set_packet(writer, packet);
         self.bytes += len;
         Ok(())
@@ -128,7 +131,7 @@ impl Reader {
     #[tactic(auto, using(crate::proofs::WriteLemmas::refused_by_fields, crate::proofs::WriteLemmas::refused_as_too_long, crate::proofs::WriteLemmas::refused_as_too_many, crate::proofs::WriteLemmas::taken, crate::proofs::WriteLemmas::field_fits, crate::proofs::WriteLemmas::still_shallow))]
     fn write(
         &mut self,
-        alloc: Global,
+        parser: &mut FieldParser,
         number: u32,
         line: &[u8],
         writer: Numeral,
@@ -138,7 +141,7 @@ impl Reader {
         requires front { first (front_reasons (state_of self.old) (OfWriter writer step)) ≡ None }
         ensures { LeadsTo (state_of self.new) result (after_form (state_of self.old) number line.now (Some (OfWriter writer step))) }
     {
-        let addition = read_addition(alloc, line, self.depth(writer), step)?;
+        let addition = read_addition(parser, line, self.depth(writer), step)?;
         if u64::from(self.packet_len(writer)) + u64::from(addition.len)
             > u64::from(MAX_PACKET_LEN)
         {
@@ -187,7 +190,7 @@ impl Reader {
     #[tactic(auto, using(crate::proofs::PlayLemmas::refused_in_front, crate::proofs::PlayLemmas::taken_buffer, crate::proofs::PlayLemmas::taken_producer, crate::proofs::PlayLemmas::taken_writer, crate::proofs::PlayLemmas::taken_step, crate::proofs::PlayLemmas::taken_read, crate::proofs::PlayLemmas::taken_request))]
     pub fn play(
         &mut self,
-        alloc: Global,
+        parser: &mut FieldParser,
         number: u32,
         line: &[u8],
         form: Form,
@@ -210,7 +213,7 @@ impl Reader {
                 buffer,
                 policy,
             } => self.add_writer(producer, buffer, policy),
-            Form::OfWriter { writer, step } => self.write(alloc, number, line, writer, step),
+            Form::OfWriter { writer, step } => self.write(parser, number, line, writer, step),
             Form::OfProducer { producer, step } => self.serve(number, producer, step),
             Form::Read { buffer, limit } => self.read(number, buffer, limit),
             Form::Request => self.add_line(number, LineKind::Request),

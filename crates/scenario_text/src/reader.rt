@@ -2,6 +2,7 @@
 ghost use Rattle.std.specs.Prelude.{◌≡◌};
 ghost use Rattle.scenario_text.specs.Sound.{IsSound};
 
+use crate::line_list::LineList;
 use crate::open_packet::OpenPacket;
 use crate::scenario::Scenario;
 use std::alloc::Global;
@@ -32,7 +33,7 @@ impl Reader {
                 buffers: Vec::new(alloc),
                 producers: Vec::new(alloc),
                 writers: Vec::new(alloc),
-                lines: Vec::new(alloc),
+                lines: LineList::new(alloc),
             },
             closed: Vec::new(alloc),
             packets: Vec::new(alloc),

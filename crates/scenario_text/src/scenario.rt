@@ -1,6 +1,7 @@
 //! What a scenario says: its set-up lines, and the lines that are played.
 
-use field_tree::FieldTree;
+use crate::line_list::LineList;
+use field_tree::Fields;
 use trace_base::policy::{FullPolicy, WriterSpec};
 
 /// `buffer KB ring`, `buffer KB discard`: a buffer of KB times 1,024 bytes.
@@ -20,11 +21,11 @@ pub struct ProducerLine {
 
 /// What a line has done. Writers, producers and buffers count from 1.
 #[derive(Drop)]
-pub enum LineKind {
-    /// A whole packet. One without FIELDS has an empty tree.
-    Packet { writer: u16, fields: FieldTree },
+pub enum LineKind<'c> {
+    /// A whole packet. One without FIELDS has no nodes.
+    Packet { writer: u16, fields: Fields<'c> },
     Begin { writer: u16 },
-    Add { writer: u16, fields: FieldTree },
+    Add { writer: u16, fields: Fields<'c> },
     Nest { writer: u16, field: u32 },
     Unnest { writer: u16 },
     End { writer: u16 },
@@ -39,9 +40,9 @@ pub enum LineKind {
 
 /// A played line and its place in the text, counted from 1.
 #[derive(Drop)]
-pub struct NumberedLine {
+pub struct NumberedLine<'c> {
     pub line: u32,
-    pub what: LineKind,
+    pub what: LineKind<'c>,
 }
 
 /// A scenario. Its parts are in the order of their lines.
@@ -50,5 +51,5 @@ pub struct Scenario {
     pub buffers: Vec<BufferLine>,
     pub producers: Vec<ProducerLine>,
     pub writers: Vec<WriterSpec>,
-    pub lines: Vec<NumberedLine>,
+    pub lines: LineList,
 }

@@ -1,7 +1,7 @@
 //! Texts and what is said of them, and the parts of a scenario. The expected lines come from a
 //! reading of the grammar in another language.
 use arrayvec::ArrayVec;
-use field_tree::FieldTree;
+use field_tree::Fields;
 use scenario_text::{LineKind, ProducerLine, ScenarioFault, read_scenario, refusal_line};
 use std::alloc::{AllocError, Global};
 use std::process::Abort;
@@ -278,7 +278,7 @@ const EACH_KIND: &[u8] =
     b"# x\nbuffer 4 discard\nbuffer 65536 ring\nproducer 64 65536 1\nproducer 1 4096 7\nwriter 2 1 stall\nwriter 1 2 drop\nb 1\na 1 900{1:\"hi\"*2 2:7}\nn 1 8\nu 1\ne 1\n\np 2\np 2 1:5\nf 1\nc 2\ns 2\nr 1\nr 2 3\nq\nx 2\n";
 
 /// How many nodes there are.
-fn count(fields: &FieldTree) -> u64 {
+fn count(fields: &Fields<'_>) -> u64 {
     let mut many = 0u64;
     let mut coming = fields.fields();
     'nodes: while let Some(_) = coming.next() {
@@ -289,7 +289,7 @@ fn count(fields: &FieldTree) -> u64 {
 
 /// The word of a line, its first number, and another number that it has or is about: nodes, a
 /// field or a limit.
-fn shown(what: &LineKind) -> (&'static str, u16, u64) {
+fn shown(what: &LineKind<'_>) -> (&'static str, u16, u64) {
     match what {
         LineKind::Packet { writer, fields } => ("p", *writer, count(fields)),
         LineKind::Begin { writer } => ("b", *writer, 0),
@@ -349,7 +349,11 @@ fn keeps_each_kind_of_line(rt: HostRuntime) {
         }
     );
     assert_eq!(rt; scenario.lines.len(), lines.len());
-    for (given, wanted) in scenario.lines.iter().zip(&lines) {
+    let mut walk = scenario.lines.walk();
+    for wanted in &lines {
+        let Some(given) = walk.next() else {
+            panic!(rt; "a line is missing");
+        };
         let (word, first, second) = shown(&given.what);
         assert_eq!(rt; given.line, wanted.0);
         assert_eq!(rt; word, wanted.1, "line {}", given.line);

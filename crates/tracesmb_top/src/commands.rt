@@ -28,18 +28,19 @@ pub enum CommandFault {
     Stalled { writer: u16 },
 }
 
-/// Plays a scenario, and writes its trace; its report is left to be written.
+/// Plays a scenario, and writes its trace; its report is left to be written. The text is let go
+/// before the first line is played.
 #[tactic(auto, unfolding(crate::specs::Refusals::refusal_of, crate::specs::Refusals::refusal_by))]
 pub fn replay<T: Sink>(
     alloc: Global,
-    text: &[u8],
+    text: Vec<u8>,
     trace: &mut T,
 ) -> Result<Option<Done>, CommandFault>
-    requires { length text.now ≤ MAX_INPUT }
-    ensures ends { Ended Command.Replay text.now result (T.taken trace.old) (T.taken trace.new) }
+    requires { length text.items ≤ MAX_INPUT }
+    ensures ends { Ended Command.Replay text.items result (T.taken trace.old) (T.taken trace.new) }
     ensures count { CountsWrites result (T.faults trace.old) (T.faults trace.new) }
 {
-    let scenario = match read_scenario(alloc, text) {
+    let scenario = match read_scenario(alloc, &text) {
         Ok(scenario) => scenario,
         Err(ScenarioFault::OutOfMemory) => return Err(CommandFault::OutOfMemory),
         Err(ScenarioFault::Bad { line, reason }) => {
@@ -48,6 +49,7 @@ pub fn replay<T: Sink>(
             });
         }
     };
+    drop(text);
     match play(alloc, &scenario, trace) {
         Ok(done) => Ok(Some(done)),
         Err(HostFault::OutOfMemory) => Err(CommandFault::OutOfMemory),
@@ -123,22 +125,22 @@ pub fn generate<T: Sink>(
 pub fn perform<T: Sink>(
     alloc: Global,
     command: Command,
-    given: &[u8],
+    given: Vec<u8>,
     trace: &mut T,
 ) -> Result<Option<Done>, CommandFault>
     requires limits { IsWithinLimits command }
-    requires short { length given.now ≤ MAX_INPUT }
-    ensures ends { Ended command given.now result (T.taken trace.old) (T.taken trace.new) }
+    requires short { length given.items ≤ MAX_INPUT }
+    ensures ends { Ended command given.items result (T.taken trace.old) (T.taken trace.new) }
     ensures count { CountsWrites result (T.faults trace.old) (T.faults trace.new) }
 {
     match command {
         Command::Replay => replay(alloc, given, trace),
-        Command::Read => read(alloc, given, trace),
+        Command::Read => read(alloc, &given, trace),
         Command::Gen {
             number,
             writers,
             packets,
         } => generate(number, writers, packets, trace),
-        Command::Check => check(alloc, given, trace),
+        Command::Check => check(alloc, &given, trace),
     }
 }

@@ -135,7 +135,7 @@ pub fn trace_top<R: Threads + Wait + Sync, S: Source, T: Sink + Send, O: Sink, G
         Err(FillFault::ReadFault) => return say_read_fault(text),
         Err(FillFault::TooLong) => return say_too_long(text),
     };
-    match perform(alloc, command, &given, trace) {
+    match perform(alloc, command, given, trace) {
         Ok(None) => 0,
         Ok(Some(done)) => say_report(text, &done),
         Err(CommandFault::OutOfMemory) => say_out_of_memory(text),

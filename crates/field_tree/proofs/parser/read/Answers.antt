@@ -6,7 +6,7 @@ use Rattle.field_tree.proofs.LoopLemmas.{depth_before, valid_before, back_before
 use Rattle.field_tree.proofs.parser.read.Goals as goal
 
 pub loop-at-init : goal.loop-at-init
-loop-at-init c = (unfold run in ap Some (sym c.new-parser.ensures.reading), c.new-parser.ensures.kept)
+loop-at-init c = (unfold run in ap Some (sym c.start.ensures.reading), c.start.ensures.kept)
 
 pub step-requires-clause-depth : goal.step-requires-clause-depth
 step-requires-clause-depth c =

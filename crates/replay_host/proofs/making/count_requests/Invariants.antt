@@ -1,9 +1,12 @@
-use Rattle.std.proofs.Common.{◌≡◌, ◌+◌, ◌≤◌, drop}
+use Rattle.std.proofs.Common.{◌≡◌, ◌+◌, ◌≤◌, length}
 use Rattle.replay_host.specs.Lines.{requests_in}
 use Rattle.replay_host.proofs.making.count_requests.Given as goal
 
-abbrev pub invariant-loop-line : goal.invariant-loop-line
-invariant-loop-line l = record {
-  counted : l.count + requests_in (drop l.line-index l.lines) ≡ requests_in l.lines;
-  few : l.count ≤ l.line-index;
+abbrev pub invariant-lines : goal.invariant-lines
+invariant-lines l = record {
+  counted : l.count + requests_in l.walk ≡ requests_in l.fn.lines;
+  few : l.count + length l.walk ≤ length l.fn.lines;
 }
+
+abbrev pub decreases-lines : goal.decreases-lines
+decreases-lines l = length l.walk

@@ -115,8 +115,8 @@ fill_writers-requires-clause-named c =
     let kept : c.in_ok-specs.specs.items ≡ c.args.scenario.now.writers.items = search rules in
     (specs_routed c.args.scenario.now c.requires c.deref.result.now c.in_ok-producers.producers.items c.deref.ensures.value
     c.in_ok-producers.ensures
-    (map buffer_asked c.args.scenario.now.buffers.items) c.deref-10.result.now c.deref-9.result.now refl c.deref-10.ensures.value
-    (c.deref-9.ensures.value ∙ kept)).producers
+    (map buffer_asked c.args.scenario.now.buffers.items) c.deref-9.result.now c.deref-8.result.now refl c.deref-9.ensures.value
+    (c.deref-8.ensures.value ∙ kept)).producers
 
 pub returns : goal.returns
 returns c =
@@ -134,7 +134,7 @@ returns c =
     c.deref-3.ensures.value
     ∙ ap (λ (ws : List WriterSpec). Some (first_world (setup_of specs ws))) c.deref-4.ensures.value in
     let many : length c.fill_writers.new.writers.items ≡ length writers = c.fill_writers.ensures.many ∙ ap length
-    (c.deref-9.ensures.value ∙ kept) in
+    (c.deref-8.ensures.value ∙ kept) in
     let many_seats : length c.deref-4.result.now ≡ length writers = ap length c.deref-4.ensures.value in
     let producers_seen = c.deref.ensures.len in
     let producers_long = ap length c.deref.ensures.value in
@@ -182,5 +182,5 @@ returns c =
           c.deref-7.ensures.value;
       flags = c.in_ok-open_producers.ensures.items_if_clones_equal (λ y e. e) ∙ ap (λ (n : ℕ). replicate n true) count_producers;
       tally = subst (λ (n : ℕ). IsTally [] n c.in_ok-flushes.flushes) count_writers c.in_ok-flushes.ensures.tally;
-      room = c.in_ok-flushes.ensures.room ∙ c.count_requests-requests.ensures ∙ ap requests_in c.deref-8.ensures.value;
+      room = c.in_ok-flushes.ensures.room ∙ c.count_requests-requests.ensures;
     }) (asks_well scenario c.requires) (scenario_is_short scenario c.requires)

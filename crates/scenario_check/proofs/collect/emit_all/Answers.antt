@@ -1,7 +1,6 @@
 use Rattle.std.proofs.Common.{◌≡◌, ◌++◌, ℕ, List, length, take, drop, subst, sym, ap, arith}
 use Rattle.emitted_packets.specs.declared.emitter.Emitter.{Emitter}
 use Rattle.emitted_packets.proofs.EmitLemmas.{put_back}
-use Rattle.scenario_text.specs.declared.scenario.NumberedLine.{NumberedLine}
 use Rattle.scenario_check.specs.Progress.{HaveTaken, MayCome}
 use Rattle.scenario_check.proofs.EmissionLemmas.{scenario_may}
 use Rattle.scenario_check.proofs.collect.emit_all.Goals as goal
@@ -11,8 +10,7 @@ take_lines-requires-clause-may c =
     let scenario = c.args.scenario.now in
     let many : length scenario.writers.items ≡ length c.deref_mut.result.now =
     omega (arith, ap length c.deref_mut.ensures.value, c.in_ok-emitters.ensures.many, c.len.ensures, scenario.writers.ok.0) in
-    subst (λ (n : ℕ). MayCome n c.deref.result.now) many
-    (subst (MayCome (length scenario.writers.items)) (sym c.deref.ensures.value) (scenario_may scenario c.requires))
+    subst (λ (n : ℕ). MayCome n scenario.lines) many (scenario_may scenario c.requires)
 
 pub take_lines-requires-clause-none : goal.take_lines-requires-clause-none
 take_lines-requires-clause-none c = rw c.deref_mut.ensures.value (c.in_ok-emitters.ensures.none)
@@ -23,6 +21,4 @@ returns-clause-taken c =
     let new : List Emitter = c.take_lines.new.emitters in
     let all : take c.in_ok-emitters.emitters.len (new ++ drop (length new) items) ≡ new =
     put_back items new c.in_ok-emitters.emitters.len (omega (arith, c.in_ok-emitters.emitters.ok.0)) (omega (arith, ap length c.deref_mut.ensures.value)) in
-    let taken : HaveTaken c.args.scenario.now.lines.items new =
-    subst (λ (ls : List NumberedLine). HaveTaken ls new) c.deref.ensures.value c.in_ok-take_lines.ensures in
-    subst (HaveTaken c.args.scenario.now.lines.items) (sym all) taken
+    subst (HaveTaken c.args.scenario.now.lines) (sym all) c.in_ok-take_lines.ensures

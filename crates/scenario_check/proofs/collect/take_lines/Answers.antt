@@ -1,35 +1,43 @@
-use Rattle.std.proofs.Common.{◌≡◌, ◌+◌, ℕ, List, length, take, Some, subst, sym, arith, refl, ◌++◌, ◌∷◌, []}
-use Rattle.std.specs.Prelude.{slice_get}
-use Rattle.std.proofs.lemmas.Option.{slice_get_read}
-use Rattle.std.proofs.lemmas.List.{take_all}
+use Rattle.std.proofs.Common.{◌≡◌, ◌∙◌, ◌+◌, ℕ, List, length, refl, subst, sym, ap, arith, ◌++◌, ◌∷◌, []}
+use Rattle.std.proofs.lemmas.List.{append-nil}
 use Rattle.scenario_text.specs.declared.scenario.NumberedLine.{NumberedLine}
 use Rattle.scenario_check.specs.Progress.{HaveTaken, MayCome}
-use Rattle.scenario_check.proofs.LineLemmas.{may_first, line_next}
+use Rattle.scenario_check.proofs.LineLemmas.{may_front, append_first}
 use Rattle.scenario_check.proofs.collect.take_lines.Goals as goal
+
+pub lines-init : goal.lines-init
+lines-init c = ([], c.walk-walk.ensures, c.requires.none, refl)
 
 pub take_line-requires : goal.take_line-requires
 take_line-requires c =
-    let lines : List NumberedLine = c.args.lines.now in
-    let i : ℕ = c.loop-line.line-index in
-    let here : slice_get lines i ≡ Some c.line-item.result = slice_get_read lines (length lines) i c.line-item.result refl c.loop-line-test.true c.line-item.is in
-    let many : length c.args.emitters.now ≡ length c.loop-line.emitters = omega arith in
-    let may : MayCome (length c.loop-line.emitters) (take (i + 1) lines) =
-    subst (λ (n : ℕ). MayCome n (take (i + 1) lines)) many (may_first (length c.args.emitters.now) (i + 1) lines c.requires.may) in
-    (take i lines, c.loop-line.invariant, subst (MayCome (length c.loop-line.emitters)) (line_next lines i c.line-item.result here) may)
+    let before : List NumberedLine = c.lines.invariant.0 in
+    let line : NumberedLine = c.in-Some.line in
+    let cut : (before ++ line ∷ []) ++ c.next.new.self ≡ c.args.lines.now =
+    append_first before line c.next.new.self ∙ ap (λ (ls : List NumberedLine). before ++ ls) (sym c.in-Some.ensures.first) ∙ c.lines.invariant.1 in
+    let may : MayCome (length c.args.emitters.now) (before ++ line ∷ []) =
+    may_front (length c.args.emitters.now) (before ++ line ∷ []) c.next.new.self
+    (subst (MayCome (length c.args.emitters.now)) (sym cut) c.requires.may) in
+    (before, c.lines.invariant.2, subst (λ (n : ℕ). MayCome n (before ++ line ∷ [])) (sym c.lines.invariant.3) may)
 
-pub loop-line-preserved : goal.loop-line-preserved
-loop-line-preserved c =
-    let lines : List NumberedLine = c.args.lines.now in
-    let i : ℕ = c.loop-line.line-index in
-    let here : slice_get lines i ≡ Some c.line-item.result = slice_get_read lines (length lines) i c.line-item.result refl c.loop-line-test.true c.line-item.is in
-    let next : take (i + 1) lines ≡ take i lines ++ c.line-item.result ∷ [] = line_next lines i c.line-item.result here in
-    let many : length c.args.emitters.now ≡ length c.loop-line.emitters = omega arith in
-    let may : MayCome (length c.loop-line.emitters) (take (i + 1) lines) =
-    subst (λ (n : ℕ). MayCome n (take (i + 1) lines)) many (may_first (length c.args.emitters.now) (i + 1) lines c.requires.may) in
-    subst (λ (ls : List NumberedLine). HaveTaken ls c.take_line.new.emitters) (sym next)
-    (c.in_ok-take_line.ensures (take i lines) c.loop-line.invariant (subst (MayCome (length c.loop-line.emitters)) next may))
+pub lines-preserved : goal.lines-preserved
+lines-preserved c =
+    let before : List NumberedLine = c.lines.invariant.0 in
+    let line : NumberedLine = c.in-Some.line in
+    let cut : (before ++ line ∷ []) ++ c.next.new.self ≡ c.args.lines.now =
+    append_first before line c.next.new.self ∙ ap (λ (ls : List NumberedLine). before ++ ls) (sym c.in-Some.ensures.first) ∙ c.lines.invariant.1 in
+    let may : MayCome (length c.args.emitters.now) (before ++ line ∷ []) =
+    may_front (length c.args.emitters.now) (before ++ line ∷ []) c.next.new.self
+    (subst (MayCome (length c.args.emitters.now)) (sym cut) c.requires.may) in (
+      before ++ line ∷ [],
+      cut,
+      c.in_ok-take_line.ensures before c.lines.invariant.2 (subst (λ (n : ℕ). MayCome n (before ++ line ∷ [])) (sym c.lines.invariant.3) may),
+      omega (arith, c.lines.invariant.3),
+    )
 
 pub returns : goal.returns
 returns c =
-    let all : take c.loop-line.line-index c.args.lines.now ≡ c.args.lines.now = take_all c.loop-line.line-index c.args.lines.now (omega arith) in
-    subst (λ (ls : List NumberedLine). HaveTaken ls c.loop-line.emitters) all c.loop-line.invariant
+    let before : List NumberedLine = c.lines.invariant.0 in
+    let none = rw c.in_default.is at c.next.ensures.none in
+    let all : before ≡ c.args.lines.now =
+    sym (append-nil before) ∙ ap (λ (ls : List NumberedLine). before ++ ls) (sym none.0) ∙ c.lines.invariant.1 in
+    subst (λ (ls : List NumberedLine). HaveTaken ls c.lines.emitters) all c.lines.invariant.2

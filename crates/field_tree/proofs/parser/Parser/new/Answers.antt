@@ -1,12 +1,5 @@
-use Rattle.std.proofs.Common.{refl}
-use Rattle.field_tree.specs.Machine.{beginning}
-use Rattle.field_tree.proofs.EncodedLemmas.{nothing_shown}
 use Rattle.field_tree.proofs.WrittenLemmas.{none_written}
 use Rattle.field_tree.proofs.parser.Parser.new.Goals as goal
 
-pub returns-clause-reading : goal.returns-clause-reading
-unfolding beginning
-returns-clause-reading c = rw (c.new.ensures.items, c.new-2.ensures.items, nothing_shown) refl
-
-pub returns-clause-kept : goal.returns-clause-kept
-returns-clause-kept c = rw c.new.ensures.items none_written.0
+pub returns : goal.returns
+returns c = rw c.new.ensures.items none_written.0

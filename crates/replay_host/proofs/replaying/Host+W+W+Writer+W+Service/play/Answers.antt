@@ -1,5 +1,5 @@
 -- The lines are played from the first world on, and then the end.
-use Rattle.std.proofs.Common.{◌≡◌, rules, arith}
+use Rattle.std.proofs.Common.{◌≡◌, refl, rules, arith}
 use Rattle.std.specs.Prelude.{Err}
 use Rattle.scenario_text.specs.Scenario.{parts_of}
 use Rattle.scenario_text.proofs.LimitLemmas.{scenario_is_set_up}
@@ -15,7 +15,7 @@ play_lines-requires g c =
     record {
       begins = may_begin means c.args.scenario.now c.requires.scenario c.args.self.now c.requires.made
           (g.O.Sink.taken c.args.out.now)
-          c.deref.result.now c.deref.ensures.value;
+          c.args.scenario.now.lines refl;
     }
 
 pub returns-in_err-play_lines-clause-stops : goal.returns-in_err-play_lines-clause-stops
@@ -28,14 +28,14 @@ returns-in_err-play_lines-clause-stops g c =
     result_is
     (lines_stopped means c.args.scenario.now c.requires.scenario c.args.self.now c.requires.made
     (g.O.Sink.taken c.args.out.now)
-    c.deref.result.now c.deref.ensures.value found (g.O.Sink.taken c.play_lines.new.out) c.in_err-play_lines.ensures.stops)
+    c.args.scenario.now.lines refl found (g.O.Sink.taken c.play_lines.new.out) c.in_err-play_lines.ensures.stops)
 
 pub play_end-requires-clause-over : goal.play_end-requires-clause-over
 play_end-requires-clause-over g c =
     let means = g.W.Words.means in
     is_over means c.args.scenario.now c.requires.scenario c.args.self.now c.requires.made
     (g.O.Sink.taken c.args.out.now)
-    c.deref.result.now c.deref.ensures.value c.play_lines.new.self (g.O.Sink.taken c.play_lines.new.out) c.in_ok-play_lines.ensures.played
+    c.args.scenario.now.lines refl c.play_lines.new.self (g.O.Sink.taken c.play_lines.new.out) c.in_ok-play_lines.ensures.played
     c.len.result c.len.ensures
 
 pub play_end-requires-clause-few : goal.play_end-requires-clause-few
@@ -43,7 +43,7 @@ play_end-requires-clause-few g c =
     let means = g.W.Words.means in
     few_read means c.args.scenario.now c.requires.scenario c.args.self.now c.requires.made
     (g.O.Sink.taken c.args.out.now)
-    c.deref.result.now c.deref.ensures.value c.play_lines.new.self (g.O.Sink.taken c.play_lines.new.out) c.in_ok-play_lines.ensures.played
+    c.args.scenario.now.lines refl c.play_lines.new.self (g.O.Sink.taken c.play_lines.new.out) c.in_ok-play_lines.ensures.played
     c.len.result c.len.ensures
 
 pub returns-in_err-play_end-clause-stops : goal.returns-in_err-play_end-clause-stops
@@ -56,7 +56,7 @@ returns-in_err-play_end-clause-stops g c =
     result_is
     (end_stopped means c.args.scenario.now c.requires.scenario c.args.self.now c.requires.made
     (g.O.Sink.taken c.args.out.now)
-    c.deref.result.now c.deref.ensures.value c.play_lines.new.self (g.O.Sink.taken c.play_lines.new.out) c.in_ok-play_lines.ensures.played
+    c.args.scenario.now.lines refl c.play_lines.new.self (g.O.Sink.taken c.play_lines.new.out) c.in_ok-play_lines.ensures.played
     c.len.result c.len.ensures found (g.O.Sink.taken c.play_end.new.out) c.in_err-play_end.ensures.stops)
 
 pub count-requires-clause-host : goal.count-requires-clause-host
@@ -70,7 +70,7 @@ count-requires-clause-host g c =
     } in
     ended_host means c.args.scenario.now c.requires.scenario c.args.self.now c.requires.made
     (g.O.Sink.taken c.args.out.now)
-    c.deref.result.now c.deref.ensures.value c.play_lines.new.self (g.O.Sink.taken c.play_lines.new.out) c.in_ok-play_lines.ensures.played
+    c.args.scenario.now.lines refl c.play_lines.new.self (g.O.Sink.taken c.play_lines.new.out) c.in_ok-play_lines.ensures.played
     c.len.result c.len.ensures laws c.play_end.new.self (g.O.Sink.taken c.play_end.new.out) c.in_ok-play_end.ensures.ended
 
 pub count-requires-clause-tally : goal.count-requires-clause-tally
@@ -84,7 +84,7 @@ count-requires-clause-tally g c =
     } in
     ended_noted means c.args.scenario.now c.requires.scenario c.args.self.now c.requires.made
     (g.O.Sink.taken c.args.out.now)
-    c.deref.result.now c.deref.ensures.value c.play_lines.new.self (g.O.Sink.taken c.play_lines.new.out) c.in_ok-play_lines.ensures.played
+    c.args.scenario.now.lines refl c.play_lines.new.self (g.O.Sink.taken c.play_lines.new.out) c.in_ok-play_lines.ensures.played
     c.len.result c.len.ensures laws c.play_end.new.self (g.O.Sink.taken c.play_end.new.out) c.in_ok-play_end.ensures.ended
 
 pub count-requires-clause-buffers : goal.count-requires-clause-buffers
@@ -98,7 +98,7 @@ count-requires-clause-buffers g c =
     } in
     buffers_room means c.args.scenario.now c.requires.scenario c.args.self.now c.requires.made
     (g.O.Sink.taken c.args.out.now)
-    c.deref.result.now c.deref.ensures.value c.play_lines.new.self (g.O.Sink.taken c.play_lines.new.out) c.in_ok-play_lines.ensures.played
+    c.args.scenario.now.lines refl c.play_lines.new.self (g.O.Sink.taken c.play_lines.new.out) c.in_ok-play_lines.ensures.played
     c.len.result c.len.ensures laws c.play_end.new.self (g.O.Sink.taken c.play_end.new.out) c.in_ok-play_end.ensures.ended
     c.args.done.now c.requires.buffers
 
@@ -120,7 +120,7 @@ count-requires-clause-sequences g c =
     } in
     sequences_room means c.args.scenario.now c.requires.scenario c.args.self.now c.requires.made
     (g.O.Sink.taken c.args.out.now)
-    c.deref.result.now c.deref.ensures.value c.play_lines.new.self (g.O.Sink.taken c.play_lines.new.out) c.in_ok-play_lines.ensures.played
+    c.args.scenario.now.lines refl c.play_lines.new.self (g.O.Sink.taken c.play_lines.new.out) c.in_ok-play_lines.ensures.played
     c.len.result c.len.ensures laws c.play_end.new.self (g.O.Sink.taken c.play_end.new.out) c.in_ok-play_end.ensures.ended
     c.args.done.now c.requires.sequences
 
@@ -135,7 +135,7 @@ returns-clause-played g c =
     } in
     all_replayed means c.args.scenario.now c.requires.scenario c.args.self.now c.requires.made
     (g.O.Sink.taken c.args.out.now)
-    c.deref.result.now c.deref.ensures.value c.play_lines.new.self (g.O.Sink.taken c.play_lines.new.out) c.in_ok-play_lines.ensures.played
+    c.args.scenario.now.lines refl c.play_lines.new.self (g.O.Sink.taken c.play_lines.new.out) c.in_ok-play_lines.ensures.played
     c.len.result c.len.ensures laws c.play_end.new.self (g.O.Sink.taken c.play_end.new.out) c.in_ok-play_end.ensures.ended
     c.count.new.done.buffers.items c.count.new.done.sequences.items c.count.new.self.flushes c.count.ensures.counts
     c.count.ensures.made c.count.ensures.room

@@ -1,0 +1,30 @@
+use Rattle.std.proofs.Common.{◌≡◌, ◌∙◌, ◌++◌, ◌∷◌, [], ℕ, List, ap, subst, sym}
+use Rattle.scenario_text.specs.declared.line_list.KeptLine.{KeptLine}
+use Rattle.scenario_text.specs.declared.scenario.LineKind.{LineKind}
+use Rattle.scenario_text.specs.declared.scenario.NumberedLine.{NumberedLine}
+use Rattle.scenario_text.specs.KeptLines.{lines_of, AreLaid}
+use Rattle.scenario_text.proofs.KeptLemmas.{laid_more, lines_more}
+use Rattle.scenario_text.proofs.line_list.LineList.push.Goals as goal
+
+pub invariant_of-self-in-Ok : goal.invariant_of-self-in-Ok
+invariant_of-self-in-Ok c =
+    let heads = c.self.inside.heads.items in
+    let code = c.self.inside.code.items in
+    let head : KeptLine = record { line = c.args.line; what = c.part_line-what.result.what } in
+    let own : List ℕ = c.part_line-what.result.own.now in
+    let laid = laid_more heads code head own c.self.invariant c.part_line-what.ensures.len c.part_line-what.ensures.own in
+    subst (λ (bytes : List ℕ). AreLaid c.push.new.self.items bytes) (sym c.in_ok-extend_from_slice.ensures.items)
+    (subst (λ (hs : List KeptLine). AreLaid hs (code ++ own)) (sym c.in-Ok.ensures.items) laid)
+
+pub returns-in-Ok-clause-pushed : goal.returns-in-Ok-clause-pushed
+returns-in-Ok-clause-pushed c =
+    let heads = c.self.inside.heads.items in
+    let code = c.self.inside.code.items in
+    let head : KeptLine = record { line = c.args.line; what = c.part_line-what.result.what } in
+    let own : List ℕ = c.part_line-what.result.own.now in
+    let before : List NumberedLine = lines_of heads code in
+    ap (lines_of c.push.new.self.items) c.in_ok-extend_from_slice.ensures.items
+    ∙ ap (λ (hs : List KeptLine). lines_of hs (code ++ own)) c.in-Ok.ensures.items
+    ∙ lines_more heads code head own c.self.invariant c.part_line-what.ensures.len
+    ∙ ap (λ (kind : LineKind). before ++ (record { line = c.args.line; what = kind }) ∷ []) c.part_line-what.ensures.kind
+    ∙ ap (λ (ls : List NumberedLine). ls ++ (record { line = c.args.line; what = c.args.what }) ∷ []) c.self.view_is

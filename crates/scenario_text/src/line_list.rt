@@ -1,0 +1,234 @@
+//! The lines of a scenario, of which a large one has millions: the nodes of all stand behind one
+//! another in one list of bytes, so that memory isn't taken anew for each line.
+ghost use Rattle.std.specs.Prelude.{◌≡◌, ◌==◌, ◌∷◌, ◌++◌, [], length, IfSome, IfNone, OnOk, OnErr};
+ghost use Rattle.scenario_text.specs.KeptLines as kept;
+ghost use Rattle.scenario_text.specs.KeptLines.{kind_of, HasOwn};
+
+use crate::scenario::{LineKind, NumberedLine};
+use field_tree::Fields;
+use std::alloc::{AllocError, Global};
+use std::marker::Model;
+
+/// What a line has done, where its nodes are the next `len` bytes.
+#[derive(Clone, Copy)]
+pub(crate) enum KeptKind {
+    Packet { writer: u16, len: usize },
+    Begin { writer: u16 },
+    Add { writer: u16, len: usize },
+    Nest { writer: u16, field: u32 },
+    Unnest { writer: u16 },
+    End { writer: u16 },
+    Flush { writer: u16 },
+    Collect { producer: u16 },
+    Scrape { producer: u16 },
+    Close { producer: u16 },
+    Read { buffer: u8, limit: u64 },
+    Request,
+}
+
+#[derive(Clone, Copy)]
+pub(crate) struct KeptLine {
+    pub line: u32,
+    pub what: KeptKind,
+}
+
+/// How many bytes are the line's own.
+fn own_len(what: KeptKind) -> usize
+    ensures { result ≡ kept.own_len what }
+{
+    match what {
+        KeptKind::Packet { writer: _, len } => len,
+        KeptKind::Add { writer: _, len } => len,
+        _ => 0,
+    }
+}
+
+/// A line that is kept, and the bytes that are its own.
+#[derive(Clone, Copy)]
+struct Parted<'c> {
+    what: KeptKind,
+    own: &'c [u8],
+}
+
+/// A line, to be kept.
+fn part_line<'c>(what: &LineKind<'c>) -> Parted<'c>
+    ensures kind { kind_of result.what result.own.now ≡ what.now }
+    ensures own { HasOwn result.what result.own.now }
+    ensures len { kept.own_len result.what ≡ length result.own.now }
+{
+    let own = match what {
+        LineKind::Packet { writer: _, fields } => fields.code(),
+        LineKind::Add { writer: _, fields } => fields.code(),
+        _ => &[],
+    };
+    let len = own.len();
+    let what = match what {
+        LineKind::Packet { writer, fields: _ } => KeptKind::Packet {
+            writer: *writer,
+            len,
+        },
+        LineKind::Begin { writer } => KeptKind::Begin { writer: *writer },
+        LineKind::Add { writer, fields: _ } => KeptKind::Add {
+            writer: *writer,
+            len,
+        },
+        LineKind::Nest { writer, field } => KeptKind::Nest {
+            writer: *writer,
+            field: *field,
+        },
+        LineKind::Unnest { writer } => KeptKind::Unnest { writer: *writer },
+        LineKind::End { writer } => KeptKind::End { writer: *writer },
+        LineKind::Flush { writer } => KeptKind::Flush { writer: *writer },
+        LineKind::Collect { producer } => KeptKind::Collect {
+            producer: *producer,
+        },
+        LineKind::Scrape { producer } => KeptKind::Scrape {
+            producer: *producer,
+        },
+        LineKind::Close { producer } => KeptKind::Close {
+            producer: *producer,
+        },
+        LineKind::Read { buffer, limit } => KeptKind::Read {
+            buffer: *buffer,
+            limit: *limit,
+        },
+        LineKind::Request => KeptKind::Request,
+    };
+    Parted { what, own }
+}
+
+/// What a line that is kept has done, with the bytes that are its own.
+fn join_line(what: KeptKind, own: &[u8]) -> LineKind<'_>
+    requires { HasOwn what own.now }
+    ensures { result ≡ kind_of what own.now }
+{
+    match what {
+        KeptKind::Packet { writer, len: _ } => LineKind::Packet {
+            writer,
+            fields: Fields::new(own),
+        },
+        KeptKind::Begin { writer } => LineKind::Begin { writer },
+        KeptKind::Add { writer, len: _ } => LineKind::Add {
+            writer,
+            fields: Fields::new(own),
+        },
+        KeptKind::Nest { writer, field } => LineKind::Nest { writer, field },
+        KeptKind::Unnest { writer } => LineKind::Unnest { writer },
+        KeptKind::End { writer } => LineKind::End { writer },
+        KeptKind::Flush { writer } => LineKind::Flush { writer },
+        KeptKind::Collect { producer } => LineKind::Collect { producer },
+        KeptKind::Scrape { producer } => LineKind::Scrape { producer },
+        KeptKind::Close { producer } => LineKind::Close { producer },
+        KeptKind::Read { buffer, limit } => LineKind::Read { buffer, limit },
+        KeptKind::Request => LineKind::Request,
+    }
+}
+
+/// Lines, one after another. Contracts see the list of them.
+#[derive(Drop)]
+pub struct LineList {
+    heads: Vec<KeptLine>,
+    code: Vec<u8>,
+}
+
+impl Model for LineList {
+    ghost use Rattle.std.specs.Prelude.{List};
+    ghost use Rattle.scenario_text.specs.declared.scenario.NumberedLine.{NumberedLine};
+    ghost use Rattle.scenario_text.specs.KeptLines.{lines_of, AreLaid};
+
+    ghost Value = { List NumberedLine };
+
+    ghost view = { λ list. lines_of list.heads.items list.code.items };
+
+    ghost invariant = { λ list. AreLaid list.heads.items list.code.items };
+}
+
+impl LineList {
+    pub fn new(alloc: Global) -> Self
+        ensures { result ≡ [] }
+    {
+        LineList {
+            heads: Vec::new(alloc),
+            code: Vec::new(alloc),
+        }
+    }
+
+    #[tactic(auto, using(crate::proofs::KeptLemmas::as_many))]
+    pub fn len(&self) -> usize
+        ensures { result ≡ length self.now }
+    {
+        self.heads.len()
+    }
+
+    #[tactic(auto, using(crate::proofs::KeptLemmas::as_many))]
+    pub fn is_empty(&self) -> bool
+        ensures { result ≡ (length self.now == 0) }
+    {
+        self.heads.is_empty()
+    }
+
+    /// Adds a line behind the others. Where memory runs out, there is none more.
+    pub fn push(&mut self, line: u32, what: LineKind<'_>) -> Result<(), AllocError>
+        ensures pushed { OnOk result (self.new ≡ self.old ++ (record { line = line; what = what.entry }) ∷ []) }
+        ensures kept { OnErr result (self.new ≡ self.old) }
+    {
+        let Parted { what, own } = part_line(&what);
+        let len = self.code.len();
+        self.code.extend_from_slice(own)?;
+        match self.heads.push(KeptLine { line, what }) {
+            Ok(()) => Ok(()),
+            Err(_) => {
+                self.code.truncate(len);
+                Err(AllocError)
+            }
+        }
+    }
+
+    /// The lines, one after another.
+    pub fn walk(&self) -> LineWalk<'_>
+        ensures { result ≡ self.now }
+    {
+        LineWalk {
+            heads: &self.heads,
+            code: &self.code,
+        }
+    }
+}
+
+/// The lines that are still to come. Contracts see the list of them.
+#[derive(Drop)]
+pub struct LineWalk<'c> {
+    heads: &'c [KeptLine],
+    code: &'c [u8],
+}
+
+impl<'c> Model for LineWalk<'c> {
+    ghost use Rattle.std.specs.Prelude.{List};
+    ghost use Rattle.scenario_text.specs.declared.scenario.NumberedLine.{NumberedLine};
+    ghost use Rattle.scenario_text.specs.KeptLines.{lines_of, AreLaid};
+
+    ghost Value = { List NumberedLine };
+
+    ghost view = { λ walk. lines_of walk.heads.now walk.code.now };
+
+    ghost invariant = { λ walk. AreLaid walk.heads.now walk.code.now };
+}
+
+impl<'c> LineWalk<'c> {
+    /// The next line.
+    pub fn next(&mut self) -> Option<NumberedLine<'c>>
+        ensures first { IfSome result (λ line. self.old ≡ line ∷ self.new) }
+        ensures none { IfNone result ((self.old ≡ []) × (self.new ≡ [])) }
+    {
+        let [head, heads @ ..] = self.heads else {
+            return None;
+        };
+        let (own, code) = self.code.split_at(own_len(head.what));
+        self.heads = heads;
+        self.code = code;
+        Some(NumberedLine {
+            line: head.line,
+            what: join_line(head.what, own),
+        })
+    }
+}
