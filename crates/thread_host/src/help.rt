@@ -1,0 +1,51 @@
+//! The helper of a writer that stalls: it takes the service's lock and has the producer collected.
+ghost use Rattle.thread_host.specs.Keeping.{IsNamed, named_prop};
+
+use crate::locked::Locked;
+use crate::name::HostName;
+use chunk_words::HostTable;
+use std::sync::{Mutex, Wait};
+use thread_writer::Helper;
+
+/// Helps by the lock, as often as a `u64` counts, and then waits for ever.
+#[derive(Drop)]
+pub struct LockHelp<'a, N: HostName, R: Wait> {
+    rt: &'a R,
+    table: &'a HostTable,
+    service: &'a Mutex<Locked<N>>,
+    left: u64,
+    ghost named: { IsNamed N.table N.setup table.now } by { named_prop N.table N.setup table.now },
+}
+
+impl<'a, N: HostName, R: Wait> LockHelp<'a, N, R> {
+    pub fn new(rt: &'a R, table: &'a HostTable, service: &'a Mutex<Locked<N>>) -> LockHelp<'a, N, R>
+        requires table { IsNamed N.table N.setup table.now }
+    {
+        LockHelp {
+            rt,
+            table,
+            service,
+            left: u64::MAX,
+        }
+    }
+}
+
+impl<'a, N: HostName, R: Wait> Helper for LockHelp<'a, N, R> {
+    ghost use Rattle.std.specs.Prelude.{◌≡◌, true, suc};
+
+    ghost turns = { λ help. help.left };
+
+    ghost of_table = { λ _ id. id ≡ N.table };
+
+    ghost helps = { λ help _ answer after. (answer ≡ true) × (help.left ≡ suc after.left) };
+
+    fn help(&mut self, _table: &HostTable, producer: u16) -> bool {
+        if self.left == 0 {
+            for _ in self.rt.forever() {}
+            unreachable!()
+        }
+        self.left -= 1;
+        let _taken = self.service.lock(self.rt).collect(self.table, producer);
+        true
+    }
+}

@@ -1,0 +1,102 @@
+//! The service's own job of a run.
+ghost use Rattle.std.specs.Prelude.{IfOk};
+ghost use Rattle.byte_io.specs.Bytes.{CountsFaults};
+ghost use Rattle.chunk_words.specs.Sits.{Passes, known_by_pass};
+ghost use Rattle.thread_service.specs.Reading.{IsKnownWhole};
+ghost use Rattle.thread_host.specs.Keeping.{IsNamed};
+ghost use Rattle.thread_host.specs.Jobs.{TellsLine, TellsLines};
+
+use crate::locked::Locked;
+use crate::name::HostName;
+use byte_io::put::WriteFault;
+use byte_io::traits::{Gate, Sink};
+use chunk_words::{HostTable, ReadPass};
+use scenario_text::{LineKind, NumberedLine};
+use std::sync::{Mutex, Wait};
+
+/// Plays the service's lines, in their order: it collects, scrapes and reads, each with the lock
+/// taken once, and passes the gate before each. Of a line that asks for a flush it passes the gate alone.
+/// A write that fails ends it.
+pub fn service_job<N: HostName, R: Wait, G: Gate, O: Sink>(
+    rt: &R,
+    gate: &G,
+    table: &HostTable,
+    service: &Mutex<Locked<N>>,
+    lines: &[NumberedLine],
+    pass: &mut ReadPass,
+    out: &mut O,
+) -> Result<(), WriteFault>
+    requires table { IsNamed N.table N.setup table.now }
+    requires pass { Passes table.now pass.old }
+    requires known { IsKnownWhole (known_by_pass pass.old) }
+    ensures pass { Passes table.now pass.new }
+    ensures known { IsKnownWhole (known_by_pass pass.new) }
+    ensures told { IfOk result (λ _. TellsLines N.setup N.first lines.now (known_by_pass pass.old) (known_by_pass pass.new)
+        (O.taken out.old) (O.taken out.new)) }
+    ensures count { CountsFaults (O.faults out.old) (O.faults out.new) result }
+{
+    let mut number: u64 = 1;
+    'lines: for line in lines {
+        if is_service_line(&line.what) {
+            gate.pass(0, number);
+            number += 1;
+        }
+        play_line(rt, table, service, &line.what, pass, out)?;
+    }
+    gate.pass(0, number);
+    Ok(())
+}
+
+/// Whether the line is the service's own. It decides when the gate is passed and nothing else.
+fn is_service_line(line: &LineKind) -> bool {
+    matches!(
+        line,
+        LineKind::Collect { producer: _ }
+            | LineKind::Scrape { producer: _ }
+            | LineKind::Read {
+                buffer: _,
+                limit: _
+            }
+            | LineKind::Request
+    )
+}
+
+/// Plays a line, where it is one of the service's.
+fn play_line<N: HostName, R: Wait, O: Sink>(
+    rt: &R,
+    table: &HostTable,
+    service: &Mutex<Locked<N>>,
+    line: &LineKind,
+    pass: &mut ReadPass,
+    out: &mut O,
+) -> Result<(), WriteFault>
+    requires table { IsNamed N.table N.setup table.now }
+    requires pass { Passes table.now pass.old }
+    requires known { IsKnownWhole (known_by_pass pass.old) }
+    ensures pass { Passes table.now pass.new }
+    ensures known { IsKnownWhole (known_by_pass pass.new) }
+    ensures told { IfOk result (λ _. TellsLine N.setup N.first line.now (known_by_pass pass.old) (known_by_pass pass.new)
+        (O.taken out.old) (O.taken out.new)) }
+    ensures count { CountsFaults (O.faults out.old) (O.faults out.new) result }
+{
+    match line {
+        LineKind::Collect { producer } => {
+            let _taken = service.lock(rt).collect(table, *producer);
+            Ok(())
+        }
+        LineKind::Scrape { producer } => {
+            let _taken = service.lock(rt).scrape(table, *producer);
+            Ok(())
+        }
+        LineKind::Read { buffer, limit } => {
+            match service
+                .lock(rt)
+                .read_passing(table, pass, *buffer, *limit, out)
+            {
+                Ok(_) => Ok(()),
+                Err(fault) => Err(fault),
+            }
+        }
+        _ => Ok(()),
+    }
+}

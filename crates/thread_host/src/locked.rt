@@ -1,0 +1,98 @@
+//! The service behind a lock.
+ghost use Rattle.std.specs.Prelude.{◌≡◌, List, IfOk, OnErr};
+ghost use Rattle.byte_io.specs.Bytes.{CountsFaults};
+ghost use Rattle.trace_model.specs.History as model;
+ghost use Rattle.chunk_words.specs.Sits.{Passes, known_by_pass};
+ghost use Rattle.service_core.specs.Reading.{NotesReads, ReadsAll, FailsAmong, reads_in};
+ghost use Rattle.service_core.specs.Scraping.{TakesAndScrapes};
+ghost use Rattle.service_core.specs.Taking.{Takes, places_of};
+ghost use Rattle.thread_service.specs.Reading.{IsKnownWhole, PassReads};
+ghost use Rattle.thread_service.specs.Serving.{core_of, view_in};
+ghost use Rattle.thread_host.specs.Jobs.{TellsReads};
+ghost use Rattle.thread_host.specs.Keeping.{IsNamed, ServesNamed, AllOpen, BeganWith, serves_named_prop, began_prop};
+
+use crate::name::HostName;
+use byte_io::put::WriteFault;
+use byte_io::traits::Sink;
+use chunk_words::{HostTable, ReadPass};
+use std::marker::PhantomData;
+use thread_service::Service;
+
+/// The service of the table that its type names, none of whose sequences is closed.
+#[derive(Drop)]
+pub struct Locked<N: HostName> {
+    pub(crate) service: Service,
+    of: PhantomData<N>,
+    ghost serves: { ServesNamed N.table N.setup service } by { serves_named_prop N.table N.setup service },
+    ghost open: { AllOpen N.setup service },
+    ghost began: { BeganWith N.setup N.first service } by { began_prop N.setup N.first service },
+}
+
+impl<N: HostName> Locked<N> {
+    pub fn new(service: Service) -> Locked<N>
+        requires serves { ServesNamed N.table N.setup service }
+        requires open { AllOpen N.setup service }
+        requires began { BeganWith N.setup N.first service }
+        ensures service { result.service ≡ service }
+    {
+        Locked {
+            service,
+            of: PhantomData,
+        }
+    }
+
+    pub fn into_service(self) -> Service
+        ensures service { result ≡ self.service }
+        ensures serves { ServesNamed N.table N.setup result }
+        ensures open { AllOpen N.setup result }
+        ensures began { BeganWith N.setup N.first result }
+    {
+        let Locked { service, of: _ } = self;
+        service
+    }
+
+    /// Takes the complete chunks of the producer's writers. Answers how many.
+    pub fn collect(&mut self, table: &HostTable, producer: u16) -> u64
+        requires table { IsNamed N.table N.setup table.now }
+        ensures takes { Takes N.setup (places_of producer 0 N.setup.writers) result
+            (view_in self.old.service) (view_in self.new.service) }
+    {
+        self.service.collect(table, producer)
+    }
+
+    /// Takes them, and then the finished fragments of the chunks that the writers hold.
+    pub fn scrape(&mut self, table: &HostTable, producer: u16) -> u64
+        requires table { IsNamed N.table N.setup table.now }
+        ensures scrapes { TakesAndScrapes N.setup producer result (view_in self.old.service) (view_in self.new.service) }
+    {
+        self.service.scrape(table, producer)
+    }
+
+    /// Reads a buffer with the reading pass.
+    pub fn read_passing<O: Sink>(
+        &mut self,
+        table: &HostTable,
+        pass: &mut ReadPass,
+        buffer: u8,
+        limit: u64,
+        out: &mut O,
+    ) -> Result<u64, WriteFault>
+        requires table { IsNamed N.table N.setup table.now }
+        requires pass { Passes table.now pass.old }
+        requires known { IsKnownWhole (known_by_pass pass.old) }
+        ensures pass { Passes table.now pass.new }
+        ensures known { IsKnownWhole (known_by_pass pass.new) }
+        ensures told { IfOk result (λ _. TellsReads N.first (reads_in N.setup (core_of self.old.service).buffers.items buffer limit)
+            (known_by_pass pass.old) (known_by_pass pass.new) (O.taken out.old) (O.taken out.new)) }
+        ensures reads { IfOk result (λ delivered. ReadsAll N.setup (core_of self.old.service) buffer limit
+            (view_in self.old.service) (view_in self.new.service) (O.taken out.old) (O.taken out.new) delivered) }
+        ensures fails { OnErr result (FailsAmong N.setup (core_of self.old.service) buffer limit
+            (view_in self.old.service) (view_in self.new.service) (O.taken out.old) (O.taken out.new)) }
+        ensures passes { (events : List model.Event)
+            → NotesReads N.setup (core_of self.old.service) events (view_in self.old.service) (view_in self.new.service)
+            → PassReads N.setup (core_of self.old.service) events (known_by_pass pass.old) (known_by_pass pass.new) }
+        ensures count { CountsFaults (O.faults out.old) (O.faults out.new) result }
+    {
+        self.service.read_passing(table, pass, buffer, limit, out)
+    }
+}

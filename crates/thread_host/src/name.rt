@@ -1,0 +1,29 @@
+//! Which table a service is one of, as a type can name it.
+use std::marker::Brand;
+
+/// A table by what its seats know of it, known in proofs alone.
+pub trait HostName {
+    ghost use Rattle.std.specs.Prelude.{List};
+    ghost use Rattle.atomic_table.specs.Seated.{TableId};
+    ghost use Rattle.trace_model.specs.Buffers.{Buffer};
+    ghost use Rattle.chunk_plain.specs.Setup.{Setup};
+
+    ghost table: { TableId };
+
+    ghost setup: { Setup };
+
+    // the buffers of its service as they were made
+    ghost first: { List Buffer };
+}
+
+impl HostName for Brand {
+    ghost use Rattle.std.specs.Prelude.{[]};
+    ghost use Rattle.chunk_words.specs.Named.{no_table};
+    ghost use Rattle.thread_host.specs.Keeping.{no_setup};
+
+    ghost table = { no_table };
+
+    ghost setup = { no_setup };
+
+    ghost first = { [] };
+}
