@@ -128,6 +128,7 @@ seen_more setup since place old new more seen grown same = record {
   where
     count_is : (taken_of new place).count ≡ (taken_of old place).count
     count_is = ap (λ (t : Taken). t.count) same
+
     by_case : ShowNone setup (producer_of setup place) place (taken_of old place).count seen.looks ⊎ (ID_LIMIT ≤ (taken_of old place).count)
         → ShowNone setup (producer_of setup place) place (taken_of new place).count (seen.looks ++ more) ⊎ (ID_LIMIT ≤ (taken_of new place).count)
     by_case (inl shown) =
