@@ -1,6 +1,5 @@
 -- What lines tell, one behind another.
-use Rattle.std.proofs.Common.{◌≡◌, ℕ, suc, ◌+◌, ◌<◌, List, [], ◌∷◌, ◌++◌, length, take, get_or, refl, sym, ap, ◌∙◌, subst, arith, append_assoc, append-nil}
-use Rattle.std.proofs.Math.Seq.{take-suc}
+use Rattle.std.proofs.Common.{◌≡◌, ℕ, List, [], ◌∷◌, ◌++◌, refl, sym, ap, ◌∙◌, subst, append_assoc, append-nil}
 use Rattle.std.specs.List.{flat_map}
 use Rattle.std.proofs.lemmas.List.Concat.{flat_map-append}
 use Rattle.byte_io.specs.Bytes.{Intake, after_told}
@@ -103,15 +102,3 @@ pub scrape_tells : (setup : Setup) (first : List Buffer) (line : LineKind) (prod
     → TellsLine setup first line view view taken taken
 scrape_tells setup first line producer view taken is =
     line_tells setup first line view taken (subst (λ (l : LineKind). AreReadsBy setup l []) (sym is) refl)
-
--- the line at a place is played behind those before it
-pub tells_next : (setup : Setup) (first : List Buffer) (lines : List NumberedLine) (place : ℕ) (line : NumberedLine) (old mid new : ServiceView)
-    (before between after : Intake) → place < length lines → line ≡ get_or lines place line
-    → TellsLines setup first (take place lines) old mid before between → TellsLine setup first line.what mid new between after
-    → TellsLines setup first (take (place + 1) lines) old new before after
-tells_next setup first lines place line old mid new before between after below is one other =
-    let one_more : place + 1 ≡ suc place = omega arith in
-    let next : take (place + 1) lines ≡ take place lines ++ line ∷ [] =
-    ap (λ (n : ℕ). take n lines) one_more ∙ take-suc lines place line below ∙ ap (λ (l : NumberedLine). take place lines ++ l ∷ []) (sym is) in
-    subst (λ (played : List NumberedLine). TellsLines setup first played old new before after) (sym next)
-    (tells_more setup first (take place lines) line old mid new before between after one other)

@@ -11,7 +11,7 @@ use crate::name::HostName;
 use byte_io::put::WriteFault;
 use byte_io::traits::{Gate, Sink};
 use chunk_words::{HostTable, ReadPass};
-use scenario_text::{LineKind, NumberedLine};
+use scenario_text::{LineKind, LineList};
 use std::sync::{Mutex, Wait};
 
 /// Plays the service's lines, in their order: it collects, scrapes and reads, each with the lock
@@ -22,7 +22,7 @@ pub fn service_job<N: HostName, R: Wait, G: Gate, O: Sink>(
     gate: &G,
     table: &HostTable,
     service: &Mutex<Locked<N>>,
-    lines: &[NumberedLine],
+    lines: &LineList,
     pass: &mut ReadPass,
     out: &mut O,
 ) -> Result<(), WriteFault>
@@ -35,11 +35,13 @@ pub fn service_job<N: HostName, R: Wait, G: Gate, O: Sink>(
         (O.taken out.old) (O.taken out.new)) }
     ensures count { CountsFaults (O.faults out.old) (O.faults out.new) result }
 {
+    // There are never so many lines that the number stands still.
     let mut number: u64 = 1;
-    'lines: for line in lines {
+    let mut walk = lines.walk();
+    'lines: while let Some(line) = walk.next() {
         if is_service_line(&line.what) {
             gate.pass(0, number);
-            number += 1;
+            number = number.saturating_add(1);
         }
         play_line(rt, table, service, &line.what, pass, out)?;
     }
@@ -48,7 +50,7 @@ pub fn service_job<N: HostName, R: Wait, G: Gate, O: Sink>(
 }
 
 /// Whether the line is the service's own. It decides when the gate is passed and nothing else.
-fn is_service_line(line: &LineKind) -> bool {
+fn is_service_line(line: &LineKind<'_>) -> bool {
     matches!(
         line,
         LineKind::Collect { producer: _ }
@@ -66,7 +68,7 @@ fn play_line<N: HostName, R: Wait, O: Sink>(
     rt: &R,
     table: &HostTable,
     service: &Mutex<Locked<N>>,
-    line: &LineKind,
+    line: &LineKind<'_>,
     pass: &mut ReadPass,
     out: &mut O,
 ) -> Result<(), WriteFault>

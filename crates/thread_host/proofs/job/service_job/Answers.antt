@@ -1,19 +1,41 @@
-use Rattle.std.proofs.Common.{◌∙◌, arith}
+-- Each line is played behind those before it.
+use Rattle.std.proofs.Common.{◌≡◌, ◌∙◌, List, [], ◌∷◌, ◌++◌, refl, sym, ap, subst, append-nil, append_assoc}
 use Rattle.chunk_words.specs.Sits.{known_by_pass}
-use Rattle.thread_host.proofs.Telling.{tells_next}
+use Rattle.scenario_text.specs.declared.scenario.NumberedLine.{NumberedLine}
+use Rattle.thread_host.specs.Jobs.{TellsLines}
+use Rattle.thread_host.proofs.Telling.{tells_none, tells_more}
 use Rattle.thread_host.proofs.job.service_job.Goals as goal
-use Rattle.thread_host.proofs.job.service_job.Goals.{then-is_service_line, else-is_service_line}
+
+pub lines-init : goal.lines-init
+lines-init g c = record {
+  before = [];
+  all = c.walk-walk.ensures;
+  pass = c.requires.pass;
+  known = c.requires.known;
+  told = tells_none g.N.HostName.setup g.N.HostName.first (known_by_pass c.args.pass.now) (g.O.Sink.taken c.args.out.now);
+  steady = refl;
+}
 
 pub lines-preserved : goal.lines-preserved
-lines-preserved g c = record {
-  pass = c.in_ok-play_line.ensures.pass;
-  known = c.in_ok-play_line.ensures.known;
-  told = tells_next g.N.HostName.setup g.N.HostName.first c.args.lines.now c.lines.line-index c.line-item.result (known_by_pass c.args.pass.now)
-      (known_by_pass c.lines.pass) (known_by_pass c.play_line.new.pass) (g.O.Sink.taken c.args.out.now) (g.O.Sink.taken c.lines.out)
-      (g.O.Sink.taken c.play_line.new.out) c.lines-test.true c.line-item.is c.lines.invariant.told c.in_ok-play_line.ensures.told;
-  steady = c.in_ok-play_line.ensures.count ∙ c.lines.invariant.steady;
-  few = elim c.if-is_service_line.branch [
-    | then-is_service_line w ↦ omega (arith, w.number-is, c.lines.invariant.few)
-    | else-is_service_line w ↦ omega (arith, w.number-is, c.lines.invariant.few)
-  ];
-}
+lines-preserved g c =
+    let before : List NumberedLine = c.lines.invariant.before in
+    let line : NumberedLine = c.in-Some.line in
+    record {
+      before = before ++ line ∷ [];
+      all = append_assoc before (line ∷ []) c.next.new.self ∙ ap (λ (ls : List NumberedLine). before ++ ls) (sym c.in-Some.ensures.first) ∙ c.lines.invariant.all;
+      pass = c.in_ok-play_line.ensures.pass;
+      known = c.in_ok-play_line.ensures.known;
+      told = tells_more g.N.HostName.setup g.N.HostName.first before line (known_by_pass c.args.pass.now) (known_by_pass c.lines.pass)
+          (known_by_pass c.play_line.new.pass) (g.O.Sink.taken c.args.out.now) (g.O.Sink.taken c.lines.out) (g.O.Sink.taken c.play_line.new.out)
+          c.lines.invariant.told c.in_ok-play_line.ensures.told;
+      steady = c.in_ok-play_line.ensures.count ∙ c.lines.invariant.steady;
+    }
+
+pub returns-clause-told : goal.returns-clause-told
+returns-clause-told g c =
+    let before : List NumberedLine = c.lines.invariant.before in
+    let none = rw c.in_default.is at c.next.ensures.none in
+    let all : before ≡ c.args.lines.now =
+    sym (append-nil before) ∙ ap (λ (ls : List NumberedLine). before ++ ls) (sym none.0) ∙ c.lines.invariant.all in
+    subst (λ (ls : List NumberedLine). TellsLines g.N.HostName.setup g.N.HostName.first ls (known_by_pass c.args.pass.now) (known_by_pass c.lines.pass)
+        (g.O.Sink.taken c.args.out.now) (g.O.Sink.taken c.lines.out)) all c.lines.invariant.told
