@@ -37,8 +37,10 @@ BeganWith setup first service = first_of setup (core_of service) ≡ first
 pub named_prop : (id : TableId) (setup : Setup) (table : HostTable) → IsProp (IsNamed id setup table)
 named_prop id setup table = Prim.hlevel (Coded-set, codes)
 
+-- of what the lock keeps
 pub serves_named_prop : (id : TableId) (setup : Setup) (service : Service) → IsProp (ServesNamed id setup service)
 serves_named_prop id setup service = Prim.hlevel serves_prop
 
+-- and of what its buffers were
 pub began_prop : (setup : Setup) (first : List Buffer) (service : Service) → IsProp (BeganWith setup first service)
 began_prop setup first service = Prim.hlevel (Coded-set, codes)
