@@ -163,7 +163,8 @@ def event_spoils(account):
     for at, event in enumerate(events):
         kind, sequence = event[:2]
         if kind == 'patched':
-            yield 'patches left out', spliced(sequence, events, at, 1, [])
+            before = 'a chunk' if events[at + 1][0] == 'arrive' else 'a read, a close or a part'
+            yield f'patches left out before {before}', spliced(sequence, events, at, 1, [])
         if kind != 'arrive':
             continue
         later = [other for other in events[at + 1:] if other[:2] == ('arrive', sequence)]
@@ -200,8 +201,9 @@ def event_facts(account, splice):
 WAYS = ('a packet twice', 'a packet missing', 'an invented packet', 'a mark too many', 'a mark missing', 'another byte',
         'a packet cut short', 'the number of another sequence', 'a packet of another sequence', 'two packets out of order',
         'two packets out of order, with marks in order', 'a record of the service\'s sequence', 'a record of no sequence',
-        'a count one too low', 'a packet counted twice', 'a packet under another cause', 'patches left out',
-        'a part with all fragments', 'a chunk twice', 'a chunk behind its close', 'a chunk left out', 'a chunk under another id')
+        'a count one too low', 'a packet counted twice', 'a packet under another cause', 'patches left out before a chunk',
+        'patches left out before a read, a close or a part', 'a part with all fragments', 'a chunk twice', 'a chunk behind its close',
+        'a chunk left out', 'a chunk under another id')
 
 
 def facts_of(account):
