@@ -4,12 +4,13 @@
 class Statement:
     """One run: what the specs file says of it, its fact's name, and the proof."""
 
-    def __init__(self, name, specs, proof, wrong=None, uses=()):
+    def __init__(self, name, specs, proof, wrong=None, uses=(), lemmas=()):
         self.name = name
         self.specs = specs
         self.proof = proof
         self.wrong = wrong      # the same with a wrong number, where one was made
         self.uses = list(uses)  # what the proof names beside the fact
+        self.lemmas = list(lemmas)  # (name, fact, proof) of what the proof rests on
 
     def size(self):
         return len(self.specs)

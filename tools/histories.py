@@ -194,6 +194,7 @@ def events_of(notes, choose):
 def played(seed, **which):
     """The model's world of a random scenario, whose buffers have their notes; None where a writer stalled."""
     recorder.NOTES.clear()
+    recorder.WHOLE.__init__()
     stage = Stage(which['stage']) if 'stage' in which else Stage()
     world = play.World(read_scenario(random_scenario(seed, **which), stage))
     try:

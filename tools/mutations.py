@@ -3,7 +3,7 @@
 from collections import namedtuple
 
 # `runs` are the kinds of run that are tried, in their order.
-Mutation = namedtuple('Mutation', 'name file old new runs')
+Mutation = namedtuple('Mutation', 'name crate file old new runs')
 
 CUT = [
     ('begins packets at 13 bytes left', 'Cut.antt', 'room_to_begin = 12', 'room_to_begin = 13'),
@@ -82,6 +82,34 @@ TELLS = [
     ('wants a mark behind each record', 'Tells.antt', 'TellsFrom emitted sequence false (suc place) others', 'TellsFrom emitted sequence false place others'),
 ]
 
-ALL = [Mutation(*one, ('scripts', 'worlds')) for one in CUT] \
-    + [Mutation(*one, ('histories', 'worlds')) for one in ARRIVAL + READ + CAUSES] \
-    + [Mutation(*one, ('worlds',)) for one in WHOLE + TELLS]
+# (crate, then as above)
+ACCOUNTS = [
+    ('takes a chunk under any id', 'delivery_laws', 'Orders.antt', '(chunk_id ≡ come) × (sheet : Sheet)', '(come ≡ come) × (sheet : Sheet)'),
+    ('takes a chunk behind its close', 'delivery_laws', 'Orders.antt', '((closed ≡ false) × (chunk_id ≡ come) × (sheet : Sheet)',
+     '((closed ≡ closed) × (chunk_id ≡ come) × (sheet : Sheet)'),
+    ('wants no patches behind a chunk', 'delivery_laws', 'Orders.antt', '(suc come) closed sheet.patches events', '(suc come) closed [] events'),
+    ('lets patches stay away', 'delivery_laws', 'Orders.antt',
+     'InOrder sheets sequence come closed due (Arrives other chunk_id chunk ∷ events) =\n    (due ≡ [])',
+     'InOrder sheets sequence come closed due (Arrives other chunk_id chunk ∷ events) =\n    (due ≡ due)'),
+    ('wants all fragments in a part', 'delivery_laws', 'Histories.antt', 'ShowFragments true false chunk.fragments', 'ShowFragments false false chunk.fragments'),
+    ('takes all fragments as a part', 'trace_model', 'Fading.antt', 'MoreComes true [] = ⊥', 'MoreComes true [] = ⊤'),
+    ('asks nothing for what is discarded', 'delivery_laws', 'Room.antt', 'is_placing Discarded = true', 'is_placing Discarded = false'),
+    ('asks bytes for a double', 'delivery_laws', 'Room.antt', 'is_placing other = false', 'is_placing other = true'),
+    ('gives each buffer all sequences', 'world_model', 'FirstBuffers.antt', 'if spec.buffer == buffer', 'if buffer == buffer'),
+    ('numbers buffers from 0', 'world_model', 'FirstBuffers.antt', 'first_buffers setup (suc buffer) specs', 'first_buffers setup buffer specs'),
+    ('puts the held chunk first', 'world_model', 'Accounts.antt', 'completed_images view.begun ++ held', 'held ++ completed_images view.begun'),
+    ('wants the last chunk to run on', 'world_model', 'Accounts.antt', 'last_runs_on false cut.pages ≡ newest_goes_on', 'last_runs_on true cut.pages ≡ newest_goes_on'),
+    ('wants the next chunk of what is noted', 'world_model', 'Accounts.antt',
+     '(closed ≡ false) × (chunk_id ≡ come) × (content : Content)', '(closed ≡ false) × (chunk_id ≡ suc come) × (content : Content)'),
+    ('takes any chunk that is noted', 'world_model', 'Accounts.antt',
+     '(closed ≡ false) × (chunk_id ≡ come) × (content : Content)', '(closed ≡ false) × (come ≡ come) × (content : Content)'),
+    ('takes any marks', 'trace_model', 'Tells.antt', '(front || behind) ≡ (first || not (place == next))', '(front || behind) ≡ (front || behind)'),
+    ('takes any packet', 'trace_model', 'Tells.antt', 'bytes ≡ record_of (mark_where front ++ packet) sequence behind', 'bytes ≡ bytes'),
+    ('takes any cause', 'trace_model', 'Balance.antt', 'pub cut : counts.cut ≡ count_by (is_absent_under Cut) outcomes', 'pub cut : counts.cut ≡ counts.cut'),
+    ('counts deliveries alone', 'trace_model', 'Balance.antt', 'counts.discarded + counts.cut\n', 'counts.discarded\n'),
+]
+
+ALL = [Mutation(one[0], 'trace_model', *one[1:], ('scripts', 'worlds')) for one in CUT] \
+    + [Mutation(one[0], 'trace_model', *one[1:], ('histories', 'worlds')) for one in ARRIVAL + READ + CAUSES] \
+    + [Mutation(one[0], 'trace_model', *one[1:], ('worlds',)) for one in WHOLE + TELLS] \
+    + [Mutation(*one, ('accounts',)) for one in ACCOUNTS]

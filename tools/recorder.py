@@ -28,12 +28,15 @@ class Notes:
     def note(self, sequence, kind, *rest):
         self.events.append((kind, sequence.number, *rest))
         self.cursors.append((sequence.position, sequence.passed))
+        if self is not WHOLE:
+            WHOLE.note(sequence, kind, *rest)
 
     def fix(self, number, position, passed, outcome):
         self.fixed.setdefault(number, []).append((position, passed, outcome))
 
 
 NOTES = {}
+WHOLE = Notes()         # the events of all buffers in their order
 
 
 def notes_of(buffer):

@@ -128,8 +128,8 @@ class Recorded(writers.Writer):
 Recorded.writer = property(lambda self: self)
 
 
-def told_proof(emitted, records, sequence):
-    """The places of the records among the emitted packets, with their marks, as a proof that they tell of them."""
+def told_places(emitted, records, sequence):
+    """The places of the records among the emitted packets, with their marks in front and behind; None where there are none."""
     def found(k, following):
         if k == len(records):
             return []
@@ -144,11 +144,14 @@ def told_proof(emitted, records, sequence):
                             return [(at, front, behind), *rest]
         return None
 
-    places = found(0, 0)
-    assert places is not None, 'not told'
+    return found(0, 0)
+
+
+def told_term(places):
+    """The places as a proof that the records tell of the packets."""
     proof = 'tt'
     for at, front, behind in reversed(places):
-        one = record(packet=octets(emitted[at]), emitted_there='refl', not_before='omega arith', front=flag(front),
+        one = record(packet='_', emitted_there='refl', not_before='omega arith', front=flag(front),
                      behind=flag(behind), exact='refl', marked='refl')
         proof = f'({at}, {one}, {proof})'
     return proof
@@ -208,7 +211,7 @@ def statement_of(name, writer, world, reported, counts):
         possible='refl',
         cut=record(pages=pages_name, images_are='refl', patches_are='refl',
                    cut=writer_scripts.cut_proof(writer.payload_size, packets, pages, pages_name)),
-        written='refl', told=told_proof(emitted, records, sequence), reported='refl', balanced=record(sum='refl'),
+        written='refl', told=told_term(told_places(emitted, records, sequence)), reported='refl', balanced=record(sum='refl'),
         caused=outcomes, once='refl') + ')'
     spoilt = dict(reported, cut=reported['cut'] + 1, begun=reported['begun'] + 1)
     return Statement(f'Run{name}', specs(reported), proof, Statement(f'Run{name}', specs(spoilt), proof, uses=[pages_name]),
