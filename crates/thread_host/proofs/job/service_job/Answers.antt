@@ -38,4 +38,4 @@ returns-clause-told g c =
     let all : before ≡ c.args.lines.now =
     sym (append-nil before) ∙ ap (λ (ls : List NumberedLine). before ++ ls) (sym none.0) ∙ c.lines.invariant.all in
     subst (λ (ls : List NumberedLine). TellsLines g.N.HostName.setup g.N.HostName.first ls (known_by_pass c.args.pass.now) (known_by_pass c.lines.pass)
-        (g.O.Sink.taken c.args.out.now) (g.O.Sink.taken c.lines.out)) all c.lines.invariant.told
+    (g.O.Sink.taken c.args.out.now) (g.O.Sink.taken c.lines.out)) all c.lines.invariant.told
