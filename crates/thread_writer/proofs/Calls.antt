@@ -10,6 +10,7 @@ use Rattle.chunk_words.specs.contracts.shared.SharedWords.TheImpl.{ghosts as sha
 use Rattle.chunk_words.specs.Sits.{setup_in, known_by}
 use Rattle.trace_writer.specs.declared.fault.CallFault.{CallFault}
 use Rattle.trace_writer.specs.declared.fault.CallFault.TheVariants as call_fault
+use Rattle.trace_writer.specs.declared.route.Route.{Route}
 use Rattle.trace_writer.specs.declared.writer.WriterCore.{WriterCore}
 use Rattle.trace_writer.specs.Asked.{IsAsked, LeavesAll}
 use Rattle.trace_writer.specs.Core.{CoreAgrees, is_stalled, route_of, refusal_of}
@@ -24,12 +25,14 @@ use Rattle.thread_writer.specs.Standing.{step_stays}
 use Rattle.thread_writer.proofs.Identity.{works_stay, sits_back}
 
 -- the writer is one of the table again
-pub writes_back : (table behind : Shared) (old new : TraceWriter) → identity_of behind.table.now ≡ identity_of table.table.now
+pub writes_back : (table behind : Shared) (old new : TraceWriter) → Writes table.table.now old → new.policy ≡ old.policy
+    → (route_of (core_of new)).spec.policy ≡ (route_of (core_of old)).spec.policy → identity_of behind.table.now ≡ identity_of table.table.now
     → shared.means.setup behind ≡ shared.means.setup table → shared.means.sits behind (core_of new).seat → (core_of new).seat.place ≡ (core_of old).seat.place
     → CoreAgrees (setup_in table.table.now) (core_of old).seat.place (view_in new) (core_of new) → Writes table.table.now new
-writes_back table behind old new same setup sits place agrees = record {
+writes_back table behind old new was policy route same setup sits place agrees = record {
   seat = sits_back table.table.now behind.table.now (core_of new).seat same setup sits;
   agrees = subst (λ (p : ℕ). CoreAgrees (setup_in table.table.now) p (view_in new) (core_of new)) (sym place) agrees;
+  policy_is = policy ∙ was.policy_is ∙ sym route;
 }
 
 either : {P : Type 0} (asked : Option CallFault) → ((fault : CallFault) → asked ≡ Some fault → P) → (asked ≡ None → P) → P
@@ -83,19 +86,21 @@ module _ {A H : Type 0} (helps : H → ℕ → Bool → H → Type 0) (of_table 
 
 -- a call that needs no chunk
 pub quiet_writes : (table behind : Shared) (old new : TraceWriter) (before : WriterCore WriterSeat) → before ≡ core_of old
+    → Writes table.table.now old → new.policy ≡ old.policy → route_of (core_of new) ≡ route_of before
     → IsQuiet shared.means table before.seat behind (core_of new).seat
     → CoreAgrees (setup_in table.table.now) before.seat.place (view_in new) (core_of new) → Writes table.table.now new
-quiet_writes table behind old new before is quiet agrees =
-    writes_back table behind old new (step_stays table behind before.seat (core_of new).seat quiet.step)
+quiet_writes table behind old new before is was policy route quiet agrees =
+    writes_back table behind old new was policy (ap (λ (r : Route). r.spec.policy) (route ∙ ap route_of is)) (step_stays table behind before.seat (core_of new).seat quiet.step)
     quiet.step.setup_stays quiet.step.seat_stays (quiet.step.place_stays ∙ ap (λ (core : WriterCore WriterSeat). core.seat.place) is)
     (subst (λ (core : WriterCore WriterSeat). CoreAgrees (setup_in table.table.now) core.seat.place (view_in new) (core_of new)) is agrees)
 
 -- a call that may ask the helper
 pub asked_writes : (table behind : Shared) (old new : TraceWriter) (before : WriterCore WriterSeat) → before ≡ core_of old
+    → Writes table.table.now old → new.policy ≡ old.policy → route_of (core_of new) ≡ route_of before
     → identity_of behind.table.now ≡ identity_of table.table.now → LeavesOthers shared.means table before.seat behind (core_of new).seat
     → CoreAgrees (setup_in table.table.now) before.seat.place (view_in new) (core_of new) → Writes table.table.now new
-asked_writes table behind old new before is same others agrees =
-    writes_back table behind old new same
+asked_writes table behind old new before is was policy route same others agrees =
+    writes_back table behind old new was policy (ap (λ (r : Route). r.spec.policy) (route ∙ ap route_of is)) same
     others.setup_stays others.seat_stays (others.place_stays ∙ ap (λ (core : WriterCore WriterSeat). core.seat.place) is)
     (subst (λ (core : WriterCore WriterSeat). CoreAgrees (setup_in table.table.now) core.seat.place (view_in new) (core_of new)) is agrees)
 

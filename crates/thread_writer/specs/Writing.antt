@@ -30,10 +30,11 @@ core_of writer = padded_value writer.core
 abbrev pub view_in : TraceWriter → WriterView
 view_in writer = known_by (core_of writer).seat
 
--- The writer is one of this table: its seat sits there, and it agrees with the view of its seat.
+-- The writer is one of this table: its seat sits there, it agrees with the view of its seat, and tells its own policy.
 pub record Writes (table : HostTable) (writer : TraceWriter) : Type 0 where
   pub seat : Sits table (core_of writer).seat
   pub agrees : CoreAgrees (setup_in table) (core_of writer).seat.place (view_in writer) (core_of writer)
+  pub policy_is : writer.policy ≡ (route_of (core_of writer)).spec.policy
 
 -- A call that may ask the helper, over the lent table: what it leaves where it is refused, its answer where it isn't, and what it then did, as the
 -- same call of a writer over any table. A writer that drops leaves its helper as it was.

@@ -26,14 +26,16 @@ use claim_arbiter::Arbiter;
 use crossbeam_utils::CachePadded;
 use page_geometry::Geometry;
 use std::sync::ledger::Ledger;
-use trace_base::policy::WriterSpec;
+use trace_base::policy::{WriterPolicy, WriterSpec};
 use trace_base::steps::Steps;
 use trace_writer::{Begun, CallFault, WriterCore};
 
 /// The writer of a thread, alone on its cache lines. It may hold a chunk, so it has to be ended by
 /// `into_seat`.
 pub struct TraceWriter {
-    core: CachePadded<WriterCore<WriterSeat>>,
+    /// For a layer that asks writers over any table, and lends this one the table of its seat.
+    pub core: CachePadded<WriterCore<WriterSeat>>,
+    policy: WriterPolicy,
 }
 
 impl TraceWriter {
@@ -55,9 +57,18 @@ impl TraceWriter {
             → (spot (setup_in table) chunk).payload_size ≡ payload_size geometry.page_size geometry.chunks)
             → Writes table result }
     {
+        let policy = spec.policy;
         TraceWriter {
             core: CachePadded::new(WriterCore::make(seat, spec, arbiter, geometry)),
+            policy,
         }
+    }
+
+    /// What it does where each chunk of its producer is claimed.
+    pub fn policy(&self) -> WriterPolicy
+        ensures { (table : HostTable) → Writes table self.now → result ≡ (route_of (core_of self.now)).spec.policy }
+    {
+        self.policy
     }
 
     /// Begins a packet. It claims only where the packet is to begin in a new chunk.
@@ -257,7 +268,7 @@ impl TraceWriter {
         requires { holds_chunk (core_of self) ≡ false }
         ensures { result ≡ (core_of self).seat }
     {
-        let TraceWriter { core } = self;
+        let TraceWriter { core, policy: _ } = self;
         core.into_inner().into_seat()
     }
 
@@ -266,7 +277,7 @@ impl TraceWriter {
     pub fn give_up(self) -> WriterSeat
         ensures { result ≡ (core_of self).seat }
     {
-        let TraceWriter { core } = self;
+        let TraceWriter { core, policy: _ } = self;
         core.into_inner().give_up()
     }
 }

@@ -1,4 +1,4 @@
-use Rattle.std.proofs.Common.{None, subst}
+use Rattle.std.proofs.Common.{None, refl, subst}
 use Rattle.crossbeam_utils.specs.Padded.{padded_with_value}
 use Rattle.atomic_table.specs.Seated.{TableId}
 use Rattle.chunk_words.specs.declared.seats.WriterSeat.{WriterSeat}
@@ -17,8 +17,8 @@ returns-clause-writes g c =
     None
     (λ stopped. begun_as stopped (route_of before).spec.policy)
     did.refused (λ none. (stops_with c.begin.result, did.done none)) in
-    asked_writes (lent c.args.table) c.begin.new.table c.args.self.now (record { core = padded_with_value c.args.self.now.core c.begin.new.self })
-    before c.deref_mut.ensures.value same did.others did.agrees
+    asked_writes (lent c.args.table) c.begin.new.table c.args.self.now (record c.args.self.now { core = padded_with_value c.args.self.now.core c.begin.new.self })
+    before c.deref_mut.ensures.value c.requires.writes refl did.route same did.others did.agrees
 
 pub returns-clause-help : goal.returns-clause-help
 returns-clause-help g c =

@@ -1,4 +1,4 @@
-use Rattle.std.proofs.Common.{Bool, subst}
+use Rattle.std.proofs.Common.{Bool, refl, subst}
 use Rattle.crossbeam_utils.specs.Padded.{padded_with_value}
 use Rattle.atomic_table.specs.Seated.{TableId}
 use Rattle.chunk_words.specs.declared.seats.WriterSeat.{WriterSeat}
@@ -20,8 +20,8 @@ returns-clause-writes g c =
     (field_fault (known_by before.seat) c.args.field (bytes_size c.args.field c.args.times c.args.value.now))
     (λ stopped. written_as stopped (route_of before).spec.policy (call.Bytes c.args.field c.args.value.now c.args.times))
     did.refused did.done in
-    asked_writes (lent c.args.table) c.bytes.new.table c.args.self.now (record { core = padded_with_value c.args.self.now.core c.bytes.new.self })
-    before c.deref_mut.ensures.value same did.others did.agrees
+    asked_writes (lent c.args.table) c.bytes.new.table c.args.self.now (record c.args.self.now { core = padded_with_value c.args.self.now.core c.bytes.new.self })
+    before c.deref_mut.ensures.value c.requires.writes refl did.route same did.others did.agrees
 
 pub returns-clause-help : goal.returns-clause-help
 returns-clause-help g c =

@@ -1,4 +1,4 @@
-use Rattle.std.proofs.Common.{[], ◌∷◌, subst}
+use Rattle.std.proofs.Common.{[], ◌∷◌, refl, subst}
 use Rattle.crossbeam_utils.specs.Padded.{padded_with_value}
 use Rattle.trace_model.specs.Calls.{Ended}
 use Rattle.chunk_words.specs.declared.seats.WriterSeat.{WriterSeat}
@@ -9,8 +9,8 @@ use Rattle.thread_writer.proofs.Calls.{quiet_writes, quiet_call}
 use Rattle.thread_writer.proofs.writer.TraceWriter.end_nested.Goals as goal
 
 pub returns-clause-writes : goal.returns-clause-writes
-returns-clause-writes c = quiet_writes (lent c.args.table) c.end_nested.new.table c.args.self.now (record { core = padded_with_value c.args.self.now.core c.end_nested.new.self })
-    c.deref_mut.result.now c.deref_mut.ensures.value c.end_nested.ensures.quiet c.end_nested.ensures.agrees
+returns-clause-writes c = quiet_writes (lent c.args.table) c.end_nested.new.table c.args.self.now (record c.args.self.now { core = padded_with_value c.args.self.now.core c.end_nested.new.self })
+    c.deref_mut.result.now c.deref_mut.ensures.value c.requires.writes refl c.end_nested.ensures.route c.end_nested.ensures.quiet c.end_nested.ensures.agrees
 
 pub returns-clause-call : goal.returns-clause-call
 returns-clause-call c =

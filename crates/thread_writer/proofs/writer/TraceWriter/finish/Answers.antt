@@ -1,4 +1,4 @@
-use Rattle.std.proofs.Common.{[], ◌∷◌, subst}
+use Rattle.std.proofs.Common.{[], ◌∷◌, refl, subst}
 use Rattle.crossbeam_utils.specs.Padded.{padded_with_value}
 use Rattle.trace_model.specs.Calls.{Finished}
 use Rattle.chunk_words.specs.declared.seats.WriterSeat.{WriterSeat}
@@ -9,8 +9,8 @@ use Rattle.thread_writer.proofs.Calls.{quiet_writes, quiet_call}
 use Rattle.thread_writer.proofs.writer.TraceWriter.finish.Goals as goal
 
 pub returns-clause-writes : goal.returns-clause-writes
-returns-clause-writes c = quiet_writes (lent c.args.table) c.finish.new.table c.args.self.now (record { core = padded_with_value c.args.self.now.core c.finish.new.self })
-    c.deref_mut.result.now c.deref_mut.ensures.value c.finish.ensures.quiet c.finish.ensures.agrees
+returns-clause-writes c = quiet_writes (lent c.args.table) c.finish.new.table c.args.self.now (record c.args.self.now { core = padded_with_value c.args.self.now.core c.finish.new.self })
+    c.deref_mut.result.now c.deref_mut.ensures.value c.requires.writes refl c.finish.ensures.route c.finish.ensures.quiet c.finish.ensures.agrees
 
 pub returns-clause-call : goal.returns-clause-call
 returns-clause-call c =

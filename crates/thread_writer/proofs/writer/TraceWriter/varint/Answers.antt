@@ -1,4 +1,4 @@
-use Rattle.std.proofs.Common.{Bool, length, subst}
+use Rattle.std.proofs.Common.{Bool, length, refl, subst}
 use Rattle.crossbeam_utils.specs.Padded.{padded_with_value}
 use Rattle.atomic_table.specs.Seated.{TableId}
 use Rattle.chunk_words.specs.declared.seats.WriterSeat.{WriterSeat}
@@ -21,8 +21,8 @@ returns-clause-writes g c =
     (field_fault (known_by before.seat) c.args.field (length (number_field c.args.field c.args.value)))
     (λ stopped. written_as stopped (route_of before).spec.policy (call.Number c.args.field c.args.value))
     did.refused did.done in
-    asked_writes (lent c.args.table) c.varint.new.table c.args.self.now (record { core = padded_with_value c.args.self.now.core c.varint.new.self })
-    before c.deref_mut.ensures.value same did.others did.agrees
+    asked_writes (lent c.args.table) c.varint.new.table c.args.self.now (record c.args.self.now { core = padded_with_value c.args.self.now.core c.varint.new.self })
+    before c.deref_mut.ensures.value c.requires.writes refl did.route same did.others did.agrees
 
 pub returns-clause-help : goal.returns-clause-help
 returns-clause-help g c =
