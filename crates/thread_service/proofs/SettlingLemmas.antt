@@ -77,6 +77,11 @@ takes_apart setup (one ∷ places) taken old new takes place apart =
     ∙ ap (λ (v : ServiceView). taken_of v place) takes.4.view
     ∙ taken_other old one place takes.4.looks takes.4.contents apart.0
 
+takes_own : (setup : Setup) (places : List ℕ) (taken : ℕ) (old new : ServiceView) → Takes setup places taken old new → new.commits ≡ old.commits
+takes_own setup [] taken old new takes = ap (λ (v : ServiceView). v.commits) takes.1
+takes_own setup (place ∷ places) taken old new takes =
+    takes_own setup places takes.1 takes.2 new takes.5 ∙ ap (λ (v : ServiceView). v.commits) takes.4.view
+
 -- a round is one of further looks, and takes nothing of the writers of other producers
 pub round_takes : (setup : Setup) (producer taken : ℕ) (old new : ServiceView) → Takes setup (places_of producer 0 setup.writers) taken old new → TakesOut setup producer old new
 round_takes setup producer taken old new takes =
@@ -86,16 +91,18 @@ round_takes setup producer taken old new takes =
       more = more.1;
       others = λ place other. takes_apart setup (places_of producer 0 setup.writers) taken old new takes place
           (is_apart producer 0 setup.writers place (λ i is own. let here : place ≡ i = omega (arith, is) in other (ap (λ (k : ℕ). (spec_at setup.writers k).producer) here ∙ own)));
+      own = takes_own setup (places_of producer 0 setup.writers) taken old new takes;
     }
 
 pub out_none : (setup : Setup) (producer : ℕ) (view : ServiceView) → TakesOut setup producer view view
-out_none setup producer view = record { looks = []; more = sym (append-nil view.looks); others = λ place other. refl }
+out_none setup producer view = record { looks = []; more = sym (append-nil view.looks); others = λ place other. refl; own = refl }
 
 pub out_both : (setup : Setup) (producer : ℕ) (old mid new : ServiceView) → TakesOut setup producer old mid → TakesOut setup producer mid new → TakesOut setup producer old new
 out_both setup producer old mid new first second = record {
   looks = first.looks ++ second.looks;
   more = second.more ∙ ap (λ (ls : List Look). ls ++ second.looks) first.more ∙ append_assoc old.looks first.looks second.looks;
   others = λ place other. second.others place other ∙ first.others place other;
+  own = second.own ∙ first.own;
 }
 
 -- ---- what a round that takes nothing shows

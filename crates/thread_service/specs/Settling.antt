@@ -20,11 +20,12 @@ pub record IsSeenOut (setup : Setup) (since place : ℕ) (view : ServiceView) : 
 abbrev pub AreSeenOut : Setup → (since places : ℕ) → ServiceView → Type 0
 AreSeenOut setup since places view = (place : ℕ) → place < places → IsSeenOut setup since place view
 
--- Further looks were made, and nothing was taken of the writers of other producers.
+-- Further looks were made, nothing was taken of the writers of other producers, and no image came by a commit.
 pub record TakesOut (setup : Setup) (producer : ℕ) (old new : ServiceView) : Type 0 where
   pub looks : List Look
   pub more : new.looks ≡ old.looks ++ looks
   pub others : (place : ℕ) → (producer_of setup place ≡ producer → ⊥) → taken_of new place ≡ taken_of old place
+  pub own : new.commits ≡ old.commits
 
 -- A tale of all that a writer has begun: each chunk is complete and of its producer, and the service has looked so often since.
 pub record IsWholeTale (setup : Setup) (view : ServiceView) (tale : Tale) : Type 0 where

@@ -38,6 +38,7 @@ impl Service {
         ensures serves { Serves table.now self.new }
         ensures keeps { KeepsRest (setup_in table.now) (core_of self.old) (core_of self.new) }
         ensures desk { desk_in self.new ≡ desk_in self.old }
+        ensures own { (view_in self.new).commits ≡ (view_in self.old).commits }
         ensures seen { AreSeenOut (setup_in table.now) (length (view_in self.old).looks) (length (setup_in table.now).writers) (view_in self.new) }
     {
         'writers: for place in 0..writers.len() {
@@ -54,6 +55,7 @@ impl Service {
         ensures serves { Serves table.now self.new }
         ensures keeps { KeepsRest (setup_in table.now) (core_of self.old) (core_of self.new) }
         ensures desk { desk_in self.new ≡ desk_in self.old }
+        ensures own { (view_in self.new).commits ≡ (view_in self.old).commits }
         ensures taken { (i : ℕ) (tale : Tale) → At (desk_in self.old).told i tale → IsWholeTale (setup_in table.now) (view_in self.old) tale
             → length tale.begun ≤ (taken_of (view_in self.new) tale.place).count }
     {

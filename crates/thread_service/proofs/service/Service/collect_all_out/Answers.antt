@@ -22,6 +22,7 @@ writers-preserved c =
       serves = c.collect_out.ensures.serves;
       keeps = keeps_both setup (core_of c.args.self.now) (core_of c.writers.self) (core_of c.collect_out.new.self) i.keeps c.collect_out.ensures.keeps;
       desk = c.collect_out.ensures.desk ∙ i.desk;
+      own = more.own ∙ i.own;
       looks = (looks.0 ++ more.looks, more.more ∙ ap (λ (ls : List Look). ls ++ more.looks) looks.1 ∙ append_assoc (view_in c.args.self.now).looks looks.0 more.looks);
       seen = seen_next setup (length (view_in c.args.self.now).looks) c.writers.place (spec_at c.args.writers.now c.writers.place).producer (view_in c.writers.self) (view_in c.collect_out.new.self)
           (let grown = ap (λ (ls : List Look). length ls) looks.1 ∙ length-append (view_in c.args.self.now).looks looks.0 in omega (arith, grown))

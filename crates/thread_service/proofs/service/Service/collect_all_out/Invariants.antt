@@ -11,6 +11,7 @@ invariant-writers l = record {
   serves : Serves l.table l.self;
   keeps : KeepsRest (setup_in l.table) (core_of l.fn.self) (core_of l.self);
   desk : desk_in l.self ≡ desk_in l.fn.self;
+  own : (view_in l.self).commits ≡ (view_in l.fn.self).commits;
   looks : (looks : List Look) × ((view_in l.self).looks ≡ (view_in l.fn.self).looks ++ looks);
   seen : AreSeenOut (setup_in l.table) (length (view_in l.fn.self).looks) l.place (view_in l.self);
 }
