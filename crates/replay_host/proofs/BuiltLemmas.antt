@@ -71,7 +71,7 @@ pub record IsBuilt {T W S : Type 0} (means : Meaning T W S) (scenario : Parts) (
   pub room : vec_len host.flushes.chunks ≡ requests_in scenario.lines
 
 -- the service of the first world is unused
-unused : (setup : Setup) → IsUnused (length setup.writers) (first_world setup).service
+pub unused : (setup : Setup) → IsUnused (length setup.writers) (first_world setup).service
 unused setup = record {
   taken = length-map setup.writers (λ (_ : WriterSpec). none_taken);
   none_taken = λ place. ap (λ (t : Taken). t.count) (all_same none_taken setup.writers place);

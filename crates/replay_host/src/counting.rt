@@ -1,5 +1,5 @@
 //! What became of chunks, packets and flush requests, once all is played.
-ghost use Rattle.std.specs.Prelude.{◌≡◌, ℕ, ◌<◌, ◌≤◌, List, ◌++◌, length, map, Some, IfOk, slice_get, vec_len};
+ghost use Rattle.std.specs.Prelude.{◌≡◌, ℕ, ◌<◌, ◌≤◌, List, [], ◌++◌, length, map, Some, IfOk, slice_get, vec_len};
 ghost use Rattle.trace_base.specs.declared.limits.TheConstants.{MAX_BUFFERS};
 ghost use Rattle.trace_buffer.specs.Answers as answers;
 ghost use Rattle.chunk_plain.specs.Setup.{Setup};
@@ -46,6 +46,7 @@ const NO_PACKETS: SequenceCounts = SequenceCounts {
 pub fn make_done(alloc: Global, buffers: usize, writers: usize) -> Result<Done, AllocError>
     ensures buffers { IfOk result (λ done. vec_len done.buffers ≡ buffers) }
     ensures sequences { IfOk result (λ done. vec_len done.sequences ≡ writers) }
+    ensures flushes { IfOk result (λ done. done.flushes.items ≡ []) }
 {
     Ok(Done {
         buffers: vec![in alloc; NO_CHUNKS; buffers]?,
@@ -56,7 +57,7 @@ pub fn make_done(alloc: Global, buffers: usize, writers: usize) -> Result<Done, 
 
 /// What became of the packets of a sequence, of which so many were begun, and so many dropped at their
 /// begin. Those under no cause are cut.
-fn packets_left(begun: u64, at_begin: u64, state: &SequenceState) -> SequenceCounts
+pub fn packets_left(begun: u64, at_begin: u64, state: &SequenceState) -> SequenceCounts
     ensures { result ≡ counting.packets_left begun at_begin state.now }
 {
     let dropped = state.dropped.saturating_add(at_begin);

@@ -21,10 +21,10 @@ mod requests;
 mod serving;
 
 pub use asking::ask_one;
-pub use counting::make_done;
+pub use counting::{make_done, packets_left};
 pub use fault::HostFault;
 pub use flushes::Flushes;
 pub use helper::Collecting;
 pub use host::Host;
-pub use making::make_host;
+pub use making::{buffer_specs, make_host, producer_specs};
 pub use replaying::replay;

@@ -39,7 +39,7 @@ fn producer_spec(line: &ProducerLine) -> ProducerSpec
 }
 
 /// The producers, each with its pages.
-fn producer_specs(
+pub fn producer_specs(
     alloc: Global,
     producers: &[ProducerLine],
 ) -> Result<Vec<ProducerSpec>, AllocError>
@@ -54,7 +54,7 @@ fn producer_specs(
 }
 
 /// The buffers, each with its size in bytes.
-fn buffer_specs(alloc: Global, buffers: &[BufferLine]) -> Result<Vec<BufferSpec>, AllocError>
+pub fn buffer_specs(alloc: Global, buffers: &[BufferLine]) -> Result<Vec<BufferSpec>, AllocError>
     requires { AllByRecursion IsBuffer buffers.now }
     ensures { IfOk result (λ specs. specs.items ≡ map buffer_asked buffers.now) }
 {
