@@ -1,0 +1,8 @@
+pub mod CompleteLemmas
+pub mod CountLemmas
+pub mod FaithfulLemmas
+pub mod FinishLemmas
+pub mod LossLemmas
+pub mod OwnedLemmas
+pub mod ReadLemmas
+pub mod RunLemmas

@@ -1,0 +1,4 @@
+pub mod Reads
+pub mod Settled
+pub mod Runs
+pub mod Laws

@@ -1,0 +1,26 @@
+-- The run of a scenario on threads, end to end: the account that its threads led to, and the trace and the report that are functions of it.
+use Rattle.std.specs.Prelude.{◌≡◌, ℕ, List, [], Some, slice_get}
+use Rattle.byte_io.specs.Bytes.{Intake, after_told}
+use Rattle.trace_model.specs.Balance.{PacketCounts}
+use Rattle.trace_model.specs.Delivery.{IsFaithful, IsComplete, trace_of}
+use Rattle.chunk_plain.specs.Setup.{Setup}
+use Rattle.chunk_plain.specs.World.{World}
+use Rattle.scenario_text.specs.Scenario.{Parts}
+use Rattle.replay_model.specs.Enough.{HasEnough}
+use Rattle.replay_model.specs.Played.{emitted_in, records_in, packet_counts, report_of, AreBalanced, CountsPackets}
+use Rattle.run_model.specs.Settled.{IsRun}
+
+-- The scenario was run: there is a world that its threads led to. The trace has taken that world's records and nothing else, and the text is its
+-- report, without a flush request. The records are faithful to what the scenario has its writers emit, and the report counts every packet once, under
+-- its cause. Where chunks and bytes are enough, by the lines alone, no packet is missing.
+pub record Runs (scenario : Parts) (old new : Intake) (text : List ℕ) : Type 0 where
+  pub setup : Setup
+  pub world : World
+  pub run : IsRun scenario setup world
+  pub trace : new ≡ after_told old (trace_of (records_in scenario setup world))
+  pub report : text ≡ report_of scenario setup world []
+  pub faithful : IsFaithful (emitted_in scenario) (records_in scenario setup world)
+  pub balanced : AreBalanced (packet_counts scenario setup world)
+  pub counted : (place : ℕ) (counts : PacketCounts) → slice_get (packet_counts scenario setup world) place ≡ Some counts
+      → CountsPackets scenario setup world place counts
+  pub complete : HasEnough scenario → IsComplete (emitted_in scenario) (records_in scenario setup world)

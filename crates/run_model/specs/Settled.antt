@@ -1,0 +1,82 @@
+-- A scenario that was run on threads, once all is settled: what its writers and its service did, by their views, in whatever order the threads came.
+use Rattle.std.specs.Prelude.{◌≡◌, ℕ, zero, suc, ◌<◌, true, false, List, [], ◌++◌, length}
+use Rattle.std.specs.List.{flat_map}
+use Rattle.trace_base.specs.declared.policy.WriterPolicy.TheVariants.{Stalls}
+use Rattle.trace_model.specs.Buffers.{Buffer}
+use Rattle.trace_model.specs.Counts.{last_count}
+use Rattle.trace_model.specs.History as model
+use Rattle.trace_model.specs.History.{buffers_after}
+use Rattle.trace_model.specs.Packets.{packets_of}
+use Rattle.model_laws.specs.ChunkCounts.{lost_count}
+use Rattle.model_laws.specs.Losses.{Loses}
+use Rattle.chunk_plain.specs.Setup.{Setup, sequence_of}
+use Rattle.chunk_plain.specs.Views.{ServiceView, WriterView, taken_of}
+use Rattle.chunk_plain.specs.World.{World, writer}
+use Rattle.chunk_plain.specs.Histories.{history_of}
+use Rattle.chunk_plain.specs.Owned.{IsOwned, held_count}
+use Rattle.scenario_text.specs.declared.scenario.NumberedLine.{NumberedLine}
+use Rattle.scenario_text.specs.Scenario.{Parts}
+use Rattle.scenario_text.specs.Accepted.{calls_asked}
+use Rattle.service_core.specs.Agreement.{spec_at}
+use Rattle.service_core.specs.Closing.{TakesAndCloses}
+use Rattle.service_core.specs.Order.{LeadTo, beginning}
+use Rattle.service_core.specs.Reading.{reads_in, noted_read}
+use Rattle.service_core.specs.Taking.{noted_more}
+use Rattle.replay_model.specs.Does.{is_shut}
+use Rattle.replay_model.specs.Played.{IsSetupOf, buffers_of}
+use Rattle.schedule_laws.specs.Resting.{IsBetweenCalls}
+use Rattle.thread_service.specs.Reading.{reads_among}
+use Rattle.run_model.specs.Reads.{AreReadsOf}
+
+-- ---- a writer
+
+-- The writer at this place has done its lines: it is between two calls, has noted what the lines ask of it, with packets lost and flushes between
+-- packets, and holds no chunk. One that stalls has lost none.
+pub record HasDoneLines (setup : Setup) (lines : List NumberedLine) (place : ℕ) (view : WriterView) : Type 0 where
+  pub between : IsBetweenCalls setup place view
+  pub lose : Loses (calls_asked (suc place) lines) view.calls
+  pub stalls : (spec_at setup.writers place).policy ≡ Stalls → lost_count (packets_of view.calls) ≡ 0
+  pub none_held : held_count view.begun ≡ 0
+
+-- ---- the end
+
+-- The producers up to this number are closed in rising number: of each the complete chunks are taken, and then its sequences closed.
+abbrev pub ClosesTo : Setup → (number : ℕ) → (old new : ServiceView) → Type 0
+ClosesTo setup zero old new = new ≡ old
+ClosesTo setup (suc number) old new =
+    (between : ServiceView) × (taken : ℕ) × ClosesTo setup number old between × TakesAndCloses setup (suc number) taken between new
+
+-- The buffers up to this number are read in rising number, each without limit: these are the reads.
+abbrev pub ReadsTo : Setup → (first : List Buffer) → (number : ℕ) → List model.Event → (old new : ServiceView) → Type 0
+ReadsTo setup first zero reads old new = (reads ≡ []) × (new ≡ old)
+ReadsTo setup first (suc number) reads old new =
+    (between : ServiceView) × (earlier : List model.Event) × ReadsTo setup first number earlier old between
+    × (let here = reads_in setup (buffers_after first (history_of between)) (suc number) last_count in
+    (reads ≡ earlier ++ here) × (new ≡ noted_more between (flat_map noted_read here)))
+
+-- ---- all of it
+
+-- The scenario was run, and all is settled. Its writers and its service are those of one owned world. Each writer has done its lines, and all that it
+-- completed was taken. What was noted on each sequence is in order. The reads are those of the read lines in their order, and then those of the end,
+-- where each producer is closed and then each buffer read without limit.
+pub record IsRun (scenario : Parts) (setup : Setup) (world : World) : Type 0 where
+  pub setup_is : IsSetupOf scenario setup
+  pub many : length world.writers ≡ length setup.writers
+  pub owned : ∥ ((other : World) × IsOwned other × (other.writers ≡ world.writers) × (other.service ≡ world.service)) ∥₁
+  pub writers : (place : ℕ) → place < length setup.writers → HasDoneLines setup scenario.lines place (writer world place)
+  pub taken : (place : ℕ) → place < length setup.writers → (taken_of world.service place).count ≡ length (writer world place).begun
+  pub order : (place : ℕ) → place < length setup.writers
+      → LeadTo world.service (sequence_of place) beginning world.service.events
+      (record { come = (taken_of world.service place).count; closed = true; due = [] })
+  -- the service once all was taken, and once all sequences were closed
+  pub settled : ServiceView
+  pub closed : ServiceView
+  pub whole : (place : ℕ) → place < length setup.writers → (taken_of settled place).count ≡ length (writer world place).begun
+  pub opened : (place : ℕ) → place < length setup.writers → is_shut (sequence_of place) settled.events ≡ false
+  pub closes : ClosesTo setup (length setup.ranges) settled closed
+  -- the reads of the lines, and those of the end
+  pub asked : List model.Event
+  pub last : List model.Event
+  pub are_asked : AreReadsOf setup scenario.lines asked
+  pub reads : ReadsTo setup (buffers_of scenario setup) (length scenario.buffers) last closed world.service
+  pub all_reads : reads_among world.service.events ≡ flat_map noted_read asked ++ flat_map noted_read last
