@@ -1,1 +1,11 @@
 pub mod Telling
+pub mod Hosting
+pub mod Made
+pub mod Seating
+pub mod Going
+pub mod PlayedLines
+pub mod PlayedWriters
+pub mod Closing
+pub mod Finished
+pub mod Tallying
+pub mod WholeLemmas

@@ -17,7 +17,8 @@ use Rattle.scenario_text.specs.declared.scenario.NumberedLine.{NumberedLine}
 use Rattle.service_core.specs.Reading.{noted_read}
 use Rattle.service_core.proofs.ReadingLemmas.{trace_append}
 use Rattle.thread_service.specs.Reading.{reads_among}
-use Rattle.thread_host.specs.Jobs.{AreReadsBy, AreReadsOf, TellsReads, TellsLine, TellsLines}
+use Rattle.run_model.specs.Reads.{AreReadsBy, AreReadsOf}
+use Rattle.thread_host.specs.Jobs.{TellsReads, TellsLine, TellsLines}
 
 -- no line tells nothing
 pub none_tells : (setup : Setup) (first : List Buffer) (view : ServiceView) (taken : Intake) → TellsReads first [] view view taken taken
@@ -42,7 +43,8 @@ reads_behind setup (next ∷ lines) line events others some are = (
   reads_behind setup lines line some.1 others some.4 are,
 )
 
-tells_both : (first : List Buffer) (firsts others : List model.Event) (old mid new : ServiceView) (before between after : Intake)
+-- one behind another
+pub tells_both : (first : List Buffer) (firsts others : List model.Event) (old mid new : ServiceView) (before between after : Intake)
     → TellsReads first firsts old mid before between → TellsReads first others mid new between after
     → TellsReads first (firsts ++ others) old new before after
 tells_both first firsts others old mid new before between after one other = record {

@@ -1,5 +1,5 @@
 -- What the service's job does of a scenario's lines.
-use Rattle.std.specs.Prelude.{◌≡◌, List, [], ◌∷◌, ◌++◌}
+use Rattle.std.specs.Prelude.{◌≡◌, List, ◌++◌}
 use Rattle.std.specs.List.{flat_map}
 use Rattle.byte_io.specs.Bytes.{Intake, after_told}
 use Rattle.trace_model.specs.Buffers.{Buffer}
@@ -10,22 +10,10 @@ use Rattle.chunk_plain.specs.Histories.{history_of}
 use Rattle.chunk_plain.specs.Setup.{Setup}
 use Rattle.chunk_plain.specs.Views.{ServiceView}
 use Rattle.scenario_text.specs.declared.scenario.LineKind.{LineKind}
-use Rattle.scenario_text.specs.declared.scenario.LineKind.TheVariants.{Read}
 use Rattle.scenario_text.specs.declared.scenario.NumberedLine.{NumberedLine}
-use Rattle.service_core.specs.Reading.{reads_in, noted_read}
+use Rattle.service_core.specs.Reading.{noted_read}
+use Rattle.run_model.specs.Reads.{AreReadsBy, AreReadsOf}
 use Rattle.thread_service.specs.Reading.{reads_among}
-
--- These are the reads that a line has done: a read line one of each sequence of its buffer, in rising id, each with what is left of the limit by
--- what the buffers hold then; any other line none.
-abbrev pub AreReadsBy : Setup → LineKind → List model.Event → Type 0
-AreReadsBy setup (Read buffer limit) events = (buffers : List Buffer) × (events ≡ reads_in setup buffers buffer limit)
-AreReadsBy setup _ events = events ≡ []
-
--- and those of lines, in the order of the lines
-abbrev pub AreReadsOf : Setup → List NumberedLine → List model.Event → Type 0
-AreReadsOf setup [] events = events ≡ []
-AreReadsOf setup (line ∷ lines) events =
-    (firsts others : List model.Event) × (events ≡ firsts ++ others) × AreReadsBy setup line.what firsts × AreReadsOf setup lines others
 
 -- The pass knows these reads more, behind all those that it knew, and the sink took exactly the records that it knows more.
 pub record TellsReads (first : List Buffer) (events : List model.Event) (old new : ServiceView) (before after : Intake) : Type 0 where

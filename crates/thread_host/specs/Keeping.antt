@@ -10,7 +10,7 @@ use Rattle.chunk_words.specs.Sits.{setup_in}
 use Rattle.service_core.specs.Agreement.{first_of, is_closed}
 use Rattle.thread_service.specs.declared.service.Service.{Service}
 use Rattle.thread_service.specs.OneProof.{serves_prop}
-use Rattle.thread_service.specs.Serving.{core_of, Serves}
+use Rattle.thread_service.specs.Serving.{core_of, view_in, Serves}
 
 -- the set-up of no table
 abbrev pub no_setup : Setup
@@ -33,6 +33,10 @@ AllOpen setup service = (place : ℕ) → place < length setup.writers → is_cl
 abbrev pub BeganWith : Setup → List Buffer → Service → Type 0
 BeganWith setup first service = first_of setup (core_of service) ≡ first
 
+-- no image came by a commit
+abbrev pub HasOwn : Service → Type 0
+HasOwn service = (view_in service).commits ≡ []
+
 -- There is at most one proof of each.
 pub named_prop : (id : TableId) (setup : Setup) (table : HostTable) → IsProp (IsNamed id setup table)
 named_prop id setup table = Prim.hlevel (Coded-set, codes)
@@ -44,3 +48,7 @@ serves_named_prop id setup service = Prim.hlevel serves_prop
 -- and of what its buffers were
 pub began_prop : (setup : Setup) (first : List Buffer) (service : Service) → IsProp (BeganWith setup first service)
 began_prop setup first service = Prim.hlevel (Coded-set, codes)
+
+-- and that all images are the table's own
+pub own_prop : (service : Service) → IsProp (HasOwn service)
+own_prop service = Prim.hlevel (Coded-set, codes)

@@ -1,16 +1,29 @@
-//! The host of threads: the lock round the service of a table that threads share, the helper of a
-//! writer that stalls, and the service's own job of a run.
-//! A layer above may rely on this: whoever takes the lock finds a service of the table that the
-//! lock's type names, none of whose sequences is closed, and leaves one there. The job reads with the
-//! reading pass, so the sink has exactly the records of the reads that the pass knows more.
+//! The host of threads: it plays a scenario with each writer on a thread of its own, beside the service's
+//! lines. The service stands behind a lock for so long, and a writer that stalls has a helper that takes
+//! it.
+//! A layer above may rely on this: where `run` answers Ok, the sink has taken exactly the records of the
+//! account that the threads led to, and the counts are that account's. No writer stalls for good.
 #![tactic(auto)]
 
+mod asking;
+mod finishing;
 mod help;
+mod host;
 mod job;
 mod locked;
+mod making;
 mod name;
+mod playing;
+mod running;
+mod settled;
+mod whole;
+mod writing;
 
 pub use help::LockHelp;
+pub use host::Host;
 pub use job::service_job;
 pub use locked::Locked;
 pub use name::HostName;
+pub use settled::Settled;
+pub use whole::run;
+pub use writing::writer_job;

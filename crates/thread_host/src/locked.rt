@@ -9,7 +9,8 @@ ghost use Rattle.service_core.specs.Taking.{Takes, places_of};
 ghost use Rattle.thread_service.specs.Reading.{IsKnownWhole, PassReads};
 ghost use Rattle.thread_service.specs.Serving.{core_of, view_in};
 ghost use Rattle.thread_host.specs.Jobs.{TellsReads};
-ghost use Rattle.thread_host.specs.Keeping.{IsNamed, ServesNamed, AllOpen, BeganWith, serves_named_prop, began_prop};
+ghost use Rattle.thread_host.specs.Keeping.{IsNamed, ServesNamed, AllOpen, BeganWith, HasOwn};
+ghost use Rattle.thread_host.specs.Keeping.{serves_named_prop, began_prop, own_prop};
 
 use crate::name::HostName;
 use byte_io::put::WriteFault;
@@ -18,7 +19,8 @@ use chunk_words::{HostTable, ReadPass};
 use std::marker::PhantomData;
 use thread_service::Service;
 
-/// The service of the table that its type names, none of whose sequences is closed.
+/// The service of the table that its type names, none of whose sequences is closed. No image came by a
+/// commit.
 #[derive(Drop)]
 pub struct Locked<N: HostName> {
     pub(crate) service: Service,
@@ -26,6 +28,7 @@ pub struct Locked<N: HostName> {
     ghost serves: { ServesNamed N.table N.setup service } by { serves_named_prop N.table N.setup service },
     ghost open: { AllOpen N.setup service },
     ghost began: { BeganWith N.setup N.first service } by { began_prop N.setup N.first service },
+    ghost own: { HasOwn service } by { own_prop service },
 }
 
 impl<N: HostName> Locked<N> {
@@ -33,6 +36,7 @@ impl<N: HostName> Locked<N> {
         requires serves { ServesNamed N.table N.setup service }
         requires open { AllOpen N.setup service }
         requires began { BeganWith N.setup N.first service }
+        requires own { HasOwn service }
         ensures service { result.service ≡ service }
     {
         Locked {
@@ -46,6 +50,7 @@ impl<N: HostName> Locked<N> {
         ensures serves { ServesNamed N.table N.setup result }
         ensures open { AllOpen N.setup result }
         ensures began { BeganWith N.setup N.first result }
+        ensures own { HasOwn result }
     {
         let Locked { service, of: _ } = self;
         service

@@ -1,0 +1,139 @@
+-- What the end of a run leaves of what the service knew before, and what is read there.
+use Rattle.std.proofs.Common.{◌≡◌, ◌∙◌, ℕ, zero, suc, ◌+◌, ◌≤◌, ◌⊎◌, List, [], ◌∷◌, ◌++◌, length, inl, inr, refl, sym, ap, subst, arith}
+use Rattle.std.proofs.lemmas.Bool.{cases_eq}
+use Rattle.std.specs.List.{flat_map}
+use Rattle.byte_io.specs.Bytes.{Intake}
+use Rattle.trace_model.specs.Buffers.{Buffer}
+use Rattle.trace_model.specs.Counts.{last_count}
+use Rattle.trace_model.specs.History as model
+use Rattle.trace_model.specs.History.{buffers_after, records_after}
+use Rattle.chunk_plain.specs.Histories.{history_of}
+use Rattle.chunk_plain.specs.Setup.{Setup}
+use Rattle.chunk_plain.specs.Views.{ServiceView, Taken, taken_of}
+use Rattle.service_core.specs.declared.service.ServiceCore.{ServiceCore}
+use Rattle.service_core.specs.Agreement.{first_of}
+use Rattle.service_core.specs.Reading.{NotesReads, ReadsAll, noted_read, reads_in}
+use Rattle.service_core.specs.Taking.{Takes, places_of, took, noted_more}
+use Rattle.service_core.proofs.QuietLemmas.{AllBelow, places_below, long_still}
+use Rattle.service_core.proofs.TakingLemmas.{taken_here, taken_other}
+use Rattle.replay_host.proofs.TakenLemmas.{takes_own}
+use Rattle.run_model.specs.Settled.{ClosesTo, ReadsTo}
+use Rattle.thread_service.specs.Reading.{PassReads}
+use Rattle.thread_host.specs.Finishing.{ReadsOut}
+use Rattle.thread_host.specs.Jobs.{TellsReads}
+use Rattle.thread_host.proofs.Telling.{none_tells, tells_both}
+
+-- ---- no count falls
+
+takes_long : (setup : Setup) (places : List ℕ) (taken : ℕ) (old new : ServiceView) → Takes setup places taken old new → length new.taken ≡ length old.taken
+takes_long setup [] taken old new takes = ap (λ (v : ServiceView). length v.taken) takes.1
+takes_long setup (place ∷ places) taken old new takes =
+    takes_long setup places takes.1 takes.2 new takes.5 ∙ long_still setup place takes.0 old takes.2 takes.4
+
+takes_rise : (setup : Setup) (places : List ℕ) (taken : ℕ) (old new : ServiceView) → AllBelow (length old.taken) places → Takes setup places taken old new
+    → (place : ℕ) → (taken_of old place).count ≤ (taken_of new place).count
+takes_rise setup [] taken old new below takes place =
+    let same : (taken_of new place).count ≡ (taken_of old place).count = ap (λ (v : ServiceView). (taken_of v place).count) takes.1 in omega (arith, same)
+takes_rise setup (one ∷ places) taken old new below takes place =
+    let rest = takes_rise setup places takes.1 takes.2 new
+    (subst (λ (n : ℕ). AllBelow n places) (sym (long_still setup one takes.0 old takes.2 takes.4)) below.1) takes.5 place in
+    let first = step (cases_eq place one) in
+    omega (arith, rest, first)
+  where
+    step : (place ≡ one) ⊎ (place ≡ one → ⊥) → (taken_of old place).count ≤ (taken_of takes.2 place).count
+    step (inl same) =
+        let here : (taken_of takes.2 place).count ≡ (taken_of old one).count + length takes.4.contents =
+        ap (λ (v : ServiceView). (taken_of v place).count) takes.4.view ∙ ap (λ (p : ℕ). (taken_of (took old one takes.4.looks takes.4.contents) p).count) same
+        ∙ ap (λ (t : Taken). t.count) (taken_here old one takes.4.looks takes.4.contents below.0) in
+        let was : (taken_of old place).count ≡ (taken_of old one).count = ap (λ (p : ℕ). (taken_of old p).count) same in
+        omega (arith, here, was)
+    step (inr apart) =
+        let here : (taken_of takes.2 place).count ≡ (taken_of old place).count =
+        ap (λ (v : ServiceView). (taken_of v place).count) takes.4.view ∙ ap (λ (t : Taken). t.count) (taken_other old one place takes.4.looks takes.4.contents apart) in
+        omega (arith, here)
+
+-- ---- all producers are closed
+
+pub closes_long : (setup : Setup) (number : ℕ) (old new : ServiceView) → ClosesTo setup number old new → length new.taken ≡ length old.taken
+closes_long setup zero old new closes = ap (λ (v : ServiceView). length v.taken) closes
+closes_long setup (suc number) old new closes =
+    let last = closes.3 in
+    ap (λ (v : ServiceView). length v.taken) last.view
+    ∙ takes_long setup (places_of (suc number) 0 setup.writers) closes.1 closes.0 last.between last.takes ∙ closes_long setup number old closes.0 closes.2
+
+pub closes_own : (setup : Setup) (number : ℕ) (old new : ServiceView) → ClosesTo setup number old new → new.commits ≡ old.commits
+closes_own setup zero old new closes = ap (λ (v : ServiceView). v.commits) closes
+closes_own setup (suc number) old new closes =
+    let last = closes.3 in
+    ap (λ (v : ServiceView). v.commits) last.view
+    ∙ takes_own setup (places_of (suc number) 0 setup.writers) closes.1 closes.0 last.between last.takes ∙ closes_own setup number old closes.0 closes.2
+
+pub closes_rise : (setup : Setup) (number : ℕ) (old new : ServiceView) → length old.taken ≡ length setup.writers → ClosesTo setup number old new
+    → (place : ℕ) → (taken_of old place).count ≤ (taken_of new place).count
+closes_rise setup zero old new many closes place =
+    let same : (taken_of new place).count ≡ (taken_of old place).count = ap (λ (v : ServiceView). (taken_of v place).count) closes in omega (arith, same)
+closes_rise setup (suc number) old new many closes place =
+    let last = closes.3 in
+    let before = closes_rise setup number old closes.0 many closes.2 place in
+    let long = closes_long setup number old closes.0 closes.2 in
+    let rises = takes_rise setup (places_of (suc number) 0 setup.writers) closes.1 closes.0 last.between
+    (places_below (suc number) 0 setup.writers (length closes.0.taken) (omega (arith, long, many))) last.takes place in
+    let same : (taken_of new place).count ≡ (taken_of last.between place).count = ap (λ (v : ServiceView). (taken_of v place).count) last.view in
+    omega (arith, before, rises, same)
+
+-- ---- all buffers are read
+
+pub reads_taken : (setup : Setup) (first : List Buffer) (number : ℕ) (reads : List model.Event) (old new : ServiceView) → ReadsTo setup first number reads old new
+    → new.taken ≡ old.taken
+reads_taken setup first zero reads old new is = ap (λ (v : ServiceView). v.taken) is.1
+reads_taken setup first (suc number) reads old new is =
+    ap (λ (v : ServiceView). v.taken) is.3.1 ∙ reads_taken setup first number is.1 old is.0 is.2
+
+pub reads_own : (setup : Setup) (first : List Buffer) (number : ℕ) (reads : List model.Event) (old new : ServiceView) → ReadsTo setup first number reads old new
+    → new.commits ≡ old.commits
+reads_own setup first zero reads old new is = ap (λ (v : ServiceView). v.commits) is.1
+reads_own setup first (suc number) reads old new is =
+    ap (λ (v : ServiceView). v.commits) is.3.1 ∙ reads_own setup first number is.1 old is.0 is.2
+
+-- none is read yet
+pub out_none : (setup : Setup) (first : List Buffer) (view pass : ServiceView) (taken : Intake) → ReadsOut setup first zero view view pass pass taken taken
+out_none setup first view pass taken = record { last = []; reads = (refl, refl); tells = none_tells setup first pass taken }
+
+-- the reading of one more
+read_tells : {S : Type 0} (setup : Setup) (core : ServiceCore S) (number limit delivered : ℕ) (old new passed pass : ServiceView) (before after : Intake)
+    → ReadsAll setup core number limit old new before after delivered
+    → ((events : List model.Event) → NotesReads setup core events old new → PassReads setup core events passed pass)
+    → TellsReads (first_of setup core) (reads_in setup core.buffers.items number limit) passed pass before after
+read_tells setup core number limit delivered old new passed pass before after reads passes =
+    let events = reads_in setup core.buffers.items number limit in
+    let more = passes events reads.notes in
+    record { reads = more.reads; more = records_after core.buffers.items events; records = more.records; taken = reads.taken }
+
+pub out_more : {S : Type 0} (setup : Setup) (core : ServiceCore S) (first : List Buffer) (index number delivered : ℕ) (start old new passed between pass : ServiceView)
+    (before mid after : Intake) → number ≡ suc index → first_of setup core ≡ first
+    → core.buffers.items ≡ buffers_after (first_of setup core) (history_of old)
+    → ReadsOut setup first index start old passed between before mid → ReadsAll setup core number last_count old new mid after delivered
+    → ((events : List model.Event) → NotesReads setup core events old new → PassReads setup core events between pass)
+    → ReadsOut setup first number start new passed pass before after
+out_more setup core first index number delivered start old new passed between pass before mid after next same buffers some reads passes =
+    let here : List model.Event = reads_in setup core.buffers.items number last_count in
+    let told = read_tells setup core number last_count delivered old new between pass mid after reads passes in
+    let is : core.buffers.items ≡ buffers_after first (history_of old) = buffers ∙ ap (λ (bs : List Buffer). buffers_after bs (history_of old)) same in
+    let here_is : here ≡ reads_in setup (buffers_after first (history_of old)) (suc index) last_count =
+    ap (λ (bs : List Buffer). reads_in setup bs number last_count) is
+    ∙ ap (λ (n : ℕ). reads_in setup (buffers_after first (history_of old)) n last_count) next in
+    let done : ReadsTo setup first (suc index) (some.last ++ here) start new = (
+      old,
+      some.last,
+      some.reads,
+      (
+        ap (λ (es : List model.Event). some.last ++ es) here_is,
+        reads.notes.view ∙ ap (λ (es : List model.Event). noted_more old (flat_map noted_read es)) here_is,
+      ),
+    ) in
+    record {
+      last = some.last ++ here;
+      reads = subst (λ (n : ℕ). ReadsTo setup first n (some.last ++ here) start new) (sym next) done;
+      tells = tells_both first some.last here passed between pass before mid after some.tells
+          (subst (λ (bs : List Buffer). TellsReads bs here between pass mid after) same told);
+    }

@@ -1,0 +1,208 @@
+-- Once all is closed, read and taken apart, what the seats knew is a run of the scenario, and what was counted is its report.
+use Rattle.std.proofs.Common.{◌≡◌, ◌∙◌, ℕ, ◌<◌, ◌≤◌, Bool, true, List, [], ◌++◌, length, map, refl, sym, ap, subst, arith}
+use Rattle.std.specs.Prelude.{slice_index_or}
+use Rattle.std.specs.List.{flat_map}
+use Rattle.std.proofs.lemmas.List.{length-map}
+use Rattle.std.proofs.lemmas.Option.{slice_get_within}
+use Rattle.byte_io.specs.Bytes.{Intake}
+use Rattle.trace_buffer.specs.Answers as answers
+use Rattle.trace_model.specs.Buffers.{Buffer}
+use Rattle.trace_model.specs.History as model
+use Rattle.trace_model.specs.History.{buffers_after, records_after}
+use Rattle.chunk_plain.specs.Histories.{history_of}
+use Rattle.chunk_plain.specs.Setup.{Setup, producer_of, sequence_of}
+use Rattle.chunk_plain.specs.Views.{Committed, Noted, ServiceView, Taken, WriterView, none_taken, taken_of}
+use Rattle.chunk_plain.specs.World.{World, writer}
+use Rattle.chunk_words.specs.declared.seats.ReadPass.{ReadPass}
+use Rattle.chunk_words.specs.Closed.{HasAllSeats, IsAccount, AllTaken, views_of}
+use Rattle.chunk_words.specs.GoesOn.{GoesOn}
+use Rattle.chunk_words.specs.Sits.{setup_in, known_by, known_by_pass}
+use Rattle.loss_report.specs.declared.counts.Done.{Done}
+use Rattle.loss_report.specs.Report.{report_text}
+use Rattle.scenario_text.specs.Scenario.{Parts}
+use Rattle.service_core.specs.Agreement.{KeepsRest, NoneCommitted, first_of, is_closed}
+use Rattle.service_core.specs.Order.{LeadTo, beginning}
+use Rattle.service_core.specs.Reading.{noted_read}
+use Rattle.service_core.proofs.AgreeLemmas.{first_stays}
+use Rattle.service_core.proofs.QuietLemmas.{adds_quiet}
+use Rattle.replay_model.specs.Played.{buffers_of, records_in}
+use Rattle.replay_host.proofs.TakenLemmas.{open_is}
+use Rattle.run_model.specs.Reads.{AreReadsOf}
+use Rattle.run_model.specs.Settled.{HasDoneLines, IsRun, ClosesTo}
+use Rattle.thread_service.specs.declared.service.Service.{Service}
+use Rattle.thread_service.specs.Reading.{reads_among, IsKnownWhole}
+use Rattle.thread_service.specs.Serving.{core_of, view_in, Serves}
+use Rattle.thread_service.proofs.GoingOn.{goes_adds, goes_reads}
+use Rattle.thread_host.specs.Counting as counting
+use Rattle.thread_host.specs.Counting.{packets_in}
+use Rattle.thread_host.specs.Ending.{no_counts}
+use Rattle.thread_host.specs.Finishing.{AreClosedTo, HasFinished, ReadsOut}
+use Rattle.thread_host.specs.Hosts.{IsSettled}
+use Rattle.thread_host.specs.declared.settled.Settled.{Settled}
+use Rattle.thread_host.proofs.Closing.{closes_own, closes_rise, reads_own, reads_taken}
+use Rattle.thread_host.proofs.Seating.{HasSeatAt, get_of, seat_at}
+use Rattle.thread_host.proofs.Tallying.{report_is}
+
+none_committed : (view : ServiceView) (sequence : ℕ) → view.commits ≡ [] → NoneCommitted view sequence
+none_committed view sequence none place committed there =
+    let inside = slice_get_within view.commits place committed there in
+    let long = ap (λ (cs : List Committed). length cs) none in
+    absurd (omega (arith, inside, long))
+
+-- ---- all is closed and read
+
+module _ (scenario : Parts) (settled : Settled) (is : IsSettled scenario settled) (closed final : Service) (pass : ReadPass) (before after : Intake) (count : ℕ)
+    (closes : ClosesTo (setup_in settled.table) settled.producers (view_in settled.service) (view_in closed))
+    (all_closed : AreClosedTo (setup_in settled.table) settled.producers closed)
+    (first : first_of (setup_in settled.table) (core_of closed) ≡ first_of (setup_in settled.table) (core_of settled.service))
+    (keeps : KeepsRest (setup_in settled.table) (core_of closed) (core_of final)) (serves : Serves settled.table final)
+    (all_read : count ≡ length scenario.buffers)
+    (out : ReadsOut (setup_in settled.table) (first_of (setup_in settled.table) (core_of closed)) count (view_in closed) (view_in final)
+    (known_by_pass settled.pass) (known_by_pass pass) before after) where
+  abbrev setup : Setup
+  setup = setup_in settled.table
+
+  abbrev view : ServiceView
+  view = view_in final
+
+  abbrev world : World
+  world = record { chunks = []; writers = views_of settled.seats.items; service = view_in final }
+
+  -- the buffers were those of the scenario
+  began : first_of (setup_in settled.table) (core_of closed) ≡ buffers_of scenario (setup_in settled.table)
+  began = first ∙ is.served.began
+
+  pub reads_out : ReadsOut (setup_in settled.table) (buffers_of scenario (setup_in settled.table)) (length scenario.buffers) (view_in closed) (view_in final)
+      (known_by_pass settled.pass) (known_by_pass pass) before after
+  reads_out = subst (λ (bs : List Buffer). ReadsOut setup bs (length scenario.buffers) (view_in closed) view (known_by_pass settled.pass) (known_by_pass pass) before after)
+      began
+      (subst (λ (n : ℕ). ReadsOut setup (first_of setup (core_of closed)) n (view_in closed) view (known_by_pass settled.pass) (known_by_pass pass) before after)
+      all_read out)
+
+  pub began_still : first_of (setup_in settled.table) (core_of final) ≡ buffers_of scenario (setup_in settled.table)
+  began_still = first_stays setup (core_of closed) (core_of final) keeps.fields ∙ began
+
+  own : (view_in final).commits ≡ []
+  own =
+      reads_own setup (buffers_of scenario setup) (length scenario.buffers) reads_out.last (view_in closed) view reads_out.reads
+      ∙ closes_own setup settled.producers (view_in settled.service) (view_in closed) closes ∙ is.served.own
+
+  rises : (place : ℕ) → (taken_of (view_in settled.service) place).count ≤ (taken_of (view_in final) place).count
+  rises place =
+      let rise = closes_rise setup settled.producers (view_in settled.service) (view_in closed) is.served.serves.agrees.many closes place in
+      let same : (taken_of view place).count ≡ (taken_of (view_in closed) place).count =
+      ap (λ (ts : List Taken). (slice_index_or ts place none_taken).count)
+      (reads_taken setup (buffers_of scenario setup) (length scenario.buffers) reads_out.last (view_in closed) view reads_out.reads) in
+      omega (arith, rise, same)
+
+  -- each seat has nothing left to do
+  pub has_all_seats : HasAllSeats settled.table (view_in final) settled.seats.items
+  has_all_seats = record {
+    count = is.many;
+    each = λ place seat at.
+        let there = get_of settled.seats.items place seat at in
+        let done = is.done place seat there in
+        let taken = is.taken place seat there in
+        let rise = rises place in (
+          done.place_is,
+          done.sits,
+          record {
+            claimed = done.done.between.agrees.claims.unclaimed;
+            held = done.done.none_held;
+            taken = omega (arith, taken, rise);
+          },
+        );
+  }
+
+  -- ---- once all is taken apart
+
+  module _ (account : IsAccount (views_of settled.seats.items) (view_in final)) (taken : AllTaken (view_in final) (views_of settled.seats.items))
+      (goes : GoesOn (known_by_pass pass) (view_in final)) (known : IsKnownWhole (known_by_pass pass)) where
+    seat_here : (place : ℕ) → place < length (setup_in settled.table).writers → HasSeatAt settled.seats.items place
+    seat_here place inside = let many = is.many in seat_at settled.seats.items place (omega (arith, inside, many))
+
+    done_here : (place : ℕ) → place < length (setup_in settled.table).writers
+        → HasDoneLines (setup_in settled.table) scenario.lines place (writer (record { chunks = []; writers = views_of settled.seats.items; service = view_in final }) place)
+    done_here place inside =
+        let here = seat_here place inside in
+        subst (λ (v : WriterView). HasDoneLines setup scenario.lines place v) (sym here.view) (is.done place here.seat here.there).done
+
+    taken_here : (place : ℕ) → place < length (setup_in settled.table).writers
+        → (taken_of (view_in final) place).count ≡ length (writer (record { chunks = []; writers = views_of settled.seats.items; service = view_in final }) place).begun
+    taken_here place inside =
+        let here = seat_here place inside in
+        subst (λ (v : WriterView). (taken_of view place).count ≡ length v.begun) (sym here.view) (taken place (known_by here.seat) here.at)
+
+    closed_here : (place : ℕ) → place < length (setup_in settled.table).writers → is_closed (setup_in settled.table) (core_of final) place ≡ true
+    closed_here place inside =
+        let most = (is.served.serves.agrees.routed.producers place inside).most in
+        let many = is.producers in
+        keeps.closed place inside ∙ all_closed place inside (omega (arith, most, many))
+
+    order_here : (place : ℕ) → place < length (setup_in settled.table).writers
+        → LeadTo (view_in final) (sequence_of place) beginning (view_in final).events
+        (record { come = (taken_of (view_in final) place).count; closed = true; due = [] })
+    order_here place inside =
+        subst (λ (b : Bool). LeadTo view (sequence_of place) beginning view.events (record { come = (taken_of view place).count; closed = b; due = [] }))
+        (closed_here place inside) (serves.agrees.order place inside (none_committed view (sequence_of place) own))
+
+    whole_here : (place : ℕ) → place < length (setup_in settled.table).writers
+        → (taken_of (view_in settled.service) place).count
+        ≡ length (writer (record { chunks = []; writers = views_of settled.seats.items; service = view_in final }) place).begun
+    whole_here place inside =
+        let here = seat_here place inside in
+        let least = is.taken place here.seat here.there in
+        let rise = rises place in
+        let all = taken place (known_by here.seat) here.at in
+        let same : (taken_of (view_in settled.service) place).count ≡ length (known_by here.seat).begun = omega (arith, least, rise, all) in
+        subst (λ (v : WriterView). (taken_of (view_in settled.service) place).count ≡ length v.begun) (sym here.view) same
+
+    -- the scenario was run
+    pub run_is : (asked : List model.Event) → AreReadsOf (setup_in settled.table) scenario.lines asked
+        → reads_among (known_by_pass settled.pass).events ≡ flat_map noted_read asked
+        → IsRun scenario (setup_in settled.table) (record { chunks = []; writers = views_of settled.seats.items; service = view_in final })
+    run_is asked are told = record {
+      setup_is = is.laid;
+      many = length-map settled.seats.items known_by ∙ is.many;
+      owned = account;
+      writers = done_here;
+      taken = taken_here;
+      order = order_here;
+      settled = view_in settled.service;
+      closed = view_in closed;
+      whole = whole_here;
+      opened = λ place inside. open_is setup (view_in settled.service) (core_of settled.service) (producer_of setup place) is.served.serves.agrees is.served.own
+          (λ other below same. is.served.opened other below) place inside refl;
+      closes = subst (λ (n : ℕ). ClosesTo setup n (view_in settled.service) (view_in closed)) is.producers closes;
+      asked = asked;
+      last = reads_out.last;
+      are_asked = are;
+      reads = reads_out.reads;
+      all_reads = goes_reads (known_by_pass pass) view goes ∙ reads_out.tells.reads
+          ∙ ap (λ (notes : List Noted). notes ++ flat_map noted_read reads_out.last) told;
+    }
+
+    -- and its records are those that the pass knew, and then those that the sink took
+    pub records_are : records_in scenario (setup_in settled.table) (record { chunks = []; writers = views_of settled.seats.items; service = view_in final })
+        ≡ records_after (buffers_of scenario (setup_in settled.table)) (history_of (known_by_pass settled.pass)) ++ reads_out.tells.more
+    records_are =
+        adds_quiet (buffers_of scenario setup) (known_by_pass pass) view known (goes_adds (known_by_pass pass) view goes) ∙ reads_out.tells.records
+
+    pub has_finished : (done : Done) → done.buffers.items ≡ map answers.counts_of (counting.buffers_in (setup_in settled.table) final)
+        → length done.sequences.items ≡ length (setup_in settled.table).writers
+        → ((place : ℕ) → place < length (setup_in settled.table).writers → slice_index_or done.sequences.items place no_counts
+        ≡ packets_in (setup_in settled.table) final place (slice_index_or settled.counts.sequences.items place no_counts))
+        → done.flushes.items ≡ []
+        → HasFinished scenario (setup_in settled.table) (known_by_pass settled.pass) before after done
+    has_finished done buffers long each flushes = record {
+      world = world;
+      run = run_is;
+      more = reads_out.tells.more;
+      records = records_are;
+      taken = reads_out.tells.taken;
+      report = λ balanced.
+          ap (λ all. report_text all done.sequences.items done.flushes.items) buffers
+          ∙ ap (λ all. report_text (map answers.counts_of (counting.buffers_in setup final)) done.sequences.items all) flushes
+          ∙ report_is scenario setup is.laid settled.seats.items is.many final began_still balanced settled.counts.sequences.items done.sequences.items long
+          (λ place seat there. (is.done place seat there).counts_are) each;
+    }

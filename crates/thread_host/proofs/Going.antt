@@ -1,0 +1,228 @@
+-- What a call makes of a writer that goes on: it never stalls, and what it has noted is what was asked of it.
+use Rattle.std.proofs.Common.{◌≡◌, ◌∙◌, ◌⊎◌, inl, inr, ℕ, Bool, true, false, List, [], ◌∷◌, ◌++◌, map, refl, sym, ap, subst, append-nil, append_assoc}
+use Rattle.std.specs.Borrow.{Bor}
+use Rattle.atomic_table.specs.Seated.{TableId}
+use Rattle.trace_base.specs.declared.policy.WriterPolicy.{WriterPolicy}
+use Rattle.trace_base.specs.declared.policy.WriterPolicy.TheVariants.{Drops, Stalls}
+use Rattle.trace_base.specs.declared.policy.WriterSpec.{WriterSpec}
+use Rattle.trace_model.specs.Calls.{Call, Begun, Number, Bytes, Nested, Ended, GivenUp, Finished, Flushed}
+use Rattle.trace_model.specs.Encoding.{number_field, bytes_field}
+use Rattle.trace_model.specs.Packets.{Packet, packets_of, account_of, with_more, with_nested}
+use Rattle.model_laws.specs.ChunkCounts.{lost_count}
+use Rattle.field_tree.specs.Nodes.{Shown}
+use Rattle.scenario_text.specs.Accepted.{Accepts, node_call}
+use Rattle.chunk_plain.specs.Setup.{HasProducer, producer_of}
+use Rattle.chunk_plain.specs.Views.{WriterView}
+use Rattle.chunk_words.specs.declared.host.HostTable.{HostTable}
+use Rattle.chunk_words.specs.declared.shared.Shared.{Shared}
+use Rattle.chunk_words.specs.declared.seats.WriterSeat.{WriterSeat}
+use Rattle.chunk_words.specs.contracts.shared.SharedWords.TheImpl.{ghosts as shared}
+use Rattle.chunk_words.specs.Sits.{setup_in, known_by}
+use Rattle.world_model.specs.FirstBuffers.{payload_at}
+use Rattle.trace_writer.specs.declared.writer.WriterCore.{WriterCore}
+use Rattle.trace_writer.specs.Asked.{begun_as, written_as}
+use Rattle.trace_writer.specs.Core.{CoreAgrees, route_of}
+use Rattle.trace_writer.specs.Helping.{LeavesWriters, Works, Done, Silent, Gets, Helped, Refused, Lost}
+use Rattle.trace_writer.proofs.Possible.{begin_loses, field_loses, more_keeps, nested_keeps, ended_loses, finished_loses, flushed_loses}
+use Rattle.service_core.specs.Agreement.{spec_at}
+use Rattle.replay_host.specs.Asking.{IsReadyFor, IsCalled, IsStalledCall, noted_as}
+use Rattle.replay_host.proofs.AskedLemmas.{route_is}
+use Rattle.replay_host.proofs.FieldLemmas.{calls_before}
+use Rattle.replay_host.proofs.ReadyLemmas.{NotesFor, loses_more, ready_behind, notes_begun, notes_number, notes_bytes, notes_nested}
+use Rattle.replay_host.proofs.WroteLemmas.{size_is}
+use Rattle.thread_writer.specs.declared.helper.Asks.{Asks}
+use Rattle.thread_writer.specs.declared.writer.TraceWriter.{TraceWriter}
+use Rattle.thread_writer.specs.Asking.{MayAsk, IsHelp}
+use Rattle.thread_writer.specs.Lent.{identity_of, lent}
+use Rattle.thread_writer.specs.Writing.{core_of, view_in, Writes}
+use Rattle.thread_writer.proofs.Calls.{writes_back}
+use Rattle.thread_writer.proofs.Identity.{works_stay}
+use Rattle.thread_host.specs.Playing.{NeverRefuses, IsGoing, WasAsked}
+
+-- ---- a helper that never refuses
+
+-- what a writer of this policy does with such a helper never ends since no chunk came free
+works_on : {H : Type 0} (helps : H → ℕ → Bool → H → Type 0) (producer : ℕ) {policy : WriterPolicy} {silent last gets out : Shared → WriterSeat → Shared → WriterSeat → Type 0}
+    {helper left : Asks H} {old new : Shared} {seat after : WriterSeat} {stopped : Bool}
+    → NeverRefuses helps policy → policy ≡ Stalls
+    → Works policy silent last gets out
+    (λ asks table answer behind freed. IsHelp helps asks table producer answer behind freed × LeavesWriters shared.means table freed)
+    helper old seat stopped left new after
+    → stopped ≡ false
+works_on helps producer never stalls (Done helper old seat new after last) = refl
+works_on helps producer never stalls (Silent helper old seat next moved stopped left new after silent more) = works_on helps producer never stalls more
+works_on helps producer never stalls (Gets helper old seat next moved stopped left new after gets more) = works_on helps producer never stalls more
+works_on helps producer never stalls (Helped helper old seat asking asker helped freed stopped left new after waits out helped_it more) =
+    works_on helps producer never stalls more
+works_on helps producer never stalls (Refused helper old seat asking asker left kept new after waits out helped_it last) =
+    absurd (never stalls helper.help producer left.help helped_it.0.1)
+works_on helps producer never stalls (Lost helper old seat mid between new after drops out last) =
+    absurd (let wrong : Drops ≡ Stalls = sym drops ∙ stalls in cc)
+
+-- ---- what is noted
+
+-- a call is noted for what was asked
+notes_for : (packets : List Packet) (stopped : Bool) (policy : WriterPolicy) (call : Call) → Accepts packets call → (stopped ≡ true → policy ≡ Drops)
+    → NotesFor call (noted_as stopped policy call)
+notes_for packets stopped policy (Begun kept) accepts drops = subst (λ (k : Bool). NotesFor (Begun k) (begun_as stopped policy)) (sym accepts.0) (notes_begun stopped policy drops)
+notes_for packets stopped policy (Number field value) accepts drops = notes_number stopped policy field value
+notes_for packets stopped policy (Bytes field text times) accepts drops = notes_bytes stopped policy field times text
+notes_for packets stopped policy (Nested field) accepts drops = notes_nested stopped policy field
+notes_for packets false policy Ended accepts drops = refl
+notes_for packets true policy Ended accepts drops = subst (λ (p : WriterPolicy). NotesFor Ended (written_as true p Ended)) (sym (drops refl)) refl
+notes_for packets stopped policy GivenUp accepts drops = absurd accepts
+notes_for packets false policy Finished accepts drops = refl
+notes_for packets true policy Finished accepts drops = subst (λ (p : WriterPolicy). NotesFor Finished (written_as true p Finished)) (sym (drops refl)) refl
+notes_for packets false policy Flushed accepts drops = refl
+notes_for packets true policy Flushed accepts drops = subst (λ (p : WriterPolicy). NotesFor Flushed (written_as true p Flushed)) (sym (drops refl)) refl
+
+-- one that didn't stop lost nothing
+kept_by : {A B : Type 0} {stopped : Bool} → A ⊎ (B × (stopped ≡ true)) → stopped ≡ false → A
+kept_by (inl kept) goes = kept
+kept_by (inr lost) goes = absurd (let wrong : true ≡ false = sym lost.1 ∙ goes in cc)
+
+-- and so a call that didn't stop loses no packet
+loses_none : (view new : WriterView) (policy : WriterPolicy) (packets : List Packet) (call : Call) → Accepts packets call
+    → new.calls ≡ view.calls ++ noted_as false policy call → lost_count (packets_of new.calls) ≡ lost_count (packets_of view.calls)
+loses_none view new policy packets (Begun kept) accepts notes = kept_by (begin_loses view new policy false notes) refl
+loses_none view new policy packets (Number field value) accepts notes =
+    kept_by (field_loses view new (Number field value) (with_more (number_field field value)) policy false (λ account. refl) (more_keeps (number_field field value)) notes) refl
+loses_none view new policy packets (Bytes field text times) accepts notes =
+    kept_by (field_loses view new (Bytes field text times) (with_more (bytes_field field text times)) policy false (λ account. refl)
+    (more_keeps (bytes_field field text times)) notes) refl
+loses_none view new policy packets (Nested field) accepts notes =
+    kept_by (field_loses view new (Nested field) (with_nested field) policy false (λ account. refl) (nested_keeps field) notes) refl
+loses_none view new policy packets Ended accepts notes = ended_loses view new notes
+loses_none view new policy packets GivenUp accepts notes = absurd accepts
+loses_none view new policy packets Finished accepts notes = finished_loses view new notes
+loses_none view new policy packets Flushed accepts notes = flushed_loses view new notes
+
+stops_not : (policy : WriterPolicy) (stopped : Bool) → (stopped ≡ true → policy ≡ Drops) → policy ≡ Stalls → stopped ≡ false
+stops_not policy false drops stalls = refl
+stops_not policy true drops stalls = absurd (let wrong : Drops ≡ Stalls = sym (drops refl) ∙ stalls in cc)
+
+-- ---- one call
+
+module _ (table : HostTable) (place : ℕ) (writer : TraceWriter)
+    (writes : Writes table writer) (place_is : (core_of writer).seat.place ≡ place)
+  where
+    -- the spec of a writer of the table is that of its place
+    pub spec_is : (route_of (core_of writer)).spec ≡ spec_at (setup_in table).writers place
+    spec_is =
+        route_is (setup_in table) (core_of writer).seat.place (route_of (core_of writer)) writes.agrees.writes.route
+        ∙ ap (spec_at (setup_in table).writers) place_is
+
+    -- and so is the size of its payloads
+    pub size_here : payload_at (setup_in table) place ≡ (route_of (core_of writer)).payload_size
+    size_here =
+        let route = route_is (setup_in table) (core_of writer).seat.place (route_of (core_of writer)) writes.agrees.writes.route in
+        let has : HasProducer (setup_in table) (producer_of (setup_in table) (core_of writer).seat.place) =
+        subst (HasProducer (setup_in table)) (ap (λ (s : WriterSpec). s.producer) route) writes.agrees.writes.route.producer in
+        ap (payload_at (setup_in table)) (sym place_is)
+        ∙ sym (size_is (setup_in table) (core_of writer).seat.place (view_in writer) (core_of writer).writer writes.agrees table.laid has)
+
+module _ {H : Type 0} (helps : H → ℕ → Bool → H → Type 0) (of_table : H → TableId → Type 0) (table : Bor HostTable) (place : ℕ) (asked coming : List Call)
+    (call : Call) (help : Asks H) (writer : TraceWriter) (core : WriterCore WriterSeat)
+    (going : IsGoing helps of_table table.now place asked (call ∷ coming) help writer) (is : core ≡ core_of writer)
+  where
+    -- the core is asked as the writer is
+    pub core_ready : (later : List Call) × IsReadyFor (route_of core).payload_size (known_by core.seat) (call ∷ later)
+    core_ready = (
+      coming,
+      subst (λ (c : WriterCore WriterSeat). IsReadyFor (route_of c).payload_size (known_by c.seat) (call ∷ coming)) (sym is)
+          (subst (λ (n : ℕ). IsReadyFor n (view_in writer) (call ∷ coming)) (size_here table.now place writer going.writes going.place_is) going.ready),
+    )
+
+    policy_is : (route_of core).spec ≡ spec_at (setup_in table.now).writers place
+    policy_is = ap (λ (c : WriterCore WriterSeat). (route_of c).spec) is ∙ spec_is table.now place writer going.writes going.place_is
+
+    module _ (left : Asks H) (new : Shared) (after : TraceWriter) where
+      -- it never stalls
+      pub never_stalls : IsStalledCall shared.means (MayAsk of_table) (IsHelp helps) call help (lent table) core left new (core_of after) → ⊥
+      never_stalls stalled =
+          let never : NeverRefuses helps (route_of core).spec.policy = subst (λ (s : WriterSpec). NeverRefuses helps s.policy) (sym policy_is) going.never in
+          let wrong : true ≡ false = works_on helps (route_of core).spec.producer never stalled.policy_is stalled.works in
+          absurd cc
+
+      module _ (policy : after.policy ≡ writer.policy) (called : IsCalled shared.means (MayAsk of_table) (IsHelp helps) call help (lent table) core left new (core_of after)) where
+        place_stays : (core_of after).seat.place ≡ (core_of writer).seat.place
+        place_stays = called.others.place_stays ∙ ap (λ (c : WriterCore WriterSeat). c.seat.place) is
+
+        same_table : identity_of new.table.now ≡ identity_of table.now
+        same_table = works_stay helps (route_of core) called.works
+
+        agrees : CoreAgrees (setup_in table.now) (core_of writer).seat.place (view_in after) (core_of after)
+        agrees = subst (λ (c : WriterCore WriterSeat). CoreAgrees (setup_in table.now) c.seat.place (view_in after) (core_of after)) is called.agrees
+
+        same_spec : (route_of (core_of after)).spec ≡ (route_of (core_of writer)).spec
+        same_spec =
+            route_is (setup_in table.now) (core_of writer).seat.place (route_of (core_of after)) agrees.writes.route
+            ∙ sym (route_is (setup_in table.now) (core_of writer).seat.place (route_of (core_of writer)) going.writes.agrees.writes.route)
+
+        writes : Writes table.now after
+        writes = writes_back (lent table) new writer after going.writes policy (ap (λ (s : WriterSpec). s.policy) same_spec) same_table
+            called.others.setup_stays called.others.seat_stays place_stays agrees
+
+        notes : (view_in after).calls ≡ (view_in writer).calls ++ noted_as called.stopped (route_of core).spec.policy call
+        notes = called.notes ∙ ap (λ (c : WriterCore WriterSeat). (known_by c.seat).calls ++ noted_as called.stopped (route_of core).spec.policy call) is
+
+        notes_it : NotesFor call (noted_as called.stopped (route_of core).spec.policy call)
+        notes_it = notes_for (account_of going.ready.asked).packets called.stopped (route_of core).spec.policy call going.ready.accepted.0 called.drops
+
+        whole : (spec_at (setup_in table.now).writers place).policy ≡ Stalls → lost_count (packets_of (view_in after).calls) ≡ 0
+        whole stalls =
+            let goes : called.stopped ≡ false = stops_not (route_of core).spec.policy called.stopped called.drops (ap (λ (s : WriterSpec). s.policy) policy_is ∙ stalls) in
+            loses_none (view_in writer) (view_in after) (route_of core).spec.policy (account_of going.ready.asked).packets call going.ready.accepted.0
+            (subst (λ (b : Bool). (view_in after).calls ≡ (view_in writer).calls ++ noted_as b (route_of core).spec.policy call) goes notes)
+            ∙ going.whole stalls
+
+        -- it goes on behind it
+        pub goes_on : IsGoing helps of_table table.now place (asked ++ call ∷ []) coming left after
+        goes_on = record {
+          writes = writes;
+          place_is = place_stays ∙ going.place_is;
+          going = called.going;
+          lose = loses_more asked (view_in writer) (view_in after) call (noted_as called.stopped (route_of core).spec.policy call) going.lose notes notes_it;
+          whole = whole;
+          ready = ready_behind (payload_at (setup_in table.now) place) (view_in writer) (view_in after) call coming (noted_as called.stopped (route_of core).spec.policy call)
+              going.ready notes notes_it;
+          of_this = subst (of_table left.help) same_table called.needed;
+          never = going.never;
+        }
+
+-- ---- several calls
+
+module _ {H : Type 0} (helps : H → ℕ → Bool → H → Type 0) (of_table : H → TableId → Type 0) (table : HostTable) where
+  pub asked_none : (help : Asks H) (writer : TraceWriter) → WasAsked helps of_table table [] help writer help writer
+  asked_none help writer place asked coming going =
+      subst (λ (cs : List Call). IsGoing helps of_table table place cs coming help writer) (sym (append-nil asked)) going
+
+  pub asked_both : (calls more : List Call) (help mid left : Asks H) (writer between after : TraceWriter)
+      → WasAsked helps of_table table calls help writer mid between → WasAsked helps of_table table more mid between left after
+      → WasAsked helps of_table table (calls ++ more) help writer left after
+  asked_both calls more help mid left writer between after first second place asked coming going =
+      subst (λ (cs : List Call). IsGoing helps of_table table place cs coming left after) (append_assoc asked calls more)
+      (second place (asked ++ calls) coming
+      (first place asked (more ++ coming)
+      (subst (λ (cs : List Call). IsGoing helps of_table table place asked cs help writer) (append_assoc calls more coming) going)))
+
+  -- of a packet's fields the next one is asked for, and then the others
+  pub node_next : (left : List Shown) (one : Shown) (others : List Shown) (help : Asks H) (writer : TraceWriter) → left ≡ one ∷ others
+      → (place : ℕ) (asked coming : List Call) → IsGoing helps of_table table place asked (map node_call left ++ coming) help writer
+      → IsGoing helps of_table table place asked (node_call one ∷ (map node_call others ++ coming)) help writer
+  node_next left one others help writer is place asked coming =
+      subst (λ (nodes : List Shown). IsGoing helps of_table table place asked (map node_call nodes ++ coming) help writer) is
+
+  pub nodes_more : (before : List Shown) (one : Shown) (help mid left : Asks H) (writer between after : TraceWriter)
+      → WasAsked helps of_table table (map node_call before) help writer mid between → WasAsked helps of_table table (node_call one ∷ []) mid between left after
+      → WasAsked helps of_table table (map node_call (before ++ one ∷ [])) help writer left after
+  nodes_more before one help mid left writer between after first second =
+      subst (λ (calls : List Call). WasAsked helps of_table table calls help writer left after) (sym (calls_before before one))
+      (asked_both (map node_call before) (node_call one ∷ []) help mid left writer between after first second)
+
+  -- a packet's fields are asked for behind its begin
+  pub fields_next : (fields : List Call) (help : Asks H) (writer : TraceWriter) (place : ℕ) (asked coming : List Call)
+      → IsGoing helps of_table table place asked ((fields ++ Finished ∷ []) ++ coming) help writer
+      → IsGoing helps of_table table place asked (fields ++ (Finished ∷ coming)) help writer
+  fields_next fields help writer place asked coming =
+      subst (λ (calls : List Call). IsGoing helps of_table table place asked calls help writer) (append_assoc fields (Finished ∷ []) coming)

@@ -1,0 +1,71 @@
+-- The service and the writers of a host, as a run names them and as it leaves them.
+use Rattle.std.proofs.Common.{◌≡◌, ◌∙◌, ℕ, ◌<◌, Option, Some, None, List, ◌++◌, length, take, drop, sym, subst}
+use Rattle.std.specs.Prelude.{IsSomeAnd, slice_index_or}
+use Rattle.std.proofs.Math.Seq.{take-append_seam}
+use Rattle.std.proofs.lemmas.Option.{slice_get-get_or, slice_get_within, get_or_from_slice_get}
+use Rattle.chunk_plain.specs.Setup.{Setup}
+use Rattle.chunk_words.specs.declared.host.HostTable.{HostTable}
+use Rattle.chunk_words.specs.Named.{identity_of}
+use Rattle.chunk_words.specs.Seats.{Waits}
+use Rattle.chunk_words.specs.Sits.{setup_in}
+use Rattle.scenario_text.specs.declared.scenario.NumberedLine.{NumberedLine}
+use Rattle.service_core.specs.Agreement.{ServiceAgrees}
+use Rattle.service_core.specs.Scraping.{TakesAndScrapes}
+use Rattle.service_core.specs.Taking.{Takes, places_of}
+use Rattle.replay_host.proofs.ScrapedLemmas.{scrapes_own}
+use Rattle.replay_host.proofs.TakenLemmas.{takes_own}
+use Rattle.thread_service.specs.declared.service.Service.{Service}
+use Rattle.thread_service.specs.Serving as serving
+use Rattle.thread_service.specs.Serving.{Serves}
+use Rattle.thread_writer.specs.declared.writer.TraceWriter.{TraceWriter}
+use Rattle.thread_host.specs.Hosts.{IsReady, HasPlayed, AreReady, HavePlayed}
+use Rattle.thread_host.specs.Keeping.{HasOwn, ServesNamed}
+
+-- a service serves by what the table's seats know of it
+pub serves_named : (table : HostTable) (service : Service) → Serves table service → ServesNamed (identity_of table) (setup_in table) service
+serves_named table service serves other named = record {
+  attends = record {
+    joined = serves.attends.joined ∙ sym named.identity;
+    waits = subst (λ (s : Setup). Waits s service.core.seat.seat.me) (sym named.setup_is) serves.attends.waits;
+  };
+  agrees = subst (λ (s : Setup). ServiceAgrees s (serving.view_in service) service.core) (sym named.setup_is) serves.agrees;
+}
+
+-- no image comes by a commit where chunks are taken
+pub collect_own : (setup : Setup) (producer taken : ℕ) (old new : Service)
+    → Takes setup (places_of producer 0 setup.writers) taken (serving.view_in old) (serving.view_in new) → HasOwn old → HasOwn new
+collect_own setup producer taken old new takes own =
+    takes_own setup (places_of producer 0 setup.writers) taken (serving.view_in old) (serving.view_in new) takes ∙ own
+
+pub scrape_own : (setup : Setup) (producer taken : ℕ) (old new : Service)
+    → TakesAndScrapes setup producer taken (serving.view_in old) (serving.view_in new) → HasOwn old → HasOwn new
+scrape_own setup producer taken old new scrapes own = scrapes_own setup producer taken (serving.view_in old) (serving.view_in new) scrapes ∙ own
+
+-- writers by their place
+pub ready_each : (lines : List NumberedLine) (table : HostTable) (writers : List TraceWriter) → AreReady lines table writers
+    → (place : ℕ) (any : TraceWriter) → place < length writers → IsReady lines table place (slice_index_or writers place any)
+ready_each lines table writers ready place any below =
+    ready.each place (slice_index_or writers place any) (slice_get-get_or writers place any below)
+
+pub all_played : (lines : List NumberedLine) (table : HostTable) (writers : List TraceWriter) → length writers ≡ length (setup_in table).writers
+    → ((place : ℕ) (any : TraceWriter) → place < length writers → HasPlayed lines table place (slice_index_or writers place any))
+    → HavePlayed lines table writers
+all_played lines table writers many each = record {
+  many = many;
+  each = λ place writer there.
+      subst (HasPlayed lines table place) (get_or_from_slice_get writers place writer writer there)
+      (each place writer (slice_get_within writers place writer there));
+}
+
+-- ---- what is away for a while
+
+-- what is held of the one that is there
+pub held_of : {A : Type 0} (P : A → Type 0) (o : Option A) (one : A) → IsSomeAnd o P → o ≡ Some one → P one
+held_of P o one holds is = subst (λ other. IsSomeAnd other P) is holds
+
+pub never_none : {A : Type 0} (P : A → Type 0) (o : Option A) → IsSomeAnd o P → o ≡ None → ⊥
+never_none P o holds is = subst (λ other. IsSomeAnd other P) is holds
+
+-- what a slice of the whole list was lent for comes back as the list
+pub given_back : {A : Type 0} (new old : List A) (n : ℕ) → length new ≡ n → take n (new ++ drop (length new) old) ≡ new
+given_back new old n many = subst (λ count. take count (new ++ drop (length new) old) ≡ new) many (take-append_seam new (drop (length new) old))

@@ -1,0 +1,118 @@
+-- A writer before its first line, and behind the flush that ends its job.
+use Rattle.std.proofs.Common.{◌≡◌, ◌∙◌, ℕ, suc, Bool, true, false, not, List, [], ◌∷◌, ◌++◌, length, refl, sym, ap, subst, arith, append-nil}
+use Rattle.std.specs.Borrow.{Bor}
+use Rattle.atomic_table.specs.Seated.{TableId}
+use Rattle.trace_base.specs.declared.policy.WriterPolicy.TheVariants.{Drops, Stalls}
+use Rattle.trace_base.specs.declared.policy.WriterSpec.{WriterSpec}
+use Rattle.trace_model.specs.Calls.{Flushed}
+use Rattle.trace_model.specs.Packets.{packets_of}
+use Rattle.model_laws.specs.ChunkCounts.{lost_count}
+use Rattle.model_laws.specs.Losses.{Loses, written_calls}
+use Rattle.chunk_plain.specs.Owned.{held_count}
+use Rattle.chunk_plain.specs.Setup.{Setup}
+use Rattle.chunk_plain.specs.Views.{WriterView}
+use Rattle.chunk_words.specs.declared.host.HostTable.{HostTable}
+use Rattle.chunk_words.specs.Sits.{setup_in}
+use Rattle.trace_writer.specs.declared.state.State.{State}
+use Rattle.trace_writer.specs.declared.state.State.TheVariants.{Idle, Between, Writing, Dropping, Stalled}
+use Rattle.trace_writer.specs.declared.state.Writer.{Writer}
+use Rattle.trace_writer.specs.Agreement.{Agrees}
+use Rattle.trace_writer.specs.Core.{WriterAgrees, in_packet, holds_chunk, route_of}
+use Rattle.trace_writer.specs.Empty.{is_empty}
+use Rattle.trace_writer.specs.Outcomes.{held_images}
+use Rattle.trace_writer.proofs.Possible.{flushed_loses}
+use Rattle.scenario_text.specs.declared.scenario.NumberedLine.{NumberedLine}
+use Rattle.scenario_text.specs.Accepted.{calls_asked}
+use Rattle.service_core.specs.Agreement.{spec_at}
+use Rattle.replay_model.proofs.ScrapedLemmas.{counted}
+use Rattle.replay_host.proofs.ReadyLemmas.{between_is, written_append}
+use Rattle.replay_host.proofs.WroteLemmas.{begun_many}
+use Rattle.thread_writer.specs.declared.helper.Asks.{Asks}
+use Rattle.thread_writer.specs.declared.writer.TraceWriter.{TraceWriter}
+use Rattle.thread_writer.specs.Lent.{identity_of, lent}
+use Rattle.thread_writer.specs.Writing.{core_of, view_in, Writes, IsQuietCall}
+use Rattle.thread_host.specs.Hosts.{IsReady, HasPlayed}
+use Rattle.thread_host.specs.Playing.{NeverRefuses, IsGoing}
+use Rattle.thread_host.proofs.Going.{spec_is}
+
+-- ---- before its first line
+
+-- no helper refuses a writer that drops
+pub drops_never : {H : Type 0} (helps : H → ℕ → Bool → H → Type 0) (lines : List NumberedLine) (table : HostTable) (place : ℕ) (writer : TraceWriter)
+    → IsReady lines table place writer → (route_of (core_of writer)).spec.policy ≡ Drops → NeverRefuses helps (spec_at (setup_in table).writers place).policy
+drops_never helps lines table place writer ready drops stalls =
+    let spec = spec_is table place writer ready.writes ready.place_is in
+    absurd (let wrong : Drops ≡ Stalls = sym drops ∙ ap (λ (s : WriterSpec). s.policy) spec ∙ stalls in cc)
+
+-- with a helper that never refuses it, it plays its lines
+pub begins : {H : Type 0} (helps : H → ℕ → Bool → H → Type 0) (of_table : H → TableId → Type 0) (lines : List NumberedLine) (table : HostTable) (place number : ℕ)
+    (help : Asks H) (writer : TraceWriter) → number ≡ suc place → IsReady lines table place writer → of_table help.help (identity_of table)
+    → NeverRefuses helps (spec_at (setup_in table).writers place).policy
+    → IsGoing helps of_table table place [] (calls_asked number lines ++ Flushed ∷ []) help writer
+begins helps of_table lines table place number help writer is ready of_this never = record {
+  writes = ready.writes;
+  place_is = ready.place_is;
+  going = ready.going;
+  lose = ap (λ (view : WriterView). written_calls view.calls) ready.fresh;
+  whole = λ stalls. ap (λ (view : WriterView). lost_count (packets_of view.calls)) ready.fresh;
+  ready = rw is ready.ready;
+  of_this = of_this;
+  never = never;
+}
+
+-- ---- behind the flush
+
+no_images : (place : ℕ) (state : State) → not (is_empty state) ≡ false → length (held_images place state) ≡ 0
+no_images place (Idle next_id) none = refl
+no_images place (Between chunk) none = absurd (let wrong : true ≡ false = none in cc)
+no_images place (Writing fragment) none = absurd (let wrong : true ≡ false = none in cc)
+no_images place (Dropping next_id) none = refl
+no_images place (Stalled next_id) none = refl
+
+none_held : (setup : Setup) (place : ℕ) (view : WriterView) (writer : Writer) → Agrees setup place view writer → not (is_empty writer.state) ≡ false
+    → held_count view.begun ≡ 0
+none_held setup place view writer agrees none =
+    let many = begun_many setup place view writer agrees writer.state refl in
+    let all = counted view.begun in
+    let images = no_images place writer.state none in
+    omega (arith, many, all, images)
+
+module _ {H : Type 0} (helps : H → ℕ → Bool → H → Type 0) (of_table : H → TableId → Type 0) (lines : List NumberedLine) (table : Bor HostTable) (place number : ℕ)
+    (help : Asks H) (writer : TraceWriter) (going : IsGoing helps of_table table.now place (calls_asked number lines) (Flushed ∷ []) help writer)
+  where
+    -- it is between two packets
+    pub between_now : in_packet (view_in writer) ≡ false
+    between_now = between_is going.ready.asked (view_in writer) going.ready.loses going.ready.accepted.0
+
+    module _ (after : TraceWriter) (is : number ≡ suc place) (writes : Writes table.now after)
+        (flushed : IsQuietCall (lent table) (core_of writer) (core_of after) (Flushed ∷ []))
+        (none_held_now : holds_chunk (core_of after) ≡ false) (none_begun : in_packet (view_in after) ≡ false)
+      where
+        notes : (view_in after).calls ≡ (view_in writer).calls ++ Flushed ∷ []
+        notes = flushed.notes going.going
+
+        lose : Loses (calls_asked number lines) (view_in after).calls
+        lose =
+            ap written_calls notes ∙ written_append (view_in writer).calls (Flushed ∷ [])
+            ∙ append-nil (written_calls (view_in writer).calls) ∙ going.lose
+
+        place_is : (core_of after).seat.place ≡ place
+        place_is = flushed.quiet.step.place_stays ∙ going.place_is
+
+        -- it has done its lines
+        pub has_played : HasPlayed lines table.now place after
+        has_played = record {
+          writes = writes;
+          place_is = place_is;
+          done = record {
+            between = record {
+              writer = (core_of after).writer;
+              agrees = subst (λ (p : ℕ). WriterAgrees (setup_in table.now) p (view_in after) (core_of after).writer) place_is writes.agrees;
+            };
+            lose = subst (λ (n : ℕ). Loses (calls_asked n lines) (view_in after).calls) is lose;
+            stalls = λ stalls. flushed_loses (view_in writer) (view_in after) notes ∙ going.whole stalls;
+            none_held = none_held (setup_in table.now) (core_of after).seat.place (view_in after) (core_of after).writer writes.agrees.writes none_held_now;
+          };
+          none_begun = none_begun;
+          none_held = none_held_now;
+        }

@@ -1,0 +1,40 @@
+-- One buffer is read behind another.
+use Rattle.std.proofs.Common.{◌≡◌, ◌∙◌, suc, ◌+◌, refl, arith}
+use Rattle.chunk_words.specs.Sits.{setup_in, known_by_pass}
+use Rattle.service_core.specs.Agreement.{first_of}
+use Rattle.service_core.proofs.AgreeLemmas.{first_stays, keeps_same, keeps_both}
+use Rattle.thread_service.specs.Serving.{core_of, view_in}
+use Rattle.thread_host.proofs.Closing.{out_none, out_more}
+use Rattle.thread_host.proofs.finishing.read_all.Goals as goal
+
+pub buffers-init : goal.buffers-init
+buffers-init g c =
+    let setup = setup_in c.args.table.now in
+    record {
+      serves = c.requires.serves;
+      pass = c.requires.pass;
+      known = c.requires.known;
+      keeps = keeps_same setup (core_of c.args.service.now);
+      reads = out_none setup (first_of setup (core_of c.args.service.now)) (view_in c.args.service.now) (known_by_pass c.args.pass.now) (g.T.Sink.taken c.args.out.now);
+      steady = refl;
+    }
+
+pub buffers-preserved : goal.buffers-preserved
+buffers-preserved g c =
+    let setup = setup_in c.args.table.now in
+    let i = c.buffers.invariant in
+    let ok = c.in_ok-read_passing.ensures in
+    let core = core_of c.buffers.service in
+    let start = core_of c.args.service.now in
+    record {
+      serves = ok.serves;
+      pass = ok.pass;
+      known = ok.known;
+      keeps = keeps_both setup start core (core_of c.read_passing.new.self) i.keeps ok.keeps;
+      reads = out_more setup core (first_of setup start) c.buffers.index (c.buffers.index + 1) _ (view_in c.args.service.now) (view_in c.buffers.service)
+          (view_in c.read_passing.new.self) (known_by_pass c.args.pass.now) (known_by_pass c.buffers.pass) (known_by_pass c.read_passing.new.pass)
+          (g.T.Sink.taken c.args.out.now) (g.T.Sink.taken c.buffers.out) (g.T.Sink.taken c.read_passing.new.out)
+          (let more : c.buffers.index + 1 ≡ suc c.buffers.index = omega arith in more)
+          (first_stays setup start core i.keeps.fields) i.serves.agrees.buffers i.reads ok.reads ok.passes;
+      steady = ok.count ∙ i.steady;
+    }

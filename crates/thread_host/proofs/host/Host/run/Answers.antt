@@ -1,0 +1,47 @@
+-- The service is there, and comes back as what the lock's type says of it.
+use Rattle.std.proofs.Common.{◌≡◌, ◌∙◌, ℕ, ◌<◌, List, length, sym, ap, subst}
+use Rattle.std.specs.Prelude.{slice_index_or}
+use Rattle.scenario_text.specs.Scenario.{parts_of}
+use Rattle.thread_writer.specs.declared.writer.TraceWriter.{TraceWriter}
+use Rattle.thread_host.specs.Hosts.{IsReady, IsServed, HavePlayed}
+use Rattle.thread_host.proofs.Hosting.{all_played, given_back, held_of, never_none, ready_each, serves_named}
+use Rattle.thread_host.proofs.host.Host.run.Goals as goal
+
+pub unreachable-requires : goal.unreachable-requires
+unreachable-requires g c =
+    never_none (IsServed (parts_of c.args.scenario.now) c.args.self.now.table) c.args.self.now.service c.requires.host.served
+    (sym c.take.ensures.value ∙ c.in_default.is)
+
+pub run_named-service-requires-clause-serves : goal.run_named-service-requires-clause-serves
+run_named-service-requires-clause-serves g c κs within =
+    let served = held_of (IsServed (parts_of c.args.scenario.now) c.args.self.now.table) c.args.self.now.service c.in-Some.service c.requires.host.served
+    (sym c.take.ensures.value ∙ c.in-Some.is) in
+    serves_named c.args.self.now.table c.in-Some.service served.serves
+
+pub run_named-service-requires-clause-open : goal.run_named-service-requires-clause-open
+run_named-service-requires-clause-open g c κs within =
+    (held_of (IsServed (parts_of c.args.scenario.now) c.args.self.now.table) c.args.self.now.service c.in-Some.service c.requires.host.served
+    (sym c.take.ensures.value ∙ c.in-Some.is)).opened
+
+pub run_named-service-requires-clause-own : goal.run_named-service-requires-clause-own
+run_named-service-requires-clause-own g c κs within =
+    (held_of (IsServed (parts_of c.args.scenario.now) c.args.self.now.table) c.args.self.now.service c.in-Some.service c.requires.host.served
+    (sym c.take.ensures.value ∙ c.in-Some.is)).own
+
+pub run_named-service-requires-clause-ready : goal.run_named-service-requires-clause-ready
+run_named-service-requires-clause-ready g c κs within =
+    let lines = c.args.scenario.now.lines in
+    let table = c.args.self.now.table in
+    subst (λ (ws : List TraceWriter). (place : ℕ) (any : TraceWriter) → place < length ws → IsReady lines table place (slice_index_or ws place any))
+    (sym c.as_mut_slice.ensures.value) (ready_each lines table c.args.writers.now.items c.requires.writers)
+
+pub returns-clause-played : goal.returns-clause-played
+returns-clause-played g c =
+    let lines = c.args.scenario.now.lines in
+    let table = c.args.self.now.table in
+    let new : List TraceWriter = c.run_named-service.new.writers in
+    let lent : length new ≡ length c.as_mut_slice.result.now = c.run_named-service.auto.writers in
+    let whole : length c.as_mut_slice.result.now ≡ length c.args.writers.now.items = ap (λ (ws : List TraceWriter). length ws) c.as_mut_slice.ensures.value in
+    subst (HavePlayed lines table) (sym (given_back new c.args.writers.now.items c.args.writers.now.len (lent ∙ c.as_mut_slice.ensures.len)))
+    (all_played lines table new (lent ∙ whole ∙ c.requires.writers.many)
+    (λ place any below. c.run_named-service.ensures.played place any (subst (λ (n : ℕ). place < n) lent below)))

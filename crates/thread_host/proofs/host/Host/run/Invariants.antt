@@ -1,0 +1,13 @@
+-- The table of the host, and the buffers of its service as they were made.
+use Rattle.chunk_words.specs.Named.{identity_of}
+use Rattle.chunk_words.specs.Sits.{setup_in}
+use Rattle.service_core.specs.Agreement.{first_of}
+use Rattle.thread_service.specs.Serving.{core_of}
+use Rattle.thread_host.proofs.host.Host.run.Given as goal
+
+abbrev pub ghosts-run_named : goal.ghosts-run_named
+ghosts-run_named g a = record {
+  table = identity_of a.table.now;
+  setup = setup_in a.table.now;
+  first = first_of (setup_in a.table.now) (core_of a.service);
+}

@@ -1,0 +1,26 @@
+-- The writers before this one have left their seats, and the service has heard of them.
+use Rattle.std.proofs.Common.{◌≡◌, ◌≤◌, List, ◌++◌, length}
+use Rattle.std.specs.Prelude.{vec_capacity}
+use Rattle.chunk_words.specs.Sits.{setup_in}
+use Rattle.scenario_text.specs.declared.scenario.NumberedLine.{NumberedLine}
+use Rattle.thread_service.specs.Serving as serving
+use Rattle.thread_service.specs.Serving.{Serves, IsOnlySeat}
+use Rattle.thread_writer.specs.declared.writer.TraceWriter.{TraceWriter}
+use Rattle.thread_host.specs.Ending.{AreDoneSeats, HasHeardAll}
+use Rattle.thread_host.specs.Hosts.{HavePlayed}
+use Rattle.thread_host.proofs.settled.end_writers.Given as goal
+
+abbrev pub invariant-writers : goal.invariant-writers
+invariant-writers l = record {
+  gone : List TraceWriter;
+  all : gone ++ l.left.items ≡ l.fn.writers.items;
+  many : length gone ≡ l.place;
+  seats_many : length l.seats.items ≡ l.place;
+  room : length (setup_in l.table).writers ≤ vec_capacity l.seats;
+  sequences : length l.sequences ≡ length (setup_in l.table).writers;
+  serves : Serves l.table l.service;
+  view : serving.view_in l.service ≡ serving.view_in l.fn.service;
+  only : IsOnlySeat (serving.core_of l.fn.service) (serving.core_of l.service);
+  heard : HasHeardAll (length (serving.view_in l.service).looks) (serving.desk_in l.service) l.seats.items;
+  ended : (lines : List NumberedLine) → HavePlayed lines l.table l.fn.writers.items → AreDoneSeats lines l.table l.seats.items l.sequences;
+}

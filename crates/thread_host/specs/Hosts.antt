@@ -1,0 +1,102 @@
+-- What runs a scenario on threads, before its threads begin, once they are done, and once all is settled.
+use Rattle.std.specs.Prelude.{◌≡◌, ℕ, suc, ◌≤◌, false, List, [], ◌∷◌, ◌++◌, length, Some, IsSomeAnd, slice_get, vec_len, vec_capacity}
+use Rattle.trace_base.specs.declared.limits.TheConstants.{MAX_BUFFERS}
+use Rattle.trace_model.specs.Calls.{Flushed}
+use Rattle.chunk_plain.specs.Views.{newcomer}
+use Rattle.chunk_words.specs.declared.host.HostTable.{HostTable}
+use Rattle.chunk_words.specs.Sits.{Passes, setup_in, known_by_pass}
+use Rattle.world_model.specs.FirstBuffers.{payload_at}
+use Rattle.trace_writer.specs.Core.{in_packet, holds_chunk, is_stalled}
+use Rattle.scenario_text.specs.declared.scenario.NumberedLine.{NumberedLine}
+use Rattle.scenario_text.specs.Scenario.{Parts}
+use Rattle.scenario_text.specs.Accepted.{calls_asked, is_closed_by}
+use Rattle.service_core.specs.Agreement.{first_of}
+use Rattle.replay_model.specs.Played.{IsSetupOf, buffers_of}
+use Rattle.replay_host.specs.Asking.{IsReadyFor}
+use Rattle.run_model.specs.Settled.{HasDoneLines}
+use Rattle.thread_service.specs.declared.service.Service.{Service}
+use Rattle.thread_service.specs.Reading.{IsKnownWhole}
+use Rattle.thread_service.specs.Serving as serving
+use Rattle.thread_service.specs.Serving.{Serves}
+use Rattle.thread_writer.specs.declared.writer.TraceWriter.{TraceWriter}
+use Rattle.thread_writer.specs.Writing.{core_of, view_in, Writes}
+use Rattle.thread_host.specs.Keeping.{AllOpen}
+use Rattle.thread_host.specs.Ending.{AreDoneSeats, AreTakenOut}
+use Rattle.thread_host.specs.declared.host.Host.{Host}
+use Rattle.thread_host.specs.declared.settled.Settled.{Settled}
+
+-- ---- a writer
+
+-- The writer has this place at the table, nothing was asked of it, and it accepts what the lines ask of it, and then a flush.
+pub record IsReady (lines : List NumberedLine) (table : HostTable) (place : ℕ) (writer : TraceWriter) : Type 0 where
+  pub writes : Writes table writer
+  pub place_is : (core_of writer).seat.place ≡ place
+  pub fresh : view_in writer ≡ newcomer
+  pub going : is_stalled (core_of writer) ≡ false
+  pub ready : IsReadyFor (payload_at (setup_in table) place) (view_in writer) (calls_asked (suc place) lines ++ Flushed ∷ [])
+
+-- It has done its lines and flushed: no packet is begun, and no chunk is held.
+pub record HasPlayed (lines : List NumberedLine) (table : HostTable) (place : ℕ) (writer : TraceWriter) : Type 0 where
+  pub writes : Writes table writer
+  pub place_is : (core_of writer).seat.place ≡ place
+  pub done : HasDoneLines (setup_in table) lines place (view_in writer)
+  pub none_begun : in_packet (view_in writer) ≡ false
+  pub none_held : holds_chunk (core_of writer) ≡ false
+
+-- the writers of the table, in their order, of which nothing was asked
+pub record AreReady (lines : List NumberedLine) (table : HostTable) (writers : List TraceWriter) : Type 0 where
+  pub many : length writers ≡ length (setup_in table).writers
+  pub each : (place : ℕ) (writer : TraceWriter) → slice_get writers place ≡ Some writer → IsReady lines table place writer
+
+-- and which have done their lines
+pub record HavePlayed (lines : List NumberedLine) (table : HostTable) (writers : List TraceWriter) : Type 0 where
+  pub many : length writers ≡ length (setup_in table).writers
+  pub each : (place : ℕ) (writer : TraceWriter) → slice_get writers place ≡ Some writer → HasPlayed lines table place writer
+
+-- no line closes a producer
+abbrev pub ClosesNone : List NumberedLine → Type 0
+ClosesNone lines = (producer : ℕ) → is_closed_by lines producer ≡ false
+
+-- ---- the service
+
+-- The service is one of the table, with the scenario's buffers. No sequence is closed, and no image came by a commit.
+pub record IsServed (scenario : Parts) (table : HostTable) (service : Service) : Type 0 where
+  pub serves : Serves table service
+  pub opened : AllOpen (setup_in table) service
+  pub began : first_of (setup_in table) (serving.core_of service) ≡ buffers_of scenario (setup_in table)
+  pub own : (serving.view_in service).commits ≡ []
+
+-- ---- the host
+
+-- The host of a scenario: its table is laid out for it, its service is there and serves it, and it has the reading pass. There is room for the seats of its
+-- writers and for the counts of its report.
+pub record IsHost (scenario : Parts) (host : Host) : Type 0 where
+  pub laid : IsSetupOf scenario (setup_in host.table)
+  pub specs : host.specs.items ≡ (setup_in host.table).writers
+  pub producers : host.producers ≡ length (setup_in host.table).ranges
+  pub served : IsSomeAnd host.service (IsServed scenario host.table)
+  pub pass : Passes host.table host.pass
+  pub known : IsKnownWhole (known_by_pass host.pass)
+  pub no_seats : host.seats.items ≡ []
+  pub room : length (setup_in host.table).writers ≤ vec_capacity host.seats
+  pub few_buffers : length scenario.buffers ≤ MAX_BUFFERS
+  pub buffers : vec_len host.counts.buffers ≡ length scenario.buffers
+  pub sequences : vec_len host.counts.sequences ≡ length scenario.writers
+  pub flushes : host.counts.flushes.items ≡ []
+
+-- ---- all settled
+
+-- The writers have done their lines, and all that they completed was taken. Their seats are there, in their order, and with each what its writer counted.
+pub record IsSettled (scenario : Parts) (settled : Settled) : Type 0 where
+  pub laid : IsSetupOf scenario (setup_in settled.table)
+  pub producers : settled.producers ≡ length (setup_in settled.table).ranges
+  pub served : IsServed scenario settled.table settled.service
+  pub many : length settled.seats.items ≡ length (setup_in settled.table).writers
+  pub done : AreDoneSeats scenario.lines settled.table settled.seats.items settled.counts.sequences.items
+  pub taken : AreTakenOut (serving.view_in settled.service) settled.seats.items
+  pub pass : Passes settled.table settled.pass
+  pub known : IsKnownWhole (known_by_pass settled.pass)
+  pub few_buffers : length scenario.buffers ≤ MAX_BUFFERS
+  pub buffers : vec_len settled.counts.buffers ≡ length scenario.buffers
+  pub sequences : vec_len settled.counts.sequences ≡ length scenario.writers
+  pub flushes : settled.counts.flushes.items ≡ []

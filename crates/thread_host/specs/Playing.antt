@@ -1,0 +1,78 @@
+-- A writer of threads while it plays its lines: what it was asked for, and what is still to come.
+use Rattle.std.specs.Prelude.{◌≡◌, ℕ, ◌==◌, Bool, true, false, List, [], ◌∷◌, ◌++◌, map}
+use Rattle.atomic_table.specs.Seated.{TableId}
+use Rattle.trace_base.specs.declared.policy.WriterPolicy.{WriterPolicy}
+use Rattle.trace_base.specs.declared.policy.WriterPolicy.TheVariants.{Stalls}
+use Rattle.trace_model.specs.Calls as call
+use Rattle.trace_model.specs.Calls.{Call}
+use Rattle.trace_model.specs.Packets.{packets_of}
+use Rattle.model_laws.specs.ChunkCounts.{lost_count}
+use Rattle.model_laws.specs.Losses.{Loses}
+use Rattle.chunk_words.specs.declared.host.HostTable.{HostTable}
+use Rattle.chunk_words.specs.Sits.{setup_in}
+use Rattle.world_model.specs.FirstBuffers.{payload_at}
+use Rattle.trace_writer.specs.Core.{is_stalled}
+use Rattle.scenario_text.specs.declared.scenario.LineKind.{LineKind}
+use Rattle.scenario_text.specs.declared.scenario.LineKind.TheVariants as line
+use Rattle.scenario_text.specs.Accepted.{node_call}
+use Rattle.service_core.specs.Agreement.{spec_at}
+use Rattle.replay_host.specs.Asking.{IsReadyFor}
+use Rattle.thread_writer.specs.declared.helper.Asks.{Asks}
+use Rattle.thread_writer.specs.declared.writer.TraceWriter.{TraceWriter}
+use Rattle.thread_writer.specs.Lent.{identity_of}
+use Rattle.thread_writer.specs.Writing.{core_of, view_in, Writes}
+
+-- ---- lines
+
+-- the line is one of the writer with this number
+abbrev pub is_of : ℕ → LineKind → Bool
+is_of number (line.Packet writer fields) = number == writer
+is_of number (line.Begin writer) = number == writer
+is_of number (line.Add writer fields) = number == writer
+is_of number (line.Nest writer field) = number == writer
+is_of number (line.Unnest writer) = number == writer
+is_of number (line.End writer) = number == writer
+is_of number (line.Flush writer) = number == writer
+is_of number other = false
+
+-- the calls that a line asks of the writer that it names
+abbrev pub calls_in : LineKind → List Call
+calls_in (line.Packet writer fields) = call.Begun true ∷ map node_call fields ++ call.Finished ∷ []
+calls_in (line.Begin writer) = call.Begun true ∷ []
+calls_in (line.Add writer fields) = map node_call fields
+calls_in (line.Nest writer field) = call.Nested field ∷ []
+calls_in (line.Unnest writer) = call.Ended ∷ []
+calls_in (line.End writer) = call.Finished ∷ []
+calls_in (line.Flush writer) = call.Flushed ∷ []
+calls_in other = []
+
+-- ---- a writer
+
+-- Whoever asks such a helper for a writer of this policy is never told that nothing came free. A writer that drops asks nobody.
+abbrev pub NeverRefuses : {H : Type 0} → (H → ℕ → Bool → H → Type 0) → WriterPolicy → Type 0
+NeverRefuses {H} helps policy = policy ≡ Stalls → (helper : H) (producer : ℕ) (after : H) → helps helper producer false after → ⊥
+
+-- The writer at this place has noted what was asked of it, with packets lost; one that stalls has lost none. It isn't stalled, it accepts what is to
+-- come, and it has a helper of its table, which never refuses it.
+pub record IsGoing {H : Type 0} (helps : H → ℕ → Bool → H → Type 0) (of_table : H → TableId → Type 0) (table : HostTable) (place : ℕ)
+    (asked coming : List Call) (help : Asks H) (writer : TraceWriter) : Type 0 where
+  pub writes : Writes table writer
+  pub place_is : (core_of writer).seat.place ≡ place
+  pub going : is_stalled (core_of writer) ≡ false
+  pub lose : Loses asked (view_in writer).calls
+  pub whole : (spec_at (setup_in table).writers place).policy ≡ Stalls → lost_count (packets_of (view_in writer).calls) ≡ 0
+  pub ready : IsReadyFor (payload_at (setup_in table) place) (view_in writer) coming
+  pub of_this : of_table help.help (identity_of table)
+  pub never : NeverRefuses helps (spec_at (setup_in table).writers place).policy
+
+-- The writer is going, and these calls come next.
+abbrev pub MayBeAsked : {H : Type 0} → (H → ℕ → Bool → H → Type 0) → (H → TableId → Type 0) → HostTable → List Call → Asks H → TraceWriter → Type 0
+MayBeAsked helps of_table table calls help writer =
+    (place : ℕ) × (asked coming : List Call) × IsGoing helps of_table table place asked (calls ++ coming) help writer
+
+-- The writer was asked for these calls: where it was going, and they came next, it is going still, and what came behind them comes next.
+abbrev pub WasAsked : {H : Type 0} → (H → ℕ → Bool → H → Type 0) → (H → TableId → Type 0) → HostTable → List Call
+    → Asks H → TraceWriter → Asks H → TraceWriter → Type 0
+WasAsked helps of_table table calls help writer left after =
+    (place : ℕ) (asked coming : List Call) → IsGoing helps of_table table place asked (calls ++ coming) help writer
+    → IsGoing helps of_table table place (asked ++ calls) coming left after

@@ -1,0 +1,107 @@
+//! What runs a scenario on threads.
+ghost use Rattle.std.specs.Prelude.{◌≡◌, [], IfOk, OnOk};
+ghost use Rattle.byte_io.specs.Bytes.{CountsFaults};
+ghost use Rattle.chunk_words.specs.Sits.{setup_in, known_by_pass};
+ghost use Rattle.scenario_text.specs.Scenario.{IsScenario, parts_of};
+ghost use Rattle.replay_model.specs.Played.{buffers_of};
+ghost use Rattle.thread_host.specs.Hosts.{IsHost, AreReady, HavePlayed, ClosesNone};
+ghost use Rattle.thread_host.specs.Jobs.{TellsLines};
+
+use crate::making::fill_writers;
+use crate::running::run_named;
+use byte_io::put::WriteFault;
+use byte_io::traits::{Gate, Sink};
+use chunk_words::{HostTable, ReadPass, WriterSeat};
+use loss_report::Done;
+use replay_host::{buffer_specs, make_done, producer_specs};
+use scenario_text::Scenario;
+use std::alloc::{AllocError, Global};
+use std::marker::Brand;
+use std::sync::Wait;
+use std::thread::Threads;
+use thread_service::Service;
+use thread_writer::TraceWriter;
+use trace_base::policy::WriterSpec;
+
+/// A table of chunks that threads share, its service with the reading pass, and room for what comes
+/// behind a run. The service is away only while a run goes on.
+pub struct Host {
+    pub(crate) table: HostTable,
+    pub(crate) service: Option<Service>,
+    pub(crate) pass: ReadPass,
+    pub(crate) specs: Vec<WriterSpec>,
+    /// How many producers there are.
+    pub(crate) producers: u16,
+    pub(crate) seats: Vec<WriterSeat>,
+    pub(crate) counts: Done,
+}
+
+impl Host {
+    /// What runs the scenario, with its writers, of which nothing was asked. All memory that a run ever
+    /// needs is taken here.
+    pub fn make(alloc: Global, scenario: &Scenario) -> Result<(Host, Vec<TraceWriter>), AllocError>
+        requires scenario { IsScenario scenario.now }
+        requires closes { ClosesNone scenario.now.lines }
+        ensures host { IfOk result (λ made. IsHost (parts_of scenario.now) made.0) }
+        ensures writers { IfOk result (λ made. AreReady scenario.now.lines made.0.table made.1.items) }
+        ensures unread { IfOk result (λ made. (known_by_pass made.0.pass).events ≡ []) }
+    {
+        let producers = producer_specs(alloc, &scenario.producers)?;
+        let buffers = buffer_specs(alloc, &scenario.buffers)?;
+        let (table, given, mut seat) = HostTable::make(alloc, &producers, &scenario.writers)?;
+        let pass = table.pass(&mut seat);
+        let service = Service::make(alloc, &buffers, &producers, &scenario.writers, seat)?;
+        let counts = make_done(alloc, scenario.buffers.len(), scenario.writers.len())?;
+        let specs = scenario.writers.as_slice().to_vec(alloc)?;
+        let seats = Vec::with_capacity(alloc, specs.len())?;
+        // A writer has to be ended, so it is made once nothing can fail any more.
+        let mut writers = Vec::with_capacity(alloc, specs.len())?;
+        fill_writers(&mut writers, &table, given, &specs, &producers);
+        let host = Host {
+            table,
+            service: Some(service),
+            pass,
+            specs,
+            producers: scenario.producers.len() as u16,
+            seats,
+            counts,
+        };
+        Ok((host, writers))
+    }
+
+    /// Runs the scenario: each writer plays its lines on a thread of its own, beside the service's own
+    /// lines. The sink takes the records of the reads. After a write fault the service plays no more.
+    pub fn run<R: Threads + Wait + Sync, T: Sink + Send, G: Gate + Sync>(
+        &mut self,
+        rt: &R,
+        scenario: &Scenario,
+        writers: &mut Vec<TraceWriter>,
+        out: &mut T,
+        gate: &G,
+    ) -> Result<(), WriteFault>
+        requires host { IsHost (parts_of scenario.now) self.old }
+        requires writers { AreReady scenario.now.lines self.old.table writers.old.items }
+        ensures host { IsHost (parts_of scenario.now) self.new }
+        ensures table { self.new.table ≡ self.old.table }
+        ensures played { HavePlayed scenario.now.lines self.new.table writers.new.items }
+        ensures told { OnOk result (TellsLines (setup_in self.old.table) (buffers_of (parts_of scenario.now) (setup_in self.old.table))
+            scenario.now.lines (known_by_pass self.old.pass) (known_by_pass self.new.pass) (T.taken out.old) (T.taken out.new)) }
+        ensures count { CountsFaults (T.faults out.old) (T.faults out.new) result }
+    {
+        let Some(service) = self.service.take() else {
+            unreachable!()
+        };
+        let (service, told) = run_named::<Brand, R, G, T>(
+            rt,
+            gate,
+            &self.table,
+            service,
+            &scenario.lines,
+            &mut self.pass,
+            out,
+            writers.as_mut_slice(),
+        );
+        self.service = Some(service);
+        told
+    }
+}

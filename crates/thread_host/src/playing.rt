@@ -1,0 +1,114 @@
+//! Playing the lines of one writer.
+ghost use Rattle.std.specs.Prelude.{◌≡◌, ℕ, suc, ◌<◌, [], ◌∷◌, ◌++◌};
+ghost use Rattle.trace_model.specs.Calls.{Flushed};
+ghost use Rattle.scenario_text.specs.Accepted.{calls_asked};
+ghost use Rattle.thread_host.specs.Hosts.{HasPlayed};
+ghost use Rattle.thread_host.specs.Playing.{is_of, calls_in, IsGoing, MayBeAsked, WasAsked};
+
+use crate::asking::{ask, ask_fields, ask_packet};
+use byte_io::traits::Gate;
+use chunk_plain::WriterCall;
+use chunk_words::HostTable;
+use scenario_text::{LineKind, LineList};
+use std::sync::ledger::{Blank, Ledger};
+use thread_writer::{Asks, Helper, TraceWriter};
+use trace_base::steps::Steps;
+
+/// Whether the line is one of the writer with this number.
+fn is_line_of(number: u16, line: &LineKind<'_>) -> bool
+    ensures { result ≡ is_of number line.now }
+{
+    match line {
+        LineKind::Packet { writer, fields: _ }
+        | LineKind::Begin { writer }
+        | LineKind::Add { writer, fields: _ }
+        | LineKind::Nest { writer, field: _ }
+        | LineKind::Unnest { writer }
+        | LineKind::End { writer }
+        | LineKind::Flush { writer } => number == *writer,
+        _ => false,
+    }
+}
+
+/// Plays a line of this writer.
+fn play_line<H: Helper, L: Ledger>(
+    table: &HostTable,
+    help: &mut Asks<H>,
+    steps: &mut Steps<L>,
+    writer: &mut TraceWriter,
+    line: &LineKind<'_>,
+)
+    requires going { MayBeAsked H.helps H.of_table table.now (calls_in line.now) help.old writer.old }
+    ensures asked { WasAsked H.helps H.of_table table.now (calls_in line.now) help.old writer.old help.new writer.new }
+{
+    match line {
+        LineKind::Packet { writer: _, fields } => ask_packet(table, help, steps, writer, fields),
+        LineKind::Begin { writer: _ } => {
+            ask(table, help, steps, writer, WriterCall::Begun { kept: true })
+        }
+        LineKind::Add { writer: _, fields } => ask_fields(table, help, steps, writer, fields),
+        LineKind::Nest { writer: _, field } => ask(
+            table,
+            help,
+            steps,
+            writer,
+            WriterCall::Nested { field: *field },
+        ),
+        LineKind::Unnest { writer: _ } => ask(table, help, steps, writer, WriterCall::Ended),
+        LineKind::End { writer: _ } => ask(table, help, steps, writer, WriterCall::Finished),
+        LineKind::Flush { writer: _ } => ask(table, help, steps, writer, WriterCall::Flushed),
+        _ => {}
+    }
+}
+
+/// Plays those of the lines that are this writer's, and passes the gate before each. Answers the number
+/// under which it is to be passed next.
+fn play_lines<G: Gate, H: Helper, L: Ledger>(
+    gate: &G,
+    table: &HostTable,
+    help: &mut Asks<H>,
+    steps: &mut Steps<L>,
+    lines: &LineList,
+    number: u16,
+    writer: &mut TraceWriter,
+) -> u64
+    requires going { MayBeAsked H.helps H.of_table table.now (calls_asked number lines.now) help.old writer.old }
+    ensures asked { WasAsked H.helps H.of_table table.now (calls_asked number lines.now) help.old writer.old help.new writer.new }
+{
+    // There are never so many lines that the turn stands still.
+    let mut turn: u64 = 1;
+    let mut walk = lines.walk();
+    'lines: while let Some(line) = walk.next() {
+        if is_line_of(number, &line.what) {
+            gate.pass(number, turn);
+            turn = turn.saturating_add(1);
+            play_line(table, help, steps, writer, &line.what);
+        }
+    }
+    turn
+}
+
+/// Plays the writer's lines, and then a flush, with this helper. Nobody asks how many steps it takes.
+pub(crate) fn play_all<G: Gate, H: Helper, L: Ledger>(
+    gate: &G,
+    table: &HostTable,
+    help: &mut Asks<H>,
+    blank: Blank,
+    lines: &LineList,
+    number: u16,
+    writer: &mut TraceWriter,
+)
+    requires going { (place : ℕ) × IsGoing H.helps H.of_table table.now place [] (calls_asked number lines.now ++ Flushed ∷ [])
+        help.old writer.old }
+    requires name { blank.name ≡ L.name }
+    requires parts { blank.parts ≡ L.parts }
+    requires some_part { 0 < L.parts }
+    ensures played { (place : ℕ) → number ≡ suc place
+        → IsGoing H.helps H.of_table table.now place [] (calls_asked number lines.now ++ Flushed ∷ []) help.old writer.old
+        → HasPlayed lines.now table.now place writer.new }
+{
+    let mut steps = Steps::<L>::new(blank);
+    let turn = play_lines(gate, table, help, &mut steps, lines, number, writer);
+    gate.pass(number, turn);
+    writer.flush(table);
+}

@@ -1,0 +1,150 @@
+//! A run, once its threads are done and all that its writers completed is taken.
+ghost use Rattle.std.specs.Prelude.{◌≡◌, ◌≤◌, false, List, [], length, vec_capacity};
+ghost use Rattle.chunk_plain.specs.declared.tokens.TheConstants.{ID_LIMIT};
+ghost use Rattle.chunk_plain.specs.Histories.{completed_images};
+ghost use Rattle.chunk_words.specs.declared.host.HostTable.{HostTable};
+ghost use Rattle.chunk_words.specs.Knows.{with_tale};
+ghost use Rattle.chunk_words.specs.Sits.{Sits, setup_in, known_by, known_by_pass};
+ghost use Rattle.scenario_text.specs.declared.scenario.NumberedLine.{NumberedLine};
+ghost use Rattle.scenario_text.specs.Scenario.{Parts};
+ghost use Rattle.trace_writer.specs.Core.{holds_chunk};
+ghost use Rattle.thread_service.specs.Serving as serving;
+ghost use Rattle.thread_service.specs.Serving.{Serves, IsOnlySeat};
+ghost use Rattle.thread_writer.specs.Writing.{core_of, view_in, Writes};
+ghost use Rattle.thread_host.specs.Ending.{begun_counts, AreDoneSeats, HasHeardAll};
+ghost use Rattle.thread_host.specs.Hosts.{IsHost, IsSettled, HavePlayed};
+
+use crate::host::Host;
+use chunk_words::{HostTable, ReadPass, WriterSeat};
+use loss_report::{Done, SequenceCounts};
+use thread_service::Service;
+use thread_writer::TraceWriter;
+
+/// A table and its service, with the seats of its writers, which have nothing left to do.
+#[derive(Drop)]
+pub struct Settled {
+    pub(crate) table: HostTable,
+    pub(crate) service: Service,
+    pub(crate) pass: ReadPass,
+    pub(crate) seats: Vec<WriterSeat>,
+    pub(crate) producers: u16,
+    /// Of each sequence that which its writer counted.
+    pub(crate) counts: Done,
+}
+
+impl Host {
+    /// Has all taken that the writers completed.
+    pub fn settle(self, writers: Vec<TraceWriter>) -> Settled
+        requires played { (scenario : Parts) × IsHost scenario self × HavePlayed scenario.lines self.table writers.items }
+        ensures settled { (scenario : Parts) → IsHost scenario self → HavePlayed scenario.lines self.table writers.items
+            → IsSettled scenario result }
+        ensures table { result.table ≡ self.table }
+        ensures pass { known_by_pass result.pass ≡ known_by_pass self.pass }
+    {
+        let Host {
+            table,
+            service,
+            pass,
+            specs,
+            mut seats,
+            producers,
+            mut counts,
+        } = self;
+        let Some(mut service) = service else {
+            unreachable!()
+        };
+        end_writers(
+            &mut service,
+            &table,
+            writers,
+            &mut seats,
+            &mut counts.sequences,
+        );
+        service.settle(&table, &specs);
+        Settled {
+            table,
+            service,
+            pass,
+            seats,
+            producers,
+            counts,
+        }
+    }
+}
+
+/// Takes the seats of the writers, in their order, and what each counted. The service hears of all
+/// that they have begun.
+fn end_writers(
+    service: &mut Service,
+    table: &HostTable,
+    writers: Vec<TraceWriter>,
+    seats: &mut Vec<WriterSeat>,
+    sequences: &mut [SequenceCounts],
+)
+    requires serves { Serves table.now service.old }
+    requires played { (lines : List NumberedLine) × HavePlayed lines table.now writers.items }
+    requires none { seats.old.items ≡ [] }
+    requires room { length (setup_in table.now).writers ≤ vec_capacity seats.old }
+    requires sequences { length sequences.old ≡ length (setup_in table.now).writers }
+    ensures serves { Serves table.now service.new }
+    ensures view { serving.view_in service.new ≡ serving.view_in service.old }
+    ensures only { IsOnlySeat (serving.core_of service.old) (serving.core_of service.new) }
+    ensures many { length seats.new.items ≡ length (setup_in table.now).writers }
+    ensures heard { HasHeardAll (length (serving.view_in service.new).looks) (serving.desk_in service.new) seats.new.items }
+    ensures done { (lines : List NumberedLine) → HavePlayed lines table.now writers.items
+        → AreDoneSeats lines table.now seats.new.items sequences.new }
+{
+    let mut left = writers;
+    let many = left.len();
+    'writers: for place in 0..many {
+        let (seat, counts) = end_writer(service, table, left.remove(0));
+        sequences[place] = counts;
+        match seats.push(seat) {
+            Ok(()) => {}
+            Err(_) => unreachable!(),
+        }
+    }
+    left.destroy_empty();
+}
+
+/// The seat of a writer that holds no chunk, and what it counted. The service hears of all that it has
+/// begun.
+fn end_writer(
+    service: &mut Service,
+    table: &HostTable,
+    writer: TraceWriter,
+) -> (WriterSeat, SequenceCounts)
+    requires serves { Serves table.now service.old }
+    requires writes { Writes table.now writer }
+    requires none_held { holds_chunk (core_of writer) ≡ false }
+    ensures serves { Serves table.now service.new }
+    ensures view { serving.view_in service.new ≡ serving.view_in service.old }
+    ensures only { IsOnlySeat (serving.core_of service.old) (serving.core_of service.new) }
+    ensures told { serving.desk_in service.new
+        ≡ with_tale (serving.desk_in service.old) (serving.view_in service.old) (core_of writer).seat.place (view_in writer).begun }
+    ensures sits { Sits table.now result.0 }
+    ensures knows { known_by result.0 ≡ view_in writer }
+    ensures place { result.0.place ≡ (core_of writer).seat.place }
+    ensures few { length (completed_images (view_in writer).begun) ≤ ID_LIMIT }
+    ensures counts { result.1 ≡ begun_counts (view_in writer).calls }
+{
+    ids_fit(&writer);
+    let counts = SequenceCounts {
+        begun: writer.begun(),
+        delivered: 0,
+        dropped: writer.dropped_at_begin(),
+        overwritten: 0,
+        discarded: 0,
+        cut: 0,
+    };
+    let mut seat = writer.into_seat();
+    service.learn(table, &mut seat);
+    (seat, counts)
+}
+
+/// The ids of completed chunks fit their type. It does nothing: the writer's own counter shows it.
+fn ids_fit(writer: &TraceWriter)
+    ensures { (table : HostTable) → Writes table writer.now → length (completed_images (view_in writer.now).begun) ≤ ID_LIMIT }
+{
+    let _completed = writer.completed();
+}

@@ -1,0 +1,63 @@
+//! A writer's job of a run.
+ghost use Rattle.thread_host.specs.Keeping.{IsNamed};
+ghost use Rattle.thread_host.specs.Hosts.{IsReady, HasPlayed};
+
+use crate::help::LockHelp;
+use crate::locked::Locked;
+use crate::name::HostName;
+use crate::playing::play_all;
+use byte_io::traits::Gate;
+use chunk_words::HostTable;
+use scenario_text::LineList;
+use std::marker::Brand;
+use std::sync::ledger::Blank;
+use std::sync::{Mutex, Wait};
+use thread_writer::{Asks, TraceWriter};
+use trace_base::policy::WriterPolicy;
+use trace_writer::NoHelp;
+
+/// Plays the writer's lines, in their order, and then a flush, and passes the gate before each. A writer
+/// that drops takes no lock.
+pub fn writer_job<N: HostName, R: Wait, G: Gate>(
+    rt: &R,
+    gate: &G,
+    table: &HostTable,
+    service: &Mutex<Locked<N>>,
+    lines: &LineList,
+    place: usize,
+    writer: &mut TraceWriter,
+)
+    requires table { IsNamed N.table N.setup table.now }
+    requires ready { IsReady lines.now table.now place writer.old }
+    ensures played { HasPlayed lines.now table.now place writer.new }
+{
+    let number = place as u16 + 1;
+    match writer.policy() {
+        WriterPolicy::Drops => {
+            let mut help = Asks { help: NoHelp };
+            play_all::<G, NoHelp, Brand>(
+                gate,
+                table,
+                &mut help,
+                Blank::new(1),
+                lines,
+                number,
+                writer,
+            );
+        }
+        WriterPolicy::Stalls => {
+            let mut help = Asks {
+                help: LockHelp::new(rt, table, service),
+            };
+            play_all::<G, LockHelp<'_, N, R>, Brand>(
+                gate,
+                table,
+                &mut help,
+                Blank::new(1),
+                lines,
+                number,
+                writer,
+            );
+        }
+    }
+}
