@@ -10,7 +10,7 @@ use Rattle.clap.specs.Words.{fault_of, subcommand_of, subcommand_name_of, subcom
 use Rattle.clap.specs.declared.ArgMatches.{ArgMatches}
 use Rattle.clap.proofs.WalkLemmas.{first_value-rows}
 use Rattle.command_words.specs.declared.command.Command.{Command}
-use Rattle.command_words.specs.declared.command.Command.TheVariants.{Replay, Read, Check, Gen}
+use Rattle.command_words.specs.declared.command.Command.TheVariants.{Replay, Run, Read, Check, Gen}
 use Rattle.command_words.specs.Commands.{Spells, IsWithinLimits, words_of}
 use Rattle.command_words.specs.Found.{HasNumbers}
 use Rattle.command_words.specs.Program.{program_app, is_plain}
@@ -59,8 +59,9 @@ pub record IsFound (words : List Text) : Type 0 where
 
 spelled_by : (command : Command) → IsWithinLimits command → IsFound (words_of command)
 spelled_by Replay within = record { rows = []; found = lone_found.0; passes = lone_passes.0; plain = refl }
-spelled_by Read within = record { rows = []; found = lone_found.1; passes = lone_passes.1; plain = refl }
-spelled_by Check within = record { rows = []; found = lone_found.2; passes = lone_passes.2; plain = refl }
+spelled_by Run within = record { rows = []; found = lone_found.1; passes = lone_passes.1; plain = refl }
+spelled_by Read within = record { rows = []; found = lone_found.2; passes = lone_passes.2; plain = refl }
+spelled_by Check within = record { rows = []; found = lone_found.3; passes = lone_passes.3; plain = refl }
 spelled_by (Gen number writers packets) (small, some_writer, few_writers, some_packet, few_packets) =
     let few : writers < 2 ^ 64 = omega arith in
     let many : packets < 2 ^ 64 = omega arith in

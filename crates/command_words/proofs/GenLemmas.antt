@@ -37,7 +37,7 @@ value_turn shape held position word plain = rw plain.no_dashes (rw plain.no_long
 
 -- `gen` as it is built in the program
 abbrev gen_shape : Shape
-gen_shape = unwrap_or (slice_get (built program_app).subs 3) gen_app.top
+gen_shape = unwrap_or (slice_get (built program_app).subs 4) gen_app.top
 
 abbrev rules : List Rule
 rules = gen_shape.rules
@@ -129,10 +129,10 @@ pub gen_values : (number writers packets : Text)
 gen_values number writers packets = (refl, refl, refl)
 
 -- a command without numbers is taken by its name alone
-pub lone_passes : (fault_of program_app (codes "replay" ∷ []) ≡ []) × (fault_of program_app (codes "read" ∷ []) ≡ [])
-    × (fault_of program_app (codes "check" ∷ []) ≡ [])
+pub lone_passes : (fault_of program_app (codes "replay" ∷ []) ≡ []) × (fault_of program_app (codes "run" ∷ []) ≡ [])
+    × (fault_of program_app (codes "read" ∷ []) ≡ []) × (fault_of program_app (codes "check" ∷ []) ≡ [])
 unfolding clap_on_literals
-lone_passes = (refl, refl, refl)
+lone_passes = (refl, refl, refl, refl)
 
 pub simple_program : is_simple_and_free program_app ≡ true
 unfolding clap_on_literals
@@ -140,10 +140,11 @@ simple_program = refl
 
 -- and found by it
 pub lone_found : (subcommand_of program_app (codes "replay" ∷ []) ≡ Some (codes "replay", []))
+    × (subcommand_of program_app (codes "run" ∷ []) ≡ Some (codes "run", []))
     × (subcommand_of program_app (codes "read" ∷ []) ≡ Some (codes "read", []))
     × (subcommand_of program_app (codes "check" ∷ []) ≡ Some (codes "check", []))
 unfolding clap_on_literals
-lone_found = (refl, refl, refl)
+lone_found = (refl, refl, refl, refl)
 
 -- what `clap` finds behind `gen`
 abbrev pub gen_rows : Text → Text → Text → List Row

@@ -1,7 +1,7 @@
 -- Words spell one command at most.
 use Rattle.std.proofs.Common.{◌≡◌, ℕ, ◌==◌, false, List, [], length, slice_index_or, refl, sym, ◌∙◌, ap, arith}
 use Rattle.command_words.specs.declared.command.Command.{Command}
-use Rattle.command_words.specs.declared.command.Command.TheVariants.{Replay, Read, Check, Gen}
+use Rattle.command_words.specs.declared.command.Command.TheVariants.{Replay, Run, Read, Check, Gen}
 use Rattle.command_words.specs.Commands.{Spells, WordsSpellOneCommand}
 use Rattle.command_words.proofs.SpellLemmas.{same_number, other_length}
 
@@ -11,9 +11,18 @@ heads one other long same = other_length (slice_index_or one 0 []) (slice_index_
 
 once : (words : List (List ℕ)) (one other : Command) → Spells words one → Spells words other → one ≡ other
 once words Replay Replay (a, _) (b, _) = refl
+once words Run Run (a, _) (b, _) = refl
 once words Read Read (a, _) (b, _) = refl
 once words Check Check (a, _) (b, _) = refl
 once words Replay Read (a, _) (b, _) = absurd (heads _ _ refl (sym a ∙ b))
+once words Replay Run (a, _) (b, _) = absurd (heads _ _ refl (sym a ∙ b))
+once words Run Replay (a, _) (b, _) = absurd (heads _ _ refl (sym a ∙ b))
+once words Run Read (a, _) (b, _) = absurd (heads _ _ refl (sym a ∙ b))
+once words Read Run (a, _) (b, _) = absurd (heads _ _ refl (sym a ∙ b))
+once words Run Check (a, _) (b, _) = absurd (heads _ _ refl (sym a ∙ b))
+once words Check Run (a, _) (b, _) = absurd (heads _ _ refl (sym a ∙ b))
+once words Run (Gen n w p) (a, _) (b, _) = absurd (other_length _ _ refl (sym a ∙ b))
+once words (Gen n w p) Run (a, _) (b, _) = absurd (other_length _ _ refl (sym a ∙ b))
 once words Replay Check (a, _) (b, _) = absurd (heads _ _ refl (sym a ∙ b))
 once words Read Replay (a, _) (b, _) = absurd (heads _ _ refl (sym a ∙ b))
 once words Read Check (a, _) (b, _) = absurd (heads _ _ refl (sym a ∙ b))

@@ -9,7 +9,7 @@ use Rattle.std.proofs.lemmas.Fmt.{decimal_is_IsNumeral}
 use Rattle.std.specs.Str.Parse.{digits_value}
 use Rattle.trace_base.specs.declared.limits.TheConstants.{MAX_GENERATED_WRITERS, MAX_GENERATED_PACKETS}
 use Rattle.command_words.specs.declared.command.Command.{Command}
-use Rattle.command_words.specs.declared.command.Command.TheVariants.{Replay, Read, Check, Gen}
+use Rattle.command_words.specs.declared.command.Command.TheVariants.{Replay, Run, Read, Check, Gen}
 use Rattle.command_words.specs.Commands.{Spells}
 
 -- no two numbers are written alike
@@ -38,6 +38,7 @@ other_length xs ys other same = true≢false (sym (eq-eqb (length xs) (length ys
 pub four_words : (name number writers packets : List ℕ) (command : Command) → Spells (name ∷ number ∷ writers ∷ packets ∷ []) command
     → (name ≡ codes "gen") × AreNumbers number writers packets
 four_words name number writers packets Replay (words, within) = absurd (other_length _ _ refl words)
+four_words name number writers packets Run (words, within) = absurd (other_length _ _ refl words)
 four_words name number writers packets Read (words, within) = absurd (other_length _ _ refl words)
 four_words name number writers packets Check (words, within) = absurd (other_length _ _ refl words)
 four_words name number writers packets (Gen first second third) (words, (small, some_writer, few_writers, some_packet, few_packets)) = (

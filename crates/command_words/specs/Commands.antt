@@ -2,11 +2,12 @@
 use Rattle.std.specs.Prelude.{◌≡◌, ℕ, ◌<◌, ◌≤◌, ◌^◌, List, [], ◌∷◌, codes, decimal}
 use Rattle.trace_base.specs.declared.limits.TheConstants.{MAX_GENERATED_WRITERS, MAX_GENERATED_PACKETS}
 use Rattle.command_words.specs.declared.command.Command.{Command}
-use Rattle.command_words.specs.declared.command.Command.TheVariants.{Replay, Read, Check, Gen}
+use Rattle.command_words.specs.declared.command.Command.TheVariants.{Replay, Run, Read, Check, Gen}
 
 -- the words of a command: its name, and its numbers in decimal, without a sign and without a leading zero
 abbrev pub words_of : Command → List (List ℕ)
 words_of Replay = codes "replay" ∷ []
+words_of Run = codes "run" ∷ []
 words_of Read = codes "read" ∷ []
 words_of Check = codes "check" ∷ []
 words_of (Gen number writers packets) = codes "gen" ∷ decimal number ∷ decimal writers ∷ decimal packets ∷ []

@@ -5,6 +5,8 @@
 pub enum Command {
     /// Plays a scenario, and writes its trace.
     Replay,
+    /// Plays a scenario with each writer on a thread of its own, and writes its trace.
+    Run,
     /// Says what a trace has.
     Read,
     /// Says whether a trace tells of a scenario.

@@ -50,6 +50,7 @@ pub fn program<'a>(alloc: Global) -> Result<Command<'a>, AllocError>
     let generator = generator(alloc)?;
     bare(alloc)
         .subcommand(plain(alloc, "replay"))?
+        .subcommand(plain(alloc, "run"))?
         .subcommand(plain(alloc, "read"))?
         .subcommand(plain(alloc, "check"))?
         .subcommand(generator)

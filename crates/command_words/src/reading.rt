@@ -113,6 +113,7 @@ fn lone_command(name: &str) -> Option<Command>
 {
     match name {
         "replay" => Some(Command::Replay),
+        "run" => Some(Command::Run),
         "read" => Some(Command::Read),
         "check" => Some(Command::Check),
         _ => None,

@@ -10,10 +10,22 @@ struct Row {
     command: Option<Command>,
 }
 
-static ROWS: [Row; 24] = [
+static ROWS: [Row; 27] = [
     Row {
         line: "replay",
         command: Some(Command::Replay),
+    },
+    Row {
+        line: "run",
+        command: Some(Command::Run),
+    },
+    Row {
+        line: "run 1",
+        command: None,
+    },
+    Row {
+        line: "running",
+        command: None,
     },
     Row {
         line: "read",

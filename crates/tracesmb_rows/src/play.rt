@@ -5,7 +5,7 @@ ghost use Rattle.byte_io.specs.Bytes.{told, after_told, Faulted};
 ghost use Rattle.byte_io.specs.Memory.{mem_sink_taken, mem_sink_faults};
 ghost use Rattle.command_words.specs.declared.command.Command.{Command};
 ghost use Rattle.command_words.specs.declared.command.Command.TheVariants.{Replay};
-ghost use Rattle.tracesmb_top.specs.Words.{Ask, AskForNothing, IsReplay, ReadsInput};
+ghost use Rattle.tracesmb_top.specs.Words.{Ask, AskForNothing, IsReplay, LeavesReport, ReadsInput};
 ghost use Rattle.tracesmb_top.specs.Commands.{Accepts, HasStalled, IsGiven, Refuses, Wrote, WrotePart};
 ghost use Rattle.tracesmb_top.specs.Answers.{Says, SaysBehind, usage_line, memory_line, write_line, stalled_line, long_line};
 
@@ -76,7 +76,7 @@ pub fn play<R: Threads + Wait + Sync + AllocGlobal>(
         × Wrote command given (told [] []) (told (mem_sink_taken played.trace) []) report
         × (told (mem_sink_taken played.text) [] ≡ after_told (told [] []) report)) }
     ensures complete { IfOk result (λ played. (command : Command) → Ask (map (λ word. word.now) words.now) command
-        → mem_sink_faults played.trace ≡ 0 → (IsReplay command → mem_sink_faults played.text ≡ 0)
+        → mem_sink_faults played.trace ≡ 0 → (LeavesReport command → mem_sink_faults played.text ≡ 0)
         → (ReadsInput command → Accepts command (Some input.now))
         → (played.status ≡ 0) ⊎ (played.status ≡ 1) ⊎ (IsReplay command × (played.status ≡ 6))) }
     ensures refused { IfOk result (λ played. played.status ≡ 3 → (command : Command) × (given line : List ℕ)
@@ -89,7 +89,7 @@ pub fn play<R: Threads + Wait + Sync + AllocGlobal>(
         × Ask (map (λ word. word.now) words.now) command × IsGiven command (Some input.now) given
         × ((WrotePart command given (told [] []) (told (mem_sink_taken played.trace) []) × Faulted 0 (mem_sink_faults played.trace)
         × Says (told [] []) (told (mem_sink_taken played.text) []) 0 (mem_sink_faults played.text) write_line)
-        ⊎ (IsReplay command × (report : List ℕ) × Wrote command given (told [] []) (told (mem_sink_taken played.trace) []) report
+        ⊎ (LeavesReport command × (report : List ℕ) × Wrote command given (told [] []) (told (mem_sink_taken played.trace) []) report
         × SaysBehind (told [] []) (told (mem_sink_taken played.text) []) 0 (mem_sink_faults played.text) report write_line))) }
     ensures stalled { IfOk result (λ played. played.status ≡ 6 → (given : List ℕ) × (writer : ℕ)
         × Ask (map (λ word. word.now) words.now) Replay × IsGiven Replay (Some input.now) given
@@ -102,7 +102,7 @@ pub fn play<R: Threads + Wait + Sync + AllocGlobal>(
     ensures says_long { IfOk result (λ played. played.status ≡ 7
         → Says (told [] []) (told (mem_sink_taken played.text) []) 0 (mem_sink_faults played.text) long_line) }
     ensures quiet { IfOk result (λ played. played.status ≡ 0 → (command : Command) → Ask (map (λ word. word.now) words.now) command
-        → (IsReplay command → ⊥) → mem_sink_taken played.text ≡ []) }
+        → (LeavesReport command → ⊥) → mem_sink_taken played.text ≡ []) }
     ensures too_long { IfOk result (λ played. played.status ≡ 7 → MAX_INPUT < length input.now) }
     ensures untouched { IfOk result (λ played. played.status ≢ 0 → played.status ≢ 5 → played.status ≢ 6 → mem_sink_taken played.trace ≡ []) }
 {

@@ -331,7 +331,7 @@ struct Command {
     text: &'static [u8],
 }
 
-static COMMANDS: [Command; 9] = [
+static COMMANDS: [Command; 13] = [
     // A workload, which reads nothing.
     Command {
         line: "gen 0 1 1",
@@ -395,13 +395,42 @@ static COMMANDS: [Command; 9] = [
         trace: b"",
         text: USAGE,
     },
-    // `run`, which isn't built yet.
+    // `run` of one writer, and of none.
+    Command {
+        line: "run",
+        input: b"buffer 64 ring\nproducer 1 4096 14\nwriter 1 1 drop\np 1 8:5\n",
+        status: 0,
+        trace: b"\x0A\x07\x40\x05\x50\x02\xD0\x02\x01",
+        text: b"buffer 1 ring bytes 65536 placed 1 rewritten 0 overwritten 0 discarded 0 unpatched 0 padding 0\nsequence 2 begun 1 delivered 1 dropped 0 overwritten 0 discarded 0 cut 0\n",
+    },
     Command {
         line: "run",
         input: b"",
-        status: 2,
+        status: 0,
         trace: b"",
-        text: USAGE,
+        text: b"",
+    },
+    // Lines that aren't for threads: the first one counts, and a fault of the grammar before all.
+    Command {
+        line: "run",
+        input: b"buffer 64 ring\nproducer 1 4096 14\nwriter 1 1 drop\nx 1\n",
+        status: 3,
+        trace: b"",
+        text: b"line 4: not under run\n",
+    },
+    Command {
+        line: "run",
+        input: b"buffer 64 ring\nproducer 1 4096 14\nwriter 1 1 drop\np 1 8:5\nq\nx 1\n",
+        status: 3,
+        trace: b"",
+        text: b"line 5: not built\n",
+    },
+    Command {
+        line: "run",
+        input: b"buffer 64 ring\nproducer 1 4096 14\nwriter 1 1 drop\nx 1\np 1\n",
+        status: 3,
+        trace: b"",
+        text: b"line 5: producer closed\n",
     },
 ];
 

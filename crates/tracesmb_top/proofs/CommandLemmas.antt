@@ -4,9 +4,10 @@ use Rattle.byte_io.specs.Bytes.{Intake}
 use Rattle.trace_base.specs.declared.limits.TheConstants.{MAX_INPUT}
 use Rattle.trace_file.proofs.WholeLemmas.{traces_read_once}
 use Rattle.command_words.specs.declared.command.Command.{Command}
-use Rattle.command_words.specs.declared.command.Command.TheVariants.{Replay, Read, Check, Gen}
+use Rattle.command_words.specs.declared.command.Command.TheVariants.{Replay, Run, Read, Check, Gen}
 use Rattle.scenario_text.specs.Scenario.{Parts, scenario_of}
-use Rattle.tracesmb_top.specs.Words.{Ask, ReadsInput, IsReplay}
+use Rattle.tracesmb_top.specs.Words.{Ask, ReadsInput, LeavesReport, IsReplay}
+use Rattle.tracesmb_top.specs.Ran.{IsForThreads, run_refusal_by, run_refusal_of}
 use Rattle.tracesmb_top.specs.Commands.{IsGiven, Refuses, Writes, Wrote, WrotePart, HasStalled}
 use Rattle.tracesmb_top.specs.Refusals.{refusal_by, refusal_of}
 use Rattle.tracesmb_top.proofs.CheckLemmas.{checked_unrefused}
@@ -19,6 +20,11 @@ said_unrefused : (given line : List ℕ) (parts : Parts) → scenario_of given �
 unfolding refusal_of refusal_by
 said_unrefused given line parts is refused = let none : None ≡ Some line = sym (ap refusal_by is) ∙ refused in cc
 
+-- nor is one that is for threads
+run_unrefused : (given line : List ℕ) (parts : Parts) → IsForThreads given parts → run_refusal_of given ≡ Some line → ⊥
+unfolding run_refusal_of run_refusal_by
+run_unrefused given line parts is refused = let none : None ≡ Some line = sym (ap run_refusal_by is.scenario_is ∙ is.fits) ∙ refused in cc
+
 bytes_unrefused : (command : Command) (given bytes line : List ℕ) → Writes command given bytes → Refuses command given line → ⊥
 bytes_unrefused Read given bytes line summary refusal =
     let once = traces_read_once 0 given summary.packets refusal.packets None (Some refusal.fault) summary.reads refusal.reads in
@@ -26,6 +32,7 @@ bytes_unrefused Read given bytes line summary refusal =
 bytes_unrefused Check given bytes line writes refused = checked_unrefused given bytes line writes refused
 bytes_unrefused (Gen number writers packets) given bytes line writes refused = refused
 bytes_unrefused Replay given bytes line writes refused = writes
+bytes_unrefused Run given bytes line writes refused = writes
 
 -- A command that did something with what it was given: all that it does, a part of it, or all up to a stall.
 pub data IsTried (command : Command) (given : List ℕ) (old new : Intake) : Type 0 where
@@ -38,6 +45,9 @@ tried_unrefused : (command : Command) (given line : List ℕ) (old new : Intake)
 tried_unrefused Replay given line old new (wrote report is) refused = said_unrefused given line is.parts is.scenario_is refused
 tried_unrefused Replay given line old new (wrote_part is) refused = said_unrefused given line is.parts is.scenario_is refused
 tried_unrefused Replay given line old new (has_stalled writer is) refused = said_unrefused given line is.parts is.scenario_is refused
+tried_unrefused Run given line old new (wrote report is) refused = run_unrefused given line is.parts is.for_threads refused
+tried_unrefused Run given line old new (wrote_part is) refused = run_unrefused given line is.0 is.1 refused
+tried_unrefused Run given line old new (has_stalled writer is) refused = is
 tried_unrefused Read given line old new (wrote report is) refused = bytes_unrefused Read given is.0.bytes line is.0.writes refused
 tried_unrefused Read given line old new (wrote_part is) refused = bytes_unrefused Read given is.bytes line is.writes refused
 tried_unrefused Read given line old new (has_stalled writer is) refused = is
@@ -50,20 +60,31 @@ tried_unrefused (Gen number writers packets) given line old new tried refused = 
 
 pub refused_reads : (command : Command) (given line : List ℕ) → Refuses command given line → ReadsInput command
 refused_reads Replay given line refused = tt
+refused_reads Run given line refused = tt
 refused_reads Read given line refused = tt
 refused_reads Check given line refused = tt
 refused_reads (Gen number writers packets) given line refused = refused
 
-pub replay_reads : (command : Command) → IsReplay command → ReadsInput command
-replay_reads Replay is = tt
-replay_reads Read is = tt
-replay_reads Check is = tt
-replay_reads (Gen number writers packets) is = is
+pub report_reads : (command : Command) → LeavesReport command → ReadsInput command
+report_reads Replay is = tt
+report_reads Run is = tt
+report_reads Read is = tt
+report_reads Check is = tt
+report_reads (Gen number writers packets) is = is
 
--- a command that isn't `replay` has no report
-pub reports_nothing : (command : Command) (given : List ℕ) (old new : Intake) (report : List ℕ) → (IsReplay command → ⊥)
+-- `replay` leaves a report
+pub replay_reports : (command : Command) → IsReplay command → LeavesReport command
+replay_reports Replay is = tt
+replay_reports Run is = tt
+replay_reports Read is = is
+replay_reports Check is = is
+replay_reports (Gen number writers packets) is = is
+
+-- a command that plays no scenario has no report
+pub reports_nothing : (command : Command) (given : List ℕ) (old new : Intake) (report : List ℕ) → (LeavesReport command → ⊥)
     → Wrote command given old new report → report ≡ []
 reports_nothing Replay given old new report other did = absurd (other tt)
+reports_nothing Run given old new report other did = absurd (other tt)
 reports_nothing Read given old new report other did = did.1
 reports_nothing Check given old new report other did = did.1
 reports_nothing (Gen number writers packets) given old new report other did = did.1

@@ -1,4 +1,5 @@
 pub mod WordLemmas
+pub mod UnfitLemmas
 pub mod CheckLemmas
 pub mod CommandLemmas
 pub mod GatherLemmas

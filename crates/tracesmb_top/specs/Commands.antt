@@ -5,34 +5,37 @@ use Rattle.trace_base.specs.declared.limits.TheConstants.{MAX_INPUT}
 use Rattle.trace_summary.specs.Counts.{IsSummaryOf}
 use Rattle.workload_gen.specs.Workload.{workload}
 use Rattle.command_words.specs.declared.command.Command.{Command}
-use Rattle.command_words.specs.declared.command.Command.TheVariants.{Replay, Read, Check, Gen}
+use Rattle.command_words.specs.declared.command.Command.TheVariants.{Replay, Run, Read, Check, Gen}
 use Rattle.loss_report.specs.declared.counts.Done.{Done}
 use Rattle.tracesmb_top.specs.declared.commands.CommandFault.{CommandFault}
 use Rattle.tracesmb_top.specs.declared.commands.CommandFault.TheVariants.{OutOfMemory, Refused, WriteFault, Stalled}
 use Rattle.tracesmb_top.specs.Checked.{IsChecked, IsCheckRefusal}
 use Rattle.tracesmb_top.specs.Refusals.{refusal_of, IsTraceRefusal}
 use Rattle.tracesmb_top.specs.Replayed.{IsReplayed, IsStalled, IsCutShort, report_of}
-use Rattle.tracesmb_top.specs.Words.{ReadsInput, IsReplay}
+use Rattle.tracesmb_top.specs.Ran.{run_refusal_of, IsRanBy, IsRanShort}
+use Rattle.tracesmb_top.specs.Words.{ReadsInput, LeavesReport}
 
 -- a command that reads the input is given all of it, where the input tells what it has
 abbrev pub IsGiven : Command → Option (List ℕ) → List ℕ → Type 0
 IsGiven command left given = ReadsInput command → IfSome left (λ told. given ≡ told)
 
--- The line says why the command refuses what it was given: `replay`, because of a scenario's first fault; `read`, because of a
--- trace's; `check`, because of its scenario's or its trace's, or since it has no trace.
+-- The line says why the command refuses what it was given: `replay`, because of a scenario's first fault; `run`, because of that, or of its first
+-- line that isn't for threads; `read`, because of a trace's; `check`, because of its scenario's or its trace's, or since it has no trace.
 abbrev pub Refuses : Command → List ℕ → List ℕ → Type 0
 Refuses Replay given line = refusal_of given ≡ Some line
+Refuses Run given line = run_refusal_of given ≡ Some line
 Refuses Read given line = IsTraceRefusal given line
 Refuses Check given line = IsCheckRefusal given line
 Refuses other given line = ⊥
 
--- The bytes are what a command other than `replay` writes for what it was given: `read`, the summary of a trace; `check`, the verdict
+-- The bytes are what a command that leaves no report writes for what it was given: `read`, the summary of a trace; `check`, the verdict
 -- on a trace by a scenario; `gen`, the workload of its numbers.
 abbrev pub Writes : Command → List ℕ → List ℕ → Type 0
 Writes Read given bytes = IsSummaryOf given bytes
 Writes (Gen number writers packets) given bytes = bytes ≡ workload number writers packets
 Writes Check given bytes = IsChecked given bytes
 Writes Replay given bytes = ⊥
+Writes Run given bytes = ⊥
 
 -- the trace took these bytes, and nothing else
 pub record WroteBytes (command : Command) (given : List ℕ) (old new : Intake) : Type 0 where
@@ -46,15 +49,17 @@ pub record WroteFront (command : Command) (given : List ℕ) (old new : Intake) 
   pub writes : Writes command given bytes
   pub part : TakesPart old new bytes
 
--- The trace took all that the command writes, and nothing else, and this is its report: for `replay`, by the delivery theorem. No other
--- command has one.
+-- The trace took all that the command writes, and nothing else, and this is its report: for `replay` and `run`, by the delivery theorem. No
+-- other command has one.
 abbrev pub Wrote : Command → (given : List ℕ) → (old new : Intake) → (report : List ℕ) → Type 0
 Wrote Replay given old new report = IsReplayed given old new report
+Wrote Run given old new report = IsRanBy given old new report
 Wrote other given old new report = WroteBytes other given old new × (report ≡ [])
 
--- a write of the trace failed, and it took a front part of what the command writes
+-- A write of the trace failed, and it took a front part of what the command writes. Of `run` nothing is said but that its scenario is for threads.
 abbrev pub WrotePart : Command → (given : List ℕ) → (old new : Intake) → Type 0
 WrotePart Replay given old new = IsCutShort given old new
+WrotePart Run given old new = IsRanShort given
 WrotePart other given old new = WroteFront other given old new
 
 -- a writer stalled in the replay, and the trace took the records of the reads before
@@ -73,7 +78,7 @@ pub record Accepts (command : Command) (left : Option (List ℕ)) : Type 0 where
 -- before the first byte.
 abbrev pub Ended : Command → List ℕ → Result (Option Done) CommandFault → Intake → Intake → Type 0
 Ended command given (Ok None) old new = Wrote command given old new []
-Ended command given (Ok (Some done)) old new = IsReplay command × Wrote command given old new (report_of done)
+Ended command given (Ok (Some done)) old new = LeavesReport command × Wrote command given old new (report_of done)
 Ended command given (Err OutOfMemory) old new = new ≡ old
 Ended command given (Err (Refused line)) old new = Refuses command given line.items × (new ≡ old)
 Ended command given (Err (Stalled writer)) old new = HasStalled command given writer old new

@@ -3,4 +3,5 @@ pub mod Checked
 pub mod Commands
 pub mod Refusals
 pub mod Replayed
+pub mod Ran
 pub mod Words

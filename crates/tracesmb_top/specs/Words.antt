@@ -1,7 +1,7 @@
 -- The words that the program has a command for.
 use Rattle.std.specs.Prelude.{ℕ, List}
 use Rattle.command_words.specs.declared.command.Command.{Command}
-use Rattle.command_words.specs.declared.command.Command.TheVariants.{Gen, Replay}
+use Rattle.command_words.specs.declared.command.Command.TheVariants.{Gen, Replay, Run}
 use Rattle.command_words.specs.Commands.{Spells}
 
 -- the words ask for the command: they are its written form
@@ -21,7 +21,13 @@ ReadsInput other = Unit {0}
 abbrev pub AskForNoInput : List (List ℕ) → Type 0
 AskForNoInput words = (command : Command) → Ask words command → ReadsInput command → ⊥
 
--- the command is `replay`, which alone leaves a report
+-- the command plays a scenario, which alone leaves a report
+abbrev pub LeavesReport : Command → Type 0
+LeavesReport Replay = Unit {0}
+LeavesReport Run = Unit {0}
+LeavesReport other = ⊥
+
+-- the command is `replay`, in which alone a writer stalls for good
 abbrev pub IsReplay : Command → Type 0
 IsReplay Replay = Unit {0}
 IsReplay other = ⊥

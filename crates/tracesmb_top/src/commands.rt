@@ -6,14 +6,17 @@ ghost use Rattle.tracesmb_top.specs.Commands.{CountsWrites, Ended};
 use crate::check::{CheckingFault, verdict_for, verdict_line};
 use crate::gather::play;
 use crate::say::trace_fault_line;
+use crate::unfit::find_unfit;
 use arrayvec::ArrayVec;
 use byte_io::put::{WriteFault, put_all};
-use byte_io::traits::Sink;
+use byte_io::traits::{Gate, Sink};
 use command_words::Command;
 use loss_report::Done;
 use replay_host::HostFault;
 use scenario_text::{ScenarioFault, read_scenario, refusal_line};
 use std::alloc::Global;
+use std::sync::Wait;
+use std::thread::Threads;
 use trace_base::limits::MAX_INPUT;
 use trace_summary::{SummaryFault, put_summary, summarize};
 
@@ -55,6 +58,41 @@ pub fn replay<T: Sink>(
         Err(HostFault::OutOfMemory) => Err(CommandFault::OutOfMemory),
         Err(HostFault::WriteFault) => Err(CommandFault::WriteFault),
         Err(HostFault::Stalled { writer }) => Err(CommandFault::Stalled { writer }),
+    }
+}
+
+/// Runs a scenario on threads, and writes its trace; its report is left to be written. The text is let
+/// go before the threads begin.
+#[tactic(auto, unfolding(crate::specs::Ran::run_refusal_of, crate::specs::Ran::run_refusal_by), using(crate::proofs::UnfitLemmas::fit_closes_none))]
+pub fn run<R: Threads + Wait + Sync, T: Sink + Send, G: Gate + Sync>(
+    rt: &R,
+    alloc: Global,
+    text: Vec<u8>,
+    trace: &mut T,
+    gate: &G,
+) -> Result<Option<Done>, CommandFault>
+    requires { length text.items ≤ MAX_INPUT }
+    ensures ends { Ended Command.Run text.items result (T.taken trace.old) (T.taken trace.new) }
+    ensures count { CountsWrites result (T.faults trace.old) (T.faults trace.new) }
+{
+    let scenario = match read_scenario(alloc, &text) {
+        Ok(scenario) => scenario,
+        Err(ScenarioFault::OutOfMemory) => return Err(CommandFault::OutOfMemory),
+        Err(ScenarioFault::Bad { line, reason }) => {
+            return Err(CommandFault::Refused {
+                line: refusal_line(line, reason),
+            });
+        }
+    };
+    drop(text);
+    if let Some(line) = find_unfit(&scenario.lines) {
+        return Err(CommandFault::Refused { line });
+    }
+    match thread_host::run(rt, alloc, &scenario, trace, gate) {
+        Ok(done) => Ok(Some(done)),
+        Err(HostFault::OutOfMemory) => Err(CommandFault::OutOfMemory),
+        Err(HostFault::WriteFault) => Err(CommandFault::WriteFault),
+        Err(HostFault::Stalled { writer: _ }) => unreachable!(),
     }
 }
 
@@ -121,12 +159,15 @@ pub fn generate<T: Sink>(
     }
 }
 
-/// Does a command with what it was given, and writes on the trace; `replay` leaves its report. All memory is taken before the first byte.
-pub fn perform<T: Sink>(
+/// Does a command with what it was given, and writes on the trace; `replay` and `run` leave their report. All memory is taken before
+/// the first byte.
+pub fn perform<R: Threads + Wait + Sync, T: Sink + Send, G: Gate + Sync>(
+    rt: &R,
     alloc: Global,
     command: Command,
     given: Vec<u8>,
     trace: &mut T,
+    gate: &G,
 ) -> Result<Option<Done>, CommandFault>
     requires limits { IsWithinLimits command }
     requires short { length given.items ≤ MAX_INPUT }
@@ -135,6 +176,7 @@ pub fn perform<T: Sink>(
 {
     match command {
         Command::Replay => replay(alloc, given, trace),
+        Command::Run => run(rt, alloc, given, trace, gate),
         Command::Read => read(alloc, &given, trace),
         Command::Gen {
             number,

@@ -9,6 +9,7 @@ mod gather;
 mod input;
 mod say;
 mod top;
+mod unfit;
 mod words;
 
 pub use top::trace_top;

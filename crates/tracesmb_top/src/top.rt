@@ -4,7 +4,7 @@ ghost use Rattle.std.specs.String.{string_bytes};
 ghost use Rattle.byte_io.specs.Bytes.{after_told, Faulted, GivesAtMost, NoFault};
 ghost use Rattle.command_words.specs.declared.command.Command.{Command};
 ghost use Rattle.command_words.specs.declared.command.Command.TheVariants.{Replay};
-ghost use Rattle.tracesmb_top.specs.Words.{Ask, AskForNothing, AskForNoInput, IsReplay, ReadsInput};
+ghost use Rattle.tracesmb_top.specs.Words.{Ask, AskForNothing, AskForNoInput, IsReplay, LeavesReport, ReadsInput};
 ghost use Rattle.tracesmb_top.specs.Commands.{Accepts, HasStalled, IsGiven, Refuses, Wrote, WrotePart};
 ghost use Rattle.tracesmb_top.specs.Answers.{Says, SaysBehind, usage_line, memory_line, read_line, write_line, stalled_line, long_line};
 
@@ -27,34 +27,34 @@ use trace_base::limits::MAX_INPUT;
 ///
 /// | status | comes | on `text` |
 /// |---|---|---|
-/// | 0 | the trace has taken what the command writes | the report for `replay`, else nothing |
+/// | 0 | the trace has taken what the command writes | the report for `replay` and `run`, else nothing |
 /// | 1 | memory ran out, before anything was written | `out of memory` |
 /// | 2 | the words ask for no command | the usage |
 /// | 3 | the input is refused, by its first fault | `line L: REASON`, `offset N: REASON` |
 /// | 4 | the input failed | `read fault` |
-/// | 5 | the trace failed, and holds a front part of what it would have; or the text failed in the report | `write fault`, maybe behind a front part of the report |
+/// | 5 | the trace failed, and holds a front part of what it would have, or under `run` some bytes; or the text failed in the report | `write fault`, maybe behind a front part of the report |
 /// | 6 | a writer of the replay stalled; the trace holds the records of the reads before | `stalled: writer W` |
 /// | 7 | the input has more than 67,108,864 bytes | `input too long` |
-#[tactic(auto, using(crate::proofs::WordLemmas::same_reads, crate::proofs::CommandLemmas::refused_reads, crate::proofs::CommandLemmas::replay_reads))]
+#[tactic(auto, using(crate::proofs::WordLemmas::same_reads, crate::proofs::CommandLemmas::refused_reads, crate::proofs::CommandLemmas::report_reads, crate::proofs::CommandLemmas::replay_reports))]
 pub fn trace_top<R: Threads + Wait + Sync, S: Source, T: Sink + Send, O: Sink, G: Gate + Sync>(
-    _rt: &R,
+    rt: &R,
     alloc: Global,
     words: &[String],
     input: &mut S,
     trace: &mut T,
     text: &mut O,
-    _gate: &G,
+    gate: &G,
 ) -> u8
     ensures known { result ≤ 7 }
 
     // Status 0: the trace took what the command writes for what it was given, and the text its report; the input was read
-    // whole, and nothing failed. No command but `replay` has a report.
+    // whole, and nothing failed. No command but `replay` and `run` has a report.
     ensures writes { result ≡ 0 → (command : Command) × (given report : List ℕ) × Ask (map string_bytes words.now) command
         × IsGiven command (S.left input.old) given × Wrote command given (T.taken trace.old) (T.taken trace.new) report
         × (O.taken text.new ≡ after_told (O.taken text.old) report) }
     ensures read { (result ≡ 0) ⊎ (result ≡ 3) ⊎ (result ≡ 6) → (command : Command) → Ask (map string_bytes words.now) command
         → ReadsInput command → IfSome (S.left input.new) (λ left. left ≡ []) }
-    ensures quiet { result ≡ 0 → (command : Command) → Ask (map string_bytes words.now) command → (IsReplay command → ⊥)
+    ensures quiet { result ≡ 0 → (command : Command) → Ask (map string_bytes words.now) command → (LeavesReport command → ⊥)
         → O.taken text.new ≡ O.taken text.old }
     ensures steady_input { result ≡ 0 → S.faults input.new ≡ S.faults input.old }
     ensures steady_trace { result ≡ 0 → T.faults trace.new ≡ T.faults trace.old }
@@ -88,16 +88,16 @@ pub fn trace_top<R: Threads + Wait + Sync, S: Source, T: Sink + Send, O: Sink, G
     ensures says_read { result ≡ 4 → Says (O.taken text.old) (O.taken text.new) (O.faults text.old) (O.faults text.new) read_line }
 
     // Status 5: only where the trace's faults rose, and always where they rose; or where the text's rose in the report. The trace
-    // holds a front part then, or else all that the command writes, and the text a front part of the report.
+    // holds a front part then (which of `run` isn't said), or else all that the command writes, and the text a front part of the report.
     ensures write_fault { result ≡ 5 → Faulted (T.faults trace.old) (T.faults trace.new) ⊎ Faulted (O.faults text.old) (O.faults text.new) }
-    ensures write_alone { result ≡ 5 → (command : Command) → Ask (map string_bytes words.now) command → (IsReplay command → ⊥)
+    ensures write_alone { result ≡ 5 → (command : Command) → Ask (map string_bytes words.now) command → (LeavesReport command → ⊥)
         → Faulted (T.faults trace.old) (T.faults trace.new) }
     ensures trace_fault { T.faults trace.old < T.faults trace.new → result ≡ 5 }
     ensures part { result ≡ 5 → (command : Command) × (given : List ℕ) × Ask (map string_bytes words.now) command
         × IsGiven command (S.left input.old) given
         × ((WrotePart command given (T.taken trace.old) (T.taken trace.new) × Faulted (T.faults trace.old) (T.faults trace.new)
         × Says (O.taken text.old) (O.taken text.new) (O.faults text.old) (O.faults text.new) write_line)
-        ⊎ (IsReplay command × (report : List ℕ) × Wrote command given (T.taken trace.old) (T.taken trace.new) report
+        ⊎ (LeavesReport command × (report : List ℕ) × Wrote command given (T.taken trace.old) (T.taken trace.new) report
         × SaysBehind (O.taken text.old) (O.taken text.new) (O.faults text.old) (O.faults text.new) report write_line)) }
 
     // Status 6: a writer stalled in `replay`. The trace has the records of the reads before.
@@ -121,7 +121,7 @@ pub fn trace_top<R: Threads + Wait + Sync, S: Source, T: Sink + Send, O: Sink, G
     ensures later_text { O.faults text.old ≤ O.faults text.new }
     ensures complete { (command : Command) → Ask (map string_bytes words.now) command
         → NoFault (S.faults input.old) (S.faults input.new) → NoFault (T.faults trace.old) (T.faults trace.new)
-        → (IsReplay command → NoFault (O.faults text.old) (O.faults text.new))
+        → (LeavesReport command → NoFault (O.faults text.old) (O.faults text.new))
         → (ReadsInput command → Accepts command (S.left input.old)) → (result ≡ 0) ⊎ (result ≡ 1) ⊎ (IsReplay command × (result ≡ 6)) }
 {
     let command = match asked_command(alloc, words) {
@@ -135,7 +135,7 @@ pub fn trace_top<R: Threads + Wait + Sync, S: Source, T: Sink + Send, O: Sink, G
         Err(FillFault::ReadFault) => return say_read_fault(text),
         Err(FillFault::TooLong) => return say_too_long(text),
     };
-    match perform(alloc, command, given, trace) {
+    match perform(rt, alloc, command, given, trace, gate) {
         Ok(None) => 0,
         Ok(Some(done)) => say_report(text, &done),
         Err(CommandFault::OutOfMemory) => say_out_of_memory(text),

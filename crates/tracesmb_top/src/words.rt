@@ -24,6 +24,6 @@ pub fn reads_input(command: Command) -> bool
             writers: _,
             packets: _,
         } => false,
-        Command::Replay | Command::Read | Command::Check => true,
+        Command::Replay | Command::Run | Command::Read | Command::Check => true,
     }
 }

@@ -1,0 +1,144 @@
+//! Runs whose gates fix the order that a test is about, and runs that leave it to the threads.
+use crate::gates::{Both, Hold, Place};
+use byte_io::memory::{MemSink, MemSource};
+use byte_io::traits::{Gate, OpenGate};
+use std::sync::Wait;
+use std::sync::atomic::Ordering;
+use std::test::Fail;
+use std::thread::Threads;
+use tracesmb_top::trace_top;
+
+/// Room for everything that a test writes.
+const AMPLE: usize = 100_000;
+
+/// What a run left.
+#[derive(Drop)]
+struct Ran {
+    status: u8,
+    trace: MemSink,
+    text: MemSink,
+}
+
+fn run<R: Threads + Wait + Sync + AllocGlobal, G: Gate + Sync>(
+    rt: &R,
+    scenario: Vec<u8>,
+    gate: &G,
+) -> Result<Ran, Fail> {
+    let mut words = Vec::new(rt.alloc());
+    words.push(String::from_str(rt.alloc(), "run")?)?;
+    let mut input = MemSource::new(scenario);
+    let mut trace = MemSink::with_room(rt.alloc(), AMPLE)?;
+    let mut text = MemSink::with_room(rt.alloc(), AMPLE)?;
+    let status = trace_top(
+        rt,
+        rt.alloc(),
+        &words,
+        &mut input,
+        &mut trace,
+        &mut text,
+        gate,
+    );
+    Ok(Ran {
+        status,
+        trace,
+        text,
+    })
+}
+
+const TWO_WRITERS: &[u8] =
+    b"buffer 64 ring\nproducer 1 4096 14\nwriter 1 1 drop\nwriter 1 1 drop\np 1 8:1\np 1 8:2\np 2 8:3\np 2 8:4\n";
+
+#[test]
+fn writers_run_beside_each_other(rt: HostRuntime) -> Result<(), Fail> {
+    // The first writer waits for the second one's second line, which waits for the first one's.
+    let gate = Both {
+        first: Hold::new(Place { job: 1, line: 1 }, Place { job: 2, line: 2 }),
+        second: Hold::new(Place { job: 2, line: 2 }, Place { job: 1, line: 2 }),
+    };
+    let ran = run(&rt, TWO_WRITERS.to_vec(rt.alloc())?, &gate)?;
+    assert_eq!(rt; ran.status, 0);
+    assert_eq!(rt; gate.first.ran_out.load(Ordering::SeqCst), 0);
+    assert_eq!(rt; gate.second.ran_out.load(Ordering::SeqCst), 0);
+    assert_eq!(rt;
+        ran.trace.taken(),
+        b"\x0A\x07\x40\x01\x50\x02\xD0\x02\x01\x0A\x04\x40\x02\x50\x02\x0A\x07\x40\x03\x50\x03\xD0\x02\x01\x0A\x04\x40\x04\x50\x03".as_slice()
+    );
+    Ok(())
+}
+
+const ONE_CHUNK: &[u8] =
+    b"buffer 64 ring\nproducer 1 4096 1\nwriter 1 1 drop\nwriter 1 1 drop\np 1 8:1\np 2 8:2\n";
+
+const FIRST_WON: &[u8] =
+    b"buffer 1 ring bytes 65536 placed 1 rewritten 0 overwritten 0 discarded 0 unpatched 0 padding 0\nsequence 2 begun 1 delivered 1 dropped 0 overwritten 0 discarded 0 cut 0\nsequence 3 begun 1 delivered 0 dropped 1 overwritten 0 discarded 0 cut 0\n";
+
+const SECOND_WON: &[u8] =
+    b"buffer 1 ring bytes 65536 placed 1 rewritten 0 overwritten 0 discarded 0 unpatched 0 padding 0\nsequence 2 begun 1 delivered 0 dropped 1 overwritten 0 discarded 0 cut 0\nsequence 3 begun 1 delivered 1 dropped 0 overwritten 0 discarded 0 cut 0\n";
+
+#[test]
+fn the_trace_follows_the_order_of_the_claims(rt: HostRuntime) -> Result<(), Fail> {
+    let gate = Hold::new(Place { job: 2, line: 1 }, Place { job: 1, line: 2 });
+    let ran = run(&rt, ONE_CHUNK.to_vec(rt.alloc())?, &gate)?;
+    assert_eq!(rt; gate.ran_out.load(Ordering::SeqCst), 0);
+    assert_eq!(rt;
+        ran.trace.taken(),
+        b"\x0A\x07\x40\x01\x50\x02\xD0\x02\x01".as_slice()
+    );
+    assert_eq!(rt; ran.text.taken(), FIRST_WON);
+    let gate = Hold::new(Place { job: 1, line: 1 }, Place { job: 2, line: 2 });
+    let ran = run(&rt, ONE_CHUNK.to_vec(rt.alloc())?, &gate)?;
+    assert_eq!(rt; gate.ran_out.load(Ordering::SeqCst), 0);
+    assert_eq!(rt;
+        ran.trace.taken(),
+        b"\x0A\x07\x40\x02\x50\x03\xD0\x02\x01".as_slice()
+    );
+    assert_eq!(rt; ran.text.taken(), SECOND_WON);
+    Ok(())
+}
+
+const SCRAPED: &[u8] =
+    b"buffer 64 ring\nproducer 1 4096 14\nwriter 1 1 drop\np 1 8:1\nb 1\na 1 8:2\ns 1\nr 1\ne 1\n";
+
+const REWRITTEN: &[u8] =
+    b"buffer 1 ring bytes 65536 placed 1 rewritten 1 overwritten 0 discarded 0 unpatched 0 padding 0\nsequence 2 begun 2 delivered 2 dropped 0 overwritten 0 discarded 0 cut 0\n";
+
+#[test]
+fn a_scrape_finds_what_a_writer_holds_meanwhile(rt: HostRuntime) -> Result<(), Fail> {
+    // The service waits until the second packet is begun, and its writer until all of its lines are played.
+    let gate = Both {
+        first: Hold::new(Place { job: 0, line: 1 }, Place { job: 1, line: 4 }),
+        second: Hold::new(Place { job: 1, line: 4 }, Place { job: 0, line: 3 }),
+    };
+    let ran = run(&rt, SCRAPED.to_vec(rt.alloc())?, &gate)?;
+    assert_eq!(rt; gate.first.ran_out.load(Ordering::SeqCst), 0);
+    assert_eq!(rt; gate.second.ran_out.load(Ordering::SeqCst), 0);
+    assert_eq!(rt;
+        ran.trace.taken(),
+        b"\x0A\x07\x40\x01\x50\x02\xD0\x02\x01\x0A\x04\x40\x02\x50\x02".as_slice()
+    );
+    assert_eq!(rt; ran.text.taken(), REWRITTEN);
+    Ok(())
+}
+
+/// Packets of each writer that stalls.
+const MANY: usize = 60;
+
+const NONE_LOST: &[u8] =
+    b"sequence 2 begun 60 delivered 60 dropped 0 overwritten 0 discarded 0 cut 0\nsequence 3 begun 60 delivered 60 dropped 0 overwritten 0 discarded 0 cut 0\n";
+
+#[test]
+fn writers_that_stall_lose_nothing(rt: HostRuntime) -> Result<(), Fail> {
+    let mut scenario =
+        b"buffer 256 ring\nproducer 1 4096 2\nwriter 1 1 stall\nwriter 1 1 stall\n".to_vec(
+            rt.alloc(),
+        )?;
+    for _ in 0..MANY {
+        scenario.extend_from_slice(
+            b"p 1 900{1:\"abcdefghij\"*30}\np 2 900{1:\"0123456789\"*30}\n",
+        )?;
+    }
+    let ran = run(&rt, scenario, &OpenGate)?;
+    assert_eq!(rt; ran.status, 0);
+    assert!(rt; ran.text.taken().ends_with(NONE_LOST));
+    Ok(())
+}

@@ -1,0 +1,14 @@
+use Rattle.std.proofs.Common.{ap, sym, ◌∙◌}
+use Rattle.scenario_text.specs.Scenario.{parts_of, scenario_of}
+use Rattle.tracesmb_top.proofs.UnfitLemmas.{fit_closes_none}
+use Rattle.tracesmb_top.proofs.commands.run.Goals as goal
+
+-- lines that are for threads close no producer
+pub run-requires-clause-closes : goal.run-requires-clause-closes
+run-requires-clause-closes g c κs within = fit_closes_none c.in-Ok.scenario.lines (rw c.in_default.is at c.find_unfit.ensures.none)
+
+pub returns-in-Err-WriteFault-clause-ends : goal.returns-in-Err-WriteFault-clause-ends
+returns-in-Err-WriteFault-clause-ends g c = (
+  parts_of c.in-Ok.scenario,
+  record { scenario_is = ap scenario_of (sym c.deref.ensures.value) ∙ c.in-Ok.ensures.exact; fits = rw c.in_default.is at c.find_unfit.ensures.none },
+)
