@@ -2,7 +2,7 @@
 use Rattle.std.proofs.Common.{◌≡◌, ℕ, List, [], ◌∷◌, ◌++◌, refl, sym, ap, ◌∙◌, subst, append_assoc, append-nil}
 use Rattle.std.specs.List.{flat_map}
 use Rattle.std.proofs.lemmas.List.Concat.{flat_map-append}
-use Rattle.byte_io.specs.Bytes.{Intake, after_told}
+use Rattle.byte_io.specs.Bytes.{Intake, told, untold, after_told}
 use Rattle.byte_io.proofs.Told.{after_told_again, after_told_nothing}
 use Rattle.trace_model.specs.Buffers.{Buffer}
 use Rattle.trace_model.specs.Delivery.{Delivered, trace_of}
@@ -18,7 +18,7 @@ use Rattle.service_core.specs.Reading.{noted_read}
 use Rattle.service_core.proofs.ReadingLemmas.{trace_append}
 use Rattle.thread_service.specs.Reading.{reads_among}
 use Rattle.run_model.specs.Reads.{AreReadsBy, AreReadsOf}
-use Rattle.thread_host.specs.Jobs.{TellsReads, TellsLine, TellsLines}
+use Rattle.thread_host.specs.Jobs.{loans_of, KeepsLoans, TellsReads, TellsLine, TellsLines}
 
 -- no line tells nothing
 pub none_tells : (setup : Setup) (first : List Buffer) (view : ServiceView) (taken : Intake) → TellsReads first [] view view taken taken
@@ -104,3 +104,9 @@ pub scrape_tells : (setup : Setup) (first : List Buffer) (line : LineKind) (prod
     → TellsLine setup first line view view taken taken
 scrape_tells setup first line producer view taken is =
     line_tells setup first line view taken (subst (λ (l : LineKind). AreReadsBy setup l []) (sym is) refl)
+
+-- ---- a sink hands its bytes on as before, whatever it took
+
+pub loans_kept : (before after : Intake) (bytes : List ℕ) → after ≡ after_told before bytes → KeepsLoans before after
+loans_kept (told taken loans) after bytes is = ap loans_of is
+loans_kept (untold loans) after bytes is = ap loans_of is

@@ -1,7 +1,7 @@
 -- What the service's job does of a scenario's lines.
 use Rattle.std.specs.Prelude.{◌≡◌, List, ◌++◌}
 use Rattle.std.specs.List.{flat_map}
-use Rattle.byte_io.specs.Bytes.{Intake, after_told}
+use Rattle.byte_io.specs.Bytes.{Loan, Intake, told, untold, after_told}
 use Rattle.trace_model.specs.Buffers.{Buffer}
 use Rattle.trace_model.specs.Delivery.{Delivered, trace_of}
 use Rattle.trace_model.specs.History as model
@@ -14,6 +14,15 @@ use Rattle.scenario_text.specs.declared.scenario.NumberedLine.{NumberedLine}
 use Rattle.service_core.specs.Reading.{noted_read}
 use Rattle.run_model.specs.Reads.{AreReadsBy, AreReadsOf}
 use Rattle.thread_service.specs.Reading.{reads_among}
+
+-- the loans on which a sink hands its bytes on
+abbrev pub loans_of : Intake → List Loan
+loans_of (told bytes loans) = loans
+loans_of (untold loans) = loans
+
+-- A sink hands its bytes on as before, also where a write failed.
+abbrev pub KeepsLoans : (before after : Intake) → Type 0
+KeepsLoans before after = loans_of after ≡ loans_of before
 
 -- The pass knows these reads more, behind all those that it knew, and the sink took exactly the records that it knows more.
 pub record TellsReads (first : List Buffer) (events : List model.Event) (old new : ServiceView) (before after : Intake) : Type 0 where

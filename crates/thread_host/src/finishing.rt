@@ -16,6 +16,7 @@ ghost use Rattle.thread_host.specs.Counting.{buffers_in, packets_in};
 ghost use Rattle.thread_host.specs.Ending.{no_counts};
 ghost use Rattle.thread_host.specs.Finishing.{AreClosedTo, ReadsOut, HasFinished};
 ghost use Rattle.thread_host.specs.Hosts.{IsSettled};
+ghost use Rattle.thread_host.specs.Jobs.{KeepsLoans};
 ghost use Rattle.thread_host.specs.Keeping.{AllOpen};
 
 use crate::settled::Settled;
@@ -35,6 +36,7 @@ impl Settled {
         requires settled { (scenario : Parts) × IsSettled scenario self }
         ensures done { (scenario : Parts) → IsSettled scenario self
             → IfOk result (HasFinished scenario (setup_in self.table) (known_by_pass self.pass) (T.taken out.old) (T.taken out.new)) }
+        ensures stands { KeepsLoans (T.taken out.old) (T.taken out.new) }
         ensures count { CountsFaults (T.faults out.old) (T.faults out.new) result }
     {
         let Settled {
@@ -88,6 +90,7 @@ fn read_all<T: Sink>(
     ensures keeps { KeepsRest (setup_in table.now) (core_of service.old) (core_of service.new) }
     ensures reads { IfOk result (λ _. ReadsOut (setup_in table.now) (first_of (setup_in table.now) (core_of service.old)) buffers
         (view_in service.old) (view_in service.new) (known_by_pass pass.old) (known_by_pass pass.new) (T.taken out.old) (T.taken out.new)) }
+    ensures stands { KeepsLoans (T.taken out.old) (T.taken out.new) }
     ensures count { CountsFaults (T.faults out.old) (T.faults out.new) result }
 {
     'buffers: for index in 0..buffers {

@@ -4,7 +4,7 @@ ghost use Rattle.byte_io.specs.Bytes.{CountsFaults};
 ghost use Rattle.chunk_words.specs.Sits.{Passes, known_by_pass};
 ghost use Rattle.thread_service.specs.Reading.{IsKnownWhole};
 ghost use Rattle.thread_host.specs.Keeping.{IsNamed};
-ghost use Rattle.thread_host.specs.Jobs.{TellsLine, TellsLines};
+ghost use Rattle.thread_host.specs.Jobs.{KeepsLoans, TellsLine, TellsLines};
 
 use crate::locked::Locked;
 use crate::name::HostName;
@@ -33,6 +33,7 @@ pub fn service_job<N: HostName, R: Wait, G: Gate, O: Sink>(
     ensures known { IsKnownWhole (known_by_pass pass.new) }
     ensures told { IfOk result (λ _. TellsLines N.setup N.first lines.now (known_by_pass pass.old) (known_by_pass pass.new)
         (O.taken out.old) (O.taken out.new)) }
+    ensures stands { KeepsLoans (O.taken out.old) (O.taken out.new) }
     ensures count { CountsFaults (O.faults out.old) (O.faults out.new) result }
 {
     // There are never so many lines that the number stands still.
@@ -79,6 +80,7 @@ fn play_line<N: HostName, R: Wait, O: Sink>(
     ensures known { IsKnownWhole (known_by_pass pass.new) }
     ensures told { IfOk result (λ _. TellsLine N.setup N.first line.now (known_by_pass pass.old) (known_by_pass pass.new)
         (O.taken out.old) (O.taken out.new)) }
+    ensures stands { KeepsLoans (O.taken out.old) (O.taken out.new) }
     ensures count { CountsFaults (O.faults out.old) (O.faults out.new) result }
 {
     match line {

@@ -5,7 +5,7 @@ ghost use Rattle.chunk_words.specs.Sits.{Passes, known_by_pass};
 ghost use Rattle.thread_service.specs.Reading.{IsKnownWhole};
 ghost use Rattle.thread_writer.specs.declared.writer.TraceWriter.{TraceWriter};
 ghost use Rattle.thread_host.specs.Hosts.{IsReady, HasPlayed};
-ghost use Rattle.thread_host.specs.Jobs.{TellsLines};
+ghost use Rattle.thread_host.specs.Jobs.{KeepsLoans, TellsLines};
 ghost use Rattle.thread_host.specs.Keeping.{IsNamed, ServesNamed, AllOpen, BeganWith, HasOwn};
 
 use crate::job::service_job;
@@ -88,6 +88,7 @@ pub fn run_named<
     ensures known { IsKnownWhole (known_by_pass pass.new) }
     ensures told { IfOk result.1 (λ _. TellsLines N.setup N.first lines.now (known_by_pass pass.old) (known_by_pass pass.new)
         (O.taken out.old) (O.taken out.new)) }
+    ensures stands { KeepsLoans (O.taken out.old) (O.taken out.new) }
     ensures count { CountsFaults (O.faults out.old) (O.faults out.new) result.1 }
     ensures played { (place : ℕ) (any : TraceWriter) → place < length writers.old
         → HasPlayed lines.now table.now place (slice_index_or writers.new place any) }

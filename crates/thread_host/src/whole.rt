@@ -3,6 +3,7 @@ ghost use Rattle.replay_host.specs.Replaying.{CountsStop};
 ghost use Rattle.scenario_text.specs.Scenario.{IsScenario, parts_of};
 ghost use Rattle.thread_host.specs.Finishing.{EndsRun};
 ghost use Rattle.thread_host.specs.Hosts.{ClosesNone};
+ghost use Rattle.thread_host.specs.Jobs.{KeepsLoans};
 
 use crate::host::Host;
 use byte_io::put::WriteFault;
@@ -20,7 +21,7 @@ use std::thread::Threads;
 
 /// Runs a scenario, each writer on a thread of its own, into a sink, and answers what became of its
 /// packets and chunks. No writer stalls for good: one that waits for a chunk has the service take some
-/// until it gets one.
+/// until it gets one. Also after a write fault the sink still hands its bytes on as before.
 pub fn run<R: Threads + Wait + Sync, T: Sink + Send, G: Gate + Sync>(
     rt: &R,
     alloc: Global,
@@ -31,6 +32,7 @@ pub fn run<R: Threads + Wait + Sync, T: Sink + Send, G: Gate + Sync>(
     requires scenario { IsScenario scenario.now }
     requires closes { ClosesNone scenario.now.lines }
     ensures ends { EndsRun (parts_of scenario.now) result (T.taken out.old) (T.taken out.new) }
+    ensures stands { KeepsLoans (T.taken out.old) (T.taken out.new) }
     ensures count { CountsStop (T.faults out.old) (T.faults out.new) result }
 {
     every_run_is_faithful();

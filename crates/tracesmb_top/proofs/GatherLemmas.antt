@@ -86,7 +86,7 @@ stops_by scenario fault old new has =
 -- ---- what the trace behind an adapter took
 
 -- where an adapter took all of some bytes, the sink that it was lent took them but for those that wait
-lent_all : (loan loan' : Loan) (old new : Intake) (waits bytes : List ℕ)
+pub lent_all : (loan loan' : Loan) (old new : Intake) (waits bytes : List ℕ)
     → take (length loan'.start) (told_bytes new) ≡ loan'.start → loan.start ≡ told_bytes old
     → lent_by loan' (after_told new waits) ≡ after_told (lent_by loan (after_told old [])) bytes → HandsOn old new bytes waits
 lent_all loan loan' (told first loans) (told second loans') waits bytes grown started same =
@@ -116,7 +116,7 @@ front_none [] rest is = refl
 front_none (byte ∷ part) rest is = absurd cc
 
 -- a sink that took a part of nothing is as it was
-none_part : (old new : Intake) → TakesPart old new [] → new ≡ old
+pub none_part : (old new : Intake) → TakesPart old new [] → new ≡ old
 none_part old new took =
     let none : took.part ≡ [] = front_none took.part took.rest (sym took.cut) in
     took.taken ∙ ap (λ bytes. after_told old bytes) none ∙ after_told_nothing old
@@ -175,7 +175,7 @@ gathered scenario result loan loan' lent old new waits is grown started replays 
 -- ---- what waited is passed on
 
 -- all that waited was passed on
-up_to_all : (new left : Intake) (waits rest : List ℕ) → TakesUpTo new left waits rest → rest ≡ [] → left ≡ after_told new waits
+pub up_to_all : (new left : Intake) (waits rest : List ℕ) → TakesUpTo new left waits rest → rest ≡ [] → left ≡ after_told new waits
 up_to_all new left waits rest passed none = up_to_end new left waits (subst (λ (bytes : List ℕ). TakesUpTo new left waits bytes) none passed)
 
 pub passed_all : (scenario : Parts) (done : Done) (old new left : Intake) (waits rest : List ℕ)

@@ -3,3 +3,4 @@ pub mod UnfitLemmas
 pub mod CheckLemmas
 pub mod CommandLemmas
 pub mod GatherLemmas
+pub mod RunLemmas

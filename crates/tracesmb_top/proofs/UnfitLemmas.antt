@@ -3,7 +3,7 @@ use Rattle.std.proofs.Common.{◌≡◌, ℕ, false, Option, Some, None, List, [
 use Rattle.scenario_text.specs.declared.scenario.LineKind.{LineKind}
 use Rattle.scenario_text.specs.declared.scenario.LineKind.TheVariants.{Packet, Begin, Add, Nest, Unnest, End, Flush, Collect, Scrape, Close, Read, Request}
 use Rattle.scenario_text.specs.declared.scenario.NumberedLine.{NumberedLine}
-use Rattle.scenario_text.specs.Accepted.{closes, is_closed_by}
+use Rattle.scenario_text.specs.Accepted.{closes}
 use Rattle.thread_host.specs.Hosts.{ClosesNone}
 use Rattle.tracesmb_top.specs.Ran.{unfit_words, unfit_or, unfit_in}
 

@@ -1,13 +1,17 @@
 -- What becomes of a text that is a scenario where it is run on threads.
 use Rattle.std.specs.Prelude.{◌≡◌, ℕ, Option, Some, None, List, [], ◌∷◌, ◌++◌, Result, Ok, Err, codes, decimal}
-use Rattle.byte_io.specs.Bytes.{Intake}
+use Rattle.byte_io.specs.Bytes.{Intake, after_told}
+use Rattle.loss_report.specs.declared.counts.Done.{Done}
 use Rattle.scenario_text.specs.declared.reason.Reason.{Reason}
 use Rattle.scenario_text.specs.declared.scenario.LineKind.{LineKind}
 use Rattle.scenario_text.specs.declared.scenario.LineKind.TheVariants.{Close, Request}
 use Rattle.scenario_text.specs.declared.scenario.NumberedLine.{NumberedLine}
 use Rattle.scenario_text.specs.Scenario.{Parts, scenario_of}
 use Rattle.scenario_text.specs.Texts.{refusal_line}
+use Rattle.replay_host.specs.declared.fault.HostFault.{HostFault}
+use Rattle.replay_host.specs.declared.fault.HostFault.TheVariants as stops
 use Rattle.run_model.specs.Runs.{Runs}
+use Rattle.thread_host.specs.Finishing.{HasRun}
 
 -- ---- which scenarios aren't for threads
 
@@ -57,3 +61,12 @@ pub record IsRanBy (text : List ℕ) (old new : Intake) (report : List ℕ) : Ty
 -- The text is a scenario for threads, and a write of its trace failed. Nothing is said of what the trace has taken then.
 abbrev pub IsRanShort : List ℕ → Type 0
 IsRanShort text = (parts : Parts) × IsForThreads text parts
+
+-- ---- a trace that gathers short writes into long ones
+
+-- What was run was handed to the trace, but for the bytes that still wait. No writer stalls for good.
+abbrev pub GathersRun : Parts → Result Done HostFault → (old new : Intake) → (waits : List ℕ) → Type 0
+GathersRun scenario (Ok done) old new waits = HasRun scenario old (after_told new waits) done
+GathersRun scenario (Err stops.OutOfMemory) old new waits = new ≡ old
+GathersRun scenario (Err stops.WriteFault) old new waits = Unit {0}
+GathersRun scenario (Err (stops.Stalled writer)) old new waits = ⊥

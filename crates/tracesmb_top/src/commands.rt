@@ -4,7 +4,7 @@ ghost use Rattle.command_words.specs.Commands.{IsWithinLimits};
 ghost use Rattle.tracesmb_top.specs.Commands.{CountsWrites, Ended};
 
 use crate::check::{CheckingFault, verdict_for, verdict_line};
-use crate::gather::play;
+use crate::gather;
 use crate::say::trace_fault_line;
 use crate::unfit::find_unfit;
 use arrayvec::ArrayVec;
@@ -53,7 +53,7 @@ pub fn replay<T: Sink>(
         }
     };
     drop(text);
-    match play(alloc, &scenario, trace) {
+    match gather::play(alloc, &scenario, trace) {
         Ok(done) => Ok(Some(done)),
         Err(HostFault::OutOfMemory) => Err(CommandFault::OutOfMemory),
         Err(HostFault::WriteFault) => Err(CommandFault::WriteFault),
@@ -88,7 +88,7 @@ pub fn run<R: Threads + Wait + Sync, T: Sink + Send, G: Gate + Sync>(
     if let Some(line) = find_unfit(&scenario.lines) {
         return Err(CommandFault::Refused { line });
     }
-    match thread_host::run(rt, alloc, &scenario, trace, gate) {
+    match gather::run(rt, alloc, &scenario, trace, gate) {
         Ok(done) => Ok(Some(done)),
         Err(HostFault::OutOfMemory) => Err(CommandFault::OutOfMemory),
         Err(HostFault::WriteFault) => Err(CommandFault::WriteFault),

@@ -5,6 +5,7 @@ use Rattle.service_core.specs.Agreement.{first_of}
 use Rattle.service_core.proofs.AgreeLemmas.{first_stays, keeps_same, keeps_both}
 use Rattle.thread_service.specs.Serving.{core_of, view_in}
 use Rattle.thread_host.proofs.Closing.{out_none, out_more}
+use Rattle.thread_host.proofs.Telling.{loans_kept}
 use Rattle.thread_host.proofs.finishing.read_all.Goals as goal
 
 pub buffers-init : goal.buffers-init
@@ -16,6 +17,7 @@ buffers-init g c =
       known = c.requires.known;
       keeps = keeps_same setup (core_of c.args.service.now);
       reads = out_none setup (first_of setup (core_of c.args.service.now)) (view_in c.args.service.now) (known_by_pass c.args.pass.now) (g.T.Sink.taken c.args.out.now);
+      stands = refl;
       steady = refl;
     }
 
@@ -36,5 +38,6 @@ buffers-preserved g c =
           (g.T.Sink.taken c.args.out.now) (g.T.Sink.taken c.buffers.out) (g.T.Sink.taken c.read_passing.new.out)
           (let more : c.buffers.index + 1 ≡ suc c.buffers.index = omega arith in more)
           (first_stays setup start core i.keeps.fields) i.serves.agrees.buffers i.reads ok.reads ok.passes;
+      stands = loans_kept (g.T.Sink.taken c.buffers.out) (g.T.Sink.taken c.read_passing.new.out) _ ok.reads.taken ∙ i.stands;
       steady = ok.count ∙ i.steady;
     }

@@ -13,6 +13,7 @@ lines-init g c = record {
   pass = c.requires.pass;
   known = c.requires.known;
   told = tells_none g.N.HostName.setup g.N.HostName.first (known_by_pass c.args.pass.now) (g.O.Sink.taken c.args.out.now);
+  stands = refl;
   steady = refl;
 }
 
@@ -28,6 +29,7 @@ lines-preserved g c =
       told = tells_more g.N.HostName.setup g.N.HostName.first before line (known_by_pass c.args.pass.now) (known_by_pass c.lines.pass)
           (known_by_pass c.play_line.new.pass) (g.O.Sink.taken c.args.out.now) (g.O.Sink.taken c.lines.out) (g.O.Sink.taken c.play_line.new.out)
           c.lines.invariant.told c.in_ok-play_line.ensures.told;
+      stands = c.in_ok-play_line.ensures.stands ∙ c.lines.invariant.stands;
       steady = c.in_ok-play_line.ensures.count ∙ c.lines.invariant.steady;
     }
 

@@ -3,7 +3,7 @@ use Rattle.std.proofs.Common.{◌≡◌, List, ◌++◌, length}
 use Rattle.chunk_words.specs.Sits.{Passes, known_by_pass}
 use Rattle.scenario_text.specs.declared.scenario.NumberedLine.{NumberedLine}
 use Rattle.thread_service.specs.Reading.{IsKnownWhole}
-use Rattle.thread_host.specs.Jobs.{TellsLines}
+use Rattle.thread_host.specs.Jobs.{KeepsLoans, TellsLines}
 use Rattle.thread_host.proofs.job.service_job.Given as goal
 
 abbrev pub invariant-lines : goal.invariant-lines
@@ -14,6 +14,7 @@ invariant-lines g l = record {
   known : IsKnownWhole (known_by_pass l.pass);
   told : TellsLines g.N.HostName.setup g.N.HostName.first before (known_by_pass l.fn.pass) (known_by_pass l.pass)
       (g.O.Sink.taken l.fn.out) (g.O.Sink.taken l.out);
+  stands : KeepsLoans (g.O.Sink.taken l.fn.out) (g.O.Sink.taken l.out);
   steady : g.O.Sink.faults l.out ≡ g.O.Sink.faults l.fn.out;
 }
 

@@ -1,6 +1,5 @@
 use Rattle.std.proofs.Common.{[], map}
 use Rattle.std.specs.String.{string_bytes}
-use Rattle.tracesmb_top.specs.Commands.{IsGiven}
 use Rattle.tracesmb_top.specs.Replayed.{report_of}
 use Rattle.tracesmb_top.proofs.CommandLemmas.{never_refused, wrote, wrote_part, has_stalled}
 use Rattle.tracesmb_top.proofs.top.trace_top.Goals as goal
