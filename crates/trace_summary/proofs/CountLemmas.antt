@@ -1,9 +1,7 @@
 -- What was counted of the packets that were read so far.
 use Rattle.std.proofs.Common.{◌≡◌, ◌≢◌, ℕ, ◌+◌, ◌≤◌, Bool, true, false, cond, List, [], ◌∷◌, ◌++◌, length, Option, Some, None, refl, sym, ap, ◌∙◌, subst, arith, append_assoc, inl, inr, length-append, eq-eqb}
-use Rattle.std.specs.Prelude.{◌==◌, count_by, if◌then◌else◌, unwrap_or}
-use Rattle.std.specs.BTreeMap.{is_at}
-use Rattle.std.specs.List.Sorted.{IsStrictlySortedBy}
-use Rattle.std.specs.Map.{lookup, keys_of}
+use Rattle.std.specs.Prelude.{◌==◌, nat_lt, count_by, if◌then◌else◌, unwrap_or}
+use Rattle.std.specs.BTreeMap.{get, is_at, IsOrdered}
 use Rattle.std.specs.Ordering.{nat_cmp}
 use Rattle.std.proofs.lemmas.Bool.{cases_eq, ne_eqb}
 use Rattle.std.proofs.lemmas.Bool.Decides.{nat_tests}
@@ -17,16 +15,14 @@ use Rattle.trace_summary.specs.declared.summary.Totals.{Totals}
 use Rattle.trace_summary.specs.declared.summary.Summary.{Summary}
 use Rattle.trace_summary.specs.Added.{with_packet}
 use Rattle.trace_summary.specs.Counts.{of_sequence, content_bytes, totals_of, totals_met, totals_at, lines_text, last_line, summary_text, IsSummaryOf}
-
-abbrev pub none : Totals
-none = record { packets = 0; marked = 0; bytes = 0 }
+use Rattle.trace_summary.specs.Tallies.{none, totals_in, totals_before}
+use Rattle.trace_summary.specs.declared.tally.Tally.{Tally}
 
 -- the packets that were read, what the reader has left, and the totals of each sequence and of all
-pub record IsCounted (trace : List ℕ) (reader : Reading) (lines : List (ℕ × Totals)) (all : Totals) : Type 0 where
+pub record IsCounted (trace : List ℕ) (reader : Reading) (counts : ℕ → Option Totals) (all : Totals) : Type 0 where
   pub packets : List TracePacket
   pub reads : (others : List TracePacket) (ending : Option TraceFault) → StillReads reader others ending → ReadsFrom 0 trace (packets ++ others) ending
-  pub rising : IsStrictlySortedBy nat_cmp (keys_of lines)
-  pub each : (q : ℕ) → lookup (is_at (nat_cmp q)) lines ≡ totals_at q packets
+  pub each : (q : ℕ) → counts q ≡ totals_at q packets
   pub all_is : all ≡ totals_of packets
   pub small : all.packets + all.bytes + length reader.rest ≤ length trace
 
@@ -38,13 +34,12 @@ nothing_met : (q : ℕ) → totals_at q [] ≡ None
 unfolding totals_at totals_met
 nothing_met q = refl
 
-pub count_start : (trace : List ℕ) → IsCounted trace (record { at = 0; rest = trace; fault = None }) [] none
-unfolding IsStrictlySortedBy
-count_start trace = record {
+pub count_start : (trace : List ℕ) (counts : ℕ → Option Totals) → ((q : ℕ) → counts q ≡ None)
+    → IsCounted trace (record { at = 0; rest = trace; fault = None }) counts none
+count_start trace counts nothing = record {
   packets = [];
   reads = λ others ending reads. reads;
-  rising = tt;
-  each = λ q. sym (nothing_met q);
+  each = λ q. nothing q ∙ sym (nothing_met q);
   all_is = sym totals_nothing;
   small = omega arith;
 }
@@ -114,51 +109,71 @@ same_key q = grind (arith, nat_tests)
 other_key : (k q : ℕ) → k ≢ q → is_at (nat_cmp k) q ≡ false
 other_key k q apart = grind (arith, nat_tests)
 
+met_more : (totals : Totals) (marked : Bool) (bytes : ℕ) → nat_lt 0 (with_packet totals marked bytes).packets ≡ true
+unfolding with_packet
+met_more totals marked bytes = grind (arith, nat_tests)
+
+-- where totals with a packet more are at hand, those of their sequence alone have changed
+pub count_at_hand : (old new : Tally) (sequence : ℕ) (marked : Bool) (bytes : ℕ) → new.at_hand ≡ sequence
+    → new.totals ≡ with_packet (totals_before old sequence) marked bytes
+    → ((q : ℕ) → q ≢ sequence → get nat_cmp new.sequences q ≡ totals_in old q)
+    → (q : ℕ) → totals_in new q ≡ (if is_at (nat_cmp sequence) q then Some (with_packet (totals_before old sequence) marked bytes) else totals_in old q)
+count_at_hand old new sequence marked bytes at_hand totals others q =
+    let met = ap (λ (t : Totals). nat_lt 0 t.packets) totals ∙ met_more (totals_before old sequence) marked bytes in
+    ap (λ (b : Bool). if (if b then is_at (nat_cmp new.at_hand) q else false) then Some new.totals else get nat_cmp new.sequences q) met
+    ∙ ap (λ (k : ℕ). if is_at (nat_cmp k) q then Some new.totals else get nat_cmp new.sequences q) at_hand
+    ∙ ap (λ (t : Totals). if is_at (nat_cmp sequence) q then Some t else get nat_cmp new.sequences q) totals
+    ∙ elsewhere (is_at (nat_cmp sequence) q) (λ away. others q (grind (arith, nat_tests)))
+  where
+    elsewhere : (here : Bool) → (here ≡ false → get nat_cmp new.sequences q ≡ totals_in old q)
+        → (if here then Some (with_packet (totals_before old sequence) marked bytes) else get nat_cmp new.sequences q)
+        ≡ (if here then Some (with_packet (totals_before old sequence) marked bytes) else totals_in old q)
+    elsewhere true same = refl
+    elsewhere false same = same refl
+
 small_more : (all : Totals) (marked : Bool) (bytes new old whole : ℕ) → new + bytes + 2 ≤ old → all.packets + all.bytes + old ≤ whole
     → (with_packet all marked bytes).packets + (with_packet all marked bytes).bytes + new ≤ whole
 unfolding with_packet
 small_more all marked bytes new old whole shorter h = omega (arith, shorter, h)
 
-pub count_more : (trace : List ℕ) (old new : Reading) (lines others : List (ℕ × Totals)) (all : Totals) (packet : TracePacket) (before : Totals)
-    → IsCounted trace old lines all
+pub count_more : (trace : List ℕ) (old new : Reading) (counts others : ℕ → Option Totals) (all : Totals) (packet : TracePacket)
+    → IsCounted trace old counts all
     → ((packets : List TracePacket) (ending : Option TraceFault) → StillReads new packets ending → StillReads old (packet ∷ packets) ending)
     → length new.rest + length packet.content + 2 ≤ length old.rest
-    → before ≡ unwrap_or (lookup (is_at (nat_cmp packet.sequence)) lines) none
-    → IsStrictlySortedBy nat_cmp (keys_of others)
-    → ((q : ℕ) → lookup (is_at (nat_cmp q)) others
-    ≡ cond (is_at (nat_cmp packet.sequence) q) (Some (with_packet before packet.marked (length packet.content))) (lookup (is_at (nat_cmp q)) lines))
+    → ((q : ℕ) → others q
+    ≡ (if is_at (nat_cmp packet.sequence) q then Some (with_packet (unwrap_or (counts packet.sequence) none) packet.marked (length packet.content)) else counts q))
     → IsCounted trace new others (with_packet all packet.marked (length packet.content))
-count_more trace old new lines others all packet before h next shorter before_is rising updates = record {
+count_more trace old new counts others all packet h next shorter updates = record {
   packets = h.packets ++ packet ∷ [];
   reads = λ more ending reads. subst (λ (ps : List TracePacket). ReadsFrom 0 trace ps ending) (sym (append_assoc h.packets (packet ∷ []) more)) (h.reads (packet ∷ more) ending (next more ending reads));
-  rising = rising;
   each = each;
   all_is = ap (λ (t : Totals). with_packet t packet.marked (length packet.content)) h.all_is ∙ sym (totals-push h.packets packet);
   small = small_more all packet.marked (length packet.content) (length new.rest) (length old.rest) (length trace) shorter h.small;
 }
   where
-    each : (q : ℕ) → lookup (is_at (nat_cmp q)) others ≡ totals_at q (h.packets ++ packet ∷ [])
+    each : (q : ℕ) → others q ≡ totals_at q (h.packets ++ packet ∷ [])
     each q = elim (cases_eq packet.sequence q) [
       | inl e ↦
           let same : is_at (nat_cmp packet.sequence) q ≡ true = subst (λ (k : ℕ). is_at (nat_cmp packet.sequence) k ≡ true) e (same_key packet.sequence) in
-          let was : before ≡ unwrap_or (totals_at q h.packets) none = before_is ∙ ap (λ (o : Option Totals). unwrap_or o none) (h.each packet.sequence) ∙ ap (λ (k : ℕ). unwrap_or (totals_at k h.packets) none) e in
-          updates q ∙ ap (λ (b : Bool). cond b (Some (with_packet before packet.marked (length packet.content))) (lookup (is_at (nat_cmp q)) lines)) same
+          let was : unwrap_or (counts packet.sequence) none ≡ unwrap_or (totals_at q h.packets) none = ap (λ (o : Option Totals). unwrap_or o none) (h.each packet.sequence) ∙ ap (λ (k : ℕ). unwrap_or (totals_at k h.packets) none) e in
+          updates q ∙ ap (λ (b : Bool). if b then Some (with_packet (unwrap_or (counts packet.sequence) none) packet.marked (length packet.content)) else counts q) same
           ∙ ap (λ (t : Totals). Some (with_packet t packet.marked (length packet.content))) was ∙ sym (at_same q h.packets packet e)
       | inr apart ↦
-          updates q ∙ ap (λ (b : Bool). cond b (Some (with_packet before packet.marked (length packet.content))) (lookup (is_at (nat_cmp q)) lines)) (other_key packet.sequence q apart)
+          updates q ∙ ap (λ (b : Bool). if b then Some (with_packet (unwrap_or (counts packet.sequence) none) packet.marked (length packet.content)) else counts q) (other_key packet.sequence q apart)
           ∙ h.each q ∙ sym (at_other q h.packets packet apart)
     ]
 
-pub count_end : (trace : List ℕ) (reader : Reading) (summary : Summary) (all : Totals) → IsCounted trace reader summary.sequences.entries all
+pub count_end : (trace : List ℕ) (reader : Reading) (counts : ℕ → Option Totals) (all : Totals) (summary : Summary) → IsCounted trace reader counts all
+    → ((q : ℕ) → get nat_cmp summary.sequences q ≡ counts q) → IsOrdered nat_cmp summary.sequences
     → summary.packets ≡ all.packets → summary.bytes ≡ all.bytes → StillReads reader [] None → IsSummaryOf trace (summary_text summary)
 unfolding summary_text totals_of
-count_end trace reader summary all h packets_is bytes_is ends = record {
+count_end trace reader counts all summary h each rising packets_is bytes_is ends = record {
   packets = h.packets;
   reads = subst (λ (ps : List TracePacket). ReadsFrom 0 trace ps None) (append-nil h.packets) (h.reads [] None ends);
   says = record {
     lines = summary.sequences.entries;
-    rising = h.rising;
-    each = h.each;
+    rising = rising;
+    each = λ q. each q ∙ h.each q;
     text_is = ap (λ (n : ℕ). lines_text summary.sequences.entries ++ last_line n summary.bytes) (packets_is ∙ ap (λ (t : Totals). t.packets) h.all_is)
         ∙ ap (λ (n : ℕ). lines_text summary.sequences.entries ++ last_line (length h.packets) n) (bytes_is ∙ ap (λ (t : Totals). t.bytes) h.all_is);
   };
@@ -198,12 +213,12 @@ unfolding totals_at
 met_of q packets = met_before (of_sequence q packets)
 
 -- the totals of one sequence are at most those of all
-pub before_fits : (trace : List ℕ) (reader : Reading) (lines : List (ℕ × Totals)) (all before : Totals) (q : ℕ) → IsCounted trace reader lines all
-    → before ≡ unwrap_or (lookup (is_at (nat_cmp q)) lines) none → Fits before all
-before_fits trace reader lines all before q h before_is =
-    let was : before ≡ totals_of (of_sequence q h.packets) = before_is ∙ ap (λ (o : Option Totals). unwrap_or o none) (h.each q) ∙ met_of q h.packets in
+pub before_fits : (trace : List ℕ) (reader : Reading) (counts : ℕ → Option Totals) (all : Totals) (q : ℕ) → IsCounted trace reader counts all
+    → Fits (unwrap_or (counts q) none) all
+before_fits trace reader counts all q h =
+    let was : unwrap_or (counts q) none ≡ totals_of (of_sequence q h.packets) = ap (λ (o : Option Totals). unwrap_or o none) (h.each q) ∙ met_of q h.packets in
     let few = few_at q h.packets in
-    subst (λ (t : Totals). Fits before t) (sym h.all_is) (subst (λ (t : Totals). Fits t (totals_of h.packets)) (sym was) (few.0, few_marked (of_sequence q h.packets), few.1))
+    subst (λ (t : Totals). Fits (unwrap_or (counts q) none) t) (sym h.all_is) (subst (λ (t : Totals). Fits t (totals_of h.packets)) (sym was) (few.0, few_marked (of_sequence q h.packets), few.1))
 
-pub all_fits : (trace : List ℕ) (reader : Reading) (lines : List (ℕ × Totals)) (all : Totals) → IsCounted trace reader lines all → all.marked ≤ all.packets
-all_fits trace reader lines all h = subst (λ (t : Totals). t.marked ≤ t.packets) (sym h.all_is) (few_marked h.packets)
+pub all_fits : (trace : List ℕ) (reader : Reading) (counts : ℕ → Option Totals) (all : Totals) → IsCounted trace reader counts all → all.marked ≤ all.packets
+all_fits trace reader counts all h = subst (λ (t : Totals). t.marked ≤ t.packets) (sym h.all_is) (few_marked h.packets)

@@ -1,3 +1,4 @@
 pub mod Added
 pub mod Counts
 pub mod Faults
+pub mod Tallies

@@ -1,15 +1,13 @@
 //! Counting the packets of a trace.
-ghost use Rattle.std.specs.Prelude.{◌≡◌, ◌+◌, ◌≤◌, ◌<◌, ◌^◌, ℕ, List, Some, length, IfOk, IfErr, IsErrOf, unwrap_or};
-ghost use Rattle.trace_file.specs.Traces.{TracePacket, ReadsFrom};
-ghost use Rattle.trace_summary.specs.Added as added;
+ghost use Rattle.std.specs.Prelude.{IfOk, IfErr};
 ghost use Rattle.trace_summary.specs.Counts.{summary_text, IsSummaryOf};
 ghost use Rattle.trace_summary.specs.Faults.{IsFaultOf};
 
-use crate::summary::{Summary, Totals};
-use std::alloc::Global;
-use std::collections::BTreeMap;
+use crate::summary::Summary;
+use crate::tally::{NONE, Tally, with_packet};
+use std::alloc::{AllocError, Global};
 use thiserror::Error;
-use trace_file::{Packet, TraceFault, TraceReader};
+use trace_file::{TraceFault, TraceReader};
 
 /// Why there is no summary.
 #[derive(Clone, Copy, Debug, PartialEq, Eq, Error)]
@@ -21,58 +19,31 @@ pub enum SummaryFault {
     Trace(TraceFault),
 }
 
-const NONE: Totals = Totals {
-    packets: 0,
-    marked: 0,
-    bytes: 0,
-};
-
-/// The totals with one packet more.
-#[tactic(auto, unfolding(crate::specs::Added::with_packet))]
-fn with_packet(totals: Totals, packet: &Packet<'_>) -> Totals
-    requires packets { totals.packets + 1 < 2 ^ 64 }
-    requires marked { totals.marked ≤ totals.packets }
-    requires bytes { totals.bytes + length packet.now.content.now < 2 ^ 64 }
-    ensures { result ≡ added.with_packet totals packet.now.marked (length packet.now.content.now) }
-{
-    Totals {
-        packets: totals.packets + 1,
-        marked: if packet.marked {
-            totals.marked + 1
-        } else {
-            totals.marked
-        },
-        bytes: totals.bytes + packet.content.len() as u64,
-    }
-}
-
-#[tactic(auto, using(crate::proofs::CountLemmas::count_start))]
 /// What the packets of a trace come to, of each sequence and in all; or the trace's first fault.
 pub fn summarize(alloc: Global, trace: &[u8]) -> Result<Summary, SummaryFault>
     ensures summary { IfOk result (λ summary. IsSummaryOf trace.now (summary_text summary)) }
     ensures fault { IfErr result (λ fault. IsFaultOf trace.now fault) }
 {
-    let mut sequences = BTreeMap::new(alloc);
+    let mut tally = Tally::new(alloc);
     let mut all = NONE;
     let mut reader = TraceReader::new(trace);
     'packets: loop {
         match reader.next() {
             Err(fault) => return Err(SummaryFault::Trace(fault)),
-            Ok(None) => {
-                return Ok(Summary {
-                    sequences,
-                    packets: all.packets,
-                    bytes: all.bytes,
-                });
-            }
-            Ok(Some(packet)) => {
-                let before = sequences.get(&packet.sequence).copied().unwrap_or(NONE);
-                let totals = with_packet(before, &packet);
-                match sequences.insert(packet.sequence, totals) {
-                    Ok(_before) => all = with_packet(all, &packet),
-                    Err(_) => return Err(SummaryFault::OutOfMemory),
+            Ok(None) => match tally.into_sequences() {
+                Ok(sequences) => {
+                    return Ok(Summary {
+                        sequences,
+                        packets: all.packets,
+                        bytes: all.bytes,
+                    });
                 }
-            }
+                Err(AllocError) => return Err(SummaryFault::OutOfMemory),
+            },
+            Ok(Some(packet)) => match tally.count(&packet) {
+                Ok(()) => all = with_packet(all, &packet),
+                Err(AllocError) => return Err(SummaryFault::OutOfMemory),
+            },
         }
     }
 }

@@ -7,6 +7,7 @@
 mod count;
 mod put;
 mod summary;
+mod tally;
 #[cfg(test)]
 mod tests;
 
