@@ -120,6 +120,30 @@ fn a_scrape_finds_what_a_writer_holds_meanwhile(rt: HostRuntime) -> Result<(), F
     Ok(())
 }
 
+const FREED: &[u8] =
+    b"buffer 64 ring\nproducer 1 4096 1\nwriter 1 1 drop\np 1 8:1\nf 1\nc 1\np 1 8:2\n";
+
+const BOTH_PLACED: &[u8] =
+    b"buffer 1 ring bytes 65536 placed 2 rewritten 0 overwritten 0 discarded 0 unpatched 0 padding 0\nsequence 2 begun 2 delivered 2 dropped 0 overwritten 0 discarded 0 cut 0\n";
+
+#[test]
+fn a_collect_frees_what_a_writer_completed_meanwhile(rt: HostRuntime) -> Result<(), Fail> {
+    // There is one chunk, and its writer drops: the second packet comes where the first one's was taken by then.
+    let gate = Both {
+        first: Hold::new(Place { job: 0, line: 1 }, Place { job: 1, line: 3 }),
+        second: Hold::new(Place { job: 1, line: 3 }, Place { job: 0, line: 2 }),
+    };
+    let ran = run(&rt, FREED.to_vec(rt.alloc())?, &gate)?;
+    assert_eq!(rt; gate.first.ran_out.load(Ordering::SeqCst), 0);
+    assert_eq!(rt; gate.second.ran_out.load(Ordering::SeqCst), 0);
+    assert_eq!(rt;
+        ran.trace.taken(),
+        b"\x0A\x07\x40\x01\x50\x02\xD0\x02\x01\x0A\x04\x40\x02\x50\x02".as_slice()
+    );
+    assert_eq!(rt; ran.text.taken(), BOTH_PLACED);
+    Ok(())
+}
+
 /// Packets of each writer that stalls.
 const MANY: usize = 60;
 
