@@ -54,7 +54,7 @@ pub record HasFinished (scenario : Parts) (setup : Setup) (known : ServiceView) 
 abbrev pub HasRun : Parts → (old new : Intake) → Done → Type 0
 HasRun scenario old new done = Runs scenario old new (report_text done.buffers.items done.sequences.items done.flushes.items)
 
--- How a run ends: whole, or where memory is too little, before anything is written, or where a write failed. No writer stalls for good.
+-- How a run ends: whole, or where memory is too little, before anything is written, or where a write failed. No writer ends stalled.
 abbrev pub EndsRun : Parts → Result Done HostFault → (old new : Intake) → Type 0
 EndsRun scenario (Ok done) old new = HasRun scenario old new done
 EndsRun scenario (Err OutOfMemory) old new = new ≡ old

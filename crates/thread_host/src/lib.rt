@@ -2,7 +2,7 @@
 //! lines. The service stands behind a lock for so long, and a writer that stalls has a helper that takes
 //! it.
 //! A layer above may rely on this: where `run` answers Ok, the sink has taken exactly the records of the
-//! account that the threads led to, and the counts are that account's. No writer stalls for good.
+//! account that the threads led to, and the counts are that account's. No writer ends stalled.
 #![tactic(auto)]
 
 mod asking;

@@ -20,7 +20,7 @@ use std::sync::Wait;
 use std::thread::Threads;
 
 /// Runs a scenario, each writer on a thread of its own, into a sink, and answers what became of its
-/// packets and chunks. No writer stalls for good: one that waits for a chunk has the service take some
+/// packets and chunks. No writer ends stalled: one that waits for a chunk has the service take some
 /// until it gets one. Also after a write fault the sink still hands its bytes on as before.
 pub fn run<R: Threads + Wait + Sync, T: Sink + Send, G: Gate + Sync>(
     rt: &R,

@@ -64,7 +64,7 @@ IsRanShort text = (parts : Parts) × IsForThreads text parts
 
 -- ---- a trace that gathers short writes into long ones
 
--- What was run was handed to the trace, but for the bytes that still wait. No writer stalls for good.
+-- What was run was handed to the trace, but for the bytes that still wait. No writer ends stalled.
 abbrev pub GathersRun : Parts → Result Done HostFault → (old new : Intake) → (waits : List ℕ) → Type 0
 GathersRun scenario (Ok done) old new waits = HasRun scenario old (after_told new waits) done
 GathersRun scenario (Err stops.OutOfMemory) old new waits = new ≡ old

@@ -27,7 +27,7 @@ LeavesReport Replay = Unit {0}
 LeavesReport Run = Unit {0}
 LeavesReport other = ⊥
 
--- the command is `replay`, in which alone a writer stalls for good
+-- the command is `replay`, in which alone a writer ends stalled
 abbrev pub IsReplay : Command → Type 0
 IsReplay Replay = Unit {0}
 IsReplay other = ⊥
