@@ -7,7 +7,8 @@ use Rattle.field_tree.specs.Nodes.{Shown, nodes_of}
 use Rattle.field_tree.specs.Grammar.{IsTextOf, IsFrontOfFields, Spells}
 use Rattle.field_tree.specs.Machine.{Reading, act, settled, applied, next, then_run, run, finish, beginning, IsValid}
 use Rattle.field_tree.proofs.Accepted.{accepted, Steps, next_back, accepted_spelled}
-use Rattle.field_tree.proofs.Runs.{place, run-append}
+use Rattle.field_tree.specs.Scanning.{place}
+use Rattle.field_tree.proofs.Runs.{run-append}
 use Rattle.field_tree.proofs.Spelled.{after_at, end_next, settled_after, end_of, spelled_accepted}
 
 -- some text ends all

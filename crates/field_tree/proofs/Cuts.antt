@@ -12,7 +12,7 @@ use Rattle.field_tree.specs.Grammar.{number, is_digit}
 use Rattle.field_tree.specs.Machine.{Reading, is_first_digit, is_text_byte, grown, hex_value, go_on, act, settled, moved, applied, next, then_run, run, beginning, IsValid}
 use Rattle.field_tree.proofs.TestLemmas.{first_digit_range, by_grown, by_hex, number_digit, number_more}
 use Rattle.field_tree.proofs.Accepted.{Steps, next_back}
-use Rattle.field_tree.proofs.Runs.{place}
+use Rattle.field_tree.specs.Scanning.{place}
 use Rattle.field_tree.proofs.Words.{EndsPlain, Empty, Ends}
 
 -- the text ends in a word, behind a byte that is no digit or nothing

@@ -11,7 +11,8 @@ use Rattle.field_tree.specs.Grammar.{IsTextByte, number, is_digit, hex_digit, le
 use Rattle.field_tree.specs.Machine.{Reading, is_first_digit, next, then_run, run, finish, beginning, open_digits, taken_back, IsValid}
 use Rattle.field_tree.proofs.TestLemmas.{digit_range, hex_digit_low}
 use Rattle.field_tree.proofs.Accepted.{accepted}
-use Rattle.field_tree.proofs.Runs.{place, run-append, text_step, pair_first, pair_last}
+use Rattle.field_tree.specs.Scanning.{place}
+use Rattle.field_tree.proofs.Runs.{run-append, text_step, pair_first, pair_last}
 use Rattle.field_tree.proofs.Spelled.{spelled_accepted}
 use Rattle.field_tree.proofs.Completes.{valid_here, begins_fields, begins_none, shorter_front}
 use Rattle.field_tree.proofs.Words.{Separates, separates_none, separates_plain, separates_zero, within, number_word, word_front}

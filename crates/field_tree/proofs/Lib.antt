@@ -14,6 +14,7 @@ pub mod NumberLemmas
 pub mod Outcomes
 pub mod ParserLemmas
 pub mod Runs
+pub mod ScanLemmas
 pub mod Spelled
 pub mod Steps
 pub mod TestLemmas

@@ -10,10 +10,8 @@ use Rattle.field_tree.specs.declared.mode.Action.TheVariants.{Refuse, Go, Keep, 
 use Rattle.field_tree.specs.Nodes.{Shown}
 use Rattle.field_tree.specs.Grammar.{IsTextByte, number, hex_digit, is_digit}
 use Rattle.field_tree.specs.Machine.{Reading, is_first_digit, is_text_byte, grown, hex_value, go_on, act, settled, moved, applied, next, then_run, run}
+use Rattle.field_tree.specs.Scanning.{place}
 use Rattle.field_tree.proofs.TestLemmas.{hex_digit_low, hex_digit_high}
-
-abbrev pub place : List Shown → ℕ → List ℕ → Mode → Reading
-place ns d t m = record { nodes = ns; depth = d; text = t; mode = m }
 
 -- ---- texts one behind another
 
@@ -82,7 +80,7 @@ number_runs most from to small first later n some fits =
     (run_last (48 + m % 10) (to (m / 10)) (Some (to m)) (last ∙ ap (λ (k : ℕ). Some (to k)) same)))
     n (omega arith) some fits
 
-start_digit : (ns : List Shown) (d : ℕ) (opened : Bool) (n : ℕ) → 1 ≤ n → n < 10
+pub start_digit : (ns : List Shown) (d : ℕ) (opened : Bool) (n : ℕ) → 1 ≤ n → n < 10
     → next (place ns d [] (Start opened)) (48 + n) ≡ Some (place ns d [] (Field n))
 unfolding act applied settled
 start_digit ns d opened n some small =
@@ -92,7 +90,7 @@ start_digit ns d opened n some small =
     (cond-true (is_first_digit (48 + n)) (Go (Field (48 + n - 48))) (cond (opened && nat_lt 0 d && 48 + n == 125) Close Refuse) (first_digit n some small))
     ∙ ap (λ (m : ℕ). Some (place ns d [] (Field m))) same
 
-field_digit : (ns : List Shown) (d n digit : ℕ) → digit < 10 → n * 10 + digit ≤ MAX_FIELD
+pub field_digit : (ns : List Shown) (d n digit : ℕ) → digit < 10 → n * 10 + digit ≤ MAX_FIELD
     → next (place ns d [] (Field n)) (48 + digit) ≡ Some (place ns d [] (Field (n * 10 + digit)))
 unfolding act applied settled
 field_digit ns d n digit small fits =
@@ -109,7 +107,7 @@ field_runs ns d opened n some fits =
     (λ m one small. start_digit ns d opened m one small)
     (λ m digit one small more. field_digit ns d m digit small more) n some fits
 
-value_digit : (ns : List Shown) (d f n : ℕ) → 1 ≤ n → n < 10
+pub value_digit : (ns : List Shown) (d f n : ℕ) → 1 ≤ n → n < 10
     → next (place ns d [] (Value f)) (48 + n) ≡ Some (place ns d [] (Digits f n))
 unfolding act applied settled
 value_digit ns d f n some small =
@@ -125,7 +123,7 @@ value_digit ns d f n some small =
     ∙ cond-true (is_first_digit (48 + n)) (Go (Digits f (48 + n - 48))) Refuse (first_digit n some small))
     ∙ ap (λ (m : ℕ). Some (place ns d [] (Digits f m))) same
 
-digits_digit : (ns : List Shown) (d f n digit : ℕ) → digit < 10 → n * 10 + digit ≤ 18446744073709551615
+pub digits_digit : (ns : List Shown) (d f n digit : ℕ) → digit < 10 → n * 10 + digit ≤ 18446744073709551615
     → next (place ns d [] (Digits f n)) (48 + digit) ≡ Some (place ns d [] (Digits f (n * 10 + digit)))
 unfolding act applied
 digits_digit ns d f n digit small fits =
@@ -139,7 +137,7 @@ value_runs ns d f n some fits =
     (λ m one small. value_digit ns d f m one small)
     (λ m digit one small more. digits_digit ns d f m digit small more) n some (omega arith)
 
-star_digit : (ns : List Shown) (d f n : ℕ) (t : List ℕ) → 1 ≤ n → n < 10
+pub star_digit : (ns : List Shown) (d f n : ℕ) (t : List ℕ) → 1 ≤ n → n < 10
     → next (place ns d t (Star f)) (48 + n) ≡ Some (place ns d t (Times f n))
 unfolding act applied settled
 star_digit ns d f n t some small =
@@ -148,7 +146,7 @@ star_digit ns d f n t some small =
     ∙ ap (λ (a : Action). applied a (place ns d t (Star f))) (cond-true (is_first_digit (48 + n)) (Go (Times f (48 + n - 48))) Refuse (first_digit n some small))
     ∙ ap (λ (m : ℕ). Some (place ns d t (Times f m))) same
 
-times_digit : (ns : List Shown) (d f n digit : ℕ) (t : List ℕ) → digit < 10 → n * 10 + digit ≤ MAX_PACKET_LEN
+pub times_digit : (ns : List Shown) (d f n digit : ℕ) (t : List ℕ) → digit < 10 → n * 10 + digit ≤ MAX_PACKET_LEN
     → next (place ns d t (Times f n)) (48 + digit) ≡ Some (place ns d t (Times f (n * 10 + digit)))
 unfolding act applied
 times_digit ns d f n digit t small fits =

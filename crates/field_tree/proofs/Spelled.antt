@@ -12,7 +12,8 @@ use Rattle.field_tree.specs.Nodes.{Shown, nodes_of, IsField}
 use Rattle.field_tree.specs.Grammar.{IsTextByte, IsByte, number, pairs, BytesSpelling, Quoted as AsQuoted, Repeated, InPairs, IsSpelling, Spells}
 use Rattle.field_tree.specs.Machine.{Reading, act, settled, moved, applied, next, run, ended, finish, beginning}
 use Rattle.field_tree.proofs.TestLemmas.{number_digit}
-use Rattle.field_tree.proofs.Runs.{place, run_joins, run_next, run_last, field_runs, value_runs, times_runs, text_step, pair_runs}
+use Rattle.field_tree.specs.Scanning.{place}
+use Rattle.field_tree.proofs.Runs.{run_joins, run_next, run_last, field_runs, value_runs, times_runs, text_step, pair_runs}
 use Rattle.field_tree.proofs.Accepted.{accepted}
 
 abbrev pub start_at : List Shown → ℕ → Bool → Reading

@@ -71,7 +71,7 @@ goes x y b is d nodes text field =
 behind_number : (n b : ℕ) (w to : List ℕ) → w ++ b ∷ [] ≡ to → (number n ++ w) ++ b ∷ [] ≡ number n ++ to
 behind_number n b w to is = append_assoc (number n) w (b ∷ []) ∙ ap (λ (v : List ℕ). number n ++ v) is
 
-texts-push : (t : List ℕ) (b : ℕ) → AllByRecursion IsTextByte t → IsTextByte b → AllByRecursion IsTextByte (t ++ b ∷ [])
+pub texts-push : (t : List ℕ) (b : ℕ) → AllByRecursion IsTextByte t → IsTextByte b → AllByRecursion IsTextByte (t ++ b ∷ [])
 texts-push [] b all one = (one, tt)
 texts-push (x ∷ t) b all one = (all.0, texts-push t b all.1 one)
 

@@ -6,6 +6,7 @@ pub mod Laws
 pub mod Machine
 pub mod Nodes
 pub mod Refusals
+pub mod Scanning
 pub mod Trees
 pub mod Views
 pub mod Written

@@ -34,6 +34,11 @@ abbrev pub AddsByte : ℕ → Parser → Parser → Type 0
 AddsByte byte old new =
     (nodes_read new ≡ nodes_read old) × (text_read new ≡ text_read old ++ byte ∷ []) × (new.depth ≡ old.depth)
 
+-- some bytes more of it
+abbrev pub AddsText : List ℕ → Parser → Parser → Type 0
+AddsText bytes old new =
+    (nodes_read new ≡ nodes_read old) × (text_read new ≡ text_read old ++ bytes) × (new.depth ≡ old.depth)
+
 -- what a parser keeps says its nodes
 abbrev pub Keeps : Parser → Type 0
 Keeps p = AreWritten p.code.items

@@ -8,19 +8,22 @@ use crate::mode::{Action, Mode};
 use crate::node::FieldNode;
 use trace_base::limits::{MAX_FIELD, MAX_PACKET_LEN};
 
+#[inline(always)]
 fn is_digit(byte: u8) -> bool
     ensures { result ≡ grammar.is_digit byte }
 {
     b'0' <= byte && byte <= b'9'
 }
 
-fn is_first_digit(byte: u8) -> bool
+#[inline(always)]
+pub(crate) fn is_first_digit(byte: u8) -> bool
     ensures { result ≡ machine.is_first_digit byte }
 {
     b'1' <= byte && byte <= b'9'
 }
 
-fn is_text_byte(byte: u8) -> bool
+#[inline(always)]
+pub(crate) fn is_text_byte(byte: u8) -> bool
     ensures { result ≡ machine.is_text_byte byte }
 {
     b' ' <= byte && byte <= b'~' && byte != b'"' && byte != b'\\'
@@ -28,7 +31,8 @@ fn is_text_byte(byte: u8) -> bool
 
 /// The number with one digit more, where it stays within its range.
 #[tactic(auto, unfolding(crate::specs::Machine::grown))]
-fn grown(most: u64, value: u64, byte: u8) -> Option<u64>
+#[inline(always)]
+pub(crate) fn grown(most: u64, value: u64, byte: u8) -> Option<u64>
     ensures value { result ≡ machine.grown most value byte }
     ensures within { IfSome result (λ more. more ≤ most) }
 {
@@ -44,6 +48,7 @@ fn grown(most: u64, value: u64, byte: u8) -> Option<u64>
 
 /// The value of a lower-case hexadecimal digit.
 #[tactic(auto, unfolding(crate::specs::Machine::hex_value))]
+#[inline(always)]
 fn hex_value(byte: u8) -> Option<u8>
     ensures value { result ≡ machine.hex_value byte }
     ensures within { IfSome result (λ digit. digit < 16) }
@@ -59,6 +64,7 @@ fn hex_value(byte: u8) -> Option<u8>
 
 /// What is done at a byte, inside a nested message or not.
 #[tactic(auto, unfolding(crate::specs::Machine::act))]
+#[inline(always)]
 pub(crate) fn act(mode: Mode, inner: bool, byte: u8) -> Action
     requires { HalfFits mode }
     ensures { result ≡ machine.act mode inner byte }
@@ -82,6 +88,7 @@ pub(crate) fn act(mode: Mode, inner: bool, byte: u8) -> Action
 }
 
 /// Goes on at one byte, and refuses each other one.
+#[inline(always)]
 fn only(byte: u8, wanted: u8, mode: Mode) -> Action
     ensures { result ≡ (if byte == wanted then Action.Go mode else Action.Refuse) }
 {
@@ -93,6 +100,7 @@ fn only(byte: u8, wanted: u8, mode: Mode) -> Action
 }
 
 #[tactic(auto, unfolding(crate::specs::Machine::act))]
+#[inline(always)]
 fn at_start(opened: bool, inner: bool, byte: u8) -> Action
     ensures { result ≡ machine.act (Mode.Start opened) inner byte }
 {
@@ -108,6 +116,7 @@ fn at_start(opened: bool, inner: bool, byte: u8) -> Action
 }
 
 #[tactic(auto, unfolding(crate::specs::Machine::act))]
+#[inline(always)]
 fn in_field(field: u32, inner: bool, byte: u8) -> Action
     ensures { result ≡ machine.act (Mode.Field field) inner byte }
 {
@@ -124,6 +133,7 @@ fn in_field(field: u32, inner: bool, byte: u8) -> Action
 }
 
 #[tactic(auto, unfolding(crate::specs::Machine::act))]
+#[inline(always)]
 fn at_value(field: u32, inner: bool, byte: u8) -> Action
     ensures { result ≡ machine.act (Mode.Value field) inner byte }
 {
@@ -144,6 +154,7 @@ fn at_value(field: u32, inner: bool, byte: u8) -> Action
 }
 
 #[tactic(auto, unfolding(crate::specs::Machine::act))]
+#[inline(always)]
 fn in_digits(field: u32, value: u64, inner: bool, byte: u8) -> Action
     ensures { result ≡ machine.act (Mode.Digits field value) inner byte }
 {
@@ -154,6 +165,7 @@ fn in_digits(field: u32, value: u64, inner: bool, byte: u8) -> Action
 }
 
 #[tactic(auto, unfolding(crate::specs::Machine::act))]
+#[inline(always)]
 fn in_text(field: u32, inner: bool, byte: u8) -> Action
     ensures { result ≡ machine.act (Mode.Text field) inner byte }
 {
@@ -167,6 +179,7 @@ fn in_text(field: u32, inner: bool, byte: u8) -> Action
 }
 
 #[tactic(auto, unfolding(crate::specs::Machine::act))]
+#[inline(always)]
 fn at_times(field: u32, inner: bool, byte: u8) -> Action
     ensures { result ≡ machine.act (Mode.Star field) inner byte }
 {
@@ -181,6 +194,7 @@ fn at_times(field: u32, inner: bool, byte: u8) -> Action
 }
 
 #[tactic(auto, unfolding(crate::specs::Machine::act))]
+#[inline(always)]
 fn in_times(field: u32, times: u32, inner: bool, byte: u8) -> Action
     ensures { result ≡ machine.act (Mode.Times field times) inner byte }
 {
@@ -194,6 +208,7 @@ fn in_times(field: u32, times: u32, inner: bool, byte: u8) -> Action
 }
 
 #[tactic(auto, unfolding(crate::specs::Machine::act))]
+#[inline(always)]
 fn in_pairs(field: u32, inner: bool, byte: u8) -> Action
     ensures { result ≡ machine.act (Mode.Pairs field) inner byte }
 {
@@ -208,6 +223,7 @@ fn in_pairs(field: u32, inner: bool, byte: u8) -> Action
 }
 
 #[tactic(auto, unfolding(crate::specs::Machine::act))]
+#[inline(always)]
 fn in_half(field: u32, high: u8, inner: bool, byte: u8) -> Action
     requires { high < 16 }
     ensures { result ≡ machine.act (Mode.Half field high) inner byte }
@@ -219,6 +235,7 @@ fn in_half(field: u32, high: u8, inner: bool, byte: u8) -> Action
 }
 
 #[tactic(auto, unfolding(crate::specs::Machine::act))]
+#[inline(always)]
 fn behind_field(inner: bool, byte: u8) -> Action
     ensures { result ≡ machine.act Mode.After inner byte }
 {
@@ -232,6 +249,7 @@ fn behind_field(inner: bool, byte: u8) -> Action
 }
 
 /// The node that may end where the reading stands.
+#[inline(always)]
 pub(crate) fn pending_node(mode: Mode) -> Option<FieldNode>
     ensures { result ≡ pending mode }
 {

@@ -58,6 +58,7 @@ impl<'c> Fields<'c> {
     }
 
     /// The next node with the text of one repetition, which is empty for nodes other than `Bytes`.
+    #[inline(always)]
     pub fn next(&mut self) -> Option<(FieldNode, &'c [u8])>
         ensures first { IfSome result (λ found. self.old ≡ (found.0, found.1.now) ∷ self.new) }
         ensures fit { IfSome result (λ found. IsFit found.0) }

@@ -23,6 +23,9 @@ fn varint_len(value: u64) -> u64
     if value < 128 {
         return 1;
     }
+    if value < 16_384 {
+        return 2;
+    }
     let mut bytes = [0; 10];
     put_varint(value, &mut bytes) as u64
 }
@@ -66,27 +69,6 @@ fn node_len(node: FieldNode, len: usize) -> Option<u32>
     }
 }
 
-/// How many bytes the nodes take in the encoding.
-fn encoded_len(code: &[u8]) -> Option<u32>
-    requires { AreFitNodes code.now }
-    ensures { Measures (nodes_len (shown_in code.now)) result }
-{
-    let mut sum = 0u32;
-    let mut fields = Fields::new(code);
-    'nodes: while let Some((node, text)) = fields.next() {
-        match node_len(node, text.len()) {
-            Some(len) => {
-                if len > MAX_PACKET_LEN - sum {
-                    return None;
-                }
-                sum += len;
-            }
-            None => return None,
-        }
-    }
-    Some(sum)
-}
-
 /// How many messages are open behind a node.
 #[tactic(auto, unfolding(crate::specs::Judged::level))]
 fn level(now: usize, node: FieldNode) -> usize
@@ -99,24 +81,6 @@ fn level(now: usize, node: FieldNode) -> usize
         FieldNode::End => now.saturating_sub(1),
         _ => now,
     }
-}
-
-/// Whether more nested messages stand inside one another.
-#[tactic(auto, unfolding(crate::specs::Judged::deepest), using(crate::proofs::JudgedLemmas::deepest_least))]
-fn is_deeper(code: &[u8], most: usize) -> bool
-    requires fit { AreFitNodes code.now }
-    requires few { most ≤ MAX_NESTING }
-    ensures { IsTrue result ↔ (most < deepest 0 0 (kinds_of (shown_in code.now))) }
-{
-    let mut now = 0usize;
-    let mut fields = Fields::new(code);
-    'nodes: while let Some((node, _)) = fields.next() {
-        now = level(now, node);
-        if now > most {
-            return true;
-        }
-    }
-    false
 }
 
 /// A node's field, where it is the service's own and no message is open.
@@ -137,32 +101,74 @@ fn reserved_node(now: usize, node: FieldNode) -> Option<u32>
     }
 }
 
-/// The first field at the top level that is the service's own.
-#[tactic(auto, unfolding(crate::specs::Judged::reserved_from))]
-fn first_reserved(code: &[u8]) -> Option<u32>
-    requires { AreFitNodes code.now }
-    ensures { result ≡ reserved_from 0 (kinds_of (shown_in code.now)) }
+/// The length with so many bytes more, where both are known and a packet may have the sum.
+fn added(sum: Option<u32>, more: Option<u32>) -> Option<u32>
+    ensures { (before next : ℕ) → Measures before sum → Measures next more → Measures (before + next) result }
 {
+    within(u64::from(sum?) + u64::from(more?))
+}
+
+/// What one walk over nodes finds.
+#[derive(Clone, Copy)]
+struct Survey {
+    /// The first field at the top level that is the service's own.
+    reserved: Option<u32>,
+    /// The most messages that were open at once.
+    deepest: usize,
+    /// The length of the encoding, where a packet may have it.
+    len: Option<u32>,
+}
+
+impl Survey {
+    ghost use Rattle.std.specs.Prelude.{◌≡◌, ℕ, ◌+◌, ◌<◌, ◌≤◌, max, Option};
+    ghost use Rattle.std.specs.Option.{option_or};
+    ghost use Rattle.field_tree.specs.Judged.{Measures, level, node_len_at, reserved_at};
+
+    /// With one node more, where so many messages are open and its text has this length.
+    fn with_node(self, now: usize, node: FieldNode, len: usize) -> Survey
+        requires { now < usize.MAX }
+        ensures reserved { (later : Option ℕ) → option_or self.reserved (reserved_at now node later) ≡ option_or result.reserved later }
+        ensures deepest { result.deepest ≡ max self.deepest (level now node) }
+        ensures len { (before : ℕ) → Measures before self.len → Measures (before + node_len_at node len) result.len }
+    {
+        Survey {
+            reserved: self.reserved.or(reserved_node(now, node)),
+            deepest: self.deepest.max(level(now, node)),
+            len: added(self.len, node_len(node, len)),
+        }
+    }
+}
+
+/// What one walk over the nodes finds that these bytes say.
+#[tactic(auto, unfolding(crate::specs::Judged::reserved_from, crate::specs::Judged::deepest))]
+fn walk(code: &[u8]) -> Survey
+    requires { AreFitNodes code.now }
+    ensures reserved { result.reserved ≡ reserved_from 0 (kinds_of (shown_in code.now)) }
+    ensures deepest { result.deepest ≡ deepest 0 0 (kinds_of (shown_in code.now)) }
+    ensures len { Measures (nodes_len (shown_in code.now)) result.len }
+{
+    let mut found = Survey {
+        reserved: None,
+        deepest: 0,
+        len: Some(0),
+    };
     let mut now = 0usize;
     let mut fields = Fields::new(code);
-    'nodes: while let Some((node, _)) = fields.next() {
-        if let Some(field) = reserved_node(now, node) {
-            return Some(field);
-        }
+    'nodes: while let Some((node, text)) = fields.next() {
+        found = found.with_node(now, node, text.len());
         now = level(now, node);
     }
-    None
+    found
 }
 
 /// The first reserved field, where no message is around the nodes.
-fn reserved_fault(code: &[u8], depth: u8) -> Option<FieldFault>
-    requires { AreFitNodes code.now }
-    ensures { result ≡ refusals.reserved_fault depth (reserved_from 0 (kinds_of (shown_in code.now))) }
+fn reserved_fault(found: Option<u32>, depth: u8) -> Option<FieldFault>
+    ensures { result ≡ refusals.reserved_fault depth found }
 {
     if depth > 0 {
         return None;
     }
-    match first_reserved(code) {
+    match found {
         Some(field) => Some(FieldFault::Reserved { field }),
         None => None,
     }
@@ -176,14 +182,12 @@ pub(crate) fn judge(code: &[u8], depth: u8) -> Result<u32, FieldFault>
     requires depth { depth ≤ MAX_NESTING }
     ensures { Judges (nodes_len (shown_in code.now)) result (nodes_refusal depth (shown_in code.now)) }
 {
-    if let Some(fault) = reserved_fault(code, depth) {
+    let found = walk(code);
+    if let Some(fault) = reserved_fault(found.reserved, depth) {
         return Err(fault);
     }
-    if is_deeper(code, usize::from(MAX_NESTING - depth)) {
+    if found.deepest > usize::from(MAX_NESTING - depth) {
         return Err(FieldFault::TooDeep);
     }
-    match encoded_len(code) {
-        Some(len) => Ok(len),
-        None => Err(FieldFault::PacketTooLong),
-    }
+    found.len.ok_or(FieldFault::PacketTooLong)
 }

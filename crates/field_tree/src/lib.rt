@@ -14,6 +14,7 @@ mod mode;
 mod node;
 mod parse;
 mod parser;
+mod scan;
 mod tree;
 mod written;
 

@@ -1,12 +1,14 @@
-//! Reading a text byte by byte, without recursion.
+//! Reading a text without recursion, byte by byte, or several bytes at once where a field begins.
 ghost use Rattle.std.specs.Prelude.{◌≡◌, ℕ, ◌+◌, ◌-◌, ◌<◌, ◌≤◌, ◌==◌, ◌||◌, length, List, [], drop, IfOk, IfSome, OnOk, Some, None, false};
 ghost use Rattle.field_tree.specs.Machine.{IsValid, IsBetween, MayHave, settled, before_byte, applied, next, finish, nodes_or_column, beginning};
-ghost use Rattle.field_tree.specs.Views.{reading, text_read, AddsNode, AddsByte, Takes, Keeps, Ends, GivesNodes};
+ghost use Rattle.field_tree.specs.Scanning.{RunsOver};
+ghost use Rattle.field_tree.specs.Views.{reading, text_read, AddsNode, AddsByte, AddsText, Takes, Keeps, Ends, GivesNodes};
 
 use crate::act::{act, may_end, pending_node, taken_back};
 use crate::fault::{FieldError, FieldFault};
 use crate::mode::{Action, Mode};
 use crate::node::FieldNode;
+use crate::scan::{first_byte, scan};
 use crate::written::push_node;
 use std::alloc::{AllocError, Global};
 use trace_base::limits::MAX_INPUT;
@@ -28,6 +30,7 @@ pub(crate) struct Parser {
 }
 
 /// Whether a field ends before this byte.
+#[inline(always)]
 fn ends_field(byte: u8) -> bool
     ensures { result ≡ (byte == 32 || byte == 125) }
 {
@@ -35,6 +38,7 @@ fn ends_field(byte: u8) -> bool
 }
 
 /// Takes room for some bytes where there is none yet.
+#[inline(always)]
 fn make_room(bytes: &mut Vec<u8>) -> Result<(), AllocError>
     ensures { OnOk result (bytes.new.items ≡ bytes.old.items) }
 {
@@ -82,6 +86,7 @@ impl Parser {
 
     /// Adds a node whose text is the one that was being read.
     #[tactic(auto, using(crate::proofs::ParserLemmas::node_kept, crate::proofs::ParserLemmas::node_shown))]
+    #[inline(never)]
     fn push_node(&mut self, node: FieldNode) -> Result<(), AllocError>
         requires kept { Keeps self.old }
         requires text { MayHave node (text_read self.old) }
@@ -95,6 +100,7 @@ impl Parser {
     }
 
     /// Adds a byte to the text that is being read.
+    #[inline(always)]
     fn push_byte(&mut self, byte: u8) -> Result<(), AllocError>
         requires { Keeps self.old }
         ensures pushed { OnOk result (AddsByte byte self.old self.new) }
@@ -105,8 +111,37 @@ impl Parser {
         Ok(())
     }
 
+    /// Adds some bytes to it.
+    #[inline(always)]
+    fn push_text(&mut self, text: &[u8]) -> Result<(), AllocError>
+        requires { Keeps self.old }
+        ensures pushed { OnOk result (AddsText text.now self.old self.new) }
+        ensures kept { OnOk result (Keeps self.new) }
+    {
+        if text.is_empty() {
+            return Ok(());
+        }
+        make_room(&mut self.text)?;
+        self.text.extend_from_slice(text)
+    }
+
+    /// Reads on over the bytes in front that are read at once, and answers those behind them.
+    #[inline(always)]
+    fn scan<'t>(&mut self, mode: &mut Mode, bytes: &'t [u8]) -> Result<&'t [u8], AllocError>
+        requires kept { Keeps self.old }
+        requires valid { IsValid mode.old (text_read self.old) }
+        ensures over { IfOk result (λ behind. RunsOver (reading self.old mode.old) bytes.now (reading self.new mode.new) behind.now) }
+        ensures kept { OnOk result (Keeps self.new) }
+    {
+        let scanned = scan(*mode, bytes);
+        self.push_text(scanned.text)?;
+        *mode = scanned.mode;
+        Ok(scanned.behind)
+    }
+
     /// Ends the field that may end here, if one may.
     #[tactic(auto, unfolding(crate::specs::Machine::settled), using(crate::proofs::ParserLemmas::pending_may))]
+    #[inline(always)]
     fn settle(&mut self, mode: &mut Mode) -> Result<(), AllocError>
         requires kept { Keeps self.old }
         requires valid { IsValid mode.old (text_read self.old) }
@@ -126,6 +161,7 @@ impl Parser {
 
     /// Does what is to be done at a byte, and answers whether the byte is taken.
     #[tactic(auto, unfolding(crate::specs::Machine::applied))]
+    #[inline(always)]
     fn perform(&mut self, mode: &mut Mode, action: Action) -> Result<bool, AllocError>
         requires kept { Keeps self.old }
         requires between { IsBetween action (text_read self.old) }
@@ -154,6 +190,7 @@ impl Parser {
         Ok(true)
     }
 
+    #[inline(always)]
     fn before(&mut self, mode: &mut Mode, byte: u8) -> Result<(), AllocError>
         requires kept { Keeps self.old }
         requires valid { IsValid mode.old (text_read self.old) }
@@ -169,6 +206,7 @@ impl Parser {
 
     /// Reads one byte, and answers whether the text so far begins some fields.
     #[tactic(auto, unfolding(crate::specs::Machine::next, crate::specs::Machine::settled), using(crate::proofs::ParserLemmas::acts_between, crate::proofs::ParserLemmas::half_fits))]
+    #[inline(always)]
     fn step(&mut self, mode: &mut Mode, byte: u8) -> Result<bool, AllocError>
         requires kept { Keeps self.old }
         requires depth { self.old.depth < u32.MAX }
@@ -209,17 +247,26 @@ pub(crate) fn read(parser: &mut Parser, text: &[u8]) -> Result<(), FieldError>
 {
     parser.start(text.len());
     let mut mode = Mode::Start { opened: false };
-    for (at, byte) in text.iter().enumerate() {
+    let mut rest = text;
+    'bytes: loop {
+        let Ok(left) = parser.scan(&mut mode, rest) else {
+            return Err(FieldError::OutOfMemory);
+        };
+        let Some((byte, behind)) = first_byte(left) else {
+            return match parser.end(&mut mode) {
+                Ok(true) => Ok(()),
+                Ok(false) => Err(bad_field(text.len() + 1)),
+                Err(_) => Err(FieldError::OutOfMemory),
+            };
+        };
         let before = mode;
-        match parser.step(&mut mode, *byte) {
-            Ok(true) => {}
-            Ok(false) => return Err(bad_field(at + 1 - taken_back(before, *byte))),
+        match parser.step(&mut mode, byte) {
+            Ok(true) => rest = behind,
+            Ok(false) => {
+                let column = text.len() - behind.len() - taken_back(before, byte);
+                return Err(bad_field(column));
+            }
             Err(_) => return Err(FieldError::OutOfMemory),
         }
-    }
-    match parser.end(&mut mode) {
-        Ok(true) => Ok(()),
-        Ok(false) => Err(bad_field(text.len() + 1)),
-        Err(_) => Err(FieldError::OutOfMemory),
     }
 }

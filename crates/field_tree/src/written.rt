@@ -23,13 +23,31 @@ fn tag_of(node: FieldNode) -> u64
     }
 }
 
-/// Appends a number.
-fn push_number(code: &mut Vec<u8>, number: u64) -> Result<(), AllocError>
+/// Appends a number of any length.
+#[inline(never)]
+fn push_long(code: &mut Vec<u8>, number: u64) -> Result<(), AllocError>
     ensures { OnOk result (code.new.items ≡ code.old.items ++ varint number) }
 {
     let mut bytes = [0; 10];
     let len = put_varint(number, &mut bytes);
     code.extend_from_slice(&bytes[..len])
+}
+
+/// Appends a number. Most have one byte, or two.
+#[tactic(auto, unfolding(wire_varint::specs::Varint::varint, wire_varint::specs::Varint::groups))]
+fn push_number(code: &mut Vec<u8>, number: u64) -> Result<(), AllocError>
+    ensures { OnOk result (code.new.items ≡ code.old.items ++ varint number) }
+{
+    if number < 128 {
+        code.push(number as u8)?;
+        return Ok(());
+    }
+    if number < 16_384 {
+        code.push(128 + (number % 128) as u8)?;
+        code.push((number / 128) as u8)?;
+        return Ok(());
+    }
+    push_long(code, number)
 }
 
 /// Appends what stands behind a node's tag.
@@ -67,6 +85,7 @@ pub(crate) struct First<'c> {
 }
 
 /// The number in front, and what stands behind it.
+#[inline(always)]
 fn split_number(bytes: &[u8]) -> (u64, &[u8])
     ensures { (n : ℕ) (rest : List ℕ) → n < 2 ^ 64 → bytes.now ≡ varint n ++ rest → (result.0 ≡ n) × (result.1.now ≡ rest) }
 {
@@ -77,6 +96,7 @@ fn split_number(bytes: &[u8]) -> (u64, &[u8])
 }
 
 /// The node in front.
+#[inline(always)]
 pub(crate) fn first_node(bytes: &[u8]) -> First<'_>
     requires { (node : Shown) × (rest : List ℕ) × IsWritable node × (bytes.now ≡ written_node node ++ rest) }
     ensures { (node : Shown) (rest : List ℕ) → IsWritable node → bytes.now ≡ written_node node ++ rest

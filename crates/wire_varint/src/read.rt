@@ -21,6 +21,7 @@ pub enum VarintFault {
 /// Reads the varint in front of `bytes`, the shortest of its number or not, and answers the number
 /// and how many bytes it has.
 #[tactic(auto, using(crate::proofs::Scanning::reading_steps))]
+#[inline(always)]
 pub fn get_varint(bytes: &[u8]) -> Result<(u64, usize), VarintFault>
     ensures within { IfOk result (λ found. (1 ≤ found.1) × (found.1 ≤ length bytes.now)) }
     ensures found { IfOk result (λ found. IsVarint (take found.1 bytes.now) found.0) }
@@ -42,6 +43,7 @@ pub fn get_varint(bytes: &[u8]) -> Result<(u64, usize), VarintFault>
 
 /// `get_varint` without its short cuts for one byte and two.
 #[tactic(auto, using(crate::proofs::Scanning::reading_steps))]
+#[inline(never)]
 fn get_long(bytes: &[u8]) -> Result<(u64, usize), VarintFault>
     ensures within { IfOk result (λ found. (1 ≤ found.1) × (found.1 ≤ length bytes.now)) }
     ensures found { IfOk result (λ found. IsVarint (take found.1 bytes.now) found.0) }

@@ -1,7 +1,11 @@
-use Rattle.std.proofs.Common.{◌≡◌, Some, take}
-use Rattle.field_tree.specs.Machine.{run, beginning}
+use Rattle.std.proofs.Common.{length}
+use Rattle.field_tree.specs.Machine.{beginning}
+use Rattle.field_tree.specs.Scanning.{RunsOver}
 use Rattle.field_tree.specs.Views.{reading, Keeps}
 use Rattle.field_tree.proofs.parser.read.Given as goal
 
-abbrev pub invariant-loop-at : goal.invariant-loop-at
-invariant-loop-at l = (run beginning (take l.at l.text) ≡ Some (reading l.parser l.mode)) × Keeps l.parser
+abbrev pub invariant-bytes : goal.invariant-bytes
+invariant-bytes l = RunsOver beginning l.text (reading l.parser l.mode) l.rest × Keeps l.parser
+
+abbrev pub decreases-bytes : goal.decreases-bytes
+decreases-bytes l = length l.rest

@@ -1,0 +1,117 @@
+-- What several bytes at once come to, from the steps at each.
+use Rattle.std.proofs.Common.{◌≡◌, ℕ, ◌+◌, ◌-◌, ◌*◌, ◌<◌, ◌≤◌, Bool, true, cond, ◌&&◌, nat_le, Option, Some, None, List, [], ◌∷◌, ◌++◌, refl, sym, ap, subst, arith, ◌∙◌, append_assoc, append-nil, take, drop, take-append-drop}
+use Rattle.std.proofs.lemmas.Bool.{cond_both, and_parts, leb-true}
+use Rattle.std.specs.List.{AllByRecursion}
+use Rattle.trace_base.specs.declared.limits.TheConstants.{MAX_FIELD, MAX_PACKET_LEN}
+use Rattle.field_tree.specs.declared.mode.Mode.{Mode}
+use Rattle.field_tree.specs.declared.mode.Mode.TheVariants.{Start, Field, Value, Digits, Text, Quoted, Star, Times}
+use Rattle.field_tree.specs.Nodes.{Shown}
+use Rattle.field_tree.specs.Grammar.{IsTextByte, is_digit}
+use Rattle.field_tree.specs.Machine.{Reading, is_first_digit, grown, act, applied, next, run}
+use Rattle.field_tree.specs.Scanning.{place, RunsOver, TakesDigits}
+use Rattle.field_tree.proofs.TestLemmas.{digit_range, first_digit_range}
+use Rattle.field_tree.proofs.Runs.{run_joins, run_next, start_digit, field_digit, value_digit, digits_digit, star_digit, times_digit, text_step}
+
+-- ---- one behind another
+
+-- over no bytes
+pub stays_here : (r : Reading) (bytes : List ℕ) → RunsOver r bytes r bytes
+unfolding run
+stays_here r bytes = ([], refl, refl)
+
+-- over the byte in front, and then over more
+pub over_front : (b : ℕ) (from via to : Reading) (bytes rest behind : List ℕ) → bytes ≡ b ∷ rest → next from b ≡ Some via
+    → RunsOver via rest to behind → RunsOver from bytes to behind
+over_front b from via to bytes rest behind cut first more =
+    (b ∷ more.0, cut ∙ ap (λ (w : List ℕ). b ∷ w) more.1, run_next b more.0 from via (Some to) first more.2)
+
+-- over some bytes, and then over more
+pub over_both : (from via to : Reading) (bytes rest behind : List ℕ) → RunsOver from bytes via rest → RunsOver via rest to behind
+    → RunsOver from bytes to behind
+over_both from via to bytes rest behind first more = (
+  first.0 ++ more.0,
+  first.1 ∙ ap (λ (w : List ℕ). first.0 ++ w) more.1 ∙ sym (append_assoc first.0 more.0 behind),
+  run_joins first.0 more.0 from via (Some to) first.2 more.2,
+)
+
+-- ---- digits
+
+-- a digit more, by what it makes of the number
+pub one_digit : (most value b more : ℕ) (to : ℕ → Reading) → TakesDigits most to → grown most value b ≡ Some more → next (to value) b ≡ Some (to more)
+unfolding grown
+one_digit most value b more to takes is =
+    cond_both (is_digit b && nat_le (value * 10 + (b - 48)) most) (Some (value * 10 + (b - 48))) None
+    (λ (o : Option ℕ). o ≡ Some more → next (to value) b ≡ Some (to more))
+    (λ fits same.
+    let both = and_parts (is_digit b) (nat_le (value * 10 + (b - 48)) most) fits in
+    let range = digit_range b both.0 in
+    let byte : 48 + (b - 48) ≡ b = omega arith in
+    let number : value * 10 + (b - 48) ≡ more = cc in
+    subst (λ (x : ℕ). next (to value) x ≡ Some (to more)) byte
+    (takes value (b - 48) (omega arith) (leb-true (value * 10 + (b - 48)) most both.1) ∙ ap (λ (n : ℕ). Some (to n)) number))
+    (λ _ same. absurd (cc)) is
+
+pub field_takes : (ns : List Shown) (d : ℕ) → TakesDigits MAX_FIELD (λ n. place ns d [] (Field n))
+field_takes ns d n digit small fits = field_digit ns d n digit small fits
+
+pub value_takes : (ns : List Shown) (d f : ℕ) → TakesDigits 18446744073709551615 (λ n. place ns d [] (Digits f n))
+value_takes ns d f n digit small fits = digits_digit ns d f n digit small fits
+
+pub times_takes : (ns : List Shown) (d f : ℕ) (t : List ℕ) → TakesDigits MAX_PACKET_LEN (λ n. place ns d t (Times f n))
+times_takes ns d f t n digit small fits = times_digit ns d f n digit t small fits
+
+-- ---- a first digit
+
+by_digit : (P : ℕ → ℕ → Type 0) (b : ℕ) → is_first_digit b ≡ true → ((n : ℕ) → 1 ≤ n → n < 10 → P (48 + n) n) → P b (b - 48)
+by_digit P b is all =
+    let range = first_digit_range b is in
+    let byte : 48 + (b - 48) ≡ b = omega arith in
+    subst (λ (x : ℕ). P x (b - 48)) byte (all (b - 48) (omega arith) (omega arith))
+
+pub first_of_field : (ns : List Shown) (d : ℕ) (opened : Bool) (b : ℕ) → is_first_digit b ≡ true
+    → next (place ns d [] (Start opened)) b ≡ Some (place ns d [] (Field (b - 48)))
+first_of_field ns d opened b is =
+    by_digit (λ x n. next (place ns d [] (Start opened)) x ≡ Some (place ns d [] (Field n))) b is (start_digit ns d opened)
+
+pub first_of_value : (ns : List Shown) (d f b : ℕ) → is_first_digit b ≡ true → next (place ns d [] (Value f)) b ≡ Some (place ns d [] (Digits f (b - 48)))
+first_of_value ns d f b is = by_digit (λ x n. next (place ns d [] (Value f)) x ≡ Some (place ns d [] (Digits f n))) b is (value_digit ns d f)
+
+pub first_of_times : (ns : List Shown) (d f b : ℕ) (t : List ℕ) → is_first_digit b ≡ true → next (place ns d t (Star f)) b ≡ Some (place ns d t (Times f (b - 48)))
+first_of_times ns d f b t is =
+    by_digit (λ x n. next (place ns d t (Star f)) x ≡ Some (place ns d t (Times f n))) b is (λ n some small. star_digit ns d f n t some small)
+
+-- ---- the bytes between
+
+pub at_colon : (ns : List Shown) (d n : ℕ) → next (place ns d [] (Field n)) 58 ≡ Some (place ns d [] (Value n))
+unfolding next act applied
+at_colon ns d n = refl
+
+pub at_quote : (ns : List Shown) (d n : ℕ) → next (place ns d [] (Value n)) 34 ≡ Some (place ns d [] (Text n))
+unfolding next act applied
+at_quote ns d n = refl
+
+pub at_second_quote : (ns : List Shown) (d n : ℕ) (t : List ℕ) → next (place ns d t (Text n)) 34 ≡ Some (place ns d t (Quoted n))
+unfolding next act applied
+at_second_quote ns d n t = refl
+
+pub at_star : (ns : List Shown) (d n : ℕ) (t : List ℕ) → next (place ns d t (Quoted n)) 42 ≡ Some (place ns d t (Star n))
+unfolding next act applied
+at_star ns d n t = refl
+
+-- ---- a text
+
+pub over_text : (ns : List Shown) (d f : ℕ) (t text behind : List ℕ) → AllByRecursion IsTextByte text
+    → RunsOver (place ns d t (Text f)) (text ++ behind) (place ns d (t ++ text) (Text f)) behind
+over_text ns d f t [] behind all = rw (append-nil t) (stays_here (place ns d t (Text f)) behind)
+over_text ns d f t (b ∷ text) behind all =
+    let more = over_text ns d f (t ++ b ∷ []) text behind all.1 in
+    over_front b (place ns d t (Text f)) (place ns d (t ++ b ∷ []) (Text f)) _ _ (text ++ behind) behind refl (text_step ns d f b t all.0)
+    (subst (λ (w : List ℕ). RunsOver (place ns d (t ++ b ∷ []) (Text f)) (text ++ behind) (place ns d w (Text f)) behind) (append_assoc t (b ∷ []) text) more)
+
+-- a text that was cut off from the bytes behind it
+pub text_over : (bytes text back : List ℕ) (n : ℕ) (ns : List Shown) (d f : ℕ) → text ≡ take n bytes → back ≡ drop n bytes
+    → AllByRecursion IsTextByte (take n bytes) → RunsOver (place ns d [] (Text f)) bytes (place ns d text (Text f)) back
+text_over bytes text back n ns d f front behind all =
+    let cut : text ++ back ≡ bytes = ap (λ (w : List ℕ). w ++ back) front ∙ ap (λ (w : List ℕ). take n bytes ++ w) behind ∙ take-append-drop n bytes in
+    subst (λ (w : List ℕ). RunsOver (place ns d [] (Text f)) w (place ns d text (Text f)) back) cut
+    (over_text ns d f [] text back (subst (AllByRecursion IsTextByte) (sym front) all))

@@ -1,0 +1,28 @@
+-- Reading several bytes at once: what the private calls do, in the words of the reading byte by byte.
+use Rattle.std.specs.Prelude.{◌≡◌, ℕ, ◌+◌, ◌*◌, ◌<◌, ◌≤◌, List, [], ◌++◌, Some}
+use Rattle.field_tree.specs.declared.mode.Mode.{Mode}
+use Rattle.field_tree.specs.declared.scan.Scanned.{Scanned}
+use Rattle.field_tree.specs.Nodes.{Shown}
+use Rattle.field_tree.specs.Machine.{Reading, next, run, IsValid}
+
+-- where a reading stands, with these nodes, so many open messages and this text
+abbrev pub place : List Shown → ℕ → List ℕ → Mode → Reading
+place nodes depth text mode = record { nodes = nodes; depth = depth; text = text; mode = mode }
+
+-- the bytes in front lead from one reading to another, and these bytes are left
+abbrev pub RunsOver : Reading → List ℕ → Reading → List ℕ → Type 0
+RunsOver from bytes to behind = (front : List ℕ) × (bytes ≡ front ++ behind) × (run from front ≡ Some to)
+
+-- each digit more of a number that is at most so large is taken
+abbrev pub TakesDigits : ℕ → (ℕ → Reading) → Type 0
+TakesDigits most to = (n digit : ℕ) → digit < 10 → n * 10 + digit ≤ most → next (to n) (48 + digit) ≡ Some (to (n * 10 + digit))
+
+-- what was read on, where no text was being read
+abbrev pub ScansFrom : Mode → List ℕ → Scanned → Type 0
+ScansFrom mode bytes scanned = (nodes : List Shown) (depth : ℕ)
+    → RunsOver (place nodes depth [] mode) bytes (place nodes depth scanned.text.now scanned.mode) scanned.behind.now
+
+-- the same from any place
+abbrev pub ScansOn : Mode → List ℕ → Scanned → Type 0
+ScansOn mode bytes scanned = (nodes : List Shown) (depth : ℕ) (text : List ℕ) → IsValid mode text
+    → RunsOver (place nodes depth text mode) bytes (place nodes depth (text ++ scanned.text.now) scanned.mode) scanned.behind.now
