@@ -6,21 +6,7 @@ ghost use Rattle.trace_file.specs.Fields.{Spells};
 ghost use Rattle.trace_file.specs.Apart.{SaysNone, SaysOnly, SaysPacket};
 ghost use Rattle.trace_file.specs.Traces.{record_field};
 
-use crate::parts::{DROPPED_MARK, PACKET_TAG, tail};
-use arrayvec::ArrayVec;
-use wire_varint::put_varint;
-
-/// The record's tag, and the length of its content.
-fn head(len: u64) -> ArrayVec<u8, 11>
-    ensures { result.items ≡ 0x0A ∷ varint len }
-{
-    let mut bytes = [0u8; 10];
-    let count = put_varint(len, &mut bytes);
-    let mut head = ArrayVec::new();
-    head.push(PACKET_TAG);
-    let _ = head.try_extend_from_slice(&bytes[..count]);
-    head
-}
+use crate::parts::{DROPPED_MARK, head, tail};
 
 /// The bytes before these last ones.
 fn strip_end<'a>(bytes: &'a [u8], end: &[u8]) -> Option<&'a [u8]>

@@ -11,7 +11,7 @@ use std::marker::Model;
 use wire_varint::put_varint;
 
 /// The tag of field 1 of a trace, a packet, and the tag of field 10 of a packet, its sequence.
-pub(crate) const PACKET_TAG: u8 = 0x0A;
+const PACKET_TAG: u8 = 0x0A;
 
 const SEQUENCE_TAG: u8 = 0x50;
 
@@ -44,17 +44,16 @@ impl Model for RecordWriter {
     ghost invariant = { λ writer. writer.tail.items ≡ record_tail writer.sequence writer.marked };
 }
 
-/// Writes the record's tag, and the length of its content.
-#[tactic(auto, using(byte_io::proofs::Told::part_first, byte_io::proofs::Told::part_second, byte_io::proofs::Told::after_told_again))]
-fn put_head<O: Sink>(out: &mut O, len: u64) -> Result<(), WriteFault>
-    ensures all { OnOk result (O.taken out.new ≡ after_told (O.taken out.old) ((0x0A ∷ []) ++ varint len)) }
-    ensures part { OnErr result (TakesPart (O.taken out.old) (O.taken out.new) ((0x0A ∷ []) ++ varint len)) }
-    ensures count { CountsFaults (O.faults out.old) (O.faults out.new) result }
+/// The record's tag, and the length of its content.
+pub(crate) fn head(len: u64) -> ArrayVec<u8, 11>
+    ensures { result.items ≡ 0x0A ∷ varint len }
 {
     let mut bytes = [0u8; 10];
     let count = put_varint(len, &mut bytes);
-    put_all(out, &[PACKET_TAG])?;
-    put_all(out, &bytes[..count])
+    let mut head = ArrayVec::new();
+    head.push(PACKET_TAG);
+    let _ = head.try_extend_from_slice(&bytes[..count]);
+    head
 }
 
 /// What stands behind the packet's bytes.
@@ -103,7 +102,7 @@ impl RecordWriter {
         ensures count { CountsFaults (O.faults out.old) (O.faults out.new) result }
     {
         let tail = tail(sequence, marked);
-        put_head(out, len + tail.len() as u64)?;
+        put_all(out, &head(len + tail.len() as u64))?;
         Ok(RecordWriter {
             left: len,
             sequence,
