@@ -1,9 +1,12 @@
 -- How the first piece of a text is found.
-use Rattle.std.proofs.Common.{◌≡◌, ℕ, suc, ◌+◌, ◌-◌, ◌<◌, ◌≤◌, length, Bool, true, false, not, cond, nat_eq, nat_lt, Some, None, List, [], ◌∷◌, take, drop, refl, sym, subst, arith}
+use Rattle.std.proofs.Common.{◌≡◌, ℕ, suc, ◌+◌, ◌-◌, ◌<◌, ◌≤◌, length, Bool, true, false, not, cond, nat_eq, nat_lt, Some, None, List, [], ◌∷◌, take, drop, get_or, refl, sym, ap, subst, arith, ◌∙◌, Option, ◌==◌}
 use Rattle.std.specs.List.{position, position_or_len, slice_split, onto_first}
 use Rattle.std.proofs.lemmas.List.{take_rest, drop_all, length-drop}
 use Rattle.std.proofs.lemmas.List.Splits.{slice_split_first}
 use Rattle.std.proofs.lemmas.Grind.{common_steps}
+use Rattle.std.proofs.lemmas.Bool.{cond-true, cond-false, false_from_ne_true, lt-ltb, le-ltb}
+use Rattle.std.proofs.lemmas.List.Sums.{position_or_len_is}
+use Rattle.memchr.specs.Find.{IsFirstByte, is_byte}
 use Rattle.scenario_text.specs.Pieces.{pieces, pieces_behind, behind_space}
 
 one_more : (p : ℕ → Bool) (b : ℕ) (bytes : List ℕ) (answer : Bool) → p b ≡ answer
@@ -33,6 +36,18 @@ place_by false at n place is answer = cc
 no_place_by : (found : Bool) (n place : ℕ) → nat_lt place n ≡ found → cond found (Some place) None ≡ None → n ≤ place
 no_place_by true n place is answer = cc
 no_place_by false n place is answer = grind (arith, common_steps, is)
+
+-- the answer of a search for a byte in wide steps
+pub first_byte_is : (bytes : List ℕ) (separator : ℕ) (answer : Option ℕ) → IsFirstByte (is_byte separator) bytes answer
+    → answer ≡ position (λ b. b == separator) bytes
+first_byte_is bytes separator None nowhere =
+    let place = position_or_len_is (is_byte separator) bytes (length bytes) 0 (omega arith)
+    (λ k inside. false_from_ne_true (is_byte separator (get_or bytes k 0)) (nowhere k (omega arith) inside)) (λ inside. absurd (omega arith)) in
+    sym (ap (λ (n : ℕ). cond (nat_lt n (length bytes)) (Some n) None) place ∙ cond-false (nat_lt (length bytes) (length bytes)) _ _ (le-ltb (length bytes) (length bytes) (omega arith)))
+first_byte_is bytes separator (Some at) found =
+    let place = position_or_len_is (is_byte separator) bytes at 0 (omega (arith, found.0.high))
+    (λ k before. false_from_ne_true (is_byte separator (get_or bytes k 0)) (found.0.before k (omega arith) before)) (λ _. found.1) in
+    sym (ap (λ (n : ℕ). cond (nat_lt n (length bytes)) (Some n) None) place ∙ cond-true (nat_lt at (length bytes)) _ _ (lt-ltb at (length bytes) found.0.high))
 
 pub one_piece : (separator : ℕ) (bytes : List ℕ) → position (λ b. nat_eq b separator) bytes ≡ None
     → pieces separator bytes ≡ bytes ∷ pieces_behind separator None

@@ -3,9 +3,17 @@ ghost use Rattle.std.specs.Prelude.{◌≡◌, ◌==◌, ◌<◌, ◌≤◌, ◌
 ghost use Rattle.std.specs.Option.{option_copied};
 ghost use Rattle.scenario_text.specs.Pieces.{pieces, pieces_behind, behind_space, fields_part};
 
+use memchr::memchr;
+
+/// Lines are long and words are short, so that wide steps pay for lines alone.
+#[inline(always)]
+#[tactic(auto, using(crate::proofs::PieceLemmas::first_byte_is))]
 fn find_byte(bytes: &[u8], separator: u8) -> Option<usize>
     ensures { result ≡ position (λ b. b == separator) bytes.now }
 {
+    if separator == b'\n' {
+        return memchr(separator, bytes);
+    }
     bytes.iter().position(|b| *b == separator)
 }
 
