@@ -1,5 +1,5 @@
 //! One writer's packets, call by call.
-ghost use Rattle.std.specs.Prelude.{◌≡◌, ◌≤◌, ◌<◌, ◌+◌, ◌*◌, ◌^◌, ◌++◌, ◌∷◌, List, length, true, false, IfOk, OnOk};
+ghost use Rattle.std.specs.Prelude.{◌≡◌, ◌≤◌, ◌<◌, ◌+◌, ◌*◌, ◌^◌, ◌++◌, [], ◌∷◌, List, length, true, false, IfOk, OnOk};
 ghost use Rattle.std.specs.List.{repeat};
 ghost use Rattle.trace_model.specs.Encoding.{bytes_field, nested_tag};
 ghost use Rattle.trace_model.specs.Packets.{open_length};
@@ -28,10 +28,23 @@ fn set_four(bytes: &mut [u8], at: usize, four: [u8; 4])
     bytes[at..at + 4].copy_from_slice(&four);
 }
 
+/// Appends a byte so many times.
+fn push_run(bytes: &mut Vec<u8>, byte: u8, times: u32) -> Result<(), AllocError>
+    ensures { OnOk result (bytes.new.items ≡ bytes.old.items ++ repeat times (byte ∷ [])) }
+{
+    for _turn in 0..times {
+        bytes.push(byte)?;
+    }
+    Ok(())
+}
+
 /// Appends a text so many times over.
 fn push_times(bytes: &mut Vec<u8>, text: &[u8], times: u32) -> Result<(), AllocError>
     ensures { OnOk result (bytes.new.items ≡ bytes.old.items ++ repeat times text.now) }
 {
+    if let [byte] = text {
+        return push_run(bytes, *byte, times);
+    }
     for _turn in 0..times {
         bytes.extend_from_slice(text)?;
     }

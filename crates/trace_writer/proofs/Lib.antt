@@ -22,6 +22,7 @@ pub mod InPlace
 pub mod KeepingClaims
 pub mod KeptChunks
 pub mod Measuring
+pub mod OneByOne
 pub mod Payloads
 pub mod Possible
 pub mod Publishing

@@ -1,5 +1,6 @@
 //! Bytes of a chunk's payload, by a cursor that is lent it.
-ghost use Rattle.std.specs.Prelude.{◌≡◌, ℕ, ◌+◌, ◌-◌, ◌<◌, ◌≤◌, length, min, take, nat_le, if◌then◌else◌};
+ghost use Rattle.std.specs.Prelude.{◌≡◌, ℕ, ◌+◌, ◌-◌, ◌<◌, ◌≤◌, [], ◌∷◌, length, min, take, nat_le, if◌then◌else◌};
+ghost use Rattle.std.specs.List.{repeat};
 ghost use Rattle.trace_base.specs.declared.limits.TheConstants.{MAX_INPUT};
 ghost use Rattle.trace_model.specs.Packets.{open_length};
 ghost use Rattle.trace_model.specs.Images.{with_bytes};
@@ -32,6 +33,16 @@ fn put_short(payload: &mut [u8], at: usize, piece: &[u8])
 {
     for i in 0..piece.len() {
         payload[at + i] = piece[i];
+    }
+}
+
+/// Writes one byte so many times at a place, where they fit.
+pub fn put_run(payload: &mut [u8], at: u32, byte: u8, times: u32)
+    requires { at + times ≤ length payload.old }
+    ensures { payload.new ≡ with_bytes payload.old at (repeat times (byte ∷ [])) }
+{
+    for turn in 0..times {
+        payload[at as usize + turn as usize] = byte;
     }
 }
 

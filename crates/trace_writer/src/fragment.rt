@@ -11,7 +11,7 @@ ghost use Rattle.commit_body.specs.declared.body.TheConstants.{MAX_PATCHES};
 ghost use Rattle.commit_body.specs.declared.closed.Closed.TheVariants.{Here, Later};
 ghost use Rattle.commit_body.specs.Patches.{holes_outside};
 
-use crate::bytes::{put_at, put_hole_at, set_four_at};
+use crate::bytes::{put_at, put_hole_at, put_run, set_four_at};
 use crate::chunk::HeldChunk;
 use chunk_plain::Held;
 use commit_body::{Closed, PatchList};
@@ -75,6 +75,11 @@ impl OpenFragment {
         ensures bytes { IsPutInto self.old self.new self.old.at (repeat times text.now) }
         ensures at { self.new.at ≡ self.old.at + times * length text.now }
     {
+        if let [byte] = text {
+            put_run(&mut self.held.body.payload, self.at, *byte, times);
+            self.at += times;
+            return;
+        }
         for _turn in 0..times {
             self.put(text);
         }
