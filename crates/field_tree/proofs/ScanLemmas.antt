@@ -1,16 +1,18 @@
 -- What several bytes at once come to, from the steps at each.
-use Rattle.std.proofs.Common.{◌≡◌, ℕ, ◌+◌, ◌-◌, ◌*◌, ◌<◌, ◌≤◌, Bool, true, cond, ◌&&◌, nat_le, Option, Some, None, List, [], ◌∷◌, ◌++◌, refl, sym, ap, subst, arith, ◌∙◌, append_assoc, append-nil, take, drop, take-append-drop}
-use Rattle.std.proofs.lemmas.Bool.{cond_both, and_parts, leb-true}
+use Rattle.std.proofs.Common.{◌≡◌, ℕ, ◌+◌, ◌-◌, ◌*◌, ◌<◌, ◌≤◌, Bool, true, cond, ◌&&◌, ◌==◌, nat_le, Option, Some, None, List, [], ◌∷◌, ◌++◌, refl, sym, ap, subst, arith, ◌∙◌, append_assoc, append-nil, take, drop, take-append-drop}
+use Rattle.std.proofs.lemmas.Bool.{cond_both, cond-false, and_parts, leb-true, ne_eqb}
 use Rattle.std.specs.List.{AllByRecursion}
 use Rattle.trace_base.specs.declared.limits.TheConstants.{MAX_FIELD, MAX_PACKET_LEN}
 use Rattle.field_tree.specs.declared.mode.Mode.{Mode}
-use Rattle.field_tree.specs.declared.mode.Mode.TheVariants.{Start, Field, Value, Digits, Text, Quoted, Star, Times}
+use Rattle.field_tree.specs.declared.mode.Mode.TheVariants.{Start, Field, Value, Digits, Text, Quoted, Star, Times, Pairs, Half, Packed}
+use Rattle.field_tree.specs.declared.mode.Action.{Action}
+use Rattle.field_tree.specs.declared.mode.Action.TheVariants.{Go, Keep}
 use Rattle.field_tree.specs.Nodes.{Shown}
 use Rattle.field_tree.specs.Grammar.{IsTextByte, is_digit}
-use Rattle.field_tree.specs.Machine.{Reading, is_first_digit, grown, act, applied, next, run}
-use Rattle.field_tree.specs.Scanning.{place, RunsOver, TakesDigits}
+use Rattle.field_tree.specs.Machine.{Reading, is_first_digit, grown, hex_value, go_on, act, settled, applied, next, run}
+use Rattle.field_tree.specs.Scanning.{place, RunsOver, IsPair, TakesDigits}
 use Rattle.field_tree.proofs.TestLemmas.{digit_range, first_digit_range}
-use Rattle.field_tree.proofs.Runs.{run_joins, run_next, start_digit, field_digit, value_digit, digits_digit, star_digit, times_digit, text_step}
+use Rattle.field_tree.proofs.Runs.{run_joins, run_next, no_pending, start_digit, field_digit, value_digit, digits_digit, star_digit, times_digit, text_step}
 
 -- ---- one behind another
 
@@ -115,3 +117,36 @@ text_over bytes text back n ns d f front behind all =
     let cut : text ++ back ≡ bytes = ap (λ (w : List ℕ). w ++ back) front ∙ ap (λ (w : List ℕ). take n bytes ++ w) behind ∙ take-append-drop n bytes in
     subst (λ (w : List ℕ). RunsOver (place ns d [] (Text f)) w (place ns d text (Text f)) back) cut
     (over_text ns d f [] text back (subst (AllByRecursion IsTextByte) (sym front) all))
+
+-- ---- pairs of digits
+
+no_tick : (b h : ℕ) → hex_value b ≡ Some h → b ≡ 39 → ⊥
+unfolding hex_value
+no_tick b h is same =
+    let none : None ≡ Some h = subst (λ (x : ℕ). hex_value x ≡ Some h) same is in
+    absurd (cc)
+
+at_high : (ns : List Shown) (d f b h : ℕ) (t : List ℕ) → hex_value b ≡ Some h → next (place ns d t (Pairs f)) b ≡ Some (place ns d t (Half f h))
+unfolding act applied settled
+at_high ns d f b h t is =
+    no_pending (place ns d t (Pairs f)) b refl
+    ∙ ap (λ (a : Action). applied a (place ns d t (Pairs f)))
+    (cond-false (b == 39) (Go (Packed f)) (go_on (hex_value b) (λ high. Go (Half f high))) (ne_eqb b 39 (no_tick b h is))
+    ∙ ap (λ (o : Option ℕ). go_on o (λ high. Go (Half f high))) is)
+
+at_low : (ns : List Shown) (d f h b l : ℕ) (t : List ℕ) → hex_value b ≡ Some l
+    → next (place ns d t (Half f h)) b ≡ Some (place ns d (t ++ (16 * h + l) ∷ []) (Pairs f))
+unfolding act applied settled
+at_low ns d f h b l t is =
+    no_pending (place ns d t (Half f h)) b refl
+    ∙ ap (λ (o : Option ℕ). applied (go_on o (λ low. Keep (Pairs f) (16 * h + low))) (place ns d t (Half f h))) is
+
+pub over_pair : (ns : List Shown) (d f byte : ℕ) (t bytes behind : List ℕ) → IsPair bytes byte behind
+    → RunsOver (place ns d t (Pairs f)) bytes (place ns d (t ++ byte ∷ []) (Pairs f)) behind
+over_pair ns d f byte t bytes behind pair =
+    let to = place ns d (t ++ (16 * pair.high_value + pair.low_value) ∷ []) (Pairs f) in
+    subst (λ (b : ℕ). RunsOver (place ns d t (Pairs f)) bytes (place ns d (t ++ b ∷ []) (Pairs f)) behind) (sym pair.byte_is)
+    (over_front pair.high (place ns d t (Pairs f)) (place ns d t (Half f pair.high_value)) to bytes (pair.low ∷ behind) behind pair.cut
+    (at_high ns d f pair.high pair.high_value t pair.high_is)
+    (over_front pair.low (place ns d t (Half f pair.high_value)) to to (pair.low ∷ behind) behind behind refl
+    (at_low ns d f pair.high_value pair.low pair.low_value t pair.low_is) (stays_here to behind)))

@@ -1,9 +1,9 @@
 -- Reading several bytes at once: what the private calls do, in the words of the reading byte by byte.
-use Rattle.std.specs.Prelude.{◌≡◌, ℕ, ◌+◌, ◌*◌, ◌<◌, ◌≤◌, List, [], ◌++◌, Some}
+use Rattle.std.specs.Prelude.{◌≡◌, ℕ, ◌+◌, ◌*◌, ◌<◌, ◌≤◌, List, [], ◌∷◌, ◌++◌, Some}
 use Rattle.field_tree.specs.declared.mode.Mode.{Mode}
 use Rattle.field_tree.specs.declared.scan.Scanned.{Scanned}
 use Rattle.field_tree.specs.Nodes.{Shown}
-use Rattle.field_tree.specs.Machine.{Reading, next, run, IsValid}
+use Rattle.field_tree.specs.Machine.{Reading, hex_value, next, run, IsValid}
 
 -- where a reading stands, with these nodes, so many open messages and this text
 abbrev pub place : List Shown → ℕ → List ℕ → Mode → Reading
@@ -16,6 +16,19 @@ RunsOver from bytes to behind = (front : List ℕ) × (bytes ≡ front ++ behind
 -- each digit more of a number that is at most so large is taken
 abbrev pub TakesDigits : ℕ → (ℕ → Reading) → Type 0
 TakesDigits most to = (n digit : ℕ) → digit < 10 → n * 10 + digit ≤ most → next (to n) (48 + digit) ≡ Some (to (n * 10 + digit))
+
+-- two hexadecimal digits in front say this byte
+abbrev pub IsPair : List ℕ → ℕ → List ℕ → Type 0
+IsPair bytes byte behind = record {
+  high : ℕ;
+  low : ℕ;
+  cut : bytes ≡ high ∷ low ∷ behind;
+  high_value : ℕ;
+  low_value : ℕ;
+  high_is : hex_value high ≡ Some high_value;
+  low_is : hex_value low ≡ Some low_value;
+  byte_is : byte ≡ 16 * high_value + low_value;
+}
 
 -- what was read on, where no text was being read
 abbrev pub ScansFrom : Mode → List ℕ → Scanned → Type 0

@@ -49,7 +49,7 @@ pub(crate) fn grown(most: u64, value: u64, byte: u8) -> Option<u64>
 /// The value of a lower-case hexadecimal digit.
 #[tactic(auto, unfolding(crate::specs::Machine::hex_value))]
 #[inline(always)]
-fn hex_value(byte: u8) -> Option<u8>
+pub(crate) fn hex_value(byte: u8) -> Option<u8>
     ensures value { result ≡ machine.hex_value byte }
     ensures within { IfSome result (λ digit. digit < 16) }
 {

@@ -1,6 +1,7 @@
 //! Reading a text without recursion, byte by byte, or several bytes at once where a field begins.
 ghost use Rattle.std.specs.Prelude.{◌≡◌, ℕ, ◌+◌, ◌-◌, ◌<◌, ◌≤◌, ◌==◌, ◌||◌, length, List, [], drop, IfOk, IfSome, OnOk, Some, None, false};
 ghost use Rattle.field_tree.specs.Machine.{IsValid, IsBetween, MayHave, settled, before_byte, applied, next, finish, nodes_or_column, beginning};
+ghost use Rattle.field_tree.specs.declared.mode.Mode.TheVariants.{Pairs};
 ghost use Rattle.field_tree.specs.Scanning.{RunsOver};
 ghost use Rattle.field_tree.specs.Views.{reading, text_read, AddsNode, AddsByte, AddsText, Takes, Keeps, Ends, GivesNodes};
 
@@ -8,7 +9,7 @@ use crate::act::{act, may_end, pending_node, taken_back};
 use crate::fault::{FieldError, FieldFault};
 use crate::mode::{Action, Mode};
 use crate::node::FieldNode;
-use crate::scan::{first_byte, scan};
+use crate::scan::{first_byte, first_pair, scan};
 use crate::written::push_node;
 use std::alloc::{AllocError, Global};
 use trace_base::limits::MAX_INPUT;
@@ -125,6 +126,20 @@ impl Parser {
         self.text.extend_from_slice(text)
     }
 
+    /// Reads on over pairs of hexadecimal digits, and answers the bytes behind them.
+    fn scan_pairs<'t>(&mut self, bytes: &'t [u8]) -> Result<&'t [u8], AllocError>
+        requires { Keeps self.old }
+        ensures over { (field : ℕ) → IfOk result (λ behind. RunsOver (reading self.old (Pairs field)) bytes.now (reading self.new (Pairs field)) behind.now) }
+        ensures kept { OnOk result (Keeps self.new) }
+    {
+        let mut rest = bytes;
+        'pairs: while let Some((byte, behind)) = first_pair(rest) {
+            self.push_byte(byte)?;
+            rest = behind;
+        }
+        Ok(rest)
+    }
+
     /// Reads on over the bytes in front that are read at once, and answers those behind them.
     #[inline(always)]
     fn scan<'t>(&mut self, mode: &mut Mode, bytes: &'t [u8]) -> Result<&'t [u8], AllocError>
@@ -133,6 +148,9 @@ impl Parser {
         ensures over { IfOk result (λ behind. RunsOver (reading self.old mode.old) bytes.now (reading self.new mode.new) behind.now) }
         ensures kept { OnOk result (Keeps self.new) }
     {
+        if let Mode::Pairs { field: _ } = *mode {
+            return self.scan_pairs(bytes);
+        }
         let scanned = scan(*mode, bytes);
         self.push_text(scanned.text)?;
         *mode = scanned.mode;

@@ -1,15 +1,15 @@
 //! The bytes in front of a field, which are read at once: its number, and behind a colon a number, or a
 //! text and how often it stands. What isn't read so is read byte by byte.
-ghost use Rattle.std.specs.Prelude.{◌≡◌, ℕ, ◌≤◌, List, [], ◌∷◌, ◌++◌, Bool, true, take, length, MatchOption};
+ghost use Rattle.std.specs.Prelude.{◌≡◌, ℕ, ◌≤◌, List, [], ◌∷◌, ◌++◌, Bool, true, take, length, IfSome, MatchOption};
 ghost use Rattle.std.specs.List.{AllByRecursion};
 ghost use Rattle.field_tree.specs.Nodes.{Shown};
 ghost use Rattle.field_tree.specs.Grammar.{IsTextByte};
 ghost use Rattle.field_tree.specs.Machine.{Reading};
 ghost use Rattle.field_tree.specs.Machine as machine;
 ghost use Rattle.field_tree.specs.declared.mode.Mode.TheVariants.{Start, Value, Text, Quoted};
-ghost use Rattle.field_tree.specs.Scanning.{place, RunsOver, TakesDigits, ScansFrom, ScansOn};
+ghost use Rattle.field_tree.specs.Scanning.{place, RunsOver, IsPair, TakesDigits, ScansFrom, ScansOn};
 
-use crate::act::{grown, is_first_digit, is_text_byte};
+use crate::act::{grown, hex_value, is_first_digit, is_text_byte};
 use crate::mode::Mode;
 use trace_base::limits::{MAX_FIELD, MAX_PACKET_LEN};
 
@@ -64,6 +64,18 @@ fn take_digits(most: u64, start: u64, bytes: &[u8]) -> Digits<'_>
         value,
         behind: rest,
     }
+}
+
+/// The byte that the two hexadecimal digits in front say, and what stands behind them.
+#[inline(always)]
+pub(crate) fn first_pair(bytes: &[u8]) -> Option<(u8, &[u8])>
+    ensures { IfSome result (λ found. IsPair bytes.now found.0 found.1.now) }
+{
+    let (high, rest) = first_byte(bytes)?;
+    let (low, behind) = first_byte(rest)?;
+    let high = hex_value(high)?;
+    let low = hex_value(low)?;
+    Some((16 * high + low, behind))
 }
 
 /// How many bytes of a text stand in front.

@@ -6,7 +6,7 @@ ghost use Rattle.proto_stream.specs.Head.{head_of};
 
 use arrayvec::ArrayVec;
 use trace_base::limits::MAX_FIELD;
-use wire_varint::{put_tag, put_varint};
+use wire_varint::{push_tag, push_varint};
 
 /// The bytes before a field's content, at most 15.
 #[derive(Drop)]
@@ -28,13 +28,9 @@ fn tag_and_varint(field: u32, wire: u8, value: u64) -> ArrayVec<u8, 15>
     requires wire { wire ≤ 5 }
     ensures { result.items ≡ tag field wire ++ varint value }
 {
-    let mut tag = [0u8; 5];
-    let tag_len = put_tag(field, wire, &mut tag);
-    let mut number = [0u8; 10];
-    let number_len = put_varint(value, &mut number);
     let mut bytes = ArrayVec::new();
-    let _ = bytes.try_extend_from_slice(&tag[..tag_len]);
-    let _ = bytes.try_extend_from_slice(&number[..number_len]);
+    push_tag(&mut bytes, field, wire);
+    push_varint(&mut bytes, value);
     bytes
 }
 
@@ -65,9 +61,7 @@ pub fn head_nested(field: u32) -> Head
     requires { (1 ≤ field) × (field ≤ MAX_FIELD) }
     ensures { head_of result ≡ nested_tag field }
 {
-    let mut tag = [0u8; 5];
-    let len = put_tag(field, 2, &mut tag);
     let mut bytes = ArrayVec::new();
-    let _ = bytes.try_extend_from_slice(&tag[..len]);
+    push_tag(&mut bytes, field, 2);
     Head { bytes }
 }

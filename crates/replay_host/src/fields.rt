@@ -17,7 +17,7 @@ use trace_base::steps::Steps;
 
 /// What a writer is called for a node, with its text.
 #[tactic(auto, unfolding(scenario_text::specs::Accepted::node_call))]
-fn call_of_node(node: FieldNode, text: &[u8]) -> WriterCall<'_>
+pub fn call_of_node(node: FieldNode, text: &[u8]) -> WriterCall<'_>
     ensures { call_of result ≡ node_call (node, text.now) }
 {
     match node {

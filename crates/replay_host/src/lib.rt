@@ -23,6 +23,7 @@ mod serving;
 pub use asking::ask_one;
 pub use counting::{make_done, packets_left};
 pub use fault::HostFault;
+pub use fields::call_of_node;
 pub use flushes::Flushes;
 pub use helper::Collecting;
 pub use host::Host;

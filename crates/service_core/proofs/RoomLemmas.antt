@@ -31,7 +31,7 @@ set_room (first ∷ taken) (suc place) more one inside is fits =
     let rest = set_room taken place more one (omega (arith, inside)) is fits in omega (arith, rest)
 
 -- no count falls
-takes_grow : (setup : Setup) (places : List ℕ) (taken : ℕ) (old new : ServiceView) → AllBelow (length old.taken) places → Takes setup places taken old new
+pub takes_grow : (setup : Setup) (places : List ℕ) (taken : ℕ) (old new : ServiceView) → AllBelow (length old.taken) places → Takes setup places taken old new
     → (place : ℕ) → (taken_of old place).count ≤ (taken_of new place).count
 takes_grow setup [] taken old new below takes place =
     let same : (taken_of new place).count ≡ (taken_of old place).count = ap (λ (v : ServiceView). (taken_of v place).count) takes.1 in omega (arith, same)

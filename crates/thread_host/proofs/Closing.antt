@@ -15,7 +15,7 @@ use Rattle.service_core.specs.Agreement.{first_of}
 use Rattle.service_core.specs.Reading.{NotesReads, ReadsAll, noted_read, reads_in}
 use Rattle.service_core.specs.Taking.{Takes, places_of, took, noted_more}
 use Rattle.service_core.proofs.QuietLemmas.{AllBelow, places_below, long_still}
-use Rattle.service_core.proofs.TakingLemmas.{taken_here, taken_other}
+use Rattle.service_core.proofs.RoomLemmas.{takes_grow}
 use Rattle.replay_host.proofs.TakenLemmas.{takes_own}
 use Rattle.run_model.specs.Settled.{ClosesTo, ReadsTo}
 use Rattle.thread_service.specs.Reading.{PassReads}
@@ -29,28 +29,6 @@ takes_long : (setup : Setup) (places : List ℕ) (taken : ℕ) (old new : Servic
 takes_long setup [] taken old new takes = ap (λ (v : ServiceView). length v.taken) takes.1
 takes_long setup (place ∷ places) taken old new takes =
     takes_long setup places takes.1 takes.2 new takes.5 ∙ long_still setup place takes.0 old takes.2 takes.4
-
-takes_rise : (setup : Setup) (places : List ℕ) (taken : ℕ) (old new : ServiceView) → AllBelow (length old.taken) places → Takes setup places taken old new
-    → (place : ℕ) → (taken_of old place).count ≤ (taken_of new place).count
-takes_rise setup [] taken old new below takes place =
-    let same : (taken_of new place).count ≡ (taken_of old place).count = ap (λ (v : ServiceView). (taken_of v place).count) takes.1 in omega (arith, same)
-takes_rise setup (one ∷ places) taken old new below takes place =
-    let rest = takes_rise setup places takes.1 takes.2 new
-    (subst (λ (n : ℕ). AllBelow n places) (sym (long_still setup one takes.0 old takes.2 takes.4)) below.1) takes.5 place in
-    let first = step (cases_eq place one) in
-    omega (arith, rest, first)
-  where
-    step : (place ≡ one) ⊎ (place ≡ one → ⊥) → (taken_of old place).count ≤ (taken_of takes.2 place).count
-    step (inl same) =
-        let here : (taken_of takes.2 place).count ≡ (taken_of old one).count + length takes.4.contents =
-        ap (λ (v : ServiceView). (taken_of v place).count) takes.4.view ∙ ap (λ (p : ℕ). (taken_of (took old one takes.4.looks takes.4.contents) p).count) same
-        ∙ ap (λ (t : Taken). t.count) (taken_here old one takes.4.looks takes.4.contents below.0) in
-        let was : (taken_of old place).count ≡ (taken_of old one).count = ap (λ (p : ℕ). (taken_of old p).count) same in
-        omega (arith, here, was)
-    step (inr apart) =
-        let here : (taken_of takes.2 place).count ≡ (taken_of old place).count =
-        ap (λ (v : ServiceView). (taken_of v place).count) takes.4.view ∙ ap (λ (t : Taken). t.count) (taken_other old one place takes.4.looks takes.4.contents apart) in
-        omega (arith, here)
 
 -- ---- all producers are closed
 
@@ -76,7 +54,7 @@ closes_rise setup (suc number) old new many closes place =
     let last = closes.3 in
     let before = closes_rise setup number old closes.0 many closes.2 place in
     let long = closes_long setup number old closes.0 closes.2 in
-    let rises = takes_rise setup (places_of (suc number) 0 setup.writers) closes.1 closes.0 last.between
+    let rises = takes_grow setup (places_of (suc number) 0 setup.writers) closes.1 closes.0 last.between
     (places_below (suc number) 0 setup.writers (length closes.0.taken) (omega (arith, long, many))) last.takes place in
     let same : (taken_of new place).count ≡ (taken_of last.between place).count = ap (λ (v : ServiceView). (taken_of v place).count) last.view in
     omega (arith, before, rises, same)

@@ -8,8 +8,8 @@ ghost use Rattle.thread_host.specs.Playing.{MayBeAsked, WasAsked};
 
 use chunk_plain::WriterCall;
 use chunk_words::{HostTable, Shared};
-use field_tree::{FieldNode, Fields};
-use replay_host::ask_one;
+use field_tree::Fields;
+use replay_host::{ask_one, call_of_node};
 use std::sync::ledger::Ledger;
 use thread_writer::{Asks, Helper, TraceWriter};
 use trace_base::steps::Steps;
@@ -30,23 +30,6 @@ pub(crate) fn ask<H: Helper, L: Ledger>(
     match ask_one(&mut *writer.core, &mut shared, help, steps, call) {
         Ok(()) => {}
         Err(_) => unreachable!(),
-    }
-}
-
-/// What a writer is called for a node, with its text.
-#[tactic(auto, unfolding(scenario_text::specs::Accepted::node_call))]
-fn call_of_node(node: FieldNode, text: &[u8]) -> WriterCall<'_>
-    ensures { call_of result ≡ node_call (node, text.now) }
-{
-    match node {
-        FieldNode::Number { field, value } => WriterCall::Number { field, value },
-        FieldNode::Bytes { field, times } => WriterCall::Bytes {
-            field,
-            value: text,
-            times,
-        },
-        FieldNode::Begin { field } => WriterCall::Nested { field },
-        FieldNode::End => WriterCall::Ended,
     }
 }
 

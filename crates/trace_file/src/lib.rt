@@ -14,8 +14,6 @@ mod packet;
 mod parts;
 mod reader;
 mod record;
-#[cfg(test)]
-mod tests;
 
 pub use apart::take_apart;
 pub use fault::TraceFault;

@@ -8,7 +8,7 @@ use arrayvec::ArrayVec;
 use byte_io::put::{WriteFault, put_all};
 use byte_io::traits::Sink;
 use std::marker::Model;
-use wire_varint::put_varint;
+use wire_varint::push_varint;
 
 /// The tag of field 1 of a trace, a packet, and the tag of field 10 of a packet, its sequence.
 const PACKET_TAG: u8 = 0x0A;
@@ -48,23 +48,20 @@ impl Model for RecordWriter {
 pub(crate) fn head(len: u64) -> ArrayVec<u8, 11>
     ensures { result.items ≡ 0x0A ∷ varint len }
 {
-    let mut bytes = [0u8; 10];
-    let count = put_varint(len, &mut bytes);
     let mut head = ArrayVec::new();
     head.push(PACKET_TAG);
-    let _ = head.try_extend_from_slice(&bytes[..count]);
+    push_varint(&mut head, len);
     head
 }
 
 /// What stands behind the packet's bytes.
+#[tactic(auto, using(wire_varint::proofs::Lengths::varint_lengths))]
 pub(crate) fn tail(sequence: u32, marked: bool) -> ArrayVec<u8, 14>
     ensures { result.items ≡ record_tail sequence marked }
 {
-    let mut bytes = [0u8; 10];
-    let count = put_varint(u64::from(sequence), &mut bytes);
     let mut tail = ArrayVec::new();
     tail.push(SEQUENCE_TAG);
-    let _ = tail.try_extend_from_slice(&bytes[..count]);
+    push_varint(&mut tail, u64::from(sequence));
     if marked {
         let _ = tail.try_extend_from_slice(&DROPPED_MARK);
     }

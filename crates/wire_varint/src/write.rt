@@ -1,7 +1,8 @@
 //! Writing numbers and tags in the shortest form.
-ghost use Rattle.std.specs.Prelude.{◌≡◌, ℕ, ◌+◌, ◌*◌, ◌^◌, ◌<◌, ◌≤◌, length, take, drop};
+ghost use Rattle.std.specs.Prelude.{◌≡◌, ℕ, ◌+◌, ◌*◌, ◌^◌, ◌<◌, ◌≤◌, ◌++◌, length, take, drop};
 ghost use Rattle.wire_varint.specs.Varint.{varint, tag};
 
+use arrayvec::ArrayVec;
 use trace_base::limits::MAX_FIELD;
 
 /// Writes the shortest varint of `value` into the first bytes of `out`, and answers its length.
@@ -28,6 +29,35 @@ pub fn put_tag(field: u32, wire: u8, out: &mut [u8; 5]) -> usize
     ensures behind { drop result out.new ≡ drop result out.old }
 {
     put_shortest(8 * u64::from(field) + u64::from(wire), out)
+}
+
+/// Appends the shortest varint of `value`.
+#[inline(always)]
+#[tactic(auto, unfolding(crate::specs::Varint::varint, crate::specs::Varint::groups))]
+pub fn push_varint<const CAP: usize>(out: &mut ArrayVec<u8, CAP>, value: u64)
+    requires room { length out.old.items + length (varint value) ≤ CAP }
+    ensures { out.new.items ≡ out.old.items ++ varint value }
+{
+    // Most numbers have one byte, for which a call takes longer than the byte.
+    if value < 128 {
+        out.push(value as u8);
+        return;
+    }
+    let mut bytes = [0; 10];
+    let len = put_varint(value, &mut bytes);
+    let _ = out.try_extend_from_slice(&bytes[..len]);
+}
+
+/// Appends what stands in front of a field, as `put_tag` writes it.
+#[inline(always)]
+#[tactic(auto, unfolding(crate::specs::Varint::tag))]
+pub fn push_tag<const CAP: usize>(out: &mut ArrayVec<u8, CAP>, field: u32, wire: u8)
+    requires field { (1 ≤ field) × (field ≤ MAX_FIELD) }
+    requires wire { wire ≤ 5 }
+    requires room { length out.old.items + length (tag field wire) ≤ CAP }
+    ensures { out.new.items ≡ out.old.items ++ tag field wire }
+{
+    push_varint(out, 8 * u64::from(field) + u64::from(wire));
 }
 
 /// `put_varint` into any array that has the room.

@@ -1,5 +1,5 @@
 //! Traces by hand, most of them as no service writes them.
-use super::*;
+use trace_file::{Packet, TraceFault, TraceReader};
 
 struct Row {
     name: &'static str,
