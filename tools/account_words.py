@@ -20,7 +20,7 @@ use Rattle.trace_model.specs.Balance.{PacketCounts, IsBalanced, CountsOutcomes, 
 use Rattle.delivery_laws.specs.DeliveryLaws.{IsAccountOf}
 use Rattle.delivery_laws.specs.Room.{asked}
 use Rattle.chunk_plain.specs.Setup.{Setup}
-use Rattle.chunk_plain.specs.Views.{Content, Begun, Completed, WriterView, Taken, newcomer}
+use Rattle.chunk_plain.specs.Views.{Content, BegunChunk, Completed, WriterView, Taken, newcomer}
 use Rattle.chunk_plain.specs.World.{World, writer}
 use Rattle.chunk_plain.specs.Histories.{history_of}
 use Rattle.world_model.specs.FirstBuffers.{BufferSpec, payload_at, first_buffers}
@@ -34,7 +34,7 @@ contents_of target (image ∷ images) (own ∷ patches) =
     record { image = image; patches = own; target = target } ∷ contents_of target images patches
 
 -- what became of the chunks of a writer that holds none
-abbrev pub begun_of : List Content → List Begun
+abbrev pub begun_of : List Content → List BegunChunk
 begun_of contents = map (λ (content : Content). Completed 0 content) contents
 
 -- so many of the contents, taken

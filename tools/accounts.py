@@ -21,7 +21,7 @@ use Rattle.trace_model.specs.Encoding.{number_field, bytes_head, bytes_field}
 use Rattle.trace_model.specs.Record.{content_of, record_of}
 use Rattle.std.specs.Prelude.{slice_index_or}
 use Rattle.trace_model.specs.Packets.{packets_of}
-use Rattle.trace_model.specs.Cut.{IsFull, CutsInto}
+use Rattle.trace_model.specs.Cut.{IsWellFormedPage, CutsInto}
 use Rattle.trace_model.specs.Delivery.{Delivered, sequence_of}
 use Rattle.chunk_plain.specs.World.{writer}
 use Rattle.world_model.specs.FirstBuffers.{payload_at}

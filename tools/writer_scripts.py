@@ -45,7 +45,7 @@ PROOF_HEAD = '''use Rattle.std.proofs.Common.{ℕ, true, false, List, [], ◌∷
 use Rattle.std.proofs.lemmas.List.Elements.{All-from_recursion}
 use Rattle.wire_varint.specs.Varint.{varint, groups, tag, redundant}
 use Rattle.trace_model.specs.Encoding.{number_field, bytes_head, bytes_field}
-use Rattle.trace_model.specs.Cut.{IsFull}
+use Rattle.trace_model.specs.Cut.{IsWellFormedPage}
 '''
 
 UNFOLDING = 'unfolding groups varint tag redundant number_field bytes_head bytes_field\n'
@@ -288,7 +288,7 @@ def cut_proof(size, packets, pages, pages_term):
     goes_on = bool(packets) and not packets[0].lost() and not packets[0].finished
     refls = nested('refl' for _ in pages)
     return record(
-        full=f'All-from_recursion (IsFull {size}) {pages_term} {full}', flags=refls,
+        full=f'All-from_recursion (IsWellFormedPage {size}) {pages_term} {full}', flags=refls,
         last='λ h. refl' if goes_on else 'λ h. absurd (cc)',
         chains=nested(record(marked='refl', bytes=bytes_proof(packet, chain), ends='refl', goes_on='refl', lengths='refl')
                       for packet, chain in zip(kept, chains)),

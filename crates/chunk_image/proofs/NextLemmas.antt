@@ -2,7 +2,7 @@
 use Rattle.std.proofs.Common.{◌≡◌, ℕ, zero, suc, ◌-◌, ◌≤◌, ◌==◌, List, [], ◌∷◌, length, drop, Some, None, refl, ap, ◌∙◌, arith}
 use Rattle.std.proofs.lemmas.Bool.Decides.{nat_tests}
 use Rattle.trace_model.specs.Images.{Fragment}
-use Rattle.trace_model.specs.Reading.{size_of, fragment_of, place_behind}
+use Rattle.trace_model.specs.Reading.{size_of, fragment_of, fragment_end}
 use Rattle.chunk_image.specs.Readable.{readable_from}
 use Rattle.chunk_image.proofs.ReadableLemmas.{readable_zero, readable_some, readable_none, length-readable_from-le}
 
@@ -23,10 +23,10 @@ next_none (suc left) at bytes some e = readable_none left at bytes (ap (λ last.
 pub next_some : (left at : ℕ) (bytes : List ℕ) (fragment : Fragment) → (left ≡ 0 → ⊥)
     → fragment_of (left == 1) at bytes (size_of 4 bytes) ≡ Some fragment
     → readable_from left at bytes
-    ≡ fragment ∷ readable_from (left - 1) (place_behind fragment) (drop (place_behind fragment - at) bytes)
+    ≡ fragment ∷ readable_from (left - 1) (fragment_end fragment) (drop (fragment_end fragment - at) bytes)
 next_some zero at bytes fragment some e = absurd (some refl)
 next_some (suc left) at bytes fragment some e =
     readable_some left at bytes fragment (ap (λ last. fragment_of last at bytes (size_of 4 bytes)) (one_left left) ∙ e)
-    ∙ ap (λ n. fragment ∷ readable_from n (place_behind fragment) (drop (place_behind fragment - at) bytes)) (omega arith)
+    ∙ ap (λ n. fragment ∷ readable_from n (fragment_end fragment) (drop (fragment_end fragment - at) bytes)) (omega arith)
 
 pub ruleset next_steps = (next_end, next_none, next_some)

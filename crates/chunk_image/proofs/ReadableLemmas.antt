@@ -1,7 +1,7 @@
 -- How far a payload can be read: step by step, and what the model's reading is then.
 use Rattle.std.proofs.Common.{◌≡◌, ℕ, zero, suc, ◌+◌, ◌-◌, ◌<◌, ◌≤◌, ◌==◌, List, [], ◌∷◌, length, drop, Option, Some, None, refl, ap, sym, ◌∙◌, arith}
 use Rattle.trace_model.specs.Images.{Fragment}
-use Rattle.trace_model.specs.Reading.{Reading, Fragments, Unreadable, size_of, fragment_of, place_behind, behind, read_on, reading_from}
+use Rattle.trace_model.specs.Reading.{Reading, Fragments, Unreadable, size_of, fragment_of, fragment_end, behind, read_on, reading_from}
 use Rattle.chunk_image.specs.Readable.{readable_on, readable_from}
 
 pub readable_zero : (at : ℕ) (bytes : List ℕ) → readable_from 0 at bytes ≡ []
@@ -10,22 +10,22 @@ readable_zero at bytes = refl
 
 pub readable_suc : (left at : ℕ) (bytes : List ℕ)
     → readable_from (suc left) at bytes
-    ≡ readable_on (λ fragment. readable_from left (place_behind fragment) (drop (place_behind fragment - at) bytes))
+    ≡ readable_on (λ fragment. readable_from left (fragment_end fragment) (drop (fragment_end fragment - at) bytes))
     (fragment_of (left == 0) at bytes (size_of 4 bytes))
 unfolding readable_from
 readable_suc left at bytes = refl
 
 pub readable_some : (left at : ℕ) (bytes : List ℕ) (fragment : Fragment) → fragment_of (left == 0) at bytes (size_of 4 bytes) ≡ Some fragment
-    → readable_from (suc left) at bytes ≡ fragment ∷ readable_from left (place_behind fragment) (drop (place_behind fragment - at) bytes)
+    → readable_from (suc left) at bytes ≡ fragment ∷ readable_from left (fragment_end fragment) (drop (fragment_end fragment - at) bytes)
 readable_some left at bytes fragment e =
     readable_suc left at bytes
-    ∙ ap (readable_on (λ fragment. readable_from left (place_behind fragment) (drop (place_behind fragment - at) bytes))) e
+    ∙ ap (readable_on (λ fragment. readable_from left (fragment_end fragment) (drop (fragment_end fragment - at) bytes))) e
 
 pub readable_none : (left at : ℕ) (bytes : List ℕ) → fragment_of (left == 0) at bytes (size_of 4 bytes) ≡ None
     → readable_from (suc left) at bytes ≡ []
 readable_none left at bytes e =
     readable_suc left at bytes
-    ∙ ap (readable_on (λ fragment. readable_from left (place_behind fragment) (drop (place_behind fragment - at) bytes))) e
+    ∙ ap (readable_on (λ fragment. readable_from left (fragment_end fragment) (drop (fragment_end fragment - at) bytes))) e
 
 -- Lengths
 
@@ -37,12 +37,12 @@ length_on n others (Some fragment) most = omega (arith, most fragment)
 pub length-readable_from-le : (left at : ℕ) (bytes : List ℕ) → length (readable_from left at bytes) ≤ left
 length-readable_from-le zero at bytes = omega (arith, ap length (readable_zero at bytes))
 length-readable_from-le (suc left) at bytes =
-    let others : Fragment → List Fragment = λ fragment. readable_from left (place_behind fragment) (drop (place_behind fragment - at) bytes) in
+    let others : Fragment → List Fragment = λ fragment. readable_from left (fragment_end fragment) (drop (fragment_end fragment - at) bytes) in
     omega (
       arith,
       ap length (readable_suc left at bytes),
       length_on left others (fragment_of (left == 0) at bytes (size_of 4 bytes))
-          (λ fragment. length-readable_from-le left (place_behind fragment) (drop (place_behind fragment - at) bytes)),
+          (λ fragment. length-readable_from-le left (fragment_end fragment) (drop (fragment_end fragment - at) bytes)),
     )
 
 -- The model's reading
@@ -57,10 +57,10 @@ pub all_readable : (left number at : ℕ) (bytes : List ℕ) → length (readabl
     → reading_from left number at bytes ≡ Fragments (readable_from left at bytes)
 all_readable zero number at bytes all = ap Fragments (sym (readable_zero at bytes))
 all_readable (suc left) number at bytes all =
-    let others : Fragment → List Fragment = λ fragment. readable_from left (place_behind fragment) (drop (place_behind fragment - at) bytes) in
-    let readings : Fragment → Reading = λ fragment. reading_from left (suc number) (place_behind fragment) (drop (place_behind fragment - at) bytes) in
+    let others : Fragment → List Fragment = λ fragment. readable_from left (fragment_end fragment) (drop (fragment_end fragment - at) bytes) in
+    let readings : Fragment → Reading = λ fragment. reading_from left (suc number) (fragment_end fragment) (drop (fragment_end fragment - at) bytes) in
     all_on number left others readings (fragment_of (left == 0) at bytes (size_of 4 bytes))
-    (λ fragment more. all_readable left (suc number) (place_behind fragment) (drop (place_behind fragment - at) bytes) more)
+    (λ fragment more. all_readable left (suc number) (fragment_end fragment) (drop (fragment_end fragment - at) bytes) more)
     (sym (ap length (readable_suc left at bytes)) ∙ all)
     ∙ ap Fragments (sym (readable_suc left at bytes))
 
@@ -75,9 +75,9 @@ pub part_readable : (left number at : ℕ) (bytes : List ℕ) → length (readab
     → reading_from left number at bytes ≡ Unreadable (number + length (readable_from left at bytes))
 part_readable zero number at bytes part = absurd (omega (arith, part))
 part_readable (suc left) number at bytes part =
-    let others : Fragment → List Fragment = λ fragment. readable_from left (place_behind fragment) (drop (place_behind fragment - at) bytes) in
-    let readings : Fragment → Reading = λ fragment. reading_from left (suc number) (place_behind fragment) (drop (place_behind fragment - at) bytes) in
+    let others : Fragment → List Fragment = λ fragment. readable_from left (fragment_end fragment) (drop (fragment_end fragment - at) bytes) in
+    let readings : Fragment → Reading = λ fragment. reading_from left (suc number) (fragment_end fragment) (drop (fragment_end fragment - at) bytes) in
     part_on number left others readings (fragment_of (left == 0) at bytes (size_of 4 bytes))
-    (λ fragment more. part_readable left (suc number) (place_behind fragment) (drop (place_behind fragment - at) bytes) more)
+    (λ fragment more. part_readable left (suc number) (fragment_end fragment) (drop (fragment_end fragment - at) bytes) more)
     (omega (arith, ap length (readable_suc left at bytes), part))
     ∙ ap (λ fragments. Unreadable (number + length fragments)) (sym (readable_suc left at bytes))

@@ -5,7 +5,7 @@ use Rattle.std.proofs.lemmas.Grind.{get_or_default_zero}
 use Rattle.std.proofs.lemmas.List.Elements.{All-drop}
 use Rattle.trace_model.specs.Images.{Fragment}
 use Rattle.trace_model.specs.Fragments.{ReadsOne, ReadsDropped, ReadsAs}
-use Rattle.trace_model.specs.Reading.{Fragments, Unreadable, size_of, fragment_of, place_behind, reading_of}
+use Rattle.trace_model.specs.Reading.{Fragments, Unreadable, size_of, fragment_of, fragment_end, reading_of}
 use Rattle.trace_model.proofs.ReadingLemmas.{StandsFirst, read_kept, read_dropped, read_sound}
 use Rattle.trace_model.proofs.ReadsAsLemmas.{reading_is_exact}
 use Rattle.chunk_image.specs.Readable.{readable_from}
@@ -80,12 +80,12 @@ ends_none left at bytes e = record {
 
 -- what isn't the last fragment has no drop mark
 stands_whole : (left at : ℕ) (bytes : List ℕ) (fragment : Fragment) → 0 < left → StandsFirst (left == 0) at bytes fragment
-    → ReadsOne at bytes fragment (drop (place_behind fragment - at) bytes)
+    → ReadsOne at bytes fragment (drop (fragment_end fragment - at) bytes)
 stands_whole left at bytes fragment more (inl marked) = absurd (omega (arith, eqb-true left 0 marked.0, more))
 stands_whole left at bytes fragment more (inr one) = one
 
 ends_some : (left at : ℕ) (bytes : List ℕ) (fragment : Fragment) (behind : List ℕ) (before : List Fragment) → ReadsOne at bytes fragment behind
-    → Ends left (place_behind fragment) behind before → Ends (suc left) at bytes (fragment ∷ before)
+    → Ends left (fragment_end fragment) behind before → Ends (suc left) at bytes (fragment ∷ before)
 ends_some left at bytes fragment behind before one ends = record {
   place = ends.place;
   rest = ends.rest;
@@ -103,7 +103,7 @@ ends_with left at bytes None e below part others =
     subst P (sym (readable_none left at bytes e)) (ends_none left at bytes e)
 ends_with left at bytes (Some fragment) e below part others =
     let readable = readable_some left at bytes fragment e in
-    let place : ℕ = place_behind fragment in
+    let place : ℕ = fragment_end fragment in
     let rest : List ℕ = drop (place - at) bytes in
     let more : length (readable_from left place rest) < left = omega (arith, ap length readable, part) in
     let P : List Fragment → Type 0 = Ends (suc left) at bytes in

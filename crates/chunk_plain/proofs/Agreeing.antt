@@ -5,7 +5,7 @@ use Rattle.std.proofs.Math.Nat.{ℕ_set}
 use Rattle.std.proofs.lemmas.Grind.{same_number_lists}
 use mathlib.Core.List.{is_set as list_set}
 use Rattle.chunk_plain.specs.Payload.{byte_at, byte_in}
-use Rattle.chunk_plain.specs.Views.{At, Begun, Held, Completed, Found, Look, ServiceView}
+use Rattle.chunk_plain.specs.Views.{At, BegunChunk, Held, Completed, Found, Look, ServiceView}
 use Rattle.chunk_plain.specs.Drafts.{IsFound, BeginsAs, StillHas}
 use Rattle.chunk_plain.specs.Words.{HasBoth, FoundAlike, LooksAgree}
 use Rattle.chunk_plain.proofs.Sealing.{reads_same, ends_grow}
@@ -22,7 +22,7 @@ same_front byte one other is also many here there =
     let size : length one.sealed ≡ length other.sealed = omega (arith, whole, whole_too, up, down) in
     same_number_lists one.sealed other.sealed size (λ j low. sym (here j low) ∙ there j (omega (arith, low, size)))
 
-alike : (about next : ℕ) (entry : Begun) (one other : Found) → IsFound one → IsFound other → length one.ends ≡ length other.ends → StillHas about one entry → StillHas next other entry
+alike : (about next : ℕ) (entry : BegunChunk) (one other : Found) → IsFound one → IsFound other → length one.ends ≡ length other.ends → StillHas about one entry → StillHas next other entry
     → FoundAlike one other
 alike about next (Held chunk draft) one other is also many has had =
     let count = is.sealed.count in

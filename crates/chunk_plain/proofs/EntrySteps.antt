@@ -5,7 +5,7 @@ use mathlib.Core.Logic.{dite}
 use Rattle.atomic_table.proofs.Lists.{at_set, set_here, set_else}
 use Rattle.chunk_plain.specs.Setup.{sequence_of}
 use Rattle.chunk_plain.specs.Payload.{byte_of, byte_at, byte_in, sealed_to}
-use Rattle.chunk_plain.specs.Views.{At, Head, Draft, Content, Begun, Held, Completed, Found, taken_of}
+use Rattle.chunk_plain.specs.Views.{At, Head, Draft, Content, BegunChunk, Held, Completed, Found, taken_of}
 use Rattle.chunk_plain.specs.World.{World, Status, Writing, Ready, status, writer}
 use Rattle.chunk_plain.specs.Steps.{redrafts, with_head, with_word, with_words, completes, drafted, moved}
 use Rattle.chunk_plain.specs.Owned.{claims_of, reads_of, IsOwned}
@@ -16,7 +16,7 @@ use Rattle.chunk_plain.proofs.Owned.{Foreign, writer_step, won_stays}
 use Rattle.chunk_plain.proofs.Sealing.{reads_same, ends_grow, word_bytes}
 
 -- the status of a chunk with this entry, as long as it isn't taken
-abbrev status_by : ℕ → ℕ → Begun → Status
+abbrev status_by : ℕ → ℕ → BegunChunk → Status
 status_by place id (Held chunk head) = Writing place id head
 status_by place id (Completed chunk content) = Ready place id content
 
@@ -25,34 +25,34 @@ IsEntered (Writing place id head) = Unit {0}
 IsEntered (Ready place id content) = Unit {0}
 IsEntered _ = ⊥
 
-entered : (place id : ℕ) (entry : Begun) → IsEntered (status_by place id entry)
+entered : (place id : ℕ) (entry : BegunChunk) → IsEntered (status_by place id entry)
 entered place id (Held chunk head) = tt
 entered place id (Completed chunk content) = tt
 
-writing_entry : (place id i : ℕ) (head : Draft) (entry : Begun) → status_by place id entry ≡ Writing place i head → (id ≡ i) × (entry ≡ Held (chunk_of entry) head)
+writing_entry : (place id i : ℕ) (head : Draft) (entry : BegunChunk) → status_by place id entry ≡ Writing place i head → (id ≡ i) × (entry ≡ Held (chunk_of entry) head)
 writing_entry place id i head (Held chunk other) e = (cc, cc)
 writing_entry place id i head (Completed chunk content) e = absurd cc
 
-ready_entry : (place id i : ℕ) (content : Content) (entry : Begun) → status_by place id entry ≡ Ready place i content → (id ≡ i) × (entry ≡ Completed (chunk_of entry) content)
+ready_entry : (place id i : ℕ) (content : Content) (entry : BegunChunk) → status_by place id entry ≡ Ready place i content → (id ≡ i) × (entry ≡ Completed (chunk_of entry) content)
 ready_entry place id i content (Held chunk head) e = absurd cc
 ready_entry place id i content (Completed chunk other) e = (cc, cc)
 
-foreign_entry : (other place id : ℕ) (entry : Begun) → place ≢ other → Foreign other (status_by place id entry)
+foreign_entry : (other place id : ℕ) (entry : BegunChunk) → place ≢ other → Foreign other (status_by place id entry)
 foreign_entry other place id (Held chunk head) differs = differs
 foreign_entry other place id (Completed chunk content) differs = differs
 
-quiet_entry : (place id : ℕ) (entry : Begun) → (claims_of place (status_by place id entry) ≡ 0) × (reads_of (status_by place id entry) ≡ 0)
+quiet_entry : (place id : ℕ) (entry : BegunChunk) → (claims_of place (status_by place id entry) ≡ 0) × (reads_of (status_by place id entry) ≡ 0)
 quiet_entry place id (Held chunk head) = (refl, refl)
 quiet_entry place id (Completed chunk content) = (refl, refl)
 
 -- an entry that isn't the changed one is there still
-kept : (begun : List Begun) (id i : ℕ) (was entry other : Begun) → At begun id was → At begun i other → (was ≡ other → ⊥) → At (set begun id entry) i other
+kept : (begun : List BegunChunk) (id i : ℕ) (was entry other : BegunChunk) → At begun id was → At begun i other → (was ≡ other → ⊥) → At (set begun id entry) i other
 kept begun id i was entry other changed at apart =
     dite (ℕ_discrete i id)
     (λ same. absurd (apart (at_one begun was other id changed (subst (λ j. At begun j other) same at))))
     (λ differs. set_else begun id i entry differs ∙ at)
 
-entry_owned : (world : World) (place chunk id : ℕ) (head : Draft) (entry : Begun) → IsOwned world → place < length world.writers → chunk < length world.chunks
+entry_owned : (world : World) (place chunk id : ℕ) (head : Draft) (entry : BegunChunk) → IsOwned world → place < length world.writers → chunk < length world.chunks
     → At (writer world place).begun id (Held chunk head) → chunk_of entry ≡ chunk
     → ((content : Content) → entry ≡ Completed chunk content → (content.image.chunk_id ≡ id) × (content.image.sequence ≡ sequence_of place))
     → ((draft : Draft) → entry ≡ Held chunk draft → IsDraft draft)
@@ -78,13 +78,13 @@ entry_owned world place chunk id head entry o inside_w inside_c at same_chunk na
           (λ (old : (i ≢ id) × At v.begun i (Held chunk other)). let before = w.held_is i other old.1 in absurd (old.0 cc))
           (at_set v.begun id i entry (Held chunk other) e);
       writing_is = λ i other e. let r = writing_entry place id i other entry e in
-          subst (λ (j : ℕ). At (set v.begun id entry) j (Held chunk other)) r.0 (subst (λ (b : Begun). At (set v.begun id entry) id b) (r.1 ∙ ap (λ (d : ℕ). Held d other) same_chunk) here);
+          subst (λ (j : ℕ). At (set v.begun id entry) j (Held chunk other)) r.0 (subst (λ (b : BegunChunk). At (set v.begun id entry) id b) (r.1 ∙ ap (λ (d : ℕ). Held d other) same_chunk) here);
       completed_is = λ i content e over. ⊎_elim
           (λ (new : (i ≡ id) × (entry ≡ Completed chunk content)). subst (λ (j : ℕ). is ≡ Ready place j content) (sym new.0) (ap (status_by place id) new.1))
           (λ (old : (i ≢ id) × At v.begun i (Completed chunk content)). let before = w.completed_is i content old.1 over in absurd cc)
           (at_set v.begun id i entry (Completed chunk content) e);
       ready_is = λ i content e. let r = ready_entry place id i content entry e in
-          subst (λ (j : ℕ). At (set v.begun id entry) j (Completed chunk content) × (count ≤ j)) r.0 (subst (λ (b : Begun). At (set v.begun id entry) id b) (r.1 ∙ ap (λ (d : ℕ). Completed d content) same_chunk) here, above);
+          subst (λ (j : ℕ). At (set v.begun id entry) j (Completed chunk content) × (count ≤ j)) r.0 (subst (λ (b : BegunChunk). At (set v.begun id entry) id b) (r.1 ∙ ap (λ (d : ℕ). Completed d content) same_chunk) here, above);
       reading_is = λ i content e. absurd (subst IsEntered e (entered place id entry));
     }
     (λ other differs p. record {
@@ -131,7 +131,7 @@ entry_owned world place chunk id head entry o inside_w inside_c at same_chunk na
     (won_stays world place chunk chunk (record v { begun = set v.begun id entry }) is inside_w (λ i ask e. e) (o.claimed_won chunk (λ free. absurd cc)))
     (λ about found there. there_still v.begun chunk id head entry about found at inside carries there)
   where
-    there_still : (begun : List Begun) (chunk id : ℕ) (head : Draft) (entry : Begun) (about : ℕ) (found : Found) → At begun id (Held chunk head) → id < length begun
+    there_still : (begun : List BegunChunk) (chunk id : ℕ) (head : Draft) (entry : BegunChunk) (about : ℕ) (found : Found) → At begun id (Held chunk head) → id < length begun
         → ((about : ℕ) (found : Found) → StillHas about found (Held chunk head) → StillHas about found entry)
         → (there : IsThere (record (writer world place) { begun = begun }) about found) → IsThere (record (writer world place) { begun = set begun id entry }) about found
     there_still begun chunk id head entry about found at inside carries there =

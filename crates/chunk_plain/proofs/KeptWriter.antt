@@ -9,7 +9,7 @@ use Rattle.chunk_plain.specs.Setup.{Setup, spot, IsLaid}
 use Rattle.chunk_plain.specs.Payload.{byte_at, sealed_to, HasFragments}
 use Rattle.chunk_plain.specs.Views.{Head, no_head, fresh}
 use Rattle.chunk_plain.specs.World.{World, Status, Unclaimed, Claimed, Stamped, Writing, Ready, Reading, status, writer}
-use Rattle.chunk_plain.specs.Steps.{stamps, begins, redrafts, with_head, with_words, completes, notes_call, drafted, moved, noted}
+use Rattle.chunk_plain.specs.Steps.{stamps, begins, redrafts, with_head, with_words, completes, notes_call, drafted, moved, with_writer_view}
 use Rattle.chunk_plain.specs.Owned.{times, IsOwned}
 use Rattle.chunk_plain.specs.Drafts.{MayFollow, draft_at, head_at, published, ends_by, IsHolding}
 use Rattle.chunk_plain.specs.Stored.{Stored, stored_at}
@@ -261,11 +261,11 @@ complete_kept setup words slots world place chunk id new body laid kept inside_w
 -- ---- note_call
 
 pub call_kept : (setup : Setup) (words : List ℕ) (slots : List Stored) (world : World) (place : ℕ) (noted_call : call.Call)
-    → IsKept setup words slots world → place < length setup.writers → IsKept setup words slots (noted world place (notes_call (writer world place) noted_call))
+    → IsKept setup words slots world → place < length setup.writers → IsKept setup words slots (with_writer_view world place (notes_call (writer world place) noted_call))
 call_kept setup words slots world place noted_call kept inside_w =
     let shown = kept.shown in let view = notes_call (writer world place) noted_call in
     let w_inside : place < length world.writers = let many = kept.writers in omega arith in
-    let next = noted world place view in
+    let next = with_writer_view world place view in
     let never : (number : ℕ) → NeverAsked setup world number → NeverAsked setup next number = never_same setup world place view world.chunks world.service w_inside refl in
     record {
       shown = record {

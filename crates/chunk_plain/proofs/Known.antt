@@ -20,7 +20,7 @@ use Rattle.chunk_plain.specs.Setup.{Setup, spot, IsLaid}
 use Rattle.chunk_plain.specs.Payload.{byte_at, sealed_to, HasFragments}
 use Rattle.chunk_plain.specs.Views.{Content, WriterView, ServiceView, newcomer, fresh, taken_of}
 use Rattle.chunk_plain.specs.World.{World, Status, Unclaimed, Writing, Ready, Reading, status, writer}
-use Rattle.chunk_plain.specs.Steps.{begins, with_words, drafted, completes, notes_call, looks_at, takes_in, learns, lets_go, moved, served, noted, serviced}
+use Rattle.chunk_plain.specs.Steps.{begins, with_words, drafted, completes, notes_call, looks_at, takes_in, learns, lets_go, moved, served, with_writer_view, serviced}
 use Rattle.chunk_plain.specs.Owned.{times, claims_of}
 use Rattle.chunk_plain.specs.Drafts.{MayFollow, draft_at, head_at, published, ends_by, IsHolding}
 use Rattle.chunk_plain.specs.Stored.{Stored, stored_at}
@@ -212,7 +212,7 @@ module _ (setup : Setup) (words : List ℕ) (slots : List Stored) (world : World
 
   -- ---- notes and looks
 
-  pub call_step : (next : World) (place : ℕ) (noted_call : call.Call) → place < length setup.writers → next ≡ noted world place (notes_call (writer world place) noted_call) → ∥ IsKept setup words slots next ∥₁
+  pub call_step : (next : World) (place : ℕ) (noted_call : call.Call) → place < length setup.writers → next ≡ with_writer_view world place (notes_call (writer world place) noted_call) → ∥ IsKept setup words slots next ∥₁
   call_step next place noted_call inside next_is =
       subst (λ w. ∥ IsKept setup words slots w ∥₁) (sym next_is) (∥∥₁_map kept (λ k. call_kept setup words slots world place noted_call k inside))
 
@@ -230,8 +230,8 @@ module _ (setup : Setup) (words : List ℕ) (slots : List Stored) (world : World
   view_now next place view inside is = ap (λ l. get_or l place newcomer) is ∙ get_or-set_same world.writers place view newcomer (seat_inside place inside)
 
   -- a step that changes one writer's view, told with the view that the seat has then
-  pub told_noted : (next : World) (place : ℕ) (view : WriterView) → place < length setup.writers → next ≡ noted world place view → next ≡ noted world place (writer next place)
-  told_noted next place view inside is = is ∙ ap (λ v. noted world place v) (sym (view_now next place view inside (ap (λ (w : World). w.writers) is)))
+  pub told_noted : (next : World) (place : ℕ) (view : WriterView) → place < length setup.writers → next ≡ with_writer_view world place view → next ≡ with_writer_view world place (writer next place)
+  told_noted next place view inside is = is ∙ ap (λ v. with_writer_view world place v) (sym (view_now next place view inside (ap (λ (w : World). w.writers) is)))
 
   pub told_moved : (next : World) (place chunk : ℕ) (view : WriterView) (to : Status) → place < length setup.writers → next ≡ moved world place view chunk to → next ≡ moved world place (writer next place) chunk to
   told_moved next place chunk view to inside is = is ∙ ap (λ v. moved world place v chunk to) (sym (view_now next place view inside (ap (λ (w : World). w.writers) is)))

@@ -6,7 +6,7 @@ use native.Mathlib.Decide.{ℕ_discrete}
 use mathlib.Core.Logic.{dite}
 use Rattle.chunk_plain.specs.Views.{At, Ask, Look, Found, WriterView, ServiceView, Taken, newcomer, taken_of}
 use Rattle.chunk_plain.specs.World.{World, Status, Unclaimed, Claimed, Stamped, Writing, Ready, Reading, status, writer}
-use Rattle.chunk_plain.specs.Steps.{looks_at, taken_counts, moved, served, noted, serviced}
+use Rattle.chunk_plain.specs.Steps.{looks_at, taken_counts, moved, served, with_writer_view, serviced}
 use Rattle.chunk_plain.specs.Owned.{times, claims_of, reads_of, Owns, Counts, Won, IsOwned}
 use Rattle.chunk_plain.specs.Drafts.{IsFound, IsThere}
 use Rattle.chunk_plain.proofs.Lists.{changed, matrix, at_more}
@@ -149,7 +149,7 @@ pub noted_owned : (world : World) (place : ℕ) (view : WriterView) → IsOwned 
     → ((i : ℕ) (ask : Ask) → At (writer world place).asked i ask → At view.asked i ask)
     → ((i : ℕ) (ask : Ask) → At view.asked i ask → At (writer world place).asked i ask ⊎ Won world ask.chunk)
     → ((about : ℕ) (found : Found) → IsThere (writer world place) about found → IsThere view about found)
-    → IsOwned (noted world place view)
+    → IsOwned (with_writer_view world place view)
 noted_owned world place view o inside row counts grows back still =
     record {
       owns = λ u chunk. changed (λ v. Owns (taken_of world.service u).count u v chunk (status world chunk)) world.writers place u view newcomer inside
@@ -161,14 +161,14 @@ noted_owned world place view o inside row counts grows back still =
       reads = o.reads;
       claimed_won = λ chunk claimed. stays chunk (o.claimed_won chunk claimed);
       asked_won = λ u i ask.
-          changed (λ (v : WriterView). At v.asked i ask → Won (noted world place view) ask.chunk) world.writers place u view newcomer inside
+          changed (λ (v : WriterView). At v.asked i ask → Won (with_writer_view world place view) ask.chunk) world.writers place u view newcomer inside
           (λ _ at. ⊎_elim (λ old. stays ask.chunk (o.asked_won place i ask old)) (λ won. stays ask.chunk won) (back i ask at))
           (λ _ at. stays ask.chunk (o.asked_won u i ask at));
       looks = looks_stay world place view o inside still;
       all_taken = o.all_taken ∙ sym (length-set world.writers place view);
     }
   where
-    stays : (chunk : ℕ) → Won world chunk → Won (noted world place view) chunk
+    stays : (chunk : ℕ) → Won world chunk → Won (with_writer_view world place view) chunk
     stays chunk won = won_stays world place chunk chunk view Unclaimed inside grows won
 
 -- the step of the service

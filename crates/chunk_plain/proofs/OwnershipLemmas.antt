@@ -3,7 +3,7 @@ use Rattle.std.proofs.Common.{◌≡◌, ℕ, ◌<◌, ◌≤◌, ◌⊎◌, inl
 use Rattle.page_geometry.specs.PageBits.{HasState}
 use Rattle.chunk_plain.specs.Setup.{Setup, spot}
 use Rattle.chunk_plain.specs.Payload.{byte_at}
-use Rattle.chunk_plain.specs.Views.{At, Begun, Held, Completed, Found, taken_of}
+use Rattle.chunk_plain.specs.Views.{At, BegunChunk, Held, Completed, Found, taken_of}
 use Rattle.chunk_plain.specs.World.{World, Unclaimed, Claimed, Stamped, Writing, Ready, Reading, status, writer}
 use Rattle.chunk_plain.specs.Owned.{times, claims_of, reads_of, IsOwned}
 use Rattle.chunk_plain.specs.Drafts.{StillHas, head_of}
@@ -52,7 +52,7 @@ stamped_one setup world chunk header place id owned shows is =
 -- what was found of a chunk whose id isn't taken, by its entry among the begun ones
 pub as_found : (setup : Setup) (words : List ℕ) (slots : List Stored) (world : World) (chunk : ℕ) (found : Found) → IsKept setup words slots world
     → (taken_of world.service found.place).count ≤ found.id
-    → (entry : Begun) → At (writer world found.place).begun found.id entry → StillHas chunk found entry
+    → (entry : BegunChunk) → At (writer world found.place).begun found.id entry → StillHas chunk found entry
     → IsAsFound setup world chunk (page_word setup words chunk) (header_word setup words chunk) (stored_at slots chunk) found
 as_found setup words slots world chunk found kept untaken (Held other draft) at has =
     let is : status world chunk ≡ Writing found.place found.id draft = (kept.owned.owns found.place chunk).held_is found.id draft (subst (λ c. At (writer world found.place).begun found.id (Held c draft)) has.0 at) in
@@ -82,7 +82,7 @@ as_found setup words slots world chunk found kept untaken (Completed other conte
 -- its finished fragments lie inside the payload
 pub found_inside : (setup : Setup) (words : List ℕ) (slots : List Stored) (world : World) (chunk : ℕ) (found : Found) → IsKept setup words slots world
     → (taken_of world.service found.place).count ≤ found.id
-    → (entry : Begun) → At (writer world found.place).begun found.id entry → StillHas chunk found entry → length found.sealed ≤ (spot setup chunk).payload_size
+    → (entry : BegunChunk) → At (writer world found.place).begun found.id entry → StillHas chunk found entry → length found.sealed ≤ (spot setup chunk).payload_size
 found_inside setup words slots world chunk found kept untaken (Held other draft) at has =
     let is : status world chunk ≡ Writing found.place found.id draft = (kept.owned.owns found.place chunk).held_is found.id draft (subst (λ c. At (writer world found.place).begun found.id (Held c draft)) has.0 at) in
     let inside : chunk < length setup.spots = is_chunk setup world chunk kept.shown.chunk_count (λ free. absurd cc) in

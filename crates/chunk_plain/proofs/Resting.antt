@@ -6,7 +6,7 @@ use mathlib.Core.Logic.{dite}
 use Rattle.atomic_table.proofs.Lists.{at_set}
 use Rattle.trace_model.specs.Calls.{Call}
 use Rattle.chunk_plain.specs.Setup.{Setup, producer_of, IsChunkOf}
-use Rattle.chunk_plain.specs.Views.{Ask, Draft, fresh, Content, Begun, Held, WriterView, ServiceView, Taken, none_taken, taken_of, newcomer}
+use Rattle.chunk_plain.specs.Views.{Ask, Draft, fresh, Content, BegunChunk, Held, WriterView, ServiceView, Taken, none_taken, taken_of, newcomer}
 use Rattle.chunk_plain.specs.World.{World, Stamped, Writing, writer}
 use Rattle.chunk_plain.specs.Steps.{claims, stamps, begins, redrafts, notes_call, takes_in, learns, moved}
 use Rattle.chunk_plain.specs.Owned.{times}
@@ -70,19 +70,19 @@ module _ (setup : Setup) (place : ℕ) (view : WriterView) (rests : IsAtRest set
         (λ differs. let fewer = times-without_other other chunk view.claimed differs in omega arith));
     begun = λ id entry at. ⊎_elim
         (λ old. rests.begun id entry old)
-        (λ new. subst (λ (e : Begun). IsChunkOf setup (producer_of setup place) (chunk_of e)) new.1 (rests.claimed chunk mine))
+        (λ new. subst (λ (e : BegunChunk). IsChunkOf setup (producer_of setup place) (chunk_of e)) new.1 (rests.claimed chunk mine))
         (at_more view.begun (Held chunk (fresh words)) entry id at);
   }
 
   -- another entry for a held chunk
-  pub entry_rest : (chunk id : ℕ) (entry : Begun) → IsHolding view chunk id → chunk_of entry ≡ chunk → IsAtRest setup place (record view { begun = set view.begun id entry })
+  pub entry_rest : (chunk id : ℕ) (entry : BegunChunk) → IsHolding view chunk id → chunk_of entry ≡ chunk → IsAtRest setup place (record view { begun = set view.begun id entry })
   entry_rest chunk id entry holding same = record {
     inside = rests.inside;
     stamped = rests.stamped;
     asked = rests.asked;
     claimed = rests.claimed;
     begun = λ i other at. ⊎_elim
-        (λ new. subst (λ (e : Begun). IsChunkOf setup (producer_of setup place) (chunk_of e)) new.1 (subst (IsChunkOf setup (producer_of setup place)) (sym same) (rests.begun id (Held chunk (draft_at view id)) holding)))
+        (λ new. subst (λ (e : BegunChunk). IsChunkOf setup (producer_of setup place) (chunk_of e)) new.1 (subst (IsChunkOf setup (producer_of setup place)) (sym same) (rests.begun id (Held chunk (draft_at view id)) holding)))
         (λ old. rests.begun i other old.1)
         (at_set view.begun id i entry other at);
   }

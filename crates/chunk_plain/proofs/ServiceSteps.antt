@@ -2,14 +2,14 @@
 use Rattle.std.proofs.Common.{◌≡◌, ℕ, ◌+◌, ◌<◌, ◌≤◌, [], ◌∷◌, ◌++◌, length, subst, sym, refl, ap, ◌∙◌, arith, ⊎_elim, length-set, length-append}
 use native.Mathlib.Decide.{ℕ_discrete}
 use mathlib.Core.Logic.{dite}
-use Rattle.chunk_plain.specs.Views.{At, Content, Begun, Held, Completed, WriterView, Taken, none_taken, taken_of}
+use Rattle.chunk_plain.specs.Views.{At, Content, BegunChunk, Held, Completed, WriterView, Taken, none_taken, taken_of}
 use Rattle.chunk_plain.specs.World.{World, Status, Unclaimed, Ready, Reading, status, writer}
 use Rattle.chunk_plain.specs.Steps.{takes_in, learns, lets_go, served, serviced, without}
 use Rattle.chunk_plain.specs.Owned.{times, claims_of, reads_of, Owns, Counts, IsOwned}
 use Rattle.chunk_plain.proofs.Lists.{changed, matrix, times-here, times-other, times-without_same, times-without_other, at_more, at_one}
 use Rattle.chunk_plain.proofs.Owned.{Foreign, foreign_stays, service_step}
 
-abbrev completed_chunk : Begun → ℕ
+abbrev completed_chunk : BegunChunk → ℕ
 completed_chunk (Held chunk head) = chunk
 completed_chunk (Completed chunk content) = chunk
 

@@ -3,9 +3,9 @@ use Rattle.std.proofs.Common.{◌≡◌, ℕ, ◌+◌, ◌<◌, inl, inr, Bool, 
 use Rattle.std.proofs.lemmas.List.{get_or-set_same}
 use Rattle.atomic_table.proofs.Lists.{at_longer, at_last}
 use Rattle.trace_model.specs.Calls.{Call}
-use Rattle.chunk_plain.specs.Views.{At, Ask, fresh, Begun, Held, Completed, Stamp, WriterView, newcomer}
+use Rattle.chunk_plain.specs.Views.{At, Ask, fresh, BegunChunk, Held, Completed, Stamp, WriterView, newcomer}
 use Rattle.chunk_plain.specs.World.{World, Status, Unclaimed, Claimed, Stamped, Writing, status, writer}
-use Rattle.chunk_plain.specs.Steps.{claims, stamps, begins, notes_call, moved, noted}
+use Rattle.chunk_plain.specs.Steps.{claims, stamps, begins, notes_call, moved, with_writer_view}
 use Rattle.chunk_plain.specs.Drafts.{IsDraft}
 use Rattle.chunk_plain.specs.Owned.{times, claims_of, reads_of, stamps_in, wins_in, Won, IsOwned}
 use Rattle.chunk_plain.proofs.Lists.{times-here, times-other, times-without_same, times-without_other, length-without, at_more}
@@ -77,7 +77,7 @@ claims_owned world place chunk found o inside_w inside_c free =
 
 -- a claim finds the chunk claimed
 pub misses_owned : (world : World) (place chunk found : ℕ) → IsOwned world → place < length world.writers → (status world chunk ≡ Unclaimed → ⊥)
-    → IsOwned (noted world place (claims (writer world place) chunk found false))
+    → IsOwned (with_writer_view world place (claims (writer world place) chunk found false))
 misses_owned world place chunk found o inside taken =
     let v = writer world place in let q = o.counts place in
     let ask : Ask = record { chunk = chunk; found = found; won = false; calls = length v.calls } in
@@ -89,7 +89,7 @@ misses_owned world place chunk found o inside taken =
     (λ about found there. record { entry = there.entry; at = there.at; has = there.has })
 
 -- a call is noted
-pub notes_call_owned : (world : World) (place : ℕ) (call : Call) → IsOwned world → place < length world.writers → IsOwned (noted world place (notes_call (writer world place) call))
+pub notes_call_owned : (world : World) (place : ℕ) (call : Call) → IsOwned world → place < length world.writers → IsOwned (with_writer_view world place (notes_call (writer world place) call))
 notes_call_owned world place call o inside =
     let q = o.counts place in
     noted_owned world place (notes_call (writer world place) call) o inside
@@ -162,7 +162,7 @@ begins_owned world place chunk words o inside_w inside_c stamped =
           (λ old. let before = w.held_is id head old in absurd cc)
           (λ new. let same = new.0 in let entry = new.1 in cc)
           (at_more v.begun (Held chunk (fresh words)) (Held chunk head) id e);
-      writing_is = λ id head e. let same : n ≡ id = cc in let entry : Held chunk (fresh words) ≡ Held chunk head = cc in subst (λ (b : Begun). At (v.begun ++ Held chunk (fresh words) ∷ []) id b) entry (at_last v.begun (Held chunk (fresh words)) id same);
+      writing_is = λ id head e. let same : n ≡ id = cc in let entry : Held chunk (fresh words) ≡ Held chunk head = cc in subst (λ (b : BegunChunk). At (v.begun ++ Held chunk (fresh words) ∷ []) id b) entry (at_last v.begun (Held chunk (fresh words)) id same);
       completed_is = λ id content e above. ⊎_elim
           (λ old. let before = w.completed_is id content old above in absurd cc)
           (λ new. let entry = new.1 in absurd cc)

@@ -1,7 +1,7 @@
 -- What a chunk that is written has finished, and how that stays: while it is written, once it is complete, and where the service has found it.
 use Rattle.std.specs.Prelude.{◌≡◌, ◌≢◌, ℕ, ◌-◌, ◌%◌, ◌<◌, ◌≤◌, List, length, slice_index_or}
 use Rattle.chunk_plain.specs.Payload.{byte_at, byte_in, sealed_to, HasFragments, ends_from}
-use Rattle.chunk_plain.specs.Views.{At, Head, Draft, no_draft, Content, Begun, Held, Completed, WriterView, Found}
+use Rattle.chunk_plain.specs.Views.{At, Head, Draft, no_draft, Content, BegunChunk, Held, Completed, WriterView, Found}
 
 -- A header may be stored over another where the count doesn't fall, and, once it isn't 0, flag 1 stays.
 pub record MayFollow (old new : Head) : Type 0 where
@@ -38,7 +38,7 @@ BeginsAs byte found = (j : ℕ) → j < length found.sealed → byte j ≡ byte_
 
 -- What was found of a chunk that was begun is there still: the header may follow the one that was found, so its count is at least that one and flag 1
 -- is as it was, and the finished fragments have the same bytes.
-abbrev pub StillHas : ℕ → Found → Begun → Type 0
+abbrev pub StillHas : ℕ → Found → BegunChunk → Type 0
 StillHas about found (Held chunk draft) =
     (chunk ≡ about) × MayFollow found.head draft.head × (length found.sealed ≤ sealed_to draft.ends) × BeginsAs (byte_at draft.words) found
 StillHas about found (Completed chunk content) =
@@ -47,13 +47,13 @@ StillHas about found (Completed chunk content) =
 
 -- the writer has begun the chunk under the id that was found, and has it still as it was found
 pub record IsThere (view : WriterView) (chunk : ℕ) (found : Found) : Type 0 where
-  pub entry : Begun
+  pub entry : BegunChunk
   pub at : At view.begun found.id entry
   pub has : StillHas chunk found entry
 
 -- What a writer holds
 
-abbrev pub draft_in : Begun → Draft
+abbrev pub draft_in : BegunChunk → Draft
 draft_in (Held chunk draft) = draft
 draft_in (Completed chunk content) = no_draft
 

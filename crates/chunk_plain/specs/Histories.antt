@@ -5,16 +5,16 @@ use Rattle.trace_base.specs.declared.limits.TheConstants.{FIRST_SEQUENCE}
 use Rattle.trace_model.specs.Images.{Image, Chunk, Patch, whole_chunk}
 use Rattle.trace_model.specs.Reading.{Reading, Fragments, Unreadable, reading_of}
 use Rattle.trace_model.specs.History as model
-use Rattle.chunk_plain.specs.Views.{Content, Begun, Held, Completed, Found, Look, Noted, Arrive, Partial, Patched, Closed, Read, Commit, Committed, ServiceView, taken_of}
+use Rattle.chunk_plain.specs.Views.{Content, BegunChunk, Held, Completed, Found, Look, Noted, Arrive, Partial, Patched, Closed, Read, Commit, Committed, ServiceView, taken_of}
 
 -- what a writer completed
-abbrev pub completed_images : List Begun → List Image
+abbrev pub completed_images : List BegunChunk → List Image
 completed_images [] = []
 completed_images (Held chunk draft ∷ begun) = completed_images begun
 completed_images (Completed chunk content ∷ begun) = content.image ∷ completed_images begun
 
 -- the patches that came with each of these
-abbrev pub completed_patches : List Begun → List (List Patch)
+abbrev pub completed_patches : List BegunChunk → List (List Patch)
 completed_patches [] = []
 completed_patches (Held chunk draft ∷ begun) = completed_patches begun
 completed_patches (Completed chunk content ∷ begun) = content.patches ∷ completed_patches begun

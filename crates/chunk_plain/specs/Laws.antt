@@ -7,7 +7,7 @@ use Rattle.chunk_plain.specs.Setup.{Setup, sequence_of}
 use Rattle.chunk_plain.specs.Payload.{byte_of, byte_at, byte_in, sealed_to, HasFragments, ends_from}
 use Rattle.chunk_plain.specs.Views.{At, Head, Draft, fresh, Content, Held, Completed, Found, ServiceView, taken_of}
 use Rattle.chunk_plain.specs.World.{World, Unclaimed, Claimed, Stamped, Writing, Ready, Reading, status, writer}
-use Rattle.chunk_plain.specs.Steps.{claims, stamps, begins, redrafts, with_head, with_word, completes, notes_call, looks_at, takes_in, learns, lets_go, moved, served, noted, serviced}
+use Rattle.chunk_plain.specs.Steps.{claims, stamps, begins, redrafts, with_head, with_word, completes, notes_call, looks_at, takes_in, learns, lets_go, moved, served, with_writer_view, serviced}
 use Rattle.chunk_plain.specs.Owned.{times, IsOwned}
 use Rattle.chunk_plain.specs.Drafts.{MayFollow, IsDraft, IsFound, IsThere, head_of}
 use Rattle.chunk_plain.specs.Stored.{Stored}
@@ -17,7 +17,7 @@ use Rattle.chunk_plain.specs.Ownership.{Ownership}
 -- each step of a writer keeps the world owned
 pub record WriterStepsKeep (world : World) (place chunk : ℕ) : Type 0 where
   pub wins : (found : ℕ) → status world chunk ≡ Unclaimed → IsOwned (moved world place (claims (writer world place) chunk found true) chunk (Claimed place))
-  pub misses : (found : ℕ) → (status world chunk ≡ Unclaimed → ⊥) → IsOwned (noted world place (claims (writer world place) chunk found false))
+  pub misses : (found : ℕ) → (status world chunk ≡ Unclaimed → ⊥) → IsOwned (with_writer_view world place (claims (writer world place) chunk found false))
   pub stamps_it : 0 < times chunk (writer world place).claimed → (writer world place).stamped ≡ None
       → IsOwned (moved world place (stamps (writer world place) chunk) chunk (Stamped place (length (writer world place).begun)))
   pub begins_it : (words : List ℕ) → (writer world place).stamped ≡ Some (record { chunk = chunk; id = length (writer world place).begun })
@@ -36,7 +36,7 @@ pub record WriterStepsKeep (world : World) (place chunk : ℕ) : Type 0 where
       → sealed_to draft.ends ≤ length content.image.payload
       → ((j : ℕ) → j < sealed_to draft.ends → byte_at draft.words j ≡ byte_in content.image.payload j)
       → IsOwned (moved world place (completes (writer world place) chunk id content) chunk (Ready place id content))
-  pub notes_it : (call : Call) → IsOwned (noted world place (notes_call (writer world place) call))
+  pub notes_it : (call : Call) → IsOwned (with_writer_view world place (notes_call (writer world place) call))
 
 -- and so does each step of the service
 pub record ServiceStepsKeep (world : World) (place chunk : ℕ) : Type 0 where

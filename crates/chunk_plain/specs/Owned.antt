@@ -2,7 +2,7 @@
 -- chunk. Since each status names one writer and one id, that exactly one seat has a chunk is then true by the form.
 use Rattle.std.specs.Prelude.{◌≡◌, ℕ, ◌+◌, ◌<◌, ◌≤◌, ◌==◌, true, Option, Some, None, List, [], ◌∷◌, length, if◌then◌else◌}
 use Rattle.chunk_plain.specs.Setup.{sequence_of}
-use Rattle.chunk_plain.specs.Views.{At, Ask, Draft, Content, Begun, Held, Completed, Stamp, WriterView, Taken, Look, Found, taken_of}
+use Rattle.chunk_plain.specs.Views.{At, Ask, Draft, Content, BegunChunk, Held, Completed, Stamp, WriterView, Taken, Look, Found, taken_of}
 use Rattle.chunk_plain.specs.World.{World, Status, Unclaimed, Claimed, Stamped, Writing, Ready, Reading, status, writer}
 use Rattle.chunk_plain.specs.Drafts.{IsDraft, HasFinished, IsFound, IsThere}
 
@@ -42,7 +42,7 @@ stamps_in None = 0
 stamps_in (Some _) = 1
 
 -- how many chunks a writer holds
-abbrev pub held_count : List Begun → ℕ
+abbrev pub held_count : List BegunChunk → ℕ
 held_count [] = 0
 held_count (Held chunk draft ∷ begun) = held_count begun + 1
 held_count (Completed chunk content ∷ begun) = held_count begun

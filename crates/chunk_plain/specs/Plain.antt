@@ -8,7 +8,7 @@ use Rattle.chunk_plain.specs.Setup.{Setup}
 use Rattle.chunk_plain.specs.Payload.{byte_at, first_bytes, sealed_to}
 use Rattle.chunk_plain.specs.Views.{Head, Content, Found, WriterView, newcomer, newcomer_service, none_taken, taken_of}
 use Rattle.chunk_plain.specs.World.{World, Status, Unclaimed, Claimed, Stamped, Writing, Ready, Reading, status, writer}
-use Rattle.chunk_plain.specs.Steps.{claims, stamps, begins, redrafts, with_head, with_words, completes, notes_call, looks_at, takes_in, learns, lets_go, notes, notes_commit, moved, served, noted, serviced}
+use Rattle.chunk_plain.specs.Steps.{claims, stamps, begins, redrafts, with_head, with_words, completes, notes_call, looks_at, takes_in, learns, lets_go, notes, notes_commit, moved, served, with_writer_view, serviced}
 use Rattle.chunk_plain.specs.Owned.{IsOwned}
 use Rattle.chunk_plain.specs.Drafts.{draft_at, head_at, ends_by}
 use Rattle.chunk_plain.specs.Stored.{Stored}
@@ -44,7 +44,7 @@ read_as other = other
 abbrev pub world_after : World → Step → World
 world_after world (Claim place chunk found true) =
     moved world place (claims (writer world place) chunk found true) chunk (Claimed place)
-world_after world (Claim place chunk found false) = noted world place (claims (writer world place) chunk found false)
+world_after world (Claim place chunk found false) = with_writer_view world place (claims (writer world place) chunk found false)
 world_after world (Stamp place chunk) =
     moved world place (stamps (writer world place) chunk) chunk (Stamped place (length (writer world place).begun))
 world_after world (Begin place chunk words) =
@@ -66,7 +66,7 @@ world_after world (Learn place header body) =
     let content = content_of place header.chunk_id (record { count = header.count; flags = header.flags }) body.now in
     serviced world (learns world.service place content)
 world_after world (Release chunk) = served world (lets_go world.service chunk) chunk Unclaimed
-world_after world (Call place call) = noted world place (notes_call (writer world place) (call_of call))
+world_after world (Call place call) = with_writer_view world place (notes_call (writer world place) (call_of call))
 world_after world (Event event) = serviced world (notes world.service (event_of event))
 world_after world (Commit header payload patches) =
     serviced world (notes_commit world.service (committed_of header payload.now patches.now))

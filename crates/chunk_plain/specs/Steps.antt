@@ -111,8 +111,8 @@ served world service chunk to =
     record world { chunks = slice_set world.chunks chunk to; service = service }
 
 -- one writer's view changes alone
-abbrev pub noted : World → ℕ → WriterView → World
-noted world place view = record world { writers = slice_set world.writers place view }
+abbrev pub with_writer_view : World → ℕ → WriterView → World
+with_writer_view world place view = record world { writers = slice_set world.writers place view }
 
 -- the service's view changes alone
 abbrev pub serviced : World → ServiceView → World

@@ -53,9 +53,9 @@ pub record Content : Type 0 where
   pub target : ℕ
 
 -- what became of a chunk that a writer began: the writer holds it, and this stands in it; or has completed it
-pub data Begun : Type 0 where
-  Held : (chunk : ℕ) → Draft → Begun
-  Completed : (chunk : ℕ) → Content → Begun
+pub data BegunChunk : Type 0 where
+  Held : (chunk : ℕ) → Draft → BegunChunk
+  Completed : (chunk : ℕ) → Content → BegunChunk
 
 -- a claimed chunk whose header is stored with this id, and which isn't begun yet
 pub record Stamp : Type 0 where
@@ -70,7 +70,7 @@ pub record WriterView : Type 0 where
   pub claimed : List ℕ
   pub stamped : Option Stamp
   -- the chunks that it began; the id of each is its place here
-  pub begun : List Begun
+  pub begun : List BegunChunk
   -- the calls that it noted
   pub calls : List Call
 

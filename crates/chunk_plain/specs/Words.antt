@@ -20,7 +20,7 @@ use Rattle.chunk_plain.specs.declared.tokens.Taken.{Taken as TakenToken}
 use Rattle.chunk_plain.specs.declared.tokens.NotComplete.{NotComplete}
 use Rattle.chunk_plain.specs.Setup.{Setup, spot, producer_of, IsChunkOf, id_at}
 use Rattle.chunk_plain.specs.Payload.{byte_at, byte_in, sealed_to}
-use Rattle.chunk_plain.specs.Views.{At, Ask, Content, Begun, Held, Completed, WriterView, Found, Look, ServiceView, taken_of, Noted, Arrive, Partial, Patched, Closed, Read, Committed}
+use Rattle.chunk_plain.specs.Views.{At, Ask, Content, BegunChunk, Held, Completed, WriterView, Found, Look, ServiceView, taken_of, Noted, Arrive, Partial, Patched, Closed, Read, Committed}
 use Rattle.chunk_plain.specs.Steps.{claims, stamps, begins, redrafts, looks_at, takes_in, learns}
 use Rattle.chunk_plain.specs.Owned.{times}
 use Rattle.chunk_plain.specs.Drafts.{MayFollow, IsFound, StillHas, head_of, draft_at, head_at, published}
@@ -28,7 +28,7 @@ use Rattle.chunk_plain.specs.Shows.{content_of}
 
 -- Between two calls
 
-abbrev pub chunk_of : Begun → ℕ
+abbrev pub chunk_of : BegunChunk → ℕ
 chunk_of (Held chunk draft) = chunk
 chunk_of (Completed chunk content) = chunk
 
@@ -38,7 +38,7 @@ pub record IsAtRest (setup : Setup) (place : ℕ) (view : WriterView) : Type 0 w
   pub stamped : view.stamped ≡ None
   pub asked : (i : ℕ) (ask : Ask) → At view.asked i ask → IsChunkOf setup (producer_of setup place) ask.chunk
   pub claimed : (chunk : ℕ) → 0 < times chunk view.claimed → IsChunkOf setup (producer_of setup place) chunk
-  pub begun : (id : ℕ) (entry : Begun) → At view.begun id entry → IsChunkOf setup (producer_of setup place) (chunk_of entry)
+  pub begun : (id : ℕ) (entry : BegunChunk) → At view.begun id entry → IsChunkOf setup (producer_of setup place) (chunk_of entry)
 
 -- the service's seat: its view has the content of each chunk that it took
 pub record IsServing (setup : Setup) (view : ServiceView) : Type 0 where
@@ -54,7 +54,7 @@ LearntAsFound view = (n : ℕ) (look : Look) (found : Found) (content : Content)
 
 -- what two looks found of a chunk is there still, in one begun chunk of its writer
 pub record HasBoth (about : ℕ) (found : Found) (next : ℕ) (other : Found) : Type 0 where
-  pub entry : Begun
+  pub entry : BegunChunk
   pub found_is : IsFound found
   pub has : StillHas about found entry
   pub other_is : IsFound other

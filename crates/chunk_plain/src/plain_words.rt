@@ -5,7 +5,7 @@ ghost use Rattle.std.proofs.Math.Logic.{∥∥₁_map, ∥∥₁_elim};
 ghost use Rattle.std.proofs.Math.Nat.{ℕ_set};
 ghost use Rattle.std.specs.Coded.{le_prop};
 ghost use mathlib.Core.Option.{some-injective};
-ghost use Rattle.chunk_plain.specs.Views.{At, Begun, Completed};
+ghost use Rattle.chunk_plain.specs.Views.{At, BegunChunk, Completed};
 ghost use Rattle.chunk_plain.specs.Drafts.{StillHas};
 ghost use Rattle.chunk_plain.specs.Plain.{IsKept};
 ghost use Rattle.chunk_plain.specs.World.{World, writer, nowhere};
@@ -72,7 +72,7 @@ impl Words for PlainTable {
           found_is = here.0;
           has = here.1.has;
           other_is = there.0;
-          had = subst (λ (e : Begun). StillHas later.chunk other e) (sym same) there.1.has;
+          had = subst (λ (e : BegunChunk). StillHas later.chunk other e) (sym same) there.1.has;
         } in
         ∥∥₁_map table.kept both };
 

@@ -8,7 +8,7 @@ ghost use Rattle.chunk_plain.specs.Setup.{spot, producer_of, IsChunkOf, IsLaid, 
 ghost use Rattle.chunk_plain.specs.Payload.{sealed_to, HasFragments};
 ghost use Rattle.chunk_plain.specs.Views.{Content, taken_of};
 ghost use Rattle.chunk_plain.specs.World.{World, Unclaimed, Claimed as ClaimedBy, Writing, Ready, Reading, status, writer};
-ghost use Rattle.chunk_plain.specs.Steps.{redrafts, with_head, completes, notes_call, lets_go, notes, notes_commit, moved, served, noted, serviced};
+ghost use Rattle.chunk_plain.specs.Steps.{redrafts, with_head, completes, notes_call, lets_go, notes, notes_commit, moved, served, with_writer_view, serviced};
 ghost use Rattle.chunk_plain.specs.Owned.{times, held_count, IsOwned};
 ghost use Rattle.chunk_plain.specs.Drafts.{MayFollow, draft_at, head_at, published, ends_by, IsHolding};
 ghost use Rattle.chunk_plain.specs.Shows.{ShowsPage, ShowsHeader, ShowsPayload};
@@ -44,7 +44,7 @@ pub trait Words {
             × (means.told self.new ≡ Some (moved world (means.place seat.old) (means.view self.new seat.new) chunk
             (ClaimedBy (means.place seat.old))))) }
         ensures told_lost { IfNone result ((world : World) → means.told self.old ≡ Some world → (status world chunk ≡ Unclaimed → ⊥)
-            × (means.told self.new ≡ Some (noted world (means.place seat.old) (means.view self.new seat.new)))) };
+            × (means.told self.new ≡ Some (with_writer_view world (means.place seat.old) (means.view self.new seat.new)))) };
 
     /// The header of the chunk is stored with count 0, and then its state is set. The patches that
     /// the body brought before are dropped; what its payload holds is left over from other chunks.
@@ -187,7 +187,7 @@ pub trait Words {
         ensures view { means.view self.new seat.new ≡ notes_call (means.view self.old seat.old) (call_of call.entry) }
         ensures step { IsWriterStep means self.old seat.old self.new seat.new }
         ensures told { (world : World) → means.told self.old ≡ Some world
-            → means.told self.new ≡ Some (noted world (means.place seat.old) (means.view self.new seat.new)) };
+            → means.told self.new ≡ Some (with_writer_view world (means.place seat.old) (means.view self.new seat.new)) };
 
     fn note(&mut self, seat: &mut Self::Service, event: ServiceEvent)
         requires seat { means.serves self.old seat.old }

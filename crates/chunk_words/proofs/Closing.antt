@@ -11,7 +11,7 @@ use Rattle.commit_body.specs.declared.body.CommitBody.{CommitBody}
 use Rattle.page_geometry.specs.declared.chunk_state.ChunkState.TheVariants.{Free}
 use Rattle.page_geometry.specs.PageBits.{HasState}
 use Rattle.chunk_plain.specs.Setup.{Setup, spot}
-use Rattle.chunk_plain.specs.Views.{At, Draft, Begun, Held, Completed, WriterView, ServiceView, newcomer, taken_of}
+use Rattle.chunk_plain.specs.Views.{At, Draft, BegunChunk, Held, Completed, WriterView, ServiceView, newcomer, taken_of}
 use Rattle.chunk_plain.specs.World.{World, Status, Unclaimed, Claimed, Stamped, Writing, Ready, Reading, status, writer}
 use Rattle.chunk_plain.specs.Owned.{times, claims_of, reads_of, held_count, IsOwned}
 use Rattle.chunk_plain.specs.Shows.{ShowsPage, page_word}
@@ -105,7 +105,7 @@ joins_shared setup id k made other desk watch v w count s r at apart there =
 -- ---- what is left
 
 -- a writer who holds nothing has no chunk as held
-none_held : (begun : List Begun) (i chunk : ℕ) (draft : Draft) → held_count begun ≡ 0 → At begun i (Held chunk draft) → ⊥
+none_held : (begun : List BegunChunk) (i chunk : ℕ) (draft : Draft) → held_count begun ≡ 0 → At begun i (Held chunk draft) → ⊥
 none_held [] i chunk draft none at = absurd (some-ne-none _ (sym at))
 none_held (Held c d ∷ begun) i chunk draft none at = absurd (omega arith)
 none_held (Completed c m ∷ begun) zero chunk draft none at = absurd (let same : Completed c m ≡ Held chunk draft = some-injective _ _ at in cc)

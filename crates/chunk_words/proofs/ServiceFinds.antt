@@ -22,7 +22,7 @@ use Rattle.chunk_plain.proofs.Sealing.{reads_same, length-first_bytes, first_byt
 use Rattle.chunk_plain.proofs.OwnershipLemmas.{as_found, found_inside}
 use Rattle.chunk_plain.proofs.KeptService.{held_untaken, finished, header_reads, reading_of}
 use Rattle.chunk_words.specs.Knows.{Watch, Nothing, Started, Full, Lifted}
-use Rattle.chunk_words.specs.Rule.{IsStarted, IsFull, IsWatched}
+use Rattle.chunk_words.specs.Rule.{IsStarted, IsCompleteChunk, IsWatched}
 use Rattle.chunk_words.specs.Moves.{watch_for, Tells}
 
 -- ---- what a page word says
@@ -38,7 +38,7 @@ watch_true setup world chunk low high (Stamped k i) was l h = subst (λ n. IsWat
 watch_true setup world chunk low high (Writing k i d) was l h =
     subst (λ n. IsWatched setup world (watch_by chunk n high)) (sym l) (subst (λ n. IsWatched setup world (watch_by chunk 1 n)) (sym h) (subst IsStarted (sym was) tt))
 watch_true setup world chunk low high (Ready k i m) was l h =
-    subst (λ n. IsWatched setup world (watch_by chunk n high)) (sym l) (subst (λ n. IsWatched setup world (watch_by chunk 1 n)) (sym h) (subst IsFull (sym was) tt))
+    subst (λ n. IsWatched setup world (watch_by chunk n high)) (sym l) (subst (λ n. IsWatched setup world (watch_by chunk 1 n)) (sym h) (subst IsCompleteChunk (sym was) tt))
 watch_true setup world chunk low high (Reading k i m) was l h = subst (λ n. IsWatched setup world (watch_by chunk n high)) (sym l) tt
 
 pub watch_holds : (setup : Setup) (world : World) (chunk word place : ℕ) → HasState word place (state_of (status world chunk)) → IsWatched setup world (watch_for chunk word place)

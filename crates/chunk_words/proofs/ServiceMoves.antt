@@ -20,7 +20,7 @@ use Rattle.chunk_plain.proofs.Owned.{looks_owned}
 use Rattle.chunk_plain.proofs.KeptService.{serviced_shown, header_reads, take_kept}
 use Rattle.chunk_words.specs.Knows.{Watch, Tale, Desk, Nothing, Full, Known, Lifted, Service, hand_with}
 use Rattle.chunk_words.specs.Places.{payload_start, payload_words}
-use Rattle.chunk_words.specs.Rule.{Roll, IsIn, IsOf, IsRead, IsFull, IsWatched, HasHeader, IsMade, IsTrue, IsManned, IsShared}
+use Rattle.chunk_words.specs.Rule.{Roll, IsIn, IsOf, IsRead, IsCompleteChunk, IsWatched, HasHeader, IsMade, IsTrue, IsManned, IsShared}
 use Rattle.chunk_words.specs.GoesOn.{GoesOn}
 use Rattle.chunk_words.specs.Told.{ShowsTold, TellsComplete}
 use Rattle.chunk_words.proofs.Telling.{told_ready, packed_back, look_shows}
@@ -158,7 +158,7 @@ module _ (setup : Setup) (count id made : ℕ) (desk : Desk) where
         refl,
       )
     where
-      full_header : (header : ℕ) (is : Status) → IsFull is → ShowsHeader setup header is → HasHeader setup header is
+      full_header : (header : ℕ) (is : Status) → IsCompleteChunk is → ShowsHeader setup header is → HasHeader setup header is
       full_header header (Ready place id_ content) full shows = shows
       full_header header Unclaimed full shows = absurd full
       full_header header (Rattle.chunk_plain.specs.World.Claimed k) full shows = absurd full

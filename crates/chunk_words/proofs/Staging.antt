@@ -5,7 +5,7 @@ use mathlib.Core.Option.{some-injective}
 use Rattle.atomic_table.specs.Table.{Allows, Splits, Joins, keeps}
 use Rattle.atomic_table.proofs.Lists.{at_set, at_longer, set_here, set_else}
 use Rattle.chunk_plain.specs.Setup.{Setup}
-use Rattle.chunk_plain.specs.Views.{At, Begun, WriterView, Noted, ServiceView}
+use Rattle.chunk_plain.specs.Views.{At, BegunChunk, WriterView, Noted, ServiceView}
 use Rattle.chunk_plain.specs.World.{World, writer}
 use Rattle.chunk_plain.specs.Steps.{notes, serviced}
 use Rattle.chunk_plain.proofs.Lists.{at_inside, at_one, at_more}
@@ -294,7 +294,7 @@ tale_cut setup id place hand v s r at =
     subst (λ views. IsShared setup (record { words = s.words; homes = s.homes; views = views ++ Report place v.begun ∷ [] })) (sym (set_at s.views id (Writer place hand v) at))
     (subst (λ (z : WriterView). IsShared setup (record { words = s.words; homes = s.homes; views = s.views ++ Report place z.begun ∷ [] })) (sym f.0) whole)
 
-told_on : (setup : Setup) (world : World) (v : ServiceView) (desk : Desk) (place : ℕ) (begun : List Begun) → v ≡ world.service
+told_on : (setup : Setup) (world : World) (v : ServiceView) (desk : Desk) (place : ℕ) (begun : List BegunChunk) → v ≡ world.service
     → ((i : ℕ) (tale : Tale) → At desk.told i tale → IsTrue setup world tale) → StaysCompleted begun (writer world place).begun
     → (i : ℕ) (tale : Tale) → At (with_tale desk v place begun).told i tale → IsTrue setup world tale
 told_on setup world v desk place begun same true_ stays i tale there = ⊎_elim
@@ -306,7 +306,7 @@ told_on setup world v desk place begun same true_ stays i tale there = ⊎_elim
     (at_more desk.told (record { place = place; looks = length v.looks; begun = begun }) tale i there)
 
 -- the service's seat has a tale more
-retell : (setup : Setup) (world : World) (roll : Roll) (views : List Knows) (seat hand made place : ℕ) (desk : Desk) (watch : Watch) (v : ServiceView) (begun : List Begun)
+retell : (setup : Setup) (world : World) (roll : Roll) (views : List Knows) (seat hand made place : ℕ) (desk : Desk) (watch : Watch) (v : ServiceView) (begun : List BegunChunk)
     → IsManned setup world roll views → At views seat (Service hand made desk watch v) → StaysCompleted begun (writer world place).begun
     → IsManned setup world roll (set views seat (Service hand made (with_tale desk v place begun) watch v))
 retell setup world roll views seat hand made place desk watch v begun manned at stays =
@@ -339,7 +339,7 @@ retell setup world roll views seat hand made place desk watch v begun manned at 
       here = manned.here;
     }
 
-pub tale_heard : (setup : Setup) (id made other place : ℕ) (desk : Desk) (watch : Watch) (v : ServiceView) (begun : List Begun)
+pub tale_heard : (setup : Setup) (id made other place : ℕ) (desk : Desk) (watch : Watch) (v : ServiceView) (begun : List BegunChunk)
     → Joins (IsShared setup) id (Service 0 made desk watch v) other (Report place begun) (Service 0 made (with_tale desk v place begun) watch v) Spent
 tale_heard setup id made other place desk watch v begun s r at apart there =
     let old = Service 0 made desk watch v in let both = Service 0 made (with_tale desk v place begun) watch v in

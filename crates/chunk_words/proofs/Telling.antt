@@ -8,7 +8,7 @@ use Rattle.page_geometry.specs.Header.{packed, unpacked}
 use Rattle.page_geometry.specs.declared.chunk_state.ChunkState.TheVariants.{Complete}
 use Rattle.page_geometry.specs.PageBits.{HasState}
 use Rattle.chunk_plain.specs.Setup.{Setup, spot}
-use Rattle.chunk_plain.specs.Views.{At, Head, Draft, Content, Begun, Held, Completed, Taken, none_taken, Found, Look, taken_of, ServiceView}
+use Rattle.chunk_plain.specs.Views.{At, Head, Draft, Content, BegunChunk, Held, Completed, Taken, none_taken, Found, Look, taken_of, ServiceView}
 use Rattle.chunk_plain.specs.World.{World, Ready, status}
 use Rattle.chunk_plain.specs.Steps.{looks_at, taken_counts}
 use Rattle.chunk_plain.specs.Owned.{IsOwned}
@@ -21,14 +21,14 @@ use Rattle.chunk_words.specs.Rule.{IsTrue}
 
 -- ---- what a writer completed
 
-pub stays_same : (begun : List Begun) → StaysCompleted begun begun
+pub stays_same : (begun : List BegunChunk) → StaysCompleted begun begun
 stays_same begun id chunk content at = at
 
-pub stays_more : (begun more : List Begun) → StaysCompleted begun (begun ++ more)
+pub stays_more : (begun more : List BegunChunk) → StaysCompleted begun (begun ++ more)
 stays_more begun more id chunk content at = at_longer begun more id (Completed chunk content) at
 
 -- what becomes of a held chunk is about no completed one
-pub stays_set : (begun : List Begun) (i about : ℕ) (draft : Draft) (next : Begun) → At begun i (Held about draft) → StaysCompleted begun (set begun i next)
+pub stays_set : (begun : List BegunChunk) (i about : ℕ) (draft : Draft) (next : BegunChunk) → At begun i (Held about draft) → StaysCompleted begun (set begun i next)
 stays_set begun i about draft next held id chunk content at = dite (ℕ_discrete id i)
     (λ same. absurd (let clash = at_one begun (Completed chunk content) (Held about draft) i (subst (λ j. At begun j (Completed chunk content)) same at) held in cc))
     (λ differs. set_else begun i id next differs ∙ at)

@@ -5,12 +5,12 @@ use mathlib.Core.Logic.{dite}
 use Rattle.atomic_table.proofs.Lists.{at_set, set_here, set_else}
 use Rattle.std.proofs.lemmas.List.{get_or-set_same, get_or-set_other}
 use Rattle.chunk_plain.specs.Setup.{Setup}
-use Rattle.chunk_plain.specs.Views.{At, Begun, Completed, WriterView, ServiceView, newcomer}
+use Rattle.chunk_plain.specs.Views.{At, BegunChunk, Completed, WriterView, ServiceView, newcomer}
 use Rattle.chunk_plain.specs.World.{World, Status, Unclaimed, Claimed, Stamped, Writing, Ready, Reading, status, writer}
-use Rattle.chunk_plain.specs.Steps.{moved, noted, served, serviced}
+use Rattle.chunk_plain.specs.Steps.{moved, with_writer_view, served, serviced}
 use Rattle.chunk_plain.proofs.Lists.{changed, at_one, at_inside}
 use Rattle.chunk_words.specs.Knows.{Watch, Desk, Nothing, Started, Full, Known, Lifted, Tale, Knows, Spent, Writer, Service, Pass, Report, hand_with, place_of, put}
-use Rattle.chunk_words.specs.Rule.{Roll, IsOf, IsRead, IsStarted, IsFull, HasHeader, IsWatched, IsMade, IsTrue, Fits, IsManned}
+use Rattle.chunk_words.specs.Rule.{Roll, IsOf, IsRead, IsStarted, IsCompleteChunk, HasHeader, IsWatched, IsMade, IsTrue, Fits, IsManned}
 use Rattle.chunk_words.specs.Told.{StaysCompleted, ShowsTold}
 use Rattle.chunk_words.specs.GoesOn.{GoesOn}
 use Rattle.chunk_words.proofs.Passing.{goes_further}
@@ -19,7 +19,7 @@ use Rattle.chunk_words.proofs.Bodies.{put_same, put_other, with_hand, with_servi
 -- what a step of the writer at this place leaves of a chunk's status
 pub record Still (place : ℕ) (was is : Status) : Type 0 where
   pub started : IsStarted was → IsStarted is
-  pub full : IsFull was → is ≡ was
+  pub full : IsCompleteChunk was → is ≡ was
   pub read : IsRead was → is ≡ was
   pub others : (other : ℕ) → other ≢ place → IsOf other was → IsOf other is
 
@@ -54,14 +54,14 @@ moved_change world place chunk view is inside_w inside_c still follows = record 
 }
 
 pub noted_change : (world : World) (place : ℕ) (view : WriterView) → place < length world.writers → view.begun ≡ (writer world place).begun
-    → IsWriterChange world (noted world place view) place view
+    → IsWriterChange world (with_writer_view world place view) place view
 noted_change world place view inside_w same = record {
   mine = get_or-set_same world.writers place view newcomer inside_w;
   others = λ other differs. get_or-set_other world.writers place other view newcomer differs;
   service = refl;
   count = length-set world.writers place view;
   still = λ d. still_same place (status world d);
-  follows = λ id chunk content at. subst (λ (l : List Begun). At l id (Completed chunk content)) (sym same) at;
+  follows = λ id chunk content at. subst (λ (l : List BegunChunk). At l id (Completed chunk content)) (sym same) at;
 }
 
 -- nothing changes but the hand
@@ -88,7 +88,7 @@ begun_stays world next place view change other id chunk content at = dite (ℕ_d
     (change.follows id chunk content (subst (λ p. At (writer world p).begun id (Completed chunk content)) same at))))
     (λ differs. subst (λ (v : WriterView). At v.begun id (Completed chunk content)) (sym (change.others other differs)) at)
 
-header_stays : (setup : Setup) (header : ℕ) (was is : Status) → (IsFull was → is ≡ was) → HasHeader setup header was → HasHeader setup header is
+header_stays : (setup : Setup) (header : ℕ) (was is : Status) → (IsCompleteChunk was → is ≡ was) → HasHeader setup header was → HasHeader setup header is
 header_stays setup header (Ready place id content) is same has = subst (λ t. HasHeader setup header t) (sym (same tt)) has
 header_stays setup header Unclaimed is same has = absurd has
 header_stays setup header (Claimed place) is same has = absurd has
@@ -100,7 +100,7 @@ watch_stays : (setup : Setup) (world next : World) (place : ℕ) (watch : Watch)
     → IsWatched setup world watch → IsWatched setup next watch
 watch_stays setup world next place Nothing still is = tt
 watch_stays setup world next place (Started chunk) still is = (still chunk).started is
-watch_stays setup world next place (Full chunk) still is = subst IsFull (sym ((still chunk).full is)) is
+watch_stays setup world next place (Full chunk) still is = subst IsCompleteChunk (sym ((still chunk).full is)) is
 watch_stays setup world next place (Known chunk header) still is = header_stays setup header (status world chunk) (status next chunk) ((still chunk).full) is
 watch_stays setup world next place (Lifted chunk other id content) still is = (still chunk).read (subst IsRead (sym is) tt) ∙ is
 

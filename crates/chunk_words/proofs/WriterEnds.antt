@@ -9,7 +9,7 @@ use Rattle.commit_body.specs.declared.body.CommitBody.{CommitBody}
 use Rattle.chunk_plain.specs.Setup.{Setup, spot}
 use Rattle.chunk_plain.specs.Views.{Completed, WriterView}
 use Rattle.chunk_plain.specs.World.{Writing, Ready, status, writer}
-use Rattle.chunk_plain.specs.Steps.{completes, notes_call, moved, noted}
+use Rattle.chunk_plain.specs.Steps.{completes, notes_call, moved, with_writer_view}
 use Rattle.chunk_plain.specs.Drafts.{draft_at, head_at, IsHolding}
 use Rattle.chunk_plain.specs.Stored.{Stored, stored_at}
 use Rattle.chunk_plain.specs.Shows.{content_of, page_word}
@@ -111,7 +111,7 @@ pub calls_allowed : (setup : Setup) (count id k index : ℕ) (call : Call) (v : 
 calls_allowed setup count id k index call v s r deep at small =
     let world = r.world in let f = r.manned.each id (Writer k 0 v) at in
     let inside_w = writer_inside setup s r id k 0 v at in let w_inside = world_inside setup s r id k 0 v at in
-    let view = notes_call (writer world k) call in let next = noted world k view in
+    let view = notes_call (writer world k) call in let next = with_writer_view world k view in
     let roll = with_hand r.roll k 0 in
     let turn = writer_turn setup world next r.roll s.views id k 0 0 v view r.manned at (noted_change world k view w_inside refl) (λ d e. absurd (omega arith)) in (
       Writer k 0 (notes_call v call),

@@ -1,6 +1,6 @@
 -- What a seat of a table that threads share knows: a view, and what it does with it in the middle of a call.
 use Rattle.std.specs.Prelude.{ℕ, ◌+◌, ◌==◌, ◌++◌, ◌∷◌, List, [], length, if◌then◌else◌}
-use Rattle.chunk_plain.specs.Views.{Content, Begun, WriterView, newcomer, ServiceView, newcomer_service}
+use Rattle.chunk_plain.specs.Views.{Content, BegunChunk, WriterView, newcomer, ServiceView, newcomer_service}
 
 -- What the service found at one step of a call and relies on at the next one.
 pub data Watch : Type 0 where
@@ -24,7 +24,7 @@ pub data Stage : Type 0 where
 pub record Tale : Type 0 where
   pub place : ℕ
   pub looks : ℕ
-  pub begun : List Begun
+  pub begun : List BegunChunk
 
 -- What the service's seat has of the other seats: the views of the writers' that it took in again, where the reading pass is, and what writers told it.
 pub record Desk : Type 0 where
@@ -46,7 +46,7 @@ pub data Knows : Type 0 where
   -- the reading pass's, which knows what the service knew when its last read was noted
   Pass : ServiceView → Knows
   -- that of a tale on its way to the service: what the writer at this place had begun
-  Report : (place : ℕ) → List Begun → Knows
+  Report : (place : ℕ) → List BegunChunk → Knows
 
 -- the hand that has the slot of a chunk
 abbrev pub hand_with : ℕ → ℕ
@@ -136,7 +136,7 @@ abbrev pub with_stage : Desk → Stage → Desk
 with_stage desk stage = record desk { stage = stage }
 
 -- the service has heard so much of the writer at this place
-abbrev pub with_tale : Desk → ServiceView → (place : ℕ) → List Begun → Desk
+abbrev pub with_tale : Desk → ServiceView → (place : ℕ) → List BegunChunk → Desk
 with_tale desk view place begun = record desk { told = desk.told ++ record { place = place; looks = length view.looks; begun = begun } ∷ [] }
 
 -- the service has taken in the seat of a writer

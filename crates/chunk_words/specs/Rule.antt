@@ -67,9 +67,9 @@ IsStarted (Ready place id content) = Unit {0}
 IsStarted _ = ⊥
 
 -- the chunk is complete
-abbrev pub IsFull : Status → Type 0
-IsFull (Ready place id content) = Unit {0}
-IsFull _ = ⊥
+abbrev pub IsCompleteChunk : Status → Type 0
+IsCompleteChunk (Ready place id content) = Unit {0}
+IsCompleteChunk _ = ⊥
 
 -- the chunk is complete, and this is its header word
 abbrev pub HasHeader : Setup → ℕ → Status → Type 0
@@ -80,7 +80,7 @@ HasHeader setup header _ = ⊥
 abbrev pub IsWatched : Setup → World → Watch → Type 0
 IsWatched setup world Nothing = Unit {0}
 IsWatched setup world (Started chunk) = IsStarted (status world chunk)
-IsWatched setup world (Full chunk) = IsFull (status world chunk)
+IsWatched setup world (Full chunk) = IsCompleteChunk (status world chunk)
 IsWatched setup world (Known chunk header) = HasHeader setup header (status world chunk)
 IsWatched setup world (Lifted chunk place id content) = status world chunk ≡ Reading place id content
 

@@ -4,7 +4,7 @@ use Rattle.std.proofs.Math.Logic.{∥∥₁_map, ∥∥₁_elim}
 use Rattle.std.proofs.Math.Nat.{ℕ_set}
 use Rattle.std.specs.Coded.{le_prop}
 use mathlib.Core.Option.{some-injective}
-use Rattle.chunk_plain.specs.Views.{At, Begun, Completed, ServiceView, taken_of}
+use Rattle.chunk_plain.specs.Views.{At, BegunChunk, Completed, ServiceView, taken_of}
 use Rattle.chunk_plain.specs.World.{World, writer}
 use Rattle.chunk_plain.specs.Owned.{IsOwned}
 use Rattle.chunk_plain.specs.Drafts.{StillHas}
@@ -40,6 +40,6 @@ looks_agree view seen n m look later found other at is then was place id =
       found_is = here.0;
       has = here.1.has;
       other_is = there.0;
-      had = subst (λ (e : Begun). StillHas later.chunk other e) (sym same) there.1.has;
+      had = subst (λ (e : BegunChunk). StillHas later.chunk other e) (sym same) there.1.has;
     } in
     ∥∥₁_map seen both

@@ -5,12 +5,12 @@ use Rattle.page_geometry.specs.declared.chunk_header.ChunkHeader.{ChunkHeader}
 use Rattle.page_geometry.specs.Header.{packed}
 use Rattle.page_geometry.specs.PageBits.{HasState}
 use Rattle.chunk_plain.specs.Setup.{Setup, spot}
-use Rattle.chunk_plain.specs.Views.{At, Head, Content, Begun, Completed, Look, ServiceView, taken_of}
+use Rattle.chunk_plain.specs.Views.{At, Head, Content, BegunChunk, Completed, Look, ServiceView, taken_of}
 use Rattle.chunk_plain.specs.Shows.{IsHeader}
 use Rattle.chunk_words.specs.Knows.{Tale, Desk}
 
 -- what was completed is completed still, as it was
-abbrev pub StaysCompleted : List Begun → List Begun → Type 0
+abbrev pub StaysCompleted : List BegunChunk → List BegunChunk → Type 0
 StaysCompleted was is = (id chunk : ℕ) (content : Content) → At was id (Completed chunk content) → At is id (Completed chunk content)
 
 -- the look found its chunk complete, with this writer and this id in its header

@@ -1,7 +1,7 @@
 -- A chunk that is begun and completed in a row joins the begun ones, and none of them is held.
 use Rattle.std.proofs.Common.{◌≡◌, ℕ, ◌+◌, List, [], ◌∷◌, ◌++◌, length, set, refl, ap, sym, ◌∙◌}
 use Rattle.std.proofs.lemmas.List.{length-append, set-set}
-use Rattle.chunk_plain.specs.Views.{Draft, Content, Begun, Held, Completed, WriterView}
+use Rattle.chunk_plain.specs.Views.{Draft, Content, BegunChunk, Held, Completed, WriterView}
 use Rattle.chunk_plain.specs.Steps.{stamps, begins, redrafts, completes}
 use Rattle.chunk_plain.specs.Owned.{held_count}
 
@@ -9,7 +9,7 @@ set_last : {A : Type 0} (xs : List A) (x y : A) → set (xs ++ x ∷ []) (length
 set_last [] x y = refl
 set_last (z ∷ zs) x y = ap (λ l. z ∷ l) (set_last zs x y)
 
-held_more : (begun : List Begun) (chunk : ℕ) (content : Content) → held_count (begun ++ Completed chunk content ∷ []) ≡ held_count begun
+held_more : (begun : List BegunChunk) (chunk : ℕ) (content : Content) → held_count (begun ++ Completed chunk content ∷ []) ≡ held_count begun
 held_more [] chunk content = refl
 held_more (Held c d ∷ begun) chunk content = ap (λ n. n + 1) (held_more begun chunk content)
 held_more (Completed c m ∷ begun) chunk content = held_more begun chunk content
@@ -40,4 +40,4 @@ pub round_held : (old done : WriterView) (chunk : ℕ) (content : Content) → d
 round_held old done chunk content is none = ap held_count is ∙ (held_more old.begun chunk content ∙ none)
 
 pub round_count : (old done : WriterView) (chunk id : ℕ) (content : Content) → done.begun ≡ old.begun ++ Completed chunk content ∷ [] → id ≡ length old.begun → length done.begun ≡ id + 1
-round_count old done chunk id content is id_is = ap (λ (l : List Begun). length l) is ∙ (length-append old.begun (Completed chunk content ∷ []) ∙ ap (λ n. n + 1) (sym id_is))
+round_count old done chunk id content is id_is = ap (λ (l : List BegunChunk). length l) is ∙ (length-append old.begun (Completed chunk content ∷ []) ∙ ap (λ n. n + 1) (sym id_is))

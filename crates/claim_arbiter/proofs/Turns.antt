@@ -11,7 +11,7 @@ use Rattle.chunk_plain.specs.Payload.{sealed_to}
 use Rattle.chunk_plain.specs.Views.{Ask, Held, Draft, fresh, no_draft, WriterView, newcomer}
 use Rattle.chunk_plain.specs.Drafts.{draft_in, draft_at}
 use Rattle.chunk_plain.specs.World.{World, Unclaimed, Claimed, Writing, status, writer}
-use Rattle.chunk_plain.specs.Steps.{claims, stamps, begins, without, moved, noted}
+use Rattle.chunk_plain.specs.Steps.{claims, stamps, begins, without, moved, with_writer_view}
 use Rattle.chunk_plain.specs.Owned.{times}
 use Rattle.chunk_plain.specs.Words.{TriesClaim, BeginsChunk}
 use Rattle.claim_arbiter.specs.Claiming.{lost_asks, AllClaimed, AsksInVain, ClaimsInTurn, NoneFree}
@@ -96,27 +96,27 @@ begun_same setup first count chunk old mid won vain wins =
 
 -- ---- what is told
 
-pub noted_again : (world : World) (place other : ℕ) (u v : WriterView) → other ≡ place → noted (noted world place u) other v ≡ noted world place v
-noted_again world place other u v is = ap (λ p. noted (noted world place u) p v) is ∙ ap (λ l. record world { writers = l }) (set-set world.writers place u v)
+pub noted_again : (world : World) (place other : ℕ) (u v : WriterView) → other ≡ place → with_writer_view (with_writer_view world place u) other v ≡ with_writer_view world place v
+noted_again world place other u v is = ap (λ p. with_writer_view (with_writer_view world place u) p v) is ∙ ap (λ l. record world { writers = l }) (set-set world.writers place u v)
 
 -- the chunk was claimed and then begun, whatever the view was before
 pub told_begun : (told : Option World) (world : World) (place other last chunk c id : ℕ) (u v w : WriterView) (draft : Draft) → other ≡ place → last ≡ place → c ≡ chunk
-    → told ≡ Some (moved (moved (noted world place u) other v chunk (Claimed other)) last w c (Writing last id draft))
+    → told ≡ Some (moved (moved (with_writer_view world place u) other v chunk (Claimed other)) last w c (Writing last id draft))
     → told ≡ Some (moved world place w chunk (Writing place id draft))
 told_begun told world place other last chunk c id u v w draft other_is last_is chunk_is is =
     let to = Writing place id draft in
-    let first = subst (λ p. told ≡ Some (moved (moved (noted world place u) p v chunk (Claimed p)) last w c (Writing last id draft))) other_is is in
-    let second = subst (λ p. told ≡ Some (moved (moved (noted world place u) place v chunk (Claimed place)) p w c (Writing p id draft))) last_is first in
-    let third = subst (λ d. told ≡ Some (moved (moved (noted world place u) place v chunk (Claimed place)) place w d to)) chunk_is second in
+    let first = subst (λ p. told ≡ Some (moved (moved (with_writer_view world place u) p v chunk (Claimed p)) last w c (Writing last id draft))) other_is is in
+    let second = subst (λ p. told ≡ Some (moved (moved (with_writer_view world place u) place v chunk (Claimed place)) p w c (Writing p id draft))) last_is first in
+    let third = subst (λ d. told ≡ Some (moved (moved (with_writer_view world place u) place v chunk (Claimed place)) place w d to)) chunk_is second in
     let chunks = set-set world.chunks chunk (Claimed place) to in
     let writers = set-set (set world.writers place u) place v w ∙ set-set world.writers place u w in
     third ∙ (ap (λ l. Some (record world { chunks = l; writers = set (set (set world.writers place u) place v) place w })) chunks
     ∙ ap (λ l. Some (record world { chunks = set world.chunks chunk to; writers = l })) writers)
 
 -- nothing was asked for yet, so the world is as it was
-pub noted_same : (world : World) (place : ℕ) (view : WriterView) → view ≡ writer world place → Some world ≡ Some (noted world place view)
+pub noted_same : (world : World) (place : ℕ) (view : WriterView) → view ≡ writer world place → Some world ≡ Some (with_writer_view world place view)
 noted_same world place view is =
-    ap (λ l. Some (record world { writers = l })) (sym (set-get_or world.writers place newcomer)) ∙ ap (λ v. Some (noted world place v)) (sym is)
+    ap (λ l. Some (record world { writers = l })) (sym (set-get_or world.writers place newcomer)) ∙ ap (λ v. Some (with_writer_view world place v)) (sym is)
 
 pub none_free : (world : World) (first chunk : ℕ) → NoneFree world first chunk → (status world chunk ≡ Unclaimed → ⊥) → NoneFree world first (chunk + 1)
 none_free world first chunk before here = λ c least below free.

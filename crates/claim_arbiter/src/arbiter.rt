@@ -3,7 +3,7 @@ ghost use Rattle.std.specs.Prelude.{◌≡◌, ℕ, ◌+◌, ◌-◌, ◌<◌, �
 ghost use Rattle.chunk_plain.specs.declared.tokens.TheConstants.{MAX_HELD, ID_LIMIT};
 ghost use Rattle.chunk_plain.specs.Setup.{range_of, producer_of, id_at};
 ghost use Rattle.chunk_plain.specs.World.{World, Unclaimed, Writing, status};
-ghost use Rattle.chunk_plain.specs.Steps.{moved, noted};
+ghost use Rattle.chunk_plain.specs.Steps.{moved, with_writer_view};
 ghost use Rattle.chunk_plain.specs.Owned.{held_count};
 ghost use Rattle.chunk_plain.specs.Drafts.{draft_at, IsHolding};
 ghost use Rattle.chunk_plain.specs.Meaning.{IsWriterStep};
@@ -56,7 +56,7 @@ pub fn claim_over<W: Words, L: Ledger>(
     ensures few_steps { steps.new ≤ steps.old + arbiter.now.chunks + 1 }
     ensures told_lost { IfNone result ((world : World) → W.means.told table.old ≡ Some world
         → NoneFree world arbiter.now.first (arbiter.now.first + arbiter.now.chunks)
-        × (W.means.told table.new ≡ Some (noted world (W.means.place seat.old) (W.means.view table.new seat.new)))) }
+        × (W.means.told table.new ≡ Some (with_writer_view world (W.means.place seat.old) (W.means.view table.new seat.new)))) }
     ensures told_won { IfSome result (λ held. (world : World) → W.means.told table.old ≡ Some world
         → NoneFree world arbiter.now.first held.chunk × ∥ status world held.chunk ≡ Unclaimed ∥₁
         × (W.means.told table.new ≡ Some (moved world (W.means.place seat.old) (W.means.view table.new seat.new) held.chunk

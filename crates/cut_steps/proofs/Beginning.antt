@@ -8,7 +8,7 @@ use Rattle.trace_model.specs.Packets.{Packet, Text, NestedLength, flat, open_len
 use Rattle.trace_model.specs.Pages.{Page}
 use Rattle.trace_model.specs.Row.{Piece, Chain, bytes_of}
 use Rattle.trace_model.specs.Sent.{SentPatch, sent_of, all_sent, open_chunks, open_in, is_in_one}
-use Rattle.trace_model.specs.Cut.{IsFull, Begins, IsGivenUp, last_runs_on, length_places, all_end_well, all_go_on, is_fresh, is_same, begins_chunk, begins_well, all_begin_well, older_chains}
+use Rattle.trace_model.specs.Cut.{IsWellFormedPage, Begins, IsGivenUp, last_runs_on, length_places, all_end_well, all_go_on, is_fresh, is_same, begins_chunk, begins_well, all_begin_well, older_chains}
 use Rattle.cut_steps.specs.RawChains.{raw_chains, settled_piece, earlier_pieces, chains_before, offset_behind, current_piece, current_pieces, current_chain, start_of}
 use Rattle.cut_steps.specs.RawCut.{IsRawChainOf}
 use Rattle.cut_steps.specs.Pieces.{IsLarge, BeginsAt, AllRunOn, ChainsEndBefore}
@@ -40,7 +40,7 @@ between_first size large = record {
   four = tt;
   ends = tt;
   large = large;
-  full = All-nil (IsFull size);
+  full = All-nil (IsWellFormedPage size);
   flags = tt;
 }
 

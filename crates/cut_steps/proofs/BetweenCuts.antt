@@ -9,7 +9,7 @@ use Rattle.trace_model.specs.Pages.{Page, patches_of}
 use Rattle.trace_model.specs.Row.{Piece, Chain}
 use Rattle.trace_model.specs.Sequences.{is_among}
 use Rattle.trace_model.specs.Sent.{SentPatch, all_sent, open_chunks}
-use Rattle.trace_model.specs.Cut.{IsFull, last_runs_on}
+use Rattle.trace_model.specs.Cut.{IsWellFormedPage, last_runs_on}
 use Rattle.commit_body.specs.Patches.{with_lasts}
 use Rattle.cut_steps.specs.RawChains.{current_chain, raw_chains, earlier_pieces, chains_before, offset_behind, current_piece}
 use Rattle.cut_steps.specs.RawCut.{IsRawChainOf, CutsRaw}
@@ -103,7 +103,7 @@ between_finished size packet older pages q done now unsent w fragments stays unm
 -- the held chunk is completed
 pub between_completed : (size : ℕ) (packets : List Packet) (pages : List Page) (q : Page) (chains : List Chain) (unsent : List Patch) (offset : ℕ)
     → IsBetween size packets pages chains unsent offset
-    → q.continues ≡ last_runs_on false pages → q.runs_on ≡ false → q.awaits ≡ false → q.patches ≡ with_lasts [] unsent → IsFull size q
+    → q.continues ≡ last_runs_on false pages → q.runs_on ≡ false → q.awaits ≡ false → q.patches ≡ with_lasts [] unsent → IsWellFormedPage size q
     → IsBetween size packets (pages ++ q ∷ []) chains [] 4
 between_completed size packets pages q chains unsent offset b continues stays settled brings full =
     let all : List Page = pages ++ q ∷ [] in
@@ -119,7 +119,7 @@ between_completed size packets pages q chains unsent offset b continues stays se
       four = subst AllHaveFour (sym same) b.four;
       ends = chains_end_before-more chains (length pages) offset (length all) 4 (inl (omega (arith, longer))) b.ends;
       large = b.large;
-      full = All-push (IsFull size) pages q b.full full;
+      full = All-push (IsWellFormedPage size) pages q b.full full;
       flags = flags-one pages false q b.flags continues;
     }
 
@@ -138,7 +138,7 @@ between_cut size packets pages offset b stays = record {
 -- a chunk is held: they are with it as their last one
 pub between_held_cut : (size : ℕ) (packets : List Packet) (pages : List Page) (q : Page) (unsent : List Patch) (offset : ℕ)
     → IsBetween size packets pages (raw_chains (pages ++ q ∷ [])) unsent offset
-    → q.continues ≡ last_runs_on false pages → q.runs_on ≡ false → q.awaits ≡ false → q.patches ≡ with_lasts [] unsent → IsFull size q
+    → q.continues ≡ last_runs_on false pages → q.runs_on ≡ false → q.awaits ≡ false → q.patches ≡ with_lasts [] unsent → IsWellFormedPage size q
     → CutsRaw size packets (pages ++ q ∷ [])
 between_held_cut size packets pages q unsent offset b continues stays settled brings full =
     between_cut size packets (pages ++ q ∷ []) 4

@@ -6,7 +6,7 @@ use Rattle.trace_model.specs.Row.{Slot, Here, Piece, Chain, Fate, place, row_of}
 use Rattle.trace_model.specs.RowLaws.{is_open}
 use Rattle.trace_model.specs.Pages.{Page, fragments_from}
 use Rattle.trace_model.specs.Written.{written_slots, chains_in}
-use Rattle.trace_model.specs.Cut.{IsFull, FlagsAgree, last_runs_on, older_chains}
+use Rattle.trace_model.specs.Cut.{IsWellFormedPage, FlagsAgree, last_runs_on, older_chains}
 use Rattle.cut_steps.specs.RawChains.{placeless, raw_chains, page_with, newest_pieces, earlier_pieces, chains_before, offset_behind, piece_behind, fate_of, start_of, chain_to}
 use Rattle.cut_steps.proofs.RowSteps.{chains_in-links_of, StartsAt, merged, entered, stop_at, piece_at, lone, chunk_with, behind, chains_after, IsRow, RunsOnHere, row-after, all_made, Split, split-cons, HasRow, row_of_pages}
 
@@ -111,7 +111,7 @@ end-chains pages continues (bytes ∷ others) now runs_on dropped chains k =
 -- The chains of these pages end in one that has the last fragment; those before it, and the pieces before that fragment, do
 -- not depend on what stands in it.
 pub chains_end : (size : ℕ) (pages : List Page) (page : Page) (done : List (List ℕ)) (now : List ℕ)
-    → All (IsFull size) pages → FlagsAgree false pages
+    → All (IsWellFormedPage size) pages → FlagsAgree false pages
     → page.fragments ≡ done ++ now ∷ [] → page.continues ≡ last_runs_on false pages → (page.dropped ≡ true → page.runs_on ≡ false)
     → raw_chains (pages ++ page ∷ [])
     ≡ chain_to pages page.continues done (piece_behind pages done now page.runs_on page.dropped) ∷ chains_before pages page.continues done
@@ -131,7 +131,7 @@ earlier_pieces-same pages continues (bytes ∷ others) now = earlier_pieces-more
 -- A new page behind one that runs on
 
 pub earlier_pieces-run_on : (size : ℕ) (pages : List Page) (page : Page) (done : List (List ℕ)) (now : List ℕ)
-    → All (IsFull size) pages → FlagsAgree false pages
+    → All (IsWellFormedPage size) pages → FlagsAgree false pages
     → page.fragments ≡ done ++ now ∷ [] → page.continues ≡ last_runs_on false pages → page.runs_on ≡ true → page.dropped ≡ false
     → earlier_pieces (pages ++ page ∷ []) true [] ≡ earlier_pieces pages page.continues done ++ piece_behind pages done now true false ∷ []
 earlier_pieces-run_on size pages page done now full flags e c r d =
@@ -140,7 +140,7 @@ earlier_pieces-run_on size pages page done now full flags e c r d =
     ∙ ap (λ (b : Bool). earlier_pieces pages page.continues done ++ piece_behind pages done now true b ∷ []) d
 
 pub chains_before-run_on : (size : ℕ) (pages : List Page) (page : Page) (done : List (List ℕ)) (now : List ℕ)
-    → All (IsFull size) pages → FlagsAgree false pages
+    → All (IsWellFormedPage size) pages → FlagsAgree false pages
     → page.fragments ≡ done ++ now ∷ [] → page.continues ≡ last_runs_on false pages → (page.dropped ≡ true → page.runs_on ≡ false)
     → chains_before (pages ++ page ∷ []) true [] ≡ chains_before pages page.continues done
 chains_before-run_on size pages page done now full flags e c h = ap older_chains (chains_end size pages page done now full flags e c h)
@@ -205,7 +205,7 @@ runs_on_row pages (chain ∷ older) k =
       starts = subst (StartsAt chain.at) (sym (ap newest_pieces raw)) k.ends.0.starts;
     }
 
-pub runs_on_out : (size : ℕ) (pages : List Page) → All (IsFull size) pages → FlagsAgree false pages → true ≡ last_runs_on false pages → RunsOnOut pages
+pub runs_on_out : (size : ℕ) (pages : List Page) → All (IsWellFormedPage size) pages → FlagsAgree false pages → true ≡ last_runs_on false pages → RunsOnOut pages
 runs_on_out size pages full flags e =
     let k : HasRow pages (last_runs_on false pages) = row_of_pages pages flags (all_made size pages full) in
     runs_on_row pages k.chains (subst (λ (b : Bool). IsRow pages b k.chains) (sym e) k.row)

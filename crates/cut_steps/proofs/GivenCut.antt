@@ -12,7 +12,7 @@ use Rattle.trace_model.specs.Pages.{Page}
 use Rattle.trace_model.specs.Sequences.{is_among}
 use Rattle.trace_model.specs.Row.{Piece, Chain, Marked, Open, Whole, bytes_of}
 use Rattle.trace_model.specs.Sent.{SentPatch, all_sent, open_chunks, open_in, is_in_one, last_chunk, chunk_at}
-use Rattle.trace_model.specs.Cut.{IsFull, Begins, IsGivenUp, length_places, all_end_well, ends_well, left_behind, is_marked_fate, begins_well, all_begin_well}
+use Rattle.trace_model.specs.Cut.{IsWellFormedPage, Begins, IsGivenUp, length_places, all_end_well, ends_well, left_behind, is_marked_fate, begins_well, all_begin_well}
 use Rattle.commit_body.specs.Patches.{with_lasts}
 use Rattle.cut_steps.specs.RawChains.{offset_behind, raw_chains, earlier_pieces, chains_before, piece_behind, current_piece, current_chain, chain_to, settled_piece}
 use Rattle.cut_steps.specs.RawCut.{IsRawChainOf, CutsRaw}
@@ -46,7 +46,7 @@ ends_anywhere size lengths end piece ends = or_left (not piece.runs_on) ((left_b
 -- The packet's end: no chunk is held.
 pub given_between : (size : ℕ) (packet next : Packet) (older : List Packet) (pages : List Page) (page : Page) (done : List (List ℕ)) (now unused : List ℕ)
     (unsent : List Patch) (text : Text) (level : List ℕ)
-    → page.fragments ≡ done ++ (now ++ unused) ∷ [] → page.dropped ≡ true → page.awaits ≡ false → page.patches ≡ with_lasts [] unsent → IsFull size page
+    → page.fragments ≡ done ++ (now ++ unused) ∷ [] → page.dropped ≡ true → page.awaits ≡ false → page.patches ≡ with_lasts [] unsent → IsWellFormedPage size page
     → length unused ≤ 3
     → (0 < length unused → IsTrue (is_among (length (bytes_of (earlier_pieces pages page.continues done)) + length now) (open_places text.levels)))
     → next.kept ≡ true → next.follows_flush ≡ packet.follows_flush → next.given_up ≡ Some text
@@ -137,13 +137,13 @@ given_between size packet next older pages page done now unused unsent text leve
         chains_end_before-more chains g.first g.first_offset (length pages) end (begin_reaches earlier g.first g.first_offset end old g.begins_at g.bytes.chunk (omega arith)) g.older_end,
       );
       large = g.large;
-      full = All-push (IsFull size) pages page g.full full;
+      full = All-push (IsWellFormedPage size) pages page g.full full;
       flags = flags-one pages false page g.flags g.continues_is;
     })
 
 pub given_cut : (size : ℕ) (packet next : Packet) (older : List Packet) (pages : List Page) (page : Page) (done : List (List ℕ)) (now unused : List ℕ)
     (unsent : List Patch) (text : Text) (level : List ℕ)
-    → page.fragments ≡ done ++ (now ++ unused) ∷ [] → page.dropped ≡ true → page.awaits ≡ false → page.patches ≡ with_lasts [] unsent → IsFull size page
+    → page.fragments ≡ done ++ (now ++ unused) ∷ [] → page.dropped ≡ true → page.awaits ≡ false → page.patches ≡ with_lasts [] unsent → IsWellFormedPage size page
     → length unused ≤ 3
     → (0 < length unused → IsTrue (is_among (length (bytes_of (earlier_pieces pages page.continues done)) + length now) (open_places text.levels)))
     → next.kept ≡ true → next.follows_flush ≡ packet.follows_flush → next.given_up ≡ Some text

@@ -7,7 +7,7 @@ use Rattle.trace_model.specs.Packets.{Packet, Text, open_places, with_more, body
 use Rattle.trace_model.specs.Pages.{Page}
 use Rattle.trace_model.specs.Sequences.{is_among}
 use Rattle.trace_model.specs.Row.{bytes_of}
-use Rattle.trace_model.specs.Cut.{IsFull}
+use Rattle.trace_model.specs.Cut.{IsWellFormedPage}
 use Rattle.commit_body.specs.declared.hole.Hole.{Hole}
 use Rattle.commit_body.specs.Patches.{with_lasts}
 use Rattle.commit_body.specs.Pending.{patch_for}
@@ -79,7 +79,7 @@ gives_up_later size packet older pages continues done now unsent hole holes text
 -- No hole is left: the drop mark is put in, and what is left of the payload is unused.
 pub gave_up : (size : ℕ) (packet next : Packet) (older : List Packet) (pages : List Page) (page : Page) (done : List (List ℕ)) (now unused : List ℕ)
     (unsent : List Patch) (text : Text)
-    → page.fragments ≡ done ++ (now ++ unused) ∷ [] → page.dropped ≡ true → page.awaits ≡ false → page.patches ≡ with_lasts [] unsent → IsFull size page
+    → page.fragments ≡ done ++ (now ++ unused) ∷ [] → page.dropped ≡ true → page.awaits ≡ false → page.patches ≡ with_lasts [] unsent → IsWellFormedPage size page
     → length unused ≤ 3
     → (0 < length unused → IsTrue (is_among (length (bytes_of (earlier_pieces pages page.continues done)) + length now) (open_places text.levels)))
     → next.kept ≡ true → next.follows_flush ≡ packet.follows_flush → next.given_up ≡ Some text
@@ -92,7 +92,7 @@ gave_up size packet next older pages page done now unused unsent text holds drop
 
 pub gave_up_cut : (size : ℕ) (packet next : Packet) (older : List Packet) (pages : List Page) (page : Page) (done : List (List ℕ)) (now unused : List ℕ)
     (unsent : List Patch) (text : Text)
-    → page.fragments ≡ done ++ (now ++ unused) ∷ [] → page.dropped ≡ true → page.awaits ≡ false → page.patches ≡ with_lasts [] unsent → IsFull size page
+    → page.fragments ≡ done ++ (now ++ unused) ∷ [] → page.dropped ≡ true → page.awaits ≡ false → page.patches ≡ with_lasts [] unsent → IsWellFormedPage size page
     → length unused ≤ 3
     → (0 < length unused → IsTrue (is_among (length (bytes_of (earlier_pieces pages page.continues done)) + length now) (open_places text.levels)))
     → next.kept ≡ true → next.follows_flush ≡ packet.follows_flush → next.given_up ≡ Some text

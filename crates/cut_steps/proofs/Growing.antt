@@ -7,7 +7,7 @@ use Rattle.trace_model.specs.Packets.{flat, open_places, open_length}
 use Rattle.trace_model.specs.Row.{Piece, bytes_of}
 use Rattle.trace_model.specs.Sent.{chunk_at, offset_at, AllChunksBelow}
 use Rattle.cut_steps.specs.RawChains.{settled_piece}
-use Rattle.cut_steps.specs.Pieces.{Follows, StandsIn, AllStandIn}
+use Rattle.cut_steps.specs.Pieces.{Follows, StandInOnePiece, AllStandIn}
 use Rattle.cut_steps.specs.Growth.{HasBytes, settled_bytes}
 use Rattle.cut_steps.specs.Pending.{AllHaveFour}
 use Rattle.cut_steps.proofs.Places.{with_bytes_left, with_bytes_right, length_with_bytes, flat_written, flat_begun, flat_closed, open_places-innermost, bytes_of-patched, stands_within}
@@ -106,7 +106,7 @@ bytes_here patches first earlier q r level outer v others four there chunk put l
 -- a message ends whose length is in an earlier chunk: its patch comes
 pub bytes_later : (a : List Patch) (patch : Patch) (b : List Patch) (first : ℕ) (earlier : List Piece) (piece : Piece) (level outer v : List ℕ) (others : List (List ℕ))
     → SettleLater a patch b → AllHaveFour a → length v ≡ 4 → patch.bytes ≡ v
-    → StandsIn earlier (length (flat open_length (outer ∷ others)))
+    → StandInOnePiece earlier (length (flat open_length (outer ∷ others)))
     → patch.chunk_id ≡ chunk_at earlier (length (flat open_length (outer ∷ others)))
     → patch.offset ≡ offset_at earlier (length (flat open_length (outer ∷ others)))
     → HasBytes a first earlier piece (level ∷ outer ∷ others) → HasBytes b first earlier piece ((outer ++ v ++ level) ∷ others)

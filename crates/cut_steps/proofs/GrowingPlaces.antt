@@ -9,7 +9,7 @@ use Rattle.trace_model.specs.Packets.{NestedLength}
 use Rattle.trace_model.specs.Row.{Piece, bytes_of}
 use Rattle.trace_model.specs.Sent.{SentPatch, crosses, sent_for, chunk_at, offset_at}
 use Rattle.commit_body.specs.declared.hole.Hole.{Hole}
-use Rattle.cut_steps.specs.Pieces.{StandsIn, AllStandIn}
+use Rattle.cut_steps.specs.Pieces.{StandInOnePiece, AllStandIn}
 use Rattle.cut_steps.specs.Pending.{sent_now, hole_at, AllEndWithin}
 use Rattle.cut_steps.proofs.Places.{chunk_at-here, chunk_at-behind, offset_at-here, offset_at-behind, stands-here, stands-behind, stands_from-here, stands_from-behind, stands_before, stands_within}
 
@@ -111,7 +111,7 @@ same_both m n a b c h ab bc = record {
 
 -- Four bytes that stand in one piece
 
-stands-grown : (a : List Piece) (q r : Piece) (at : ℕ) → length q.fragment.bytes ≤ length r.fragment.bytes → StandsIn (a ++ q ∷ []) at → StandsIn (a ++ r ∷ []) at
+stands-grown : (a : List Piece) (q r : Piece) (at : ℕ) → length q.fragment.bytes ≤ length r.fragment.bytes → StandInOnePiece (a ++ q ∷ []) at → StandInOnePiece (a ++ r ∷ []) at
 stands-grown [] q r at longer stands = elim (cases_lt at (length q.fragment.bytes)) [
   | inl lt ↦ stands_from-here r [] at (omega (arith, lt, longer)) (omega (arith, longer, stands-here q [] at lt stands))
   | inr ge ↦ absurd (stands-behind q [] at ge stands)
@@ -132,7 +132,7 @@ all_stand-before (at ∷ places) a more stand = (stands_before a more at stand.0
 
 -- those at the end of the last piece
 pub stands-last : (a : List Piece) (piece : Piece) (at : ℕ) → length (bytes_of a) ≤ at → at + 4 ≤ length (bytes_of a) + length piece.fragment.bytes
-    → StandsIn (a ++ piece ∷ []) at
+    → StandInOnePiece (a ++ piece ∷ []) at
 stands-last [] piece at low high = stands_from-here piece [] at (omega (arith, high)) (omega (arith, high))
 stands-last (x ∷ a) piece at low high =
     let long : length (bytes_of (x ∷ a)) ≡ length x.fragment.bytes + length (bytes_of a) = length-append x.fragment.bytes (bytes_of a) in
@@ -140,7 +140,7 @@ stands-last (x ∷ a) piece at low high =
     (stands-last a piece (at - length x.fragment.bytes) (omega (arith, low, long)) (omega (arith, low, high, long)))
 
 -- those that don't stand in the last piece stand in the pieces before
-pub stands-earlier : (a : List Piece) (piece : Piece) (at : ℕ) → at < length (bytes_of a) → StandsIn (a ++ piece ∷ []) at → StandsIn a at
+pub stands-earlier : (a : List Piece) (piece : Piece) (at : ℕ) → at < length (bytes_of a) → StandInOnePiece (a ++ piece ∷ []) at → StandInOnePiece a at
 stands-earlier [] piece at h stands = absurd (omega (arith, h))
 stands-earlier (x ∷ a) piece at h stands = elim (cases_lt at (length x.fragment.bytes)) [
   | inl lt ↦ stands_from-here x a at lt (stands-here x (a ++ piece ∷ []) at lt stands)

@@ -14,7 +14,7 @@ use Rattle.commit_body.specs.declared.hole.Hole.{Hole}
 use Rattle.commit_body.specs.Patches.{hole_chunks, with_lasts}
 use Rattle.cut_steps.specs.RawChains.{patched_piece, settled_piece}
 use Rattle.cut_steps.specs.RawCut.{IsRawChainOf}
-use Rattle.cut_steps.specs.Pieces.{Follows, StandsIn, EndsBefore, AllEndBefore, ChainsEndBefore, BeginsAt}
+use Rattle.cut_steps.specs.Pieces.{Follows, StandInOnePiece, EndsBefore, AllEndBefore, ChainsEndBefore, BeginsAt}
 use Rattle.cut_steps.specs.Growth.{settled_bytes}
 use Rattle.cut_steps.specs.Pending.{patches_so_far, AllHaveFour}
 use Rattle.cut_steps.proofs.SamePlaces.{SameShape, SamePlaces}
@@ -121,19 +121,19 @@ pub settled-places : (patches : List Patch) (pieces : List Piece) → AllHaveFou
 settled-places patches [] four = tt
 settled-places patches (piece ∷ pieces) four = (settled_shape patches piece four, settled-places patches pieces four)
 
-pub stands-settled : (pieces : List Piece) (patches : List Patch) (at : ℕ) → AllHaveFour patches → StandsIn pieces at → StandsIn (map (settled_piece patches) pieces) at
+pub stands-settled : (pieces : List Piece) (patches : List Patch) (at : ℕ) → AllHaveFour patches → StandInOnePiece pieces at → StandInOnePiece (map (settled_piece patches) pieces) at
 stands-settled [] patches at four stands = stands
 stands-settled (piece ∷ pieces) patches at four stands = subst
-    (λ (n : ℕ). MatchBool (nat_lt at n) (at + 4 ≤ n) (StandsIn (map (settled_piece patches) pieces) (at - n)))
+    (λ (n : ℕ). MatchBool (nat_lt at n) (at + 4 ≤ n) (StandInOnePiece (map (settled_piece patches) pieces) (at - n)))
     (sym (settled_shape patches piece four).long)
     (elim (cases_Bool (nat_lt at (length piece.fragment.bytes))) [
       | inl met ↦
-          subst (λ b. MatchBool b (at + 4 ≤ length piece.fragment.bytes) (StandsIn (map (settled_piece patches) pieces) (at - length piece.fragment.bytes))) (sym met)
-          (subst (λ b. MatchBool b (at + 4 ≤ length piece.fragment.bytes) (StandsIn pieces (at - length piece.fragment.bytes))) met stands)
+          subst (λ b. MatchBool b (at + 4 ≤ length piece.fragment.bytes) (StandInOnePiece (map (settled_piece patches) pieces) (at - length piece.fragment.bytes))) (sym met)
+          (subst (λ b. MatchBool b (at + 4 ≤ length piece.fragment.bytes) (StandInOnePiece pieces (at - length piece.fragment.bytes))) met stands)
       | inr missed ↦
-          subst (λ b. MatchBool b (at + 4 ≤ length piece.fragment.bytes) (StandsIn (map (settled_piece patches) pieces) (at - length piece.fragment.bytes))) (sym missed)
+          subst (λ b. MatchBool b (at + 4 ≤ length piece.fragment.bytes) (StandInOnePiece (map (settled_piece patches) pieces) (at - length piece.fragment.bytes))) (sym missed)
           (stands-settled pieces patches (at - length piece.fragment.bytes) four
-          (subst (λ b. MatchBool b (at + 4 ≤ length piece.fragment.bytes) (StandsIn pieces (at - length piece.fragment.bytes))) missed stands))
+          (subst (λ b. MatchBool b (at + 4 ≤ length piece.fragment.bytes) (StandInOnePiece pieces (at - length piece.fragment.bytes))) missed stands))
     ])
 
 -- Bytes
@@ -229,7 +229,7 @@ chains-later (packet ∷ packets) (chain ∷ chains) size a patch b chunk_id off
 )
 
 -- what stands in a chain stands behind its begin
-pub stands_behind-begin : (pieces : List Piece) (first offset at : ℕ) (patch : Patch) → BeginsAt first offset pieces → Follows first pieces → StandsIn pieces at
+pub stands_behind-begin : (pieces : List Piece) (first offset at : ℕ) (patch : Patch) → BeginsAt first offset pieces → Follows first pieces → StandInOnePiece pieces at
     → patch.chunk_id ≡ chunk_at pieces at → patch.offset ≡ offset_at pieces at → StandsBehind first offset patch
 stands_behind-begin [] first offset at patch begins follows stands chunk place = absurd begins
 stands_behind-begin (piece ∷ pieces) first offset at patch begins follows stands chunk place = elim (cases_lt at (length piece.fragment.bytes)) [

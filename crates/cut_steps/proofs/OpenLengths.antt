@@ -5,7 +5,7 @@ use Rattle.trace_model.specs.Images.{Patch, with_bytes}
 use Rattle.trace_model.specs.Packets.{flat, open_length}
 use Rattle.trace_model.specs.Row.{Piece, bytes_of}
 use Rattle.trace_model.specs.Sent.{chunk_at, offset_at}
-use Rattle.cut_steps.specs.Pieces.{StandsIn}
+use Rattle.cut_steps.specs.Pieces.{StandInOnePiece}
 use Rattle.cut_steps.specs.Growth.{HasBytes}
 use Rattle.cut_steps.proofs.Places.{chunk_at-below, length_with_bytes, stands_within}
 use Rattle.cut_steps.proofs.GrowingPlaces.{chunk_at-append, offset_at-append, chunk_at-last, offset_at-last, stands-earlier, length_bytes-one}
@@ -43,7 +43,7 @@ stands_here patches first earlier piece level outer others offset h chunk place_
 -- four bytes at a place of the packet stand in an earlier piece
 pub record StandsEarlier (earlier : List Piece) (piece : Piece) (place chunk_id offset : ℕ) : Type 0 where
   pub before : place < length (bytes_of earlier)
-  pub stands : StandsIn earlier place
+  pub stands : StandInOnePiece earlier place
   pub chunk : chunk_id ≡ chunk_at earlier place
   pub place_is : offset ≡ offset_at earlier place
   pub lower : chunk_id < piece.at.chunk_id

@@ -8,7 +8,7 @@ use Rattle.trace_model.specs.Sequences.{is_among}
 use Rattle.trace_model.specs.Row.{Piece}
 use Rattle.trace_model.specs.Sent.{AwaitsAre, chunk_at, offset_at, is_placed, is_placed_in}
 use Rattle.cut_steps.specs.RawChains.{offset_behind, piece_behind}
-use Rattle.cut_steps.specs.Pieces.{StandsIn, EndsWith, RunsOnFrom, AllRunOn}
+use Rattle.cut_steps.specs.Pieces.{StandInOnePiece, EndsWith, RunsOnFrom, AllRunOn}
 use Rattle.cut_steps.proofs.Places.{chunk_at-here, chunk_at-behind, offset_at-here, offset_at-behind, stands-here, stands-behind}
 use Rattle.cut_steps.proofs.Marks.{slice_get-more, is_among-append}
 
@@ -52,7 +52,7 @@ placed_in pages crossing piece at patch awaits runs within chunk offset four amo
     (and_from runs.page.awaits (last_holds (chunk_of runs.page).fragments patch) waits holds) (eq-eqb (length patch.bytes) 4 four)
 
 pub placed_earlier : (earlier : List Piece) (pages : List Page) (crossing : List ℕ) (at : ℕ) (patch : Patch) → AwaitsAre crossing 0 pages → AllRunOn pages earlier
-    → StandsIn earlier at → patch.chunk_id ≡ chunk_at earlier at → patch.offset ≡ offset_at earlier at
+    → StandInOnePiece earlier at → patch.chunk_id ≡ chunk_at earlier at → patch.offset ≡ offset_at earlier at
     → length patch.bytes ≡ 4 → is_among patch.chunk_id crossing ≡ true → IsTrue (is_placed pages patch)
 placed_earlier [] pages crossing at patch awaits run stands chunk offset four among = absurd stands
 placed_earlier (piece ∷ earlier) pages crossing at patch awaits run stands chunk offset four among = elim (cases_lt at (length piece.fragment.bytes)) [

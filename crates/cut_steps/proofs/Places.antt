@@ -8,7 +8,7 @@ use Rattle.trace_model.specs.Packets.{flat, open_length, open_places}
 use Rattle.trace_model.specs.Row.{Piece, bytes_of}
 use Rattle.trace_model.specs.Sent.{chunk_at, offset_at}
 use Rattle.cut_steps.specs.RawChains.{patched_piece}
-use Rattle.cut_steps.specs.Pieces.{Follows, StandsIn}
+use Rattle.cut_steps.specs.Pieces.{Follows, StandInOnePiece}
 
 -- Bytes put into joined lists
 
@@ -95,29 +95,29 @@ offset_at-behind piece pieces at h =
     ap (λ b. cond b (piece.fragment.offset + at) (offset_at pieces (at - length piece.fragment.bytes))) (le-ltb at (length piece.fragment.bytes) h)
 
 pub stands-here : (piece : Piece) (pieces : List Piece) (at : ℕ) → at < length piece.fragment.bytes
-    → StandsIn (piece ∷ pieces) at → at + 4 ≤ length piece.fragment.bytes
+    → StandInOnePiece (piece ∷ pieces) at → at + 4 ≤ length piece.fragment.bytes
 stands-here piece pieces at h stands =
-    MatchBool-at_true (at + 4 ≤ length piece.fragment.bytes) (StandsIn pieces (at - length piece.fragment.bytes)) (lt-ltb at (length piece.fragment.bytes) h) stands
+    MatchBool-at_true (at + 4 ≤ length piece.fragment.bytes) (StandInOnePiece pieces (at - length piece.fragment.bytes)) (lt-ltb at (length piece.fragment.bytes) h) stands
 
 pub stands-behind : (piece : Piece) (pieces : List Piece) (at : ℕ) → length piece.fragment.bytes ≤ at
-    → StandsIn (piece ∷ pieces) at → StandsIn pieces (at - length piece.fragment.bytes)
+    → StandInOnePiece (piece ∷ pieces) at → StandInOnePiece pieces (at - length piece.fragment.bytes)
 stands-behind piece pieces at h stands =
-    MatchBool-at_false (at + 4 ≤ length piece.fragment.bytes) (StandsIn pieces (at - length piece.fragment.bytes)) (le-ltb at (length piece.fragment.bytes) h) stands
+    MatchBool-at_false (at + 4 ≤ length piece.fragment.bytes) (StandInOnePiece pieces (at - length piece.fragment.bytes)) (le-ltb at (length piece.fragment.bytes) h) stands
 
 pub stands_from-here : (piece : Piece) (pieces : List Piece) (at : ℕ) → at < length piece.fragment.bytes
-    → at + 4 ≤ length piece.fragment.bytes → StandsIn (piece ∷ pieces) at
+    → at + 4 ≤ length piece.fragment.bytes → StandInOnePiece (piece ∷ pieces) at
 stands_from-here piece pieces at h within =
-    subst (λ b. MatchBool b (at + 4 ≤ length piece.fragment.bytes) (StandsIn pieces (at - length piece.fragment.bytes)))
+    subst (λ b. MatchBool b (at + 4 ≤ length piece.fragment.bytes) (StandInOnePiece pieces (at - length piece.fragment.bytes)))
     (sym (lt-ltb at (length piece.fragment.bytes) h)) within
 
 pub stands_from-behind : (piece : Piece) (pieces : List Piece) (at : ℕ) → length piece.fragment.bytes ≤ at
-    → StandsIn pieces (at - length piece.fragment.bytes) → StandsIn (piece ∷ pieces) at
+    → StandInOnePiece pieces (at - length piece.fragment.bytes) → StandInOnePiece (piece ∷ pieces) at
 stands_from-behind piece pieces at h stands =
-    subst (λ b. MatchBool b (at + 4 ≤ length piece.fragment.bytes) (StandsIn pieces (at - length piece.fragment.bytes)))
+    subst (λ b. MatchBool b (at + 4 ≤ length piece.fragment.bytes) (StandInOnePiece pieces (at - length piece.fragment.bytes)))
     (sym (le-ltb at (length piece.fragment.bytes) h)) stands
 
 -- what stands in pieces stands in them with more behind
-pub stands_before : (pieces more : List Piece) (at : ℕ) → StandsIn pieces at → StandsIn (pieces ++ more) at
+pub stands_before : (pieces more : List Piece) (at : ℕ) → StandInOnePiece pieces at → StandInOnePiece (pieces ++ more) at
 stands_before [] more at stands = absurd stands
 stands_before (piece ∷ pieces) more at stands = elim (cases_lt at (length piece.fragment.bytes)) [
   | inl lt ↦ stands_from-here piece (pieces ++ more) at lt (stands-here piece pieces at lt stands)
@@ -127,7 +127,7 @@ stands_before (piece ∷ pieces) more at stands = elim (cases_lt at (length piec
 ]
 
 -- four bytes that stand in pieces are among their bytes
-pub stands_within : (pieces : List Piece) (at : ℕ) → StandsIn pieces at → at + 4 ≤ length (bytes_of pieces)
+pub stands_within : (pieces : List Piece) (at : ℕ) → StandInOnePiece pieces at → at + 4 ≤ length (bytes_of pieces)
 stands_within [] at stands = absurd stands
 stands_within (piece ∷ pieces) at stands = elim (cases_lt at (length piece.fragment.bytes)) [
   | inl lt ↦ omega (arith, stands-here piece pieces at lt stands, length-append piece.fragment.bytes (bytes_of pieces))
@@ -194,7 +194,7 @@ patched_here patch piece at same place within =
     ∙ ap (λ (n : ℕ). with_bytes piece.fragment.bytes n patch.bytes) (omega (arith, place))
 
 -- the patch of a length changes just its four bytes
-pub bytes_of-patched : (pieces : List Piece) (patch : Patch) (first at : ℕ) → length patch.bytes ≡ 4 → Follows first pieces → StandsIn pieces at
+pub bytes_of-patched : (pieces : List Piece) (patch : Patch) (first at : ℕ) → length patch.bytes ≡ 4 → Follows first pieces → StandInOnePiece pieces at
     → patch.chunk_id ≡ chunk_at pieces at → patch.offset ≡ offset_at pieces at
     → bytes_of (map (patched_piece patch) pieces) ≡ with_bytes (bytes_of pieces) at patch.bytes
 bytes_of-patched [] patch first at four follows stands chunk place = absurd stands
@@ -209,7 +209,7 @@ bytes_of-patched (piece ∷ pieces) patch first at four follows stands chunk pla
       ∙ sym (with_bytes_left piece.fragment.bytes (bytes_of pieces) patch.bytes at (omega (arith, four, within)))
   | inr ge ↦
       let behind : ℕ = at - length piece.fragment.bytes in
-      let stands_there : StandsIn pieces behind = stands-behind piece pieces at ge stands in
+      let stands_there : StandInOnePiece pieces behind = stands-behind piece pieces at ge stands in
       let later : patch.chunk_id ≡ chunk_at pieces behind = chunk ∙ chunk_at-behind piece pieces at ge in
       let least : suc first ≤ chunk_at pieces behind =
       chunk_at-from pieces (suc first) behind follows.1 (omega (arith, stands_within pieces behind stands_there)) in

@@ -9,7 +9,7 @@ use Rattle.trace_model.specs.Row.{Slot, Here, Piece, Chain, Whole, Marked, CutOf
 use Rattle.trace_model.specs.RowLaws.{is_open, continued, AreWhole}
 use Rattle.trace_model.specs.Pages.{Page, fragments_from}
 use Rattle.trace_model.specs.Written.{written_slots, chains_in}
-use Rattle.trace_model.specs.Cut.{IsFull, FlagsAgree, last_runs_on}
+use Rattle.trace_model.specs.Cut.{IsWellFormedPage, FlagsAgree, last_runs_on}
 use Rattle.trace_model.proofs.ContinuedLemmas.{rows_continue}
 use Rattle.cut_steps.specs.RawChains.{fate_of, offset_behind}
 
@@ -316,13 +316,13 @@ abbrev pub AllMade : List Page → Type 0
 AllMade [] = ⊤
 AllMade (page ∷ pages) = IsMade page × AllMade pages
 
-pub full_made : (size : ℕ) (page : Page) → IsFull size page → IsMade page
+pub full_made : (size : ℕ) (page : Page) → IsWellFormedPage size page → IsMade page
 full_made size page full = (full.some, λ e. (full.dropped e).0)
 
-pub all_made : (size : ℕ) (pages : List Page) → All (IsFull size) pages → AllMade pages
+pub all_made : (size : ℕ) (pages : List Page) → All (IsWellFormedPage size) pages → AllMade pages
 all_made size [] full = tt
 all_made size (page ∷ pages) full =
-    (full_made size page (All-head (IsFull size) page pages full), all_made size pages (All-tail (IsFull size) page pages full))
+    (full_made size page (All-head (IsWellFormedPage size) page pages full), all_made size pages (All-tail (IsWellFormedPage size) page pages full))
 
 -- fragments, of which there is one at least, with the last one apart
 pub record Split (fragments : List (List ℕ)) : Type 0 where

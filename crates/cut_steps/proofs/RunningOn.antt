@@ -11,7 +11,7 @@ use Rattle.trace_model.specs.Pages.{Page, patches_of}
 use Rattle.trace_model.specs.Sequences.{is_among}
 use Rattle.trace_model.specs.Row.{Piece, Chain, bytes_of}
 use Rattle.trace_model.specs.Sent.{SentPatch, all_sent, AllChunksBelow}
-use Rattle.trace_model.specs.Cut.{IsFull, left_behind, length_places, all_end_well, all_go_on, begins_well, all_begin_well}
+use Rattle.trace_model.specs.Cut.{IsWellFormedPage, left_behind, length_places, all_end_well, all_go_on, begins_well, all_begin_well}
 use Rattle.commit_body.specs.declared.hole.Hole.{Hole}
 use Rattle.commit_body.specs.Patches.{hole_chunks, with_lasts}
 use Rattle.cut_steps.specs.RawChains.{earlier_pieces, chains_before, piece_behind, current_piece, current_pieces, current_chain, start_of}
@@ -30,7 +30,7 @@ use Rattle.cut_steps.proofs.StrictPieces.{goes_on-here, filled_byte}
 use Rattle.cut_steps.proofs.StepLemmas.{begins_at-grown, begins_at-more, begins_well-same, start_of-run, all_end_well-one, ends_well-from, flags-one, last_runs_on-one}
 
 -- a page that runs on has no drop mark
-pub unmarked : (size : ℕ) (page : Page) → IsFull size page → page.runs_on ≡ true → page.dropped ≡ false
+pub unmarked : (size : ℕ) (page : Page) → IsWellFormedPage size page → page.runs_on ≡ true → page.dropped ≡ false
 unmarked size page full runs = elim (cases_Bool page.dropped) [
   | inl marked ↦ absurd (true≢false (sym runs ∙ (full.dropped marked).0))
   | inr is ↦ is
@@ -50,7 +50,7 @@ so_far_below pages sent holes unsent sends =
 
 pub writing_run_on : (size : ℕ) (packet : Packet) (older : List Packet) (pages : List Page) (page : Page) (done : List (List ℕ)) (now : List ℕ)
     (unsent : List Patch) (holes : List Hole) (coming : List ℕ)
-    → page.fragments ≡ done ++ now ∷ [] → page.runs_on ≡ true → IsFull size page
+    → page.fragments ≡ done ++ now ∷ [] → page.runs_on ≡ true → IsWellFormedPage size page
     → page.patches ≡ with_lasts (hole_chunks holes) unsent → page.awaits ≡ is_among (length pages) (hole_chunks holes)
     → (left_behind size (current_piece pages done now) ≡ 0)
     ⊎ ((left_behind size (current_piece pages done now) < 4) × IsTrue (is_among (length (body_of packet)) (coming ++ length_places packet.text)))
@@ -132,7 +132,7 @@ writing_run_on size packet older pages page done now unsent holes coming holds r
       goes_on = subst (λ (ps : List Piece). IsTrue (all_go_on ps)) same_pieces
           (goes_on-here pages page.continues done ended (filled_byte size pages page.continues done now w.large few) w.goes_on);
       large = w.large;
-      full = All-push (IsFull size) pages page w.full full;
+      full = All-push (IsWellFormedPage size) pages page w.full full;
       flags = flags-one pages false page w.flags w.continues_is;
       continues_is = sym (last_runs_on-one pages false page ∙ runs);
     }

@@ -11,7 +11,7 @@ use Rattle.trace_model.specs.Pages.{Page, patches_of}
 use Rattle.trace_model.specs.Row.{Piece, Chain, bytes_of}
 use Rattle.trace_model.specs.Sequences.{is_among}
 use Rattle.trace_model.specs.Sent.{SentPatch, text_of, all_sent, sent_of, open_chunks, open_in, is_in_one, chunk_at, PatchesAre, LastsAre, AwaitsAre}
-use Rattle.trace_model.specs.Cut.{IsFull, FlagsAgree, last_runs_on, newest_goes_on, Begins, IsGivenUp, AreBytesOf, length_places, left_behind, ends_well, all_end_well, begins_well, all_begin_well, PatchesAgree}
+use Rattle.trace_model.specs.Cut.{IsWellFormedPage, FlagsAgree, last_runs_on, newest_goes_on, Begins, IsGivenUp, AreBytesOf, length_places, left_behind, ends_well, all_end_well, begins_well, all_begin_well, PatchesAgree}
 use Rattle.commit_body.specs.declared.hole.Hole.{Hole}
 use Rattle.commit_body.specs.Patches.{hole_chunks, with_lasts}
 use Rattle.commit_body.proofs.PatchLemmas.{with_lasts_are}
@@ -157,7 +157,7 @@ sealed size packet later older pages q done now unsent holes w fragments stays u
 -- The pages are a cut, where all patches came.
 pub sealed_cut : (size : ℕ) (packet : Packet) (older : List Packet) (pages : List Page) (open_ones : List ℕ) (sent : List SentPatch) (chains : List Chain)
     → IsSealed size packet older pages (patches_of pages) open_ones sent chains
-    → All (IsFull size) pages → FlagsAgree false pages → (last_runs_on false pages ≡ true → newest_goes_on (packet ∷ older) ≡ true)
+    → All (IsWellFormedPage size) pages → FlagsAgree false pages → (last_runs_on false pages ≡ true → newest_goes_on (packet ∷ older) ≡ true)
     → HasSent pages sent [] open_ones
     → CutsRaw size (packet ∷ older) pages
 sealed_cut size packet older pages open_ones sent chains s full flags last h =
@@ -177,7 +177,7 @@ sealed_cut size packet older pages open_ones sent chains s full flags last h =
 pub writing_cut : (size : ℕ) (packet later : Packet) (older : List Packet) (pages : List Page) (q : Page) (done : List (List ℕ)) (now : List ℕ)
     (unsent : List Patch) (holes : List Hole) → IsWriting size packet older pages q.continues done now unsent holes []
     → q.fragments ≡ done ++ now ∷ [] → q.runs_on ≡ false → q.dropped ≡ false → q.awaits ≡ false → ContinuesWithByte q.continues done now
-    → q.patches ≡ with_lasts (hole_chunks holes) unsent → IsFull size q
+    → q.patches ≡ with_lasts (hole_chunks holes) unsent → IsWellFormedPage size q
     → later.kept ≡ packet.kept → later.follows_flush ≡ packet.follows_flush → later.text ≡ packet.text → later.given_up ≡ None
     → CutsRaw size (later ∷ older) (pages ++ q ∷ [])
 writing_cut size packet later older pages q done now unsent holes w fragments stays unmarked settled some brings full kept flush text given =
@@ -188,7 +188,7 @@ writing_cut size packet later older pages q done now unsent holes w fragments st
     sealed_cut size later older all (hole_chunks holes) sent chains
     (subst (λ (ps : List Patch). IsSealed size later older all ps (hole_chunks holes) sent chains) so_far
     (sealed size packet later older pages q done now unsent holes w fragments stays unmarked some kept flush text given))
-    (All-push (IsFull size) pages q w.full full) (flags-one pages false q w.flags w.continues_is)
+    (All-push (IsWellFormedPage size) pages q w.full full) (flags-one pages false q w.flags w.continues_is)
     (λ e. absurd (true≢false (sym e ∙ last_runs_on-one pages false q ∙ stays)))
     (sends_done pages sent unsent (hole_chunks holes) q brings
     (settled ∙ ap (λ (b : Bool). b && is_among (length pages) (sent_chunks sent ++ hole_chunks holes)) (sym stays)) w.sends)

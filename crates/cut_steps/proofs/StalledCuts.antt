@@ -11,7 +11,7 @@ use Rattle.trace_model.specs.Row.{Piece, Chain, Fate, Whole, Marked, IntoLost, C
 use Rattle.trace_model.specs.RowLaws.{is_open}
 use Rattle.trace_model.specs.Sequences.{Cursor, is_among}
 use Rattle.trace_model.specs.Sent.{SentPatch, text_of, all_sent, chunk_at, open_in, is_in_one}
-use Rattle.trace_model.specs.Cut.{IsFull, Begins, IsGivenUp, AreBytesOf, left_behind, last_runs_on, newest_goes_on, length_places, all_end_well, begins_well, all_begin_well, is_marked_fate}
+use Rattle.trace_model.specs.Cut.{IsWellFormedPage, Begins, IsGivenUp, AreBytesOf, left_behind, last_runs_on, newest_goes_on, length_places, all_end_well, begins_well, all_begin_well, is_marked_fate}
 use Rattle.commit_body.specs.declared.hole.Hole.{Hole}
 use Rattle.commit_body.specs.Patches.{hole_chunks, with_lasts}
 use Rattle.cut_steps.specs.RawChains.{earlier_pieces, chains_before, current_piece, current_chain, start_of}
@@ -175,7 +175,7 @@ idle_runs (packet ∷ older) pages between stays = stays ∙ sym (and_right (not
 -- the same where the page was just completed
 pub writing_stalled_cut : (size : ℕ) (packet later : Packet) (older : List Packet) (pages : List Page) (q : Page) (done : List (List ℕ)) (now : List ℕ)
     (unsent : List Patch) (holes : List Hole) (coming : List ℕ)
-    → q.fragments ≡ done ++ now ∷ [] → q.runs_on ≡ true → IsFull size q
+    → q.fragments ≡ done ++ now ∷ [] → q.runs_on ≡ true → IsWellFormedPage size q
     → q.patches ≡ with_lasts (hole_chunks holes) unsent → q.awaits ≡ is_among (length pages) (hole_chunks holes)
     → (left_behind size (current_piece pages done now) ≡ 0)
     ⊎ ((left_behind size (current_piece pages done now) < 4) × IsTrue (is_among (length (body_of packet)) (coming ++ length_places packet.text)))

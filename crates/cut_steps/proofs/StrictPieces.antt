@@ -8,9 +8,9 @@ use Rattle.trace_model.specs.Packets.{Text}
 use Rattle.trace_model.specs.Pages.{Page, laid}
 use Rattle.trace_model.specs.Row.{Piece}
 use Rattle.trace_model.specs.Sent.{chunk_at, open_in, is_in_one}
-use Rattle.trace_model.specs.Cut.{IsFull, left_behind, has_byte, all_go_on}
+use Rattle.trace_model.specs.Cut.{IsWellFormedPage, left_behind, has_byte, all_go_on}
 use Rattle.cut_steps.specs.RawChains.{earlier_pieces, offset_behind, current_piece}
-use Rattle.cut_steps.specs.Pieces.{StandsIn, AllStandIn, IsLarge, ContinuesWithByte}
+use Rattle.cut_steps.specs.Pieces.{StandInOnePiece, AllStandIn, IsLarge, ContinuesWithByte}
 use Rattle.cut_steps.proofs.Places.{chunk_at-here, chunk_at-behind, stands-here, stands-behind}
 use Rattle.cut_steps.proofs.GrowingPlaces.{SamePlacesBelow}
 use Rattle.cut_steps.proofs.ZeroPatches.{inside}
@@ -37,7 +37,7 @@ pub filled_byte : (size : ℕ) (pages : List Page) (continues : Bool) (done : Li
 filled_byte size pages continues done now large left goes first = omega (arith, large, left, ap (offset_behind 4) first)
 
 -- and so has the last one of a full page with the drop mark
-pub marked_byte : (size : ℕ) (page : Page) (done : List (List ℕ)) (bytes : List ℕ) → IsLarge size → IsFull size page → page.fragments ≡ done ++ bytes ∷ []
+pub marked_byte : (size : ℕ) (page : Page) (done : List (List ℕ)) (bytes : List ℕ) → IsLarge size → IsWellFormedPage size page → page.fragments ≡ done ++ bytes ∷ []
     → page.dropped ≡ true → ContinuesWithByte page.continues done bytes
 marked_byte size page done bytes large full holds dropped goes first =
     let fragments : page.fragments ≡ bytes ∷ [] = holds ∙ ap (λ (before : List (List ℕ)). before ++ bytes ∷ []) first in
@@ -50,7 +50,7 @@ marked_byte size page done bytes large full holds dropped goes first =
 
 -- Lengths in one chunk
 
-pub stands_in_one : (pieces : List Piece) (at : ℕ) → StandsIn pieces at → chunk_at pieces at ≡ chunk_at pieces (at + 3)
+pub stands_in_one : (pieces : List Piece) (at : ℕ) → StandInOnePiece pieces at → chunk_at pieces at ≡ chunk_at pieces (at + 3)
 stands_in_one [] at stands = absurd stands
 stands_in_one (piece ∷ pieces) at stands = elim (cases_lt at (length piece.fragment.bytes)) [
   | inl lt ↦

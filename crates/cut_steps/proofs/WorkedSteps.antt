@@ -6,7 +6,7 @@ use Rattle.wire_varint.specs.Varint.{redundant}
 use Rattle.trace_model.specs.Images.{Patch}
 use Rattle.trace_model.specs.Packets.{Packet, Text, with_more, with_nested_ended, finished_packet, given_up_packet}
 use Rattle.trace_model.specs.Pages.{Page}
-use Rattle.trace_model.specs.Cut.{IsFull, CutsInto}
+use Rattle.trace_model.specs.Cut.{IsWellFormedPage, CutsInto}
 use Rattle.commit_body.specs.declared.hole.Hole.{Hole}
 use Rattle.commit_body.specs.Pending.{patch_for}
 use Rattle.cut_steps.specs.Writing.{with_open, IsWriting}
@@ -40,7 +40,7 @@ first_page = record {
   patches = [];
 }
 
-first_full : IsFull 12 first_page
+first_full : IsWellFormedPage 12 first_page
 unfolding redundant first_page
 first_full = record { some = omega arith; most = omega arith; whole = refl; dropped = λ e. absurd (false≢true e) }
 
@@ -78,7 +78,7 @@ whole_page = record {
   patches = record { chunk_id = 0; offset = 7; bytes = 130 ∷ 128 ∷ 128 ∷ 0 ∷ []; last = true } ∷ [];
 }
 
-whole_full : IsFull 12 whole_page
+whole_full : IsWellFormedPage 12 whole_page
 unfolding redundant whole_page
 whole_full = record { some = omega arith; most = omega arith; whole = refl; dropped = λ e. absurd (false≢true e) }
 
@@ -106,7 +106,7 @@ marked_page = record {
   patches = record { chunk_id = 0; offset = 7; bytes = 128 ∷ 128 ∷ 128 ∷ 0 ∷ []; last = true } ∷ [];
 }
 
-marked_full : IsFull 12 marked_page
+marked_full : IsWellFormedPage 12 marked_page
 unfolding redundant marked_page
 marked_full = record { some = omega arith; most = omega arith; whole = refl; dropped = λ e. (refl, refl) }
 
@@ -146,7 +146,7 @@ unused_page = record {
   patches = record { chunk_id = 0; offset = 7; bytes = 128 ∷ 128 ∷ 128 ∷ 0 ∷ []; last = true } ∷ [];
 }
 
-unused_full : IsFull 12 unused_page
+unused_full : IsWellFormedPage 12 unused_page
 unfolding redundant unused_page
 unused_full = record { some = omega arith; most = omega arith; whole = refl; dropped = λ e. (refl, refl) }
 

@@ -6,7 +6,7 @@ use Rattle.trace_model.specs.Packets.{Packet, kept_of}
 use Rattle.trace_model.specs.Pages.{Page}
 use Rattle.trace_model.specs.Row.{Chain}
 use Rattle.trace_model.specs.Sent.{all_sent, open_chunks}
-use Rattle.trace_model.specs.Cut.{IsFull, FlagsAgree, all_begin_well}
+use Rattle.trace_model.specs.Cut.{IsWellFormedPage, FlagsAgree, all_begin_well}
 use Rattle.cut_steps.specs.RawCut.{IsRawChainOf}
 use Rattle.cut_steps.specs.Pieces.{IsLarge, ChainsEndBefore}
 use Rattle.cut_steps.specs.Pending.{HasSent, patches_so_far, AllHaveFour}
@@ -22,5 +22,5 @@ pub record IsBetween (size : ℕ) (packets : List Packet) (pages : List Page) (c
   pub four : AllHaveFour (patches_so_far pages [] unsent)
   pub ends : ChainsEndBefore (length pages) offset chains
   pub large : IsLarge size
-  pub full : All (IsFull size) pages
+  pub full : All (IsWellFormedPage size) pages
   pub flags : FlagsAgree false pages

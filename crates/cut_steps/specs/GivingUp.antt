@@ -7,7 +7,7 @@ use Rattle.trace_model.specs.Packets.{Packet, Text, flat, open_length, open_plac
 use Rattle.trace_model.specs.Pages.{Page}
 use Rattle.trace_model.specs.Row.{Piece}
 use Rattle.trace_model.specs.Sent.{SentPatch, all_sent, sent_at_drop, chunk_at, last_chunk, open_in, is_in_one}
-use Rattle.trace_model.specs.Cut.{IsFull, FlagsAgree, last_runs_on, length_places, all_end_well, all_go_on, begins_well, all_begin_well}
+use Rattle.trace_model.specs.Cut.{IsWellFormedPage, FlagsAgree, last_runs_on, length_places, all_end_well, all_go_on, begins_well, all_begin_well}
 use Rattle.commit_body.specs.declared.hole.Hole.{Hole}
 use Rattle.commit_body.specs.Patches.{hole_chunks}
 use Rattle.cut_steps.specs.RawChains.{earlier_pieces, chains_before, current_piece, current_pieces, current_chain}
@@ -59,7 +59,7 @@ pub record IsGivingUp (size : ℕ) (packet : Packet) (older : List Packet) (page
   pub goes_on : IsTrue (all_go_on (earlier_pieces pages continues done))
   pub lengths : IsTrue (list_all (is_in_one (current_pieces pages continues done now)) (open_in (current_pieces pages continues done now) text))
   pub large : IsLarge size
-  pub full : All (IsFull size) pages
+  pub full : All (IsWellFormedPage size) pages
   pub flags : FlagsAgree false pages
   pub continues_is : continues ≡ last_runs_on false pages
 

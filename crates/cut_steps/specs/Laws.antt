@@ -4,7 +4,7 @@ use Rattle.std.specs.Prelude.{◌≡◌, ℕ, true, false, List, [], ◌∷◌, 
 use Rattle.trace_model.specs.Images.{Patch}
 use Rattle.trace_model.specs.Packets.{Packet, is_writing}
 use Rattle.trace_model.specs.Pages.{Page}
-use Rattle.trace_model.specs.Cut.{IsFull, CutsInto, last_runs_on, newest_goes_on}
+use Rattle.trace_model.specs.Cut.{IsWellFormedPage, CutsInto, last_runs_on, newest_goes_on}
 use Rattle.commit_body.specs.declared.hole.Hole.{Hole}
 use Rattle.commit_body.specs.Patches.{hole_chunks, with_lasts}
 use Rattle.cut_steps.specs.RawChains.{raw_chains}
@@ -20,7 +20,7 @@ pub record IsHeldPage (size : ℕ) (page : Page) (fragments : List (List ℕ)) (
   pub unmarked : page.dropped ≡ false
   pub settled : page.awaits ≡ false
   pub brings : page.patches ≡ with_lasts (hole_chunks holes) unsent
-  pub full : IsFull size page
+  pub full : IsWellFormedPage size page
 
 -- From each state of a writer its pages are a cut of its packets.
 pub record StatesAreCuts : Type 0 where

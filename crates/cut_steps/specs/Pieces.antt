@@ -11,17 +11,17 @@ Follows chunk_id [] = ⊤
 Follows chunk_id (piece ∷ pieces) = (piece.at.chunk_id ≡ chunk_id) × Follows (suc chunk_id) pieces
 
 -- the four bytes at a place of a chain stand in one piece
-abbrev pub StandsIn : List Piece → ℕ → Type 0
-StandsIn [] at = ⊥
-StandsIn (piece ∷ pieces) at =
+abbrev pub StandInOnePiece : List Piece → ℕ → Type 0
+StandInOnePiece [] at = ⊥
+StandInOnePiece (piece ∷ pieces) at =
     MatchBool (nat_lt at (length piece.fragment.bytes))
     (at + 4 ≤ length piece.fragment.bytes)
-    (StandsIn pieces (at - length piece.fragment.bytes))
+    (StandInOnePiece pieces (at - length piece.fragment.bytes))
 
 -- the four bytes at each of these places of a packet stand in one of its pieces
 abbrev pub AllStandIn : List Piece → List ℕ → Type 0
 AllStandIn pieces [] = ⊤
-AllStandIn pieces (at ∷ others) = StandsIn pieces at × AllStandIn pieces others
+AllStandIn pieces (at ∷ others) = StandInOnePiece pieces at × AllStandIn pieces others
 
 -- a payload has room for a fragment's size, for the less than four bytes that may be left, and for a byte more
 abbrev pub IsLarge : ℕ → Type 0

@@ -7,7 +7,7 @@ use Rattle.trace_model.specs.Packets.{Packet, kept_of}
 use Rattle.trace_model.specs.Pages.{Page, patches_of}
 use Rattle.trace_model.specs.Row.{Chain, bytes_of}
 use Rattle.trace_model.specs.Sent.{text_of, open_in, is_in_one}
-use Rattle.trace_model.specs.Cut.{IsFull, FlagsAgree, last_runs_on, newest_goes_on, AreBytesOf, length_places, all_end_well, all_go_on, is_marked_fate, all_begin_well, PatchesAgree}
+use Rattle.trace_model.specs.Cut.{IsWellFormedPage, FlagsAgree, last_runs_on, newest_goes_on, AreBytesOf, length_places, all_end_well, all_go_on, is_marked_fate, all_begin_well, PatchesAgree}
 use Rattle.cut_steps.specs.RawChains.{raw_chains, settled_piece}
 
 -- The chain, once these patches are put in, is what was written of the packet.
@@ -20,7 +20,7 @@ pub record IsRawChainOf (size : ℕ) (patches : List Patch) (packet : Packet) (c
 
 -- a cut, said of chains without their patches
 pub record CutsRaw (size : ℕ) (packets : List Packet) (pages : List Page) : Type 0 where
-  pub full : All (IsFull size) pages
+  pub full : All (IsWellFormedPage size) pages
   pub flags : FlagsAgree false pages
   pub last : last_runs_on false pages ≡ true → newest_goes_on packets ≡ true
   pub chains : AllZip (IsRawChainOf size (patches_of pages)) (kept_of packets) (raw_chains pages)

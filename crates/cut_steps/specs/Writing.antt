@@ -5,7 +5,7 @@ use Rattle.trace_model.specs.Images.{Patch}
 use Rattle.trace_model.specs.Packets.{Packet, flat, open_length, open_places, kept_of}
 use Rattle.trace_model.specs.Pages.{Page}
 use Rattle.trace_model.specs.Sent.{all_sent}
-use Rattle.trace_model.specs.Cut.{IsFull, FlagsAgree, last_runs_on, length_places, all_end_well, all_go_on, begins_well, all_begin_well}
+use Rattle.trace_model.specs.Cut.{IsWellFormedPage, FlagsAgree, last_runs_on, length_places, all_end_well, all_go_on, begins_well, all_begin_well}
 use Rattle.commit_body.specs.declared.hole.Hole.{Hole}
 use Rattle.commit_body.specs.Patches.{hole_chunks}
 use Rattle.cut_steps.specs.RawChains.{earlier_pieces, chains_before, current_piece, current_pieces, current_chain}
@@ -45,6 +45,6 @@ pub record IsWriting (size : ℕ) (packet : Packet) (older : List Packet) (pages
   pub older_end : ChainsEndBefore first first_offset (chains_before pages continues done)
   pub goes_on : IsTrue (all_go_on (earlier_pieces pages continues done))
   pub large : IsLarge size
-  pub full : All (IsFull size) pages
+  pub full : All (IsWellFormedPage size) pages
   pub flags : FlagsAgree false pages
   pub continues_is : continues ≡ last_runs_on false pages

@@ -10,7 +10,7 @@ use Rattle.trace_model.specs.Pages.{Page, chunk_of, patches_of}
 use Rattle.trace_model.specs.Written.{settled_fragments}
 use Rattle.trace_model.specs.Sequences.{is_among}
 use Rattle.trace_model.specs.Sent.{AllChunksBelow, Behind, chunks_of, LastsAre, is_placed_in, is_placed}
-use Rattle.trace_model.specs.Cut.{IsFull}
+use Rattle.trace_model.specs.Cut.{IsWellFormedPage}
 use Rattle.delivery_laws.specs.Sheets.{Sheet, sheet_patches}
 use Rattle.delivery_laws.specs.Histories.{Completes}
 use Rattle.delivery_laws.specs.WriterSheets.{sheet_of, sheets_from, sheets_of}
@@ -227,11 +227,11 @@ pub record IsCompleted (sheets : List Sheet) (chunk_id : ℕ) (sheet : Sheet) : 
 abbrev pub EachCompletes : List Sheet → Type 0
 EachCompletes sheets = (chunk_id : ℕ) (sheet : Sheet) → slice_get sheets chunk_id ≡ Some sheet → IsCompleted sheets chunk_id sheet
 
-pub full_at : (size : ℕ) (pages : List Page) (place : ℕ) (page : Page) → AreFull size pages → slice_get pages place ≡ Some page → IsFull size page
+pub full_at : (size : ℕ) (pages : List Page) (place : ℕ) (page : Page) → AreFull size pages → slice_get pages place ≡ Some page → IsWellFormedPage size page
 full_at size [] place page full get = absurd (cc)
 full_at size (first ∷ pages) zero page full get =
     let same : first ≡ page = cc in
-    subst (IsFull size) same full.0
+    subst (IsWellFormedPage size) same full.0
 full_at size (first ∷ pages) (suc place) page full get = full_at size pages place page full.1 get
 
 pub each_completes : (size : ℕ) (goes : Bool) (pages : List Page) (open_ones : List ℕ) → AreFull size pages → Behind 0 pages → LastsAre open_ones (patches_of pages)

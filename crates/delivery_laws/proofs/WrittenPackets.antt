@@ -9,7 +9,7 @@ use Rattle.trace_model.specs.Sequences.{Cursor}
 use Rattle.trace_model.specs.Pages.{Page, chunk_of, fragments_from, patches_of}
 use Rattle.trace_model.specs.Row.{Piece, Chain, Whole, Marked, CutOff, Open, Link, Joined, Gap, Stop, Unpatched, bytes_of, joined_to, with_piece, chain_of, place, place_behind, is_last, is_part, chunk_links, row_of}
 use Rattle.trace_model.specs.Written.{settled_fragments, settled_chunk, written_slots, written_row, chains_in}
-use Rattle.trace_model.specs.Cut.{IsFull, FlagsAgree, is_marked_fate}
+use Rattle.trace_model.specs.Cut.{IsWellFormedPage, FlagsAgree, is_marked_fate}
 use Rattle.trace_model.proofs.CursorLemmas.{Each}
 use Rattle.model_laws.proofs.StartLemmas.{same_long}
 use Rattle.delivery_laws.specs.Sheets.{Part, WrittenPacket, SheetsAgree, parts_from, all_parts, tail_bytes, ends_whole, packets_in}
@@ -211,20 +211,20 @@ page_long at dropped (text ∷ next ∷ texts) = let e = page_long (at + length 
 -- each page is full, said page by page
 abbrev pub AreFull : ℕ → List Page → Type 0
 AreFull size [] = Unit {0}
-AreFull size (page ∷ pages) = IsFull size page × AreFull size pages
+AreFull size (page ∷ pages) = IsWellFormedPage size page × AreFull size pages
 
-pub are_full : (size : ℕ) (pages : List Page) → All (IsFull size) pages → AreFull size pages
+pub are_full : (size : ℕ) (pages : List Page) → All (IsWellFormedPage size) pages → AreFull size pages
 are_full size [] h = tt
 are_full size (page ∷ pages) h = (h 0 page (omega arith), are_full size pages (λ k d low. h (suc k) d (omega (arith, low))))
 
-settled_some : (size : ℕ) (patches : List Patch) (chunk_id : ℕ) (page : Page) → IsFull size page → 0 < length (settled_fragments patches chunk_id (chunk_of page).fragments)
+settled_some : (size : ℕ) (patches : List Patch) (chunk_id : ℕ) (page : Page) → IsWellFormedPage size page → 0 < length (settled_fragments patches chunk_id (chunk_of page).fragments)
 settled_some size patches chunk_id page full =
     let some = full.some in
     let long = settled_long patches chunk_id (chunk_of page).fragments in
     let texts = page_long 4 page.dropped page.fragments in
     omega (arith, some, long, texts)
 
-follows_page : (size : ℕ) (patches : List Patch) (chunk_id : ℕ) (goes runs_on : Bool) (page : Page) (more : List Page) → page.continues ≡ runs_on → IsFull size page
+follows_page : (size : ℕ) (patches : List Patch) (chunk_id : ℕ) (goes runs_on : Bool) (page : Page) (more : List Page) → page.continues ≡ runs_on → IsWellFormedPage size page
     → Follows (not runs_on) (all_parts (sheets_from patches chunk_id goes (page ∷ more)))
 follows_page size patches chunk_id goes runs_on page [] e full =
     begins (settled_fragments patches chunk_id (chunk_of page).fragments) (settled_some size patches chunk_id page full)
@@ -239,7 +239,7 @@ follows_page size patches chunk_id goes runs_on page (next ∷ more) e full =
     begins [] some = absurd (omega (arith, some))
     begins (f ∷ fs) some = ap not e
 
-covers_page : (size : ℕ) (patches : List Patch) (chunk_id : ℕ) (goes : Bool) (page : Page) (after : List Part) (rest : List Link) → IsFull size page
+covers_page : (size : ℕ) (patches : List Patch) (chunk_id : ℕ) (goes : Bool) (page : Page) (after : List Part) (rest : List Link) → IsWellFormedPage size page
     → Follows (not page.runs_on) after → Covers rest after
     → Covers (chunk_links false chunk_id (settled_chunk patches chunk_id (chunk_of page)) 0 (settled_fragments patches chunk_id (chunk_of page).fragments) rest)
     (parts_from page.continues goes (settled_fragments patches chunk_id (chunk_of page).fragments) ++ after)
@@ -368,7 +368,7 @@ last_goes_on size patches (page ∷ next ∷ pages) chunk_id full =
     long continues goes [] more h = absurd (omega (arith, h))
     long continues goes (f ∷ fs) more h = omega arith
 
-    some_parts : (page : Page) (more : List Page) → IsFull size page → 0 < length (all_parts (sheets_from patches (suc chunk_id) true (page ∷ more)))
+    some_parts : (page : Page) (more : List Page) → IsWellFormedPage size page → 0 < length (all_parts (sheets_from patches (suc chunk_id) true (page ∷ more)))
     some_parts page [] f = long page.continues true (settled_fragments patches (suc chunk_id) (chunk_of page).fragments) [] (settled_some size patches (suc chunk_id) page f)
     some_parts page (other ∷ more) f = long page.continues page.runs_on (settled_fragments patches (suc chunk_id) (chunk_of page).fragments)
         (all_parts (sheets_from patches (suc (suc chunk_id)) true (other ∷ more))) (settled_some size patches (suc chunk_id) page f)

@@ -10,28 +10,28 @@ use Rattle.field_tree.specs.declared.mode.Action.{Action}
 use Rattle.field_tree.specs.declared.mode.Action.TheVariants.{Refuse, Go, Keep, Open, Close}
 use Rattle.field_tree.specs.Nodes.{Shown, nodes_of}
 use Rattle.field_tree.specs.Grammar.{number, Quoted as AsQuoted, Repeated, InPairs, IsTextOf, Spells}
-use Rattle.field_tree.specs.Machine.{Reading, act, settled, before_byte, moved, applied, next, then_run, run, is_after, finish, beginning, IsValid}
+use Rattle.field_tree.specs.Machine.{TextReading, act, settled, before_byte, moved, applied, next, then_run, run, is_after, finish, beginning, IsValid}
 use Rattle.field_tree.proofs.TestLemmas.{number_digit}
 use Rattle.field_tree.proofs.Messages.{InMessage, AField, ends_here, number_before, bytes_before}
 use Rattle.field_tree.proofs.Steps.{Follows, Back, act_back}
 
 -- the nodes of all, where the text behind a place ends it
-abbrev pub accepted : Reading → List ℕ → Option (List Shown)
+abbrev pub accepted : TextReading → List ℕ → Option (List Shown)
 accepted r text = option_and_then finish (run r text)
 
 -- what follows a place, and the nodes of all
-pub record Means (r : Reading) (all : List Shown) (text : List ℕ) : Type 0 where
+pub record Means (r : TextReading) (all : List Shown) (text : List ℕ) : Type 0 where
   pub nodes : List Shown
   pub all_is : all ≡ r.nodes ++ nodes
   pub follows : Follows r.mode r.text r.depth nodes text
 
 -- ---- the end of a field
 
-pub record SettlesBack (r to : Reading) : Type 0 where
+pub record SettlesBack (r to : TextReading) : Type 0 where
   pub valid : IsValid to.mode to.text
   pub back : (all : List Shown) (text : List ℕ) → Means to all text → Means r all text
 
-stays : (r : Reading) → IsValid r.mode r.text → SettlesBack r r
+stays : (r : TextReading) → IsValid r.mode r.text → SettlesBack r r
 stays r valid = record { valid = valid; back = λ all text m. m }
 
 joins : (all ns nodes : List Shown) (one : Shown) → all ≡ (ns ++ one ∷ []) ++ nodes → all ≡ ns ++ one ∷ nodes
@@ -79,23 +79,23 @@ settle_back ns d t (Half n high) valid = stays _ valid
 settle_back ns d t (Packed n) valid = settles ns d t (Packed n) (Bytes n 1) (λ nodes text m. bytes_before n 1 d t _ nodes text valid.0 (InPairs valid.1 refl refl) m)
 settle_back ns d t After valid = stays _ valid
 
-before_back : (r : Reading) (b : ℕ) → IsValid r.mode r.text → SettlesBack r (before_byte b r)
+before_back : (r : TextReading) (b : ℕ) → IsValid r.mode r.text → SettlesBack r (before_byte b r)
 before_back r b valid =
-    cond_both (b == 32 || b == 125) (settled r) r (λ (q : Reading). SettlesBack r q)
+    cond_both (b == 32 || b == 125) (settled r) r (λ (q : TextReading). SettlesBack r q)
     (λ is. settle_back r.nodes r.depth r.text r.mode valid)
     (λ is. stays r valid)
 
 -- ---- a byte
 
-pub record StepsBack (r : Reading) (b : ℕ) (to : Reading) : Type 0 where
+pub record StepsBack (r : TextReading) (b : ℕ) (to : TextReading) : Type 0 where
   pub valid : IsValid to.mode to.text
   pub back : (all : List Shown) (text : List ℕ) → Means to all text → Means r all (b ∷ text)
 
-abbrev pub Steps : Reading → ℕ → Option Reading → Type 0
+abbrev pub Steps : TextReading → ℕ → Option TextReading → Type 0
 Steps r b None = Unit {0}
 Steps r b (Some to) = StepsBack r b to
 
-applied_back : (r : Reading) (b : ℕ) (a : Action) → Back r.mode r.text (nat_lt 0 r.depth) b a → Steps r b (applied a r)
+applied_back : (r : TextReading) (b : ℕ) (a : Action) → Back r.mode r.text (nat_lt 0 r.depth) b a → Steps r b (applied a r)
 unfolding applied
 applied_back r b Refuse given = tt
 applied_back r b (Go to) given = record {
@@ -128,24 +128,24 @@ applied_back r b Close given =
           };
     }
 
-both_back : (r q : Reading) (b : ℕ) (o : Option Reading) → SettlesBack r q → Steps q b o → Steps r b o
+both_back : (r q : TextReading) (b : ℕ) (o : Option TextReading) → SettlesBack r q → Steps q b o → Steps r b o
 both_back r q b None settle step = tt
 both_back r q b (Some to) settle step = record {
   valid = step.valid;
   back = λ all text m. settle.back all (b ∷ text) (step.back all text m);
 }
 
-pub next_back : (r : Reading) (b : ℕ) → IsValid r.mode r.text → Steps r b (next r b)
+pub next_back : (r : TextReading) (b : ℕ) → IsValid r.mode r.text → Steps r b (next r b)
 unfolding next
 next_back r b valid =
     let settle = before_back r b valid in
-    let q : Reading = before_byte b r in
+    let q : TextReading = before_byte b r in
     both_back r q b (moved b q) settle
     (applied_back q b (act q.mode (nat_lt 0 q.depth) b) (act_back q.mode q.text (nat_lt 0 q.depth) b settle.valid))
 
 -- ---- a text
 
-ends_as : (r : Reading) (all : List Shown) (m : Mode) → r.mode ≡ m → is_after m ≡ true → r.depth ≡ 0 → all ≡ r.nodes
+ends_as : (r : TextReading) (all : List Shown) (m : Mode) → r.mode ≡ m → is_after m ≡ true → r.depth ≡ 0 → all ≡ r.nodes
     → Follows m r.text r.depth [] []
 ends_as r all After mode after depth nodes =
     let P : ℕ → Type 0 = λ d. InMessage true d [] [] in
@@ -164,7 +164,7 @@ ends_as r all (Pairs n) mode after depth nodes = absurd (cc)
 ends_as r all (Half n h) mode after depth nodes = absurd (cc)
 ends_as r all (Packed n) mode after depth nodes = absurd (cc)
 
-end_means : (r : Reading) (all : List Shown) (test : Bool) → (is_after r.mode && r.depth == 0) ≡ test → cond test (Some r.nodes) None ≡ Some all
+end_means : (r : TextReading) (all : List Shown) (test : Bool) → (is_after r.mode && r.depth == 0) ≡ test → cond test (Some r.nodes) None ≡ Some all
     → Means r all []
 end_means r all true is given =
     let both = and_parts (is_after r.mode) (r.depth == 0) is in
@@ -176,14 +176,14 @@ end_means r all true is given =
     }
 end_means r all false is given = absurd (cc)
 
-step_means : (r : Reading) (b : ℕ) (bs : List ℕ) (all : List Shown) (o : Option Reading) → Steps r b o
+step_means : (r : TextReading) (b : ℕ) (bs : List ℕ) (all : List Shown) (o : Option TextReading) → Steps r b o
     → option_and_then finish (then_run (λ q. run q bs) o) ≡ Some all
-    → ((q : Reading) → IsValid q.mode q.text → accepted q bs ≡ Some all → Means q all bs)
+    → ((q : TextReading) → IsValid q.mode q.text → accepted q bs ≡ Some all → Means q all bs)
     → Means r all (b ∷ bs)
 step_means r b bs all None step given again = absurd (cc)
 step_means r b bs all (Some q) step given again = step.back all bs (again q step.valid given)
 
-pub means : (text : List ℕ) (r : Reading) (all : List Shown) → IsValid r.mode r.text → accepted r text ≡ Some all → Means r all text
+pub means : (text : List ℕ) (r : TextReading) (all : List Shown) → IsValid r.mode r.text → accepted r text ≡ Some all → Means r all text
 unfolding run finish
 means [] r all valid given =
     let settle = settle_back r.nodes r.depth r.text r.mode valid in

@@ -9,10 +9,10 @@ use Rattle.field_tree.specs.declared.mode.Action.{Action}
 use Rattle.field_tree.specs.declared.mode.Action.TheVariants.{Refuse, Go, Keep, Open, Close}
 use Rattle.field_tree.specs.Nodes.{Shown}
 use Rattle.field_tree.specs.Grammar.{number, is_digit}
-use Rattle.field_tree.specs.Machine.{Reading, is_first_digit, is_text_byte, grown, hex_value, go_on, act, settled, moved, applied, next, then_run, run, beginning, IsValid}
+use Rattle.field_tree.specs.Machine.{TextReading, is_first_digit, is_text_byte, grown, hex_value, go_on, act, settled, moved, applied, next, then_run, run, beginning, IsValid}
 use Rattle.field_tree.proofs.TestLemmas.{first_digit_range, by_grown, by_hex, number_digit, number_more}
 use Rattle.field_tree.proofs.Accepted.{Steps, next_back}
-use Rattle.field_tree.specs.Scanning.{place}
+use Rattle.field_tree.specs.Scanning.{reading_with}
 use Rattle.field_tree.proofs.Words.{EndsPlain, Empty, Ends}
 
 -- the text ends in a word, behind a byte that is no digit or nothing
@@ -123,11 +123,11 @@ act_cut After t text inner b valid cut = after_cut text inner b
 
 -- ---- a byte
 
-abbrev NextCut : List ℕ → ℕ → Option Reading → Type 0
+abbrev NextCut : List ℕ → ℕ → Option TextReading → Type 0
 NextCut text b None = Unit {0}
 NextCut text b (Some q) = IsCut (text ++ b ∷ []) q.mode
 
-applied_cut : (r : Reading) (text : List ℕ) (b : ℕ) (a : Action) → Cuts text b a → NextCut text b (applied a r)
+applied_cut : (r : TextReading) (text : List ℕ) (b : ℕ) (a : Action) → Cuts text b a → NextCut text b (applied a r)
 unfolding applied
 applied_cut r text b Refuse cut = tt
 applied_cut r text b (Go to) cut = cut
@@ -136,7 +136,7 @@ applied_cut r text b (Open n) cut = cut
 applied_cut r text b Close cut = cut
 
 settled_cut : (ns : List Shown) (d : ℕ) (t : List ℕ) (m : Mode) (text : List ℕ) (b : ℕ) → IsValid m t → IsCut text m
-    → NextCut text b (moved b (settled (place ns d t m)))
+    → NextCut text b (moved b (settled (reading_with ns d t m)))
 unfolding settled
 settled_cut ns d t (Zero n) text b valid cut = applied_cut _ text b _ (after_cut text (nat_lt 0 d) b)
 settled_cut ns d t (Digits n v) text b valid cut = applied_cut _ text b _ (after_cut text (nat_lt 0 d) b)
@@ -153,44 +153,44 @@ settled_cut ns d t (Tick n) text b valid cut = applied_cut _ text b _ (act_cut (
 settled_cut ns d t (Pairs n) text b valid cut = applied_cut _ text b _ (act_cut (Pairs n) t text (nat_lt 0 d) b valid cut)
 settled_cut ns d t (Half n high) text b valid cut = applied_cut _ text b _ (act_cut (Half n high) t text (nat_lt 0 d) b valid cut)
 
-next_cut : (r : Reading) (text : List ℕ) (b : ℕ) → IsValid r.mode r.text → IsCut text r.mode → NextCut text b (next r b)
+next_cut : (r : TextReading) (text : List ℕ) (b : ℕ) → IsValid r.mode r.text → IsCut text r.mode → NextCut text b (next r b)
 unfolding next
 next_cut r text b valid cut =
-    cond_both (b == 32 || b == 125) (settled r) r (λ (q : Reading). NextCut text b (moved b q))
+    cond_both (b == 32 || b == 125) (settled r) r (λ (q : TextReading). NextCut text b (moved b q))
     (λ _. settled_cut r.nodes r.depth r.text r.mode text b valid cut)
     (λ _. applied_cut r text b (act r.mode (nat_lt 0 r.depth) b) (act_cut r.mode r.text text (nat_lt 0 r.depth) b valid cut))
 
-step_cut : (text : List ℕ) (b : ℕ) (bs : List ℕ) (r to : Reading) (o : Option Reading) → Steps r b o → NextCut text b o
+step_cut : (text : List ℕ) (b : ℕ) (bs : List ℕ) (r to : TextReading) (o : Option TextReading) → Steps r b o → NextCut text b o
     → then_run (λ q. run q bs) o ≡ Some to
-    → ((q : Reading) → IsValid q.mode q.text → IsCut (text ++ b ∷ []) q.mode → run q bs ≡ Some to → IsCut ((text ++ b ∷ []) ++ bs) to.mode)
+    → ((q : TextReading) → IsValid q.mode q.text → IsCut (text ++ b ∷ []) q.mode → run q bs ≡ Some to → IsCut ((text ++ b ∷ []) ++ bs) to.mode)
     → IsCut (text ++ b ∷ bs) to.mode
 step_cut text b bs r to None step cut given again = absurd (cc)
 step_cut text b bs r to (Some q) step cut given again =
     let P : List ℕ → Type 0 = λ w. IsCut w to.mode in
     subst P (append_assoc text (b ∷ []) bs) (again q step.valid cut given)
 
-run_cut : (bs text : List ℕ) (r to : Reading) → IsValid r.mode r.text → IsCut text r.mode → run r bs ≡ Some to → IsCut (text ++ bs) to.mode
+run_cut : (bs text : List ℕ) (r to : TextReading) → IsValid r.mode r.text → IsCut text r.mode → run r bs ≡ Some to → IsCut (text ++ bs) to.mode
 unfolding run
 run_cut [] text r to valid cut given =
     let same : r ≡ to = cc in
-    let P : Reading → Type 0 = λ q. IsCut text q.mode in
+    let P : TextReading → Type 0 = λ q. IsCut text q.mode in
     let Q : List ℕ → Type 0 = λ w. IsCut w to.mode in
     subst Q (sym (append-nil text)) (subst P same cut)
 run_cut (b ∷ bs) text r to valid cut given =
     step_cut text b bs r to (next r b) (next_back r b valid) (next_cut r text b valid cut) given
     (λ q valid cut is. run_cut bs (text ++ b ∷ []) q to valid cut is)
 
-pub cut_here : (text : List ℕ) (to : Reading) → run beginning text ≡ Some to → IsCut text to.mode
+pub cut_here : (text : List ℕ) (to : TextReading) → run beginning text ≡ Some to → IsCut text to.mode
 unfolding beginning
 cut_here text to given = run_cut text [] beginning to refl (Empty refl) given
 
 -- ---- the depth
 
-abbrev NextDepth : ℕ → Option Reading → Type 0
+abbrev NextDepth : ℕ → Option TextReading → Type 0
 NextDepth d None = Unit {0}
 NextDepth d (Some q) = q.depth ≤ d + 1
 
-applied_depth : (r : Reading) (a : Action) → NextDepth r.depth (applied a r)
+applied_depth : (r : TextReading) (a : Action) → NextDepth r.depth (applied a r)
 unfolding applied
 applied_depth r Refuse = tt
 applied_depth r (Go to) = omega arith
@@ -198,7 +198,7 @@ applied_depth r (Keep to byte) = omega arith
 applied_depth r (Open n) = omega arith
 applied_depth r Close = omega arith
 
-settled_depth : (ns : List Shown) (d : ℕ) (t : List ℕ) (m : Mode) → (settled (place ns d t m)).depth ≡ d
+settled_depth : (ns : List Shown) (d : ℕ) (t : List ℕ) (m : Mode) → (settled (reading_with ns d t m)).depth ≡ d
 unfolding settled
 settled_depth ns d t (Zero n) = refl
 settled_depth ns d t (Digits n v) = refl
@@ -215,25 +215,25 @@ settled_depth ns d t (Tick n) = refl
 settled_depth ns d t (Pairs n) = refl
 settled_depth ns d t (Half n high) = refl
 
-next_depth : (r : Reading) (b : ℕ) → NextDepth r.depth (next r b)
+next_depth : (r : TextReading) (b : ℕ) → NextDepth r.depth (next r b)
 unfolding next
 next_depth r b =
-    cond_both (b == 32 || b == 125) (settled r) r (λ (q : Reading). NextDepth r.depth (moved b q))
+    cond_both (b == 32 || b == 125) (settled r) r (λ (q : TextReading). NextDepth r.depth (moved b q))
     (λ _.
     let P : ℕ → Type 0 = λ d. NextDepth d (moved b (settled r)) in
     subst P (settled_depth r.nodes r.depth r.text r.mode) (applied_depth (settled r) (act (settled r).mode (nat_lt 0 (settled r).depth) b)))
     (λ _. applied_depth r (act r.mode (nat_lt 0 r.depth) b))
 
-step_depth : (b : ℕ) (bs : List ℕ) (d : ℕ) (to : Reading) (o : Option Reading) → NextDepth d o → then_run (λ q. run q bs) o ≡ Some to
-    → ((q : Reading) → run q bs ≡ Some to → to.depth ≤ q.depth + length bs) → to.depth ≤ d + length (b ∷ bs)
+step_depth : (b : ℕ) (bs : List ℕ) (d : ℕ) (to : TextReading) (o : Option TextReading) → NextDepth d o → then_run (λ q. run q bs) o ≡ Some to
+    → ((q : TextReading) → run q bs ≡ Some to → to.depth ≤ q.depth + length bs) → to.depth ≤ d + length (b ∷ bs)
 step_depth b bs d to None near given again = absurd (cc)
 step_depth b bs d to (Some q) near given again = let later = again q given in omega arith
 
-run_depth : (bs : List ℕ) (r to : Reading) → run r bs ≡ Some to → to.depth ≤ r.depth + length bs
+run_depth : (bs : List ℕ) (r to : TextReading) → run r bs ≡ Some to → to.depth ≤ r.depth + length bs
 unfolding run
-run_depth [] r to given = let same : r ≡ to = cc in let P : Reading → Type 0 = λ q. q.depth ≤ r.depth + 0 in subst P same (omega arith)
+run_depth [] r to given = let same : r ≡ to = cc in let P : TextReading → Type 0 = λ q. q.depth ≤ r.depth + 0 in subst P same (omega arith)
 run_depth (b ∷ bs) r to given = step_depth b bs r.depth to (next r b) (next_depth r b) given (λ q is. run_depth bs q to is)
 
-pub depth_within : (text : List ℕ) (to : Reading) → run beginning text ≡ Some to → to.depth ≤ length text
+pub depth_within : (text : List ℕ) (to : TextReading) → run beginning text ≡ Some to → to.depth ≤ length text
 unfolding beginning
 depth_within text to given = let within : to.depth ≤ 0 + length text = run_depth text beginning to given in omega arith

@@ -8,10 +8,10 @@ use Rattle.field_tree.specs.declared.mode.Mode.{Mode}
 use Rattle.field_tree.specs.declared.mode.Mode.TheVariants.{Start, Field, Value, Zero, Digits, Text, Quoted, Star, Times, Tick, Pairs, Half, Packed, After}
 use Rattle.field_tree.specs.Nodes.{Shown, nodes_of}
 use Rattle.field_tree.specs.Grammar.{IsTextByte, number, is_digit, hex_digit, leading_digits, first_word, IsTextOf, Spells, IsFrontOfFields, IsFaultAt}
-use Rattle.field_tree.specs.Machine.{Reading, is_first_digit, next, then_run, run, finish, beginning, open_digits, taken_back, IsValid}
+use Rattle.field_tree.specs.Machine.{TextReading, is_first_digit, next, then_run, run, finish, beginning, open_digits, taken_back, IsValid}
 use Rattle.field_tree.proofs.TestLemmas.{digit_range, hex_digit_low}
 use Rattle.field_tree.proofs.Accepted.{accepted}
-use Rattle.field_tree.specs.Scanning.{place}
+use Rattle.field_tree.specs.Scanning.{reading_with}
 use Rattle.field_tree.proofs.Runs.{run-append, text_step, pair_first, pair_last}
 use Rattle.field_tree.proofs.Spelled.{spelled_accepted}
 use Rattle.field_tree.proofs.Completes.{valid_here, begins_fields, begins_none, shorter_front}
@@ -109,7 +109,7 @@ digit_hex : (b : ℕ) → is_digit b ≡ true → hex_digit (b - 48) ≡ b
 digit_hex b is = let range = digit_range b is in let back : 48 + (b - 48) ≡ b = omega arith in hex_digit_low (b - 48) (omega arith) ∙ back
 
 digit_cut : (ns : List Shown) (d : ℕ) (t : List ℕ) (m : Mode) (text : List ℕ) (b : ℕ) (rest : List ℕ) → is_digit b ≡ true
-    → IsValid m t → IsCut text m → next (place ns d t m) b ≡ None → CutAt text m b rest
+    → IsValid m t → IsCut text m → next (reading_with ns d t m) b ≡ None → CutAt text m b rest
 digit_cut ns d t (Field n) text b rest is valid cut refused =
     number_taken text (Field n) n b rest is (cond-true (is_digit b) (number n) [] is) cut valid.0.0 (omega arith)
 digit_cut ns d t (Digits n v) text b rest is valid cut refused =
@@ -121,11 +121,11 @@ digit_cut ns d t (Text n) text b rest is valid cut refused =
     let taken = text_step ns d n b t (digit_text b is) in absurd (cc)
 digit_cut ns d t (Pairs n) text b rest is valid cut refused =
     let range = digit_range b is in
-    let P : ℕ → Type 0 = λ x. next (place ns d t (Pairs n)) x ≡ Some (place ns d t (Half n (b - 48))) in
+    let P : ℕ → Type 0 = λ x. next (reading_with ns d t (Pairs n)) x ≡ Some (reading_with ns d t (Half n (b - 48))) in
     let taken = subst P (digit_hex b is) (pair_first ns d n (b - 48) t (omega arith)) in absurd (cc)
 digit_cut ns d t (Half n high) text b rest is valid cut refused =
     let range = digit_range b is in
-    let P : ℕ → Type 0 = λ x. next (place ns d t (Half n high)) x ≡ Some (place ns d (t ++ (16 * high + (b - 48)) ∷ []) (Pairs n)) in
+    let P : ℕ → Type 0 = λ x. next (reading_with ns d t (Half n high)) x ≡ Some (reading_with ns d (t ++ (16 * high + (b - 48)) ∷ []) (Pairs n)) in
     let taken = subst P (digit_hex b is) (pair_last ns d n high (b - 48) t (omega arith)) in absurd (cc)
 digit_cut ns d t (Start opened) text b rest is valid cut refused =
     nothing_taken text (Start opened) b rest (cond-true (is_digit b) [] [] is) (separates_plain text (b ∷ rest) cut)
@@ -142,19 +142,19 @@ digit_cut ns d t (Packed n) text b rest is valid cut refused =
 digit_cut ns d t After text b rest is valid cut refused =
     nothing_taken text After b rest (cond-true (is_digit b) [] [] is) (separates_plain text (b ∷ rest) cut)
 
-cut_at : (test : Bool) (r : Reading) (text : List ℕ) (b : ℕ) (rest : List ℕ) → is_digit b ≡ test → IsValid r.mode r.text → IsCut text r.mode
+cut_at : (test : Bool) (r : TextReading) (text : List ℕ) (b : ℕ) (rest : List ℕ) → is_digit b ≡ test → IsValid r.mode r.text → IsCut text r.mode
     → next r b ≡ None → CutAt text r.mode b rest
 cut_at true r text b rest is valid cut refused = digit_cut r.nodes r.depth r.text r.mode text b rest is valid cut refused
 cut_at false r text b rest is valid cut refused =
     nothing_taken text r.mode b rest (cond-false (is_digit b) (open_digits r.mode) [] is)
     (separates_none text (b ∷ rest) (cond-false (is_digit b) (b ∷ leading_digits rest) [] is))
 
-stops : (text : List ℕ) (b : ℕ) (more : List ℕ) (r : Reading) → run beginning text ≡ Some r → next r b ≡ None → run beginning (text ++ b ∷ more) ≡ None
+stops : (text : List ℕ) (b : ℕ) (more : List ℕ) (r : TextReading) → run beginning text ≡ Some r → next r b ≡ None → run beginning (text ++ b ∷ more) ≡ None
 unfolding run
 stops text b more r given refused =
     run-append text (b ∷ more) beginning ∙ ap (then_run (λ q. run q (b ∷ more))) given ∙ ap (then_run (λ q. run q more)) refused
 
-pub fault_byte : (text : List ℕ) (b : ℕ) (rest : List ℕ) (r : Reading) → run beginning text ≡ Some r → next r b ≡ None
+pub fault_byte : (text : List ℕ) (b : ℕ) (rest : List ℕ) (r : TextReading) → run beginning text ≡ Some r → next r b ≡ None
     → IsFaultAt (text ++ b ∷ rest) (length text + 1 - length (taken_back r.mode b))
 fault_byte text b rest r given refused =
     let c = cut_at (is_digit b) r text b rest refl (valid_here text r given) (cut_here text r given) refused in
@@ -174,18 +174,18 @@ fault_byte text b rest r given refused =
     (fault_behind c.front (taken ++ b ∷ rest) c.separate (shorter_front c.front taken (subst S c.text_is begins))
     (omega (arith, length-append taken (b ∷ rest))) (λ front. begins_none (c.front ++ first_word (taken ++ b ∷ rest)) none front)))
 
-pub back_within : (text : List ℕ) (b : ℕ) (r : Reading) → run beginning text ≡ Some r → next r b ≡ None → length (taken_back r.mode b) ≤ length text
+pub back_within : (text : List ℕ) (b : ℕ) (r : TextReading) → run beginning text ≡ Some r → next r b ≡ None → length (taken_back r.mode b) ≤ length text
 back_within text b r given refused =
     let c = cut_at (is_digit b) r text b [] refl (valid_here text r given) (cut_here text r given) refused in
     let size : length text ≡ length c.front + length (taken_back r.mode b) = ap length c.text_is ∙ length-append c.front (taken_back r.mode b) in
     omega arith
 
-pub fault_short : (text : List ℕ) (r : Reading) → run beginning text ≡ Some r → finish r ≡ None → IsFaultAt text (length text + 1)
+pub fault_short : (text : List ℕ) (r : TextReading) → run beginning text ≡ Some r → finish r ≡ None → IsFaultAt text (length text + 1)
 fault_short text r given refused =
     fault_end text (begins_fields text r given) (λ fields is.
     let spelled : Spells text (nodes_of fields) = record { fields = fields; text_of = is; nodes_are = refl } in
     let read = spelled_accepted text (nodes_of fields) spelled in
-    let stopped : accepted beginning text ≡ None = ap (λ (o : Option Reading). option_and_then finish o) given ∙ refused in
+    let stopped : accepted beginning text ≡ None = ap (λ (o : Option TextReading). option_and_then finish o) given ∙ refused in
     absurd (cc))
 
 -- ---- what the definition of a fault says whatever is read

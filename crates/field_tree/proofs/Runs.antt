@@ -9,44 +9,44 @@ use Rattle.field_tree.specs.declared.mode.Action.{Action}
 use Rattle.field_tree.specs.declared.mode.Action.TheVariants.{Refuse, Go, Keep, Open, Close}
 use Rattle.field_tree.specs.Nodes.{Shown}
 use Rattle.field_tree.specs.Grammar.{IsTextByte, number, hex_digit, is_digit}
-use Rattle.field_tree.specs.Machine.{Reading, is_first_digit, is_text_byte, grown, hex_value, go_on, act, settled, moved, applied, next, then_run, run}
-use Rattle.field_tree.specs.Scanning.{place}
+use Rattle.field_tree.specs.Machine.{TextReading, is_first_digit, is_text_byte, grown, hex_value, go_on, act, settled, moved, applied, next, then_run, run}
+use Rattle.field_tree.specs.Scanning.{reading_with}
 use Rattle.field_tree.proofs.TestLemmas.{hex_digit_low, hex_digit_high}
 
 -- ---- texts one behind another
 
-run_one : (o : Option Reading) (a b : List ℕ) → ((q : Reading) → run q (a ++ b) ≡ then_run (λ p. run p b) (run q a))
+run_one : (o : Option TextReading) (a b : List ℕ) → ((q : TextReading) → run q (a ++ b) ≡ then_run (λ p. run p b) (run q a))
     → then_run (λ q. run q (a ++ b)) o ≡ then_run (λ p. run p b) (then_run (λ q. run q a) o)
 run_one None a b again = refl
 run_one (Some q) a b again = again q
 
-pub run-append : (a b : List ℕ) (r : Reading) → run r (a ++ b) ≡ then_run (λ q. run q b) (run r a)
+pub run-append : (a b : List ℕ) (r : TextReading) → run r (a ++ b) ≡ then_run (λ q. run q b) (run r a)
 unfolding run
 run-append [] b r = refl
 run-append (x ∷ a) b r = run_one (next r x) a b (λ q. run-append a b q)
 
-pub run_joins : (a b : List ℕ) (r q : Reading) (o : Option Reading) → run r a ≡ Some q → run q b ≡ o → run r (a ++ b) ≡ o
+pub run_joins : (a b : List ℕ) (r q : TextReading) (o : Option TextReading) → run r a ≡ Some q → run q b ≡ o → run r (a ++ b) ≡ o
 run_joins a b r q o first second = run-append a b r ∙ ap (then_run (λ p. run p b)) first ∙ second
 
-pub run_next : (b : ℕ) (bs : List ℕ) (r q : Reading) (o : Option Reading) → next r b ≡ Some q → run q bs ≡ o → run r (b ∷ bs) ≡ o
+pub run_next : (b : ℕ) (bs : List ℕ) (r q : TextReading) (o : Option TextReading) → next r b ≡ Some q → run q bs ≡ o → run r (b ∷ bs) ≡ o
 unfolding run
 run_next b bs r q o first second = ap (then_run (λ p. run p bs)) first ∙ second
 
-pub run_last : (b : ℕ) (r : Reading) (o : Option Reading) → next r b ≡ o → run r (b ∷ []) ≡ o
+pub run_last : (b : ℕ) (r : TextReading) (o : Option TextReading) → next r b ≡ o → run r (b ∷ []) ≡ o
 unfolding run
 run_last b r None first = ap (then_run (λ p. run p [])) first
 run_last b r (Some q) first = ap (then_run (λ p. run p [])) first
 
 -- ---- a byte that ends no field
 
-pub no_end : (r : Reading) (b : ℕ) → b ≢ 32 → b ≢ 125 → next r b ≡ moved b r
+pub no_end : (r : TextReading) (b : ℕ) → b ≢ 32 → b ≢ 125 → next r b ≡ moved b r
 unfolding next
 no_end r b no_space no_brace =
     ap (moved b) (cond-false (b == 32 || b == 125) (settled r) r (or_from (b == 32) (b == 125) (ne_eqb b 32 no_space) (ne_eqb b 125 no_brace)))
 
-pub no_pending : (r : Reading) (b : ℕ) → settled r ≡ r → next r b ≡ moved b r
+pub no_pending : (r : TextReading) (b : ℕ) → settled r ≡ r → next r b ≡ moved b r
 unfolding next
-no_pending r b same = ap (moved b) (cond_both (b == 32 || b == 125) (settled r) r (λ (q : Reading). q ≡ r) (λ _. same) (λ _. refl))
+no_pending r b same = ap (moved b) (cond_both (b == 32 || b == 125) (settled r) r (λ (q : TextReading). q ≡ r) (λ _. same) (λ _. refl))
 
 -- ---- digits
 
@@ -65,7 +65,7 @@ grown_by most value n small fits =
     (and_from (is_digit (48 + n)) (nat_le (value * 10 + n) most) (digit n small) (le-leb (value * 10 + n) most fits)))
 
 -- a number of any length, where its first digit and each further one are taken
-pub number_runs : (most : ℕ) (from : Reading) (to : ℕ → Reading) → most < 2 ^ 64
+pub number_runs : (most : ℕ) (from : TextReading) (to : ℕ → TextReading) → most < 2 ^ 64
     → ((n : ℕ) → 1 ≤ n → n < 10 → next from (48 + n) ≡ Some (to n))
     → ((n d : ℕ) → 1 ≤ n → d < 10 → n * 10 + d ≤ most → next (to n) (48 + d) ≡ Some (to (n * 10 + d)))
     → (n : ℕ) → 1 ≤ n → n ≤ most → run from (number n) ≡ Some (to n)
@@ -81,82 +81,82 @@ number_runs most from to small first later n some fits =
     n (omega arith) some fits
 
 pub start_digit : (ns : List Shown) (d : ℕ) (opened : Bool) (n : ℕ) → 1 ≤ n → n < 10
-    → next (place ns d [] (Start opened)) (48 + n) ≡ Some (place ns d [] (Field n))
+    → next (reading_with ns d [] (Start opened)) (48 + n) ≡ Some (reading_with ns d [] (Field n))
 unfolding act applied settled
 start_digit ns d opened n some small =
     let same : 48 + n - 48 ≡ n = omega arith in
-    no_pending (place ns d [] (Start opened)) (48 + n) refl
-    ∙ ap (λ (a : Action). applied a (place ns d [] (Start opened)))
+    no_pending (reading_with ns d [] (Start opened)) (48 + n) refl
+    ∙ ap (λ (a : Action). applied a (reading_with ns d [] (Start opened)))
     (cond-true (is_first_digit (48 + n)) (Go (Field (48 + n - 48))) (cond (opened && nat_lt 0 d && 48 + n == 125) Close Refuse) (first_digit n some small))
-    ∙ ap (λ (m : ℕ). Some (place ns d [] (Field m))) same
+    ∙ ap (λ (m : ℕ). Some (reading_with ns d [] (Field m))) same
 
 pub field_digit : (ns : List Shown) (d n digit : ℕ) → digit < 10 → n * 10 + digit ≤ MAX_FIELD
-    → next (place ns d [] (Field n)) (48 + digit) ≡ Some (place ns d [] (Field (n * 10 + digit)))
+    → next (reading_with ns d [] (Field n)) (48 + digit) ≡ Some (reading_with ns d [] (Field (n * 10 + digit)))
 unfolding act applied settled
 field_digit ns d n digit small fits =
-    no_pending (place ns d [] (Field n)) (48 + digit) refl
-    ∙ ap (λ (a : Action). applied a (place ns d [] (Field n)))
+    no_pending (reading_with ns d [] (Field n)) (48 + digit) refl
+    ∙ ap (λ (a : Action). applied a (reading_with ns d [] (Field n)))
     (cond-false (48 + digit == 58) (Go (Value n)) (cond (48 + digit == 123) (Open n) (go_on (grown MAX_FIELD n (48 + digit)) (λ m. Go (Field m)))) (ne_eqb (48 + digit) 58 (λ is. omega arith))
     ∙ cond-false (48 + digit == 123) (Open n) (go_on (grown MAX_FIELD n (48 + digit)) (λ m. Go (Field m))) (ne_eqb (48 + digit) 123 (λ is. omega arith))
     ∙ ap (λ (o : Option ℕ). go_on o (λ m. Go (Field m))) (grown_by MAX_FIELD n digit small fits))
 
 pub field_runs : (ns : List Shown) (d : ℕ) (opened : Bool) (n : ℕ) → 1 ≤ n → n ≤ MAX_FIELD
-    → run (place ns d [] (Start opened)) (number n) ≡ Some (place ns d [] (Field n))
+    → run (reading_with ns d [] (Start opened)) (number n) ≡ Some (reading_with ns d [] (Field n))
 field_runs ns d opened n some fits =
-    number_runs MAX_FIELD (place ns d [] (Start opened)) (λ m. place ns d [] (Field m)) (omega arith)
+    number_runs MAX_FIELD (reading_with ns d [] (Start opened)) (λ m. reading_with ns d [] (Field m)) (omega arith)
     (λ m one small. start_digit ns d opened m one small)
     (λ m digit one small more. field_digit ns d m digit small more) n some fits
 
 pub value_digit : (ns : List Shown) (d f n : ℕ) → 1 ≤ n → n < 10
-    → next (place ns d [] (Value f)) (48 + n) ≡ Some (place ns d [] (Digits f n))
+    → next (reading_with ns d [] (Value f)) (48 + n) ≡ Some (reading_with ns d [] (Digits f n))
 unfolding act applied settled
 value_digit ns d f n some small =
     let same : 48 + n - 48 ≡ n = omega arith in
     let digits = cond (is_first_digit (48 + n)) (Go (Digits f (48 + n - 48))) Refuse in
     let zero_or = cond (48 + n == 48) (Go (Zero f)) digits in
     let tick_or = cond (48 + n == 120) (Go (Tick f)) zero_or in
-    no_pending (place ns d [] (Value f)) (48 + n) refl
-    ∙ ap (λ (a : Action). applied a (place ns d [] (Value f)))
+    no_pending (reading_with ns d [] (Value f)) (48 + n) refl
+    ∙ ap (λ (a : Action). applied a (reading_with ns d [] (Value f)))
     (cond-false (48 + n == 34) (Go (Text f)) tick_or (ne_eqb (48 + n) 34 (λ is. omega arith))
     ∙ cond-false (48 + n == 120) (Go (Tick f)) zero_or (ne_eqb (48 + n) 120 (λ is. omega arith))
     ∙ cond-false (48 + n == 48) (Go (Zero f)) digits (ne_eqb (48 + n) 48 (λ is. omega arith))
     ∙ cond-true (is_first_digit (48 + n)) (Go (Digits f (48 + n - 48))) Refuse (first_digit n some small))
-    ∙ ap (λ (m : ℕ). Some (place ns d [] (Digits f m))) same
+    ∙ ap (λ (m : ℕ). Some (reading_with ns d [] (Digits f m))) same
 
 pub digits_digit : (ns : List Shown) (d f n digit : ℕ) → digit < 10 → n * 10 + digit ≤ 18446744073709551615
-    → next (place ns d [] (Digits f n)) (48 + digit) ≡ Some (place ns d [] (Digits f (n * 10 + digit)))
+    → next (reading_with ns d [] (Digits f n)) (48 + digit) ≡ Some (reading_with ns d [] (Digits f (n * 10 + digit)))
 unfolding act applied
 digits_digit ns d f n digit small fits =
-    no_end (place ns d [] (Digits f n)) (48 + digit) (λ is. omega arith) (λ is. omega arith)
-    ∙ ap (λ (o : Option ℕ). applied (go_on o (λ m. Go (Digits f m))) (place ns d [] (Digits f n))) (grown_by 18446744073709551615 n digit small fits)
+    no_end (reading_with ns d [] (Digits f n)) (48 + digit) (λ is. omega arith) (λ is. omega arith)
+    ∙ ap (λ (o : Option ℕ). applied (go_on o (λ m. Go (Digits f m))) (reading_with ns d [] (Digits f n))) (grown_by 18446744073709551615 n digit small fits)
 
 pub value_runs : (ns : List Shown) (d f n : ℕ) → 1 ≤ n → n < 2 ^ 64
-    → run (place ns d [] (Value f)) (number n) ≡ Some (place ns d [] (Digits f n))
+    → run (reading_with ns d [] (Value f)) (number n) ≡ Some (reading_with ns d [] (Digits f n))
 value_runs ns d f n some fits =
-    number_runs 18446744073709551615 (place ns d [] (Value f)) (λ m. place ns d [] (Digits f m)) (omega arith)
+    number_runs 18446744073709551615 (reading_with ns d [] (Value f)) (λ m. reading_with ns d [] (Digits f m)) (omega arith)
     (λ m one small. value_digit ns d f m one small)
     (λ m digit one small more. digits_digit ns d f m digit small more) n some (omega arith)
 
 pub star_digit : (ns : List Shown) (d f n : ℕ) (t : List ℕ) → 1 ≤ n → n < 10
-    → next (place ns d t (Star f)) (48 + n) ≡ Some (place ns d t (Times f n))
+    → next (reading_with ns d t (Star f)) (48 + n) ≡ Some (reading_with ns d t (Times f n))
 unfolding act applied settled
 star_digit ns d f n t some small =
     let same : 48 + n - 48 ≡ n = omega arith in
-    no_pending (place ns d t (Star f)) (48 + n) refl
-    ∙ ap (λ (a : Action). applied a (place ns d t (Star f))) (cond-true (is_first_digit (48 + n)) (Go (Times f (48 + n - 48))) Refuse (first_digit n some small))
-    ∙ ap (λ (m : ℕ). Some (place ns d t (Times f m))) same
+    no_pending (reading_with ns d t (Star f)) (48 + n) refl
+    ∙ ap (λ (a : Action). applied a (reading_with ns d t (Star f))) (cond-true (is_first_digit (48 + n)) (Go (Times f (48 + n - 48))) Refuse (first_digit n some small))
+    ∙ ap (λ (m : ℕ). Some (reading_with ns d t (Times f m))) same
 
 pub times_digit : (ns : List Shown) (d f n digit : ℕ) (t : List ℕ) → digit < 10 → n * 10 + digit ≤ MAX_PACKET_LEN
-    → next (place ns d t (Times f n)) (48 + digit) ≡ Some (place ns d t (Times f (n * 10 + digit)))
+    → next (reading_with ns d t (Times f n)) (48 + digit) ≡ Some (reading_with ns d t (Times f (n * 10 + digit)))
 unfolding act applied
 times_digit ns d f n digit t small fits =
-    no_end (place ns d t (Times f n)) (48 + digit) (λ is. omega arith) (λ is. omega arith)
-    ∙ ap (λ (o : Option ℕ). applied (go_on o (λ m. Go (Times f m))) (place ns d t (Times f n))) (grown_by MAX_PACKET_LEN n digit small fits)
+    no_end (reading_with ns d t (Times f n)) (48 + digit) (λ is. omega arith) (λ is. omega arith)
+    ∙ ap (λ (o : Option ℕ). applied (go_on o (λ m. Go (Times f m))) (reading_with ns d t (Times f n))) (grown_by MAX_PACKET_LEN n digit small fits)
 
 pub times_runs : (ns : List Shown) (d f n : ℕ) (t : List ℕ) → 1 ≤ n → n ≤ MAX_PACKET_LEN
-    → run (place ns d t (Star f)) (number n) ≡ Some (place ns d t (Times f n))
+    → run (reading_with ns d t (Star f)) (number n) ≡ Some (reading_with ns d t (Times f n))
 times_runs ns d f n t some fits =
-    number_runs MAX_PACKET_LEN (place ns d t (Star f)) (λ m. place ns d t (Times f m)) (omega arith)
+    number_runs MAX_PACKET_LEN (reading_with ns d t (Star f)) (λ m. reading_with ns d t (Times f m)) (omega arith)
     (λ m one small. star_digit ns d f m t one small)
     (λ m digit one small more. times_digit ns d f m digit t small more) n some fits
 
@@ -171,11 +171,11 @@ text_taken b text =
     (not_from_false (b == 92) (ne_eqb b 92 text.3))
 
 pub text_step : (ns : List Shown) (d f b : ℕ) (t : List ℕ) → IsTextByte b
-    → next (place ns d t (Text f)) b ≡ Some (place ns d (t ++ b ∷ []) (Text f))
+    → next (reading_with ns d t (Text f)) b ≡ Some (reading_with ns d (t ++ b ∷ []) (Text f))
 unfolding act applied settled
 text_step ns d f b t text =
-    no_pending (place ns d t (Text f)) b refl
-    ∙ ap (λ (a : Action). applied a (place ns d t (Text f)))
+    no_pending (reading_with ns d t (Text f)) b refl
+    ∙ ap (λ (a : Action). applied a (reading_with ns d t (Text f)))
     (cond-false (b == 34) (Go (Quoted f)) (cond (is_text_byte b) (Keep (Text f) b) Refuse) (ne_eqb b 34 text.2)
     ∙ cond-true (is_text_byte b) (Keep (Text f) b) Refuse (text_taken b text))
 
@@ -208,29 +208,29 @@ pub hex_above : (h : ℕ) → 48 ≤ hex_digit h
 hex_above h = cond_both (nat_lt h 10) (48 + h) (87 + h) (λ (b : ℕ). 48 ≤ b) (λ _. omega arith) (λ _. omega arith)
 
 pub pair_first : (ns : List Shown) (d f h : ℕ) (t : List ℕ) → h < 16
-    → next (place ns d t (Pairs f)) (hex_digit h) ≡ Some (place ns d t (Half f h))
+    → next (reading_with ns d t (Pairs f)) (hex_digit h) ≡ Some (reading_with ns d t (Half f h))
 unfolding act applied settled
 pair_first ns d f h t small =
     let above = hex_above h in
-    no_pending (place ns d t (Pairs f)) (hex_digit h) refl
-    ∙ ap (λ (a : Action). applied a (place ns d t (Pairs f)))
+    no_pending (reading_with ns d t (Pairs f)) (hex_digit h) refl
+    ∙ ap (λ (a : Action). applied a (reading_with ns d t (Pairs f)))
     (cond-false (hex_digit h == 39) (Go (Packed f)) (go_on (hex_value (hex_digit h)) (λ high. Go (Half f high))) (ne_eqb (hex_digit h) 39 (λ is. omega arith))
     ∙ ap (λ (o : Option ℕ). go_on o (λ high. Go (Half f high))) (hex_back h small))
 
 pub pair_last : (ns : List Shown) (d f h l : ℕ) (t : List ℕ) → l < 16
-    → next (place ns d t (Half f h)) (hex_digit l) ≡ Some (place ns d (t ++ (16 * h + l) ∷ []) (Pairs f))
+    → next (reading_with ns d t (Half f h)) (hex_digit l) ≡ Some (reading_with ns d (t ++ (16 * h + l) ∷ []) (Pairs f))
 unfolding act applied settled
 pair_last ns d f h l t small =
-    no_pending (place ns d t (Half f h)) (hex_digit l) refl
-    ∙ ap (λ (o : Option ℕ). applied (go_on o (λ low. Keep (Pairs f) (16 * h + low))) (place ns d t (Half f h))) (hex_back l small)
+    no_pending (reading_with ns d t (Half f h)) (hex_digit l) refl
+    ∙ ap (λ (o : Option ℕ). applied (go_on o (λ low. Keep (Pairs f) (16 * h + low))) (reading_with ns d t (Half f h))) (hex_back l small)
 
-pub pair_runs : (ns : List Shown) (d f b : ℕ) (t rest : List ℕ) (o : Option Reading) → b < 256
-    → run (place ns d (t ++ b ∷ []) (Pairs f)) rest ≡ o
-    → run (place ns d t (Pairs f)) (hex_digit (b / 16) ∷ hex_digit (b % 16) ∷ rest) ≡ o
+pub pair_runs : (ns : List Shown) (d f b : ℕ) (t rest : List ℕ) (o : Option TextReading) → b < 256
+    → run (reading_with ns d (t ++ b ∷ []) (Pairs f)) rest ≡ o
+    → run (reading_with ns d t (Pairs f)) (hex_digit (b / 16) ∷ hex_digit (b % 16) ∷ rest) ≡ o
 pair_runs ns d f b t rest o small later =
     let high : b / 16 < 16 = omega arith in
     let low : b % 16 < 16 = omega arith in
     let same : 16 * (b / 16) + b % 16 ≡ b = omega arith in
-    run_next (hex_digit (b / 16)) (hex_digit (b % 16) ∷ rest) (place ns d t (Pairs f)) (place ns d t (Half f (b / 16))) o (pair_first ns d f (b / 16) t high)
-    (run_next (hex_digit (b % 16)) rest (place ns d t (Half f (b / 16))) (place ns d (t ++ b ∷ []) (Pairs f)) o
-    (pair_last ns d f (b / 16) (b % 16) t low ∙ ap (λ (x : ℕ). Some (place ns d (t ++ x ∷ []) (Pairs f))) same) later)
+    run_next (hex_digit (b / 16)) (hex_digit (b % 16) ∷ rest) (reading_with ns d t (Pairs f)) (reading_with ns d t (Half f (b / 16))) o (pair_first ns d f (b / 16) t high)
+    (run_next (hex_digit (b % 16)) rest (reading_with ns d t (Half f (b / 16))) (reading_with ns d (t ++ b ∷ []) (Pairs f)) o
+    (pair_last ns d f (b / 16) (b % 16) t low ∙ ap (λ (x : ℕ). Some (reading_with ns d (t ++ x ∷ []) (Pairs f))) same) later)

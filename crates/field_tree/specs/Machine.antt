@@ -60,7 +60,7 @@ act (Packed n) inner byte = Refuse
 act After inner byte = if byte == 32 then Go (Start false) else if inner && byte == 125 then Close else Refuse
 
 -- where the reading stands: the nodes so far, how many messages are open, and the text that is being read
-pub record Reading : Type 0 where
+pub record TextReading : Type 0 where
   pub nodes : List Shown
   pub depth : ℕ
   pub text : List ℕ
@@ -76,24 +76,24 @@ pending (Packed n) = Some (Bytes n 1)
 pending mode = None
 
 -- with one node more, whose text is the one that was being read
-abbrev pub with_node : FieldNode → Reading → Reading
+abbrev pub with_node : FieldNode → TextReading → TextReading
 with_node node r = record { nodes = r.nodes ++ (node, r.text) ∷ []; depth = r.depth; text = []; mode = r.mode }
 
 -- with one byte more of that text
-abbrev pub with_byte : ℕ → Reading → Reading
+abbrev pub with_byte : ℕ → TextReading → TextReading
 with_byte byte r = record r { text = r.text ++ byte ∷ [] }
 
 -- the node that was being read is complete
-abbrev pub settled_as : Option FieldNode → Reading → Reading
+abbrev pub settled_as : Option FieldNode → TextReading → TextReading
 settled_as None r = r
 settled_as (Some node) r = record (with_node node r) { mode = After }
 
 -- a field that may end has ended
-unfoldable pub settled : Reading → Reading
+unfoldable pub settled : TextReading → TextReading
 settled r = settled_as (pending r.mode) r
 
 -- the reading after an action
-unfoldable pub applied : Action → Reading → Option Reading
+unfoldable pub applied : Action → TextReading → Option TextReading
 applied Refuse r = None
 applied (Go mode) r = Some (record r { mode = mode })
 applied (Keep mode byte) r = Some (record (with_byte byte r) { mode = mode })
@@ -101,24 +101,24 @@ applied (Open n) r = Some (record (with_node (Begin n) r) { depth = suc r.depth;
 applied Close r = Some (record (with_node End r) { depth = r.depth - 1; mode = After })
 
 -- a space and a closing brace end a field
-abbrev pub before_byte : ℕ → Reading → Reading
+abbrev pub before_byte : ℕ → TextReading → TextReading
 before_byte byte r = if byte == 32 || byte == 125 then settled r else r
 
 -- the reading after a byte, without what the byte ends
-abbrev pub moved : ℕ → Reading → Option Reading
+abbrev pub moved : ℕ → TextReading → Option TextReading
 moved byte r = applied (act r.mode (nat_lt 0 r.depth) byte) r
 
 -- the reading after a byte
-unfoldable pub next : Reading → ℕ → Option Reading
+unfoldable pub next : TextReading → ℕ → Option TextReading
 next r byte = moved byte (before_byte byte r)
 
 -- goes on where the reading wasn't refused
-abbrev pub then_run : (Reading → Option Reading) → Option Reading → Option Reading
+abbrev pub then_run : (TextReading → Option TextReading) → Option TextReading → Option TextReading
 then_run f None = None
 then_run f (Some r) = f r
 
 -- where the reading stands after these bytes, if none is refused
-unfoldable pub run : Reading → List ℕ → Option Reading
+unfoldable pub run : TextReading → List ℕ → Option TextReading
 run r [] = Some r
 run r (byte ∷ bytes) = then_run (λ q. run q bytes) (next r byte)
 
@@ -128,15 +128,15 @@ is_after After = true
 is_after mode = false
 
 -- the nodes, where the text may end here
-abbrev pub ended : Reading → Option (List Shown)
+abbrev pub ended : TextReading → Option (List Shown)
 ended r = if is_after r.mode && r.depth == 0 then Some r.nodes else None
 
 -- the nodes, where the text may end here
-unfoldable pub finish : Reading → Option (List Shown)
+unfoldable pub finish : TextReading → Option (List Shown)
 finish r = ended (settled r)
 
 -- the reading of nothing
-unfoldable pub beginning : Reading
+unfoldable pub beginning : TextReading
 beginning = record { nodes = []; depth = 0; text = []; mode = Start false }
 
 -- where a reading stands: all numbers are in their ranges, and so are the bytes of the text
@@ -190,12 +190,12 @@ at_end place None = Err (place + 1)
 at_end place (Some nodes) = Ok nodes
 
 -- goes on where the byte wasn't refused; else its column is the fault's
-abbrev pub at_byte : ℕ → (Reading → Result (List Shown) ℕ) → Option Reading → Result (List Shown) ℕ
+abbrev pub at_byte : ℕ → (TextReading → Result (List Shown) ℕ) → Option TextReading → Result (List Shown) ℕ
 at_byte column f None = Err column
 at_byte column f (Some r) = f r
 
 -- the nodes of the rest of a text, or the column of its first fault
-unfoldable pub nodes_or_column_from : Reading → ℕ → List ℕ → Result (List Shown) ℕ
+unfoldable pub nodes_or_column_from : TextReading → ℕ → List ℕ → Result (List Shown) ℕ
 nodes_or_column_from r place [] = at_end place (finish r)
 nodes_or_column_from r place (byte ∷ bytes) =
     at_byte (place + 1 - length (taken_back r.mode byte)) (λ q. nodes_or_column_from q (place + 1) bytes) (next r byte)

@@ -3,18 +3,18 @@ use Rattle.std.specs.Prelude.{◌≡◌, ℕ, ◌+◌, ◌*◌, ◌<◌, ◌≤�
 use Rattle.field_tree.specs.declared.mode.Mode.{Mode}
 use Rattle.field_tree.specs.declared.scan.Scanned.{Scanned}
 use Rattle.field_tree.specs.Nodes.{Shown}
-use Rattle.field_tree.specs.Machine.{Reading, hex_value, next, run, IsValid}
+use Rattle.field_tree.specs.Machine.{TextReading, hex_value, next, run, IsValid}
 
 -- where a reading stands, with these nodes, so many open messages and this text
-abbrev pub place : List Shown → ℕ → List ℕ → Mode → Reading
-place nodes depth text mode = record { nodes = nodes; depth = depth; text = text; mode = mode }
+abbrev pub reading_with : List Shown → ℕ → List ℕ → Mode → TextReading
+reading_with nodes depth text mode = record { nodes = nodes; depth = depth; text = text; mode = mode }
 
 -- the bytes in front lead from one reading to another, and these bytes are left
-abbrev pub RunsOver : Reading → List ℕ → Reading → List ℕ → Type 0
+abbrev pub RunsOver : TextReading → List ℕ → TextReading → List ℕ → Type 0
 RunsOver from bytes to behind = (front : List ℕ) × (bytes ≡ front ++ behind) × (run from front ≡ Some to)
 
 -- each digit more of a number that is at most so large is taken
-abbrev pub TakesDigits : ℕ → (ℕ → Reading) → Type 0
+abbrev pub TakesDigits : ℕ → (ℕ → TextReading) → Type 0
 TakesDigits most to = (n digit : ℕ) → digit < 10 → n * 10 + digit ≤ most → next (to n) (48 + digit) ≡ Some (to (n * 10 + digit))
 
 -- two hexadecimal digits in front say this byte
@@ -33,9 +33,9 @@ IsPair bytes byte behind = record {
 -- what was read on, where no text was being read
 abbrev pub ScansFrom : Mode → List ℕ → Scanned → Type 0
 ScansFrom mode bytes scanned = (nodes : List Shown) (depth : ℕ)
-    → RunsOver (place nodes depth [] mode) bytes (place nodes depth scanned.text.now scanned.mode) scanned.behind.now
+    → RunsOver (reading_with nodes depth [] mode) bytes (reading_with nodes depth scanned.text.now scanned.mode) scanned.behind.now
 
--- the same from any place
+-- the same wherever the reading stands
 abbrev pub ScansOn : Mode → List ℕ → Scanned → Type 0
 ScansOn mode bytes scanned = (nodes : List Shown) (depth : ℕ) (text : List ℕ) → IsValid mode text
-    → RunsOver (place nodes depth text mode) bytes (place nodes depth (text ++ scanned.text.now) scanned.mode) scanned.behind.now
+    → RunsOver (reading_with nodes depth text mode) bytes (reading_with nodes depth (text ++ scanned.text.now) scanned.mode) scanned.behind.now

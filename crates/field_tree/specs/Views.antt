@@ -8,7 +8,7 @@ use Rattle.field_tree.specs.declared.fault.FieldFault.TheVariants.{BadField}
 use Rattle.field_tree.specs.declared.fault.FieldError.{FieldError}
 use Rattle.field_tree.specs.declared.fault.FieldError.TheVariants.{OutOfMemory, Fault}
 use Rattle.field_tree.specs.Nodes.{Shown}
-use Rattle.field_tree.specs.Machine.{Reading}
+use Rattle.field_tree.specs.Machine.{TextReading}
 use Rattle.field_tree.specs.Encoded.{IsEncoded}
 use Rattle.field_tree.specs.Written.{shown_in, AreWritten, AreFitNodes}
 
@@ -21,7 +21,7 @@ abbrev pub text_read : Parser → List ℕ
 text_read p = p.text.items
 
 -- what a parser has read, as the grammar's machine sees it
-abbrev pub reading : Parser → Mode → Reading
+abbrev pub reading : Parser → Mode → TextReading
 reading p mode = record { nodes = nodes_read p; depth = p.depth; text = text_read p; mode = mode }
 
 -- one node more, whose text is the one that was being read
@@ -44,7 +44,7 @@ abbrev pub Keeps : Parser → Type 0
 Keeps p = AreWritten p.code.items
 
 -- whether a byte was taken, and where the reading stands then
-abbrev pub Takes : Bool → Option Reading → Reading → Type 0
+abbrev pub Takes : Bool → Option TextReading → TextReading → Type 0
 Takes true given new = given ≡ Some new
 Takes false given new = given ≡ None
 

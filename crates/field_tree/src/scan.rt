@@ -4,10 +4,10 @@ ghost use Rattle.std.specs.Prelude.{◌≡◌, ℕ, ◌≤◌, List, [], ◌∷�
 ghost use Rattle.std.specs.List.{AllByRecursion};
 ghost use Rattle.field_tree.specs.Nodes.{Shown};
 ghost use Rattle.field_tree.specs.Grammar.{IsTextByte};
-ghost use Rattle.field_tree.specs.Machine.{Reading};
+ghost use Rattle.field_tree.specs.Machine.{TextReading};
 ghost use Rattle.field_tree.specs.Machine as machine;
 ghost use Rattle.field_tree.specs.declared.mode.Mode.TheVariants.{Start, Value, Text, Quoted};
-ghost use Rattle.field_tree.specs.Scanning.{place, RunsOver, IsPair, TakesDigits, ScansFrom, ScansOn};
+ghost use Rattle.field_tree.specs.Scanning.{reading_with, RunsOver, IsPair, TakesDigits, ScansFrom, ScansOn};
 
 use crate::act::{grown, hex_value, is_first_digit, is_text_byte};
 use crate::mode::Mode;
@@ -45,7 +45,7 @@ pub(crate) fn first_byte(bytes: &[u8]) -> Option<(u8, &[u8])>
 #[inline(always)]
 fn take_digits(most: u64, start: u64, bytes: &[u8]) -> Digits<'_>
     requires { start ≤ most }
-    ensures digits { (to : ℕ → Reading) → TakesDigits most to → RunsOver (to start) bytes.now (to result.value) result.behind.now }
+    ensures digits { (to : ℕ → TextReading) → TakesDigits most to → RunsOver (to start) bytes.now (to result.value) result.behind.now }
     ensures within { result.value ≤ most }
 {
     let mut value = start;
@@ -96,7 +96,7 @@ fn text_len(bytes: &[u8]) -> usize
 #[inline(always)]
 fn scan_times(field: u32, bytes: &[u8]) -> Scanned<'_>
     ensures { (nodes : List Shown) (depth : ℕ) (text : List ℕ)
-        → RunsOver (place nodes depth text (Quoted field)) bytes.now (place nodes depth text result.mode) result.behind.now }
+        → RunsOver (reading_with nodes depth text (Quoted field)) bytes.now (reading_with nodes depth text result.mode) result.behind.now }
 {
     let quoted = Scanned {
         mode: Mode::Quoted { field },

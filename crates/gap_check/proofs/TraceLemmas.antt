@@ -3,7 +3,7 @@ use Rattle.std.proofs.Common.{◌≡◌, ℕ, ◌+◌, ◌<◌, ◌≤◌, List,
 use Rattle.std.proofs.lemmas.List.{append-nil, map-append}
 use Rattle.trace_model.specs.Delivery.{Delivered, IsFaithful}
 use Rattle.trace_file.specs.declared.fault.TraceFault.{TraceFault}
-use Rattle.trace_file.specs.Readers.{Reading, StillReads}
+use Rattle.trace_file.specs.Readers.{ReaderView, StillReads}
 use Rattle.trace_file.specs.Traces.{TracePacket, ReadsFrom}
 use Rattle.packet_runs.specs.declared.teller.Teller.{Teller}
 use Rattle.gap_check.specs.declared.verdict.Verdict.{Verdict}
@@ -13,14 +13,14 @@ use Rattle.gap_check.specs.Verdicts.{delivered_as, delivered_by, AreFaithful, Is
 use Rattle.gap_check.proofs.TakenLemmas.{taken_faithful}
 
 -- what a reader has left, behind what was read
-pub record GoesBack (old new : Reading) : Type 0 where
+pub record GoesBack (old new : ReaderView) : Type 0 where
   pub packets : List TracePacket
   pub reads : (others : List TracePacket) (ending : Option TraceFault) → StillReads new others ending → StillReads old (packets ++ others) ending
 
-pub back_start : (reader : Reading) → GoesBack reader reader
+pub back_start : (reader : ReaderView) → GoesBack reader reader
 back_start reader = record { packets = []; reads = λ others ending h. h }
 
-pub back_more : (old mid new : Reading) (packet : TracePacket) → GoesBack old mid
+pub back_more : (old mid new : ReaderView) (packet : TracePacket) → GoesBack old mid
     → ((packets : List TracePacket) (ending : Option TraceFault) → StillReads new packets ending → StillReads mid (packet ∷ packets) ending) → GoesBack old new
 back_more old mid new packet h next = record {
   packets = h.packets ++ packet ∷ [];
@@ -28,7 +28,7 @@ back_more old mid new packet h next = record {
 }
 
 -- the tellers have taken the packets that were read
-pub record IsTelling (emitted : List (List (List ℕ))) (trace : List ℕ) (tellers : List Teller) (reader : Reading) (count : ℕ) : Type 0 where
+pub record IsTelling (emitted : List (List (List ℕ))) (trace : List ℕ) (tellers : List Teller) (reader : ReaderView) (count : ℕ) : Type 0 where
   pub packets : List TracePacket
   pub reads : (others : List TracePacket) (ending : Option TraceFault) → StillReads reader others ending → ReadsFrom 0 trace (packets ++ others) ending
   pub taken : AllTaken emitted (delivered_by packets) tellers
@@ -39,14 +39,14 @@ pub telling_start : (emitted : List (List (List ℕ))) (trace : List ℕ) (telle
     → IsTelling emitted trace tellers (record { at = 0; rest = trace; fault = None }) 0
 telling_start emitted trace tellers taken = record { packets = []; reads = λ others ending h. h; taken = taken; counted = refl; small = omega arith }
 
-reads_on : (trace : List ℕ) (old new : Reading) (packets : List TracePacket) (packet : TracePacket)
+reads_on : (trace : List ℕ) (old new : ReaderView) (packets : List TracePacket) (packet : TracePacket)
     → ((others : List TracePacket) (ending : Option TraceFault) → StillReads old others ending → ReadsFrom 0 trace (packets ++ others) ending)
     → ((others : List TracePacket) (ending : Option TraceFault) → StillReads new others ending → StillReads old (packet ∷ others) ending)
     → (others : List TracePacket) (ending : Option TraceFault) → StillReads new others ending → ReadsFrom 0 trace ((packets ++ packet ∷ []) ++ others) ending
 reads_on trace old new packets packet reads next others ending h =
     subst (λ (ps : List TracePacket). ReadsFrom 0 trace ps ending) (sym (append_assoc packets (packet ∷ []) others)) (reads (packet ∷ others) ending (next others ending h))
 
-pub telling_more : (emitted : List (List (List ℕ))) (trace : List ℕ) (tellers new_tellers : List Teller) (old new : Reading) (count : ℕ) (packet : TracePacket)
+pub telling_more : (emitted : List (List (List ℕ))) (trace : List ℕ) (tellers new_tellers : List Teller) (old new : ReaderView) (count : ℕ) (packet : TracePacket)
     → IsTelling emitted trace tellers old count
     → ((others : List TracePacket) (ending : Option TraceFault) → StillReads new others ending → StillReads old (packet ∷ others) ending)
     → length new.rest < length old.rest
@@ -60,7 +60,7 @@ telling_more emitted trace tellers new_tellers old new count packet h next short
   small = omega (arith, h.small, shorter);
 }
 
-pub telling_ends : (emitted : List (List (List ℕ))) (trace : List ℕ) (tellers : List Teller) (reader : Reading) (count : ℕ) → IsTelling emitted trace tellers reader count
+pub telling_ends : (emitted : List (List (List ℕ))) (trace : List ℕ) (tellers : List Teller) (reader : ReaderView) (count : ℕ) → IsTelling emitted trace tellers reader count
     → StillReads reader [] None → IsVerdictOn emitted trace (Agrees count)
 telling_ends emitted trace tellers reader count h ends = record {
   packets = h.packets;
@@ -68,7 +68,7 @@ telling_ends emitted trace tellers reader count h ends = record {
   says = record { faithful = taken_faithful emitted (delivered_by h.packets) tellers h.taken; counted = h.counted };
 }
 
-pub telling_stops : (emitted : List (List (List ℕ))) (trace : List ℕ) (tellers : List Teller) (old new : Reading) (count : ℕ) (packet : TracePacket)
+pub telling_stops : (emitted : List (List (List ℕ))) (trace : List ℕ) (tellers : List Teller) (old new : ReaderView) (count : ℕ) (packet : TracePacket)
     → IsTelling emitted trace tellers old count
     → ((others : List TracePacket) (ending : Option TraceFault) → StillReads new others ending → StillReads old (packet ∷ others) ending)
     → ((delivered : List Delivered) → AllTaken emitted delivered tellers → IsFaithful emitted (delivered ++ delivered_as packet ∷ []) → ⊥)
@@ -88,7 +88,7 @@ telling_stops emitted trace tellers old new count packet h next untold rest = re
   };
 }
 
-pub telling_faults : (emitted : List (List (List ℕ))) (trace : List ℕ) (tellers : List Teller) (old new : Reading) (count : ℕ) (packet : TracePacket) (fault : TraceFault)
+pub telling_faults : (emitted : List (List (List ℕ))) (trace : List ℕ) (tellers : List Teller) (old new : ReaderView) (count : ℕ) (packet : TracePacket) (fault : TraceFault)
     → IsTelling emitted trace tellers old count
     → ((others : List TracePacket) (ending : Option TraceFault) → StillReads new others ending → StillReads old (packet ∷ others) ending)
     → (rest : (others : List TracePacket) × StillReads new others (Some fault)) → (packets : List TracePacket) × ReadsFrom 0 trace packets (Some fault)

@@ -6,7 +6,7 @@ use Rattle.std.proofs.lemmas.Bool.{eqb-true, eq-eqb, false≢true}
 use Rattle.std.proofs.lemmas.Option.{none-some}
 use Rattle.trace_model.specs.Images.{Fragment}
 use Rattle.trace_model.specs.Fragments.{ReadsOne, ReadsDropped}
-use Rattle.trace_model.specs.Reading.{size_of, fragment_of, Reading, Fragments, Unreadable, behind, place_behind, read_on, reading_from, reading_of}
+use Rattle.trace_model.specs.Reading.{size_of, fragment_of, Reading, Fragments, Unreadable, behind, fragment_end, read_on, reading_from, reading_of}
 use Rattle.trace_model.proofs.ReadingLemmas.{StandsFirst, read_kept, read_dropped, read_sound}
 use Rattle.trace_model.specs.Unread.{BeginsWith, StopsAt}
 use Rattle.trace_model.proofs.ReadsAsLemmas.{rest_behind}
@@ -51,28 +51,28 @@ unread_from zero number at bytes k below e = absurd (false≢true (sym (ap is_re
 unread_from (suc left) number at bytes k below e = by_fragment (fragment_of (left == 0) at bytes (size_of 4 bytes)) refl e (unread_from left)
   where
     by_rest : (fragment : Fragment) → StandsFirst (left == 0) at bytes fragment → (r : Reading)
-        → reading_from left (suc number) (place_behind fragment) (drop (place_behind fragment - at) bytes) ≡ r → behind fragment r ≡ Unreadable k
-        → (reading_from left (suc number) (place_behind fragment) (drop (place_behind fragment - at) bytes) ≡ Unreadable k
-        → IsFirstFrom left (suc number) (place_behind fragment) (drop (place_behind fragment - at) bytes) k)
+        → reading_from left (suc number) (fragment_end fragment) (drop (fragment_end fragment - at) bytes) ≡ r → behind fragment r ≡ Unreadable k
+        → (reading_from left (suc number) (fragment_end fragment) (drop (fragment_end fragment - at) bytes) ≡ Unreadable k
+        → IsFirstFrom left (suc number) (fragment_end fragment) (drop (fragment_end fragment - at) bytes) k)
         → IsFirstFrom (suc left) number at bytes k
     by_rest fragment stands (Fragments others) f g rest = absurd (false≢true (sym (ap is_read g)))
     by_rest fragment (inl dropped) (Unreadable n) f g rest =
         let none : left ≡ 0 = eqb-true left 0 dropped.0 in
-        absurd (false≢true (sym (ap (λ (m : ℕ). is_read (reading_from m (suc number) (place_behind fragment) (drop (place_behind fragment - at) bytes))) (sym none) ∙ ap is_read f)))
+        absurd (false≢true (sym (ap (λ (m : ℕ). is_read (reading_from m (suc number) (fragment_end fragment) (drop (fragment_end fragment - at) bytes))) (sym none) ∙ ap is_read f)))
     by_rest fragment (inr reads) (Unreadable n) f g rest =
-        let first : IsFirstFrom left (suc number) (place_behind fragment) (drop (place_behind fragment - at) bytes) k = rest (f ∙ g) in
+        let first : IsFirstFrom left (suc number) (fragment_end fragment) (drop (fragment_end fragment - at) bytes) k = rest (f ∙ g) in
         record {
           below = omega (arith, first.below);
           before = fragment ∷ first.before;
           many = omega (arith, first.many);
           place = first.place;
           rest = first.rest;
-          reads = (drop (place_behind fragment - at) bytes, reads, first.reads);
+          reads = (drop (fragment_end fragment - at) bytes, reads, first.reads);
           none = subst (λ (m : ℕ). NoneReads (suc k == m) first.place first.rest) (omega arith) first.none;
         }
 
     by_fragment : (o : Option Fragment) → fragment_of (left == 0) at bytes (size_of 4 bytes) ≡ o
-        → read_on number (λ f. reading_from left (suc number) (place_behind f) (drop (place_behind f - at) bytes)) o ≡ Unreadable k
+        → read_on number (λ f. reading_from left (suc number) (fragment_end f) (drop (fragment_end f - at) bytes)) o ≡ Unreadable k
         → ((n a : ℕ) (bs : List ℕ) (j : ℕ) → All (λ byte. byte < 256) bs → reading_from left n a bs ≡ Unreadable j → IsFirstFrom left n a bs j)
         → IsFirstFrom (suc left) number at bytes k
     by_fragment None f g rest =
@@ -88,8 +88,8 @@ unread_from (suc left) number at bytes k below e = by_fragment (fragment_of (lef
         })
     by_fragment (Some fragment) f g rest =
         by_rest fragment (read_sound (left == 0) at bytes fragment below f)
-        (reading_from left (suc number) (place_behind fragment) (drop (place_behind fragment - at) bytes)) refl g
-        (rest (suc number) (place_behind fragment) (drop (place_behind fragment - at) bytes) k (All-drop (λ byte. byte < 256) (place_behind fragment - at) bytes below))
+        (reading_from left (suc number) (fragment_end fragment) (drop (fragment_end fragment - at) bytes)) refl g
+        (rest (suc number) (fragment_end fragment) (drop (fragment_end fragment - at) bytes) k (All-drop (λ byte. byte < 256) (fragment_end fragment - at) bytes below))
 
 -- where those before it can be read, and it can't, reading stops there
 stops_from : (before : List Fragment) (left number at : ℕ) (bytes : List ℕ) (place : ℕ) (rest : List ℕ) → All (λ byte. byte < 256) bytes
@@ -100,7 +100,7 @@ stops_from [] (suc left) number at bytes place rest below less reads none =
     by_fragment (fragment_of (left == 0) at bytes (size_of 4 bytes)) refl
   where
     by_fragment : (o : Option Fragment) → fragment_of (left == 0) at bytes (size_of 4 bytes) ≡ o
-        → read_on number (λ f. reading_from left (suc number) (place_behind f) (drop (place_behind f - at) bytes)) o ≡ Unreadable (number + 0)
+        → read_on number (λ f. reading_from left (suc number) (fragment_end f) (drop (fragment_end f - at) bytes)) o ≡ Unreadable (number + 0)
     by_fragment None f = ap Unreadable (omega arith)
     by_fragment (Some fragment) f = absurd (stands (read_sound (left == 0) at bytes fragment below f))
       where
@@ -110,20 +110,20 @@ stops_from [] (suc left) number at bytes place rest below less reads none =
 
         stands : StandsFirst (left == 0) at bytes fragment → ⊥
         stands (inl dropped) = here.dropped (eq-eqb (suc (number + 0)) (number + suc left) (omega (arith, eqb-true left 0 dropped.0))) fragment dropped.1
-        stands (inr kept) = here.kept fragment (drop (place_behind fragment - at) bytes) kept
+        stands (inr kept) = here.kept fragment (drop (fragment_end fragment - at) bytes) kept
 stops_from (fragment ∷ before) (suc left) number at bytes place rest below less reads none =
     let further : List ℕ = reads.0 in
-    let same : drop (place_behind fragment - at) bytes ≡ further = rest_behind at bytes fragment further reads.1 in
-    let go : Fragment → Reading = λ f. reading_from left (suc number) (place_behind f) (drop (place_behind f - at) bytes) in
+    let same : drop (fragment_end fragment - at) bytes ≡ further = rest_behind at bytes fragment further reads.1 in
+    let go : Fragment → Reading = λ f. reading_from left (suc number) (fragment_end f) (drop (fragment_end f - at) bytes) in
     let total : suc number + length before ≡ number + length (fragment ∷ before) = omega arith in
     let later : NoneReads (suc (suc number + length before) == suc number + left) place rest =
     subst (λ (m : ℕ). NoneReads (suc (suc number + length before) == m) place rest) (omega arith)
     (subst (λ (m : ℕ). NoneReads (suc m == number + suc left) place rest) (sym total) none) in
     ap (read_on number go) (read_kept (left == 0) at bytes fragment further reads.1)
-    ∙ ap (λ (xs : List ℕ). behind fragment (reading_from left (suc number) (place_behind fragment) xs)) same
+    ∙ ap (λ (xs : List ℕ). behind fragment (reading_from left (suc number) (fragment_end fragment) xs)) same
     ∙ ap (behind fragment)
-    (stops_from before left (suc number) (place_behind fragment) further place rest
-    (subst (λ (xs : List ℕ). All (λ byte. byte < 256) xs) same (All-drop (λ byte. byte < 256) (place_behind fragment - at) bytes below))
+    (stops_from before left (suc number) (fragment_end fragment) further place rest
+    (subst (λ (xs : List ℕ). All (λ byte. byte < 256) xs) same (All-drop (λ byte. byte < 256) (fragment_end fragment - at) bytes below))
     (omega (arith, less)) reads.2 later)
     ∙ ap Unreadable total
 

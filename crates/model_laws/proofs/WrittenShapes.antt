@@ -13,7 +13,7 @@ use Rattle.trace_model.specs.Pages.{Page, framed, laid, chunk_of, fragments_from
 use Rattle.trace_model.specs.Sequences.{Cursor}
 use Rattle.trace_model.specs.Row.{Piece, Chain, Whole, Marked, IntoLost, CutOff, Open, Link, Joined, Gap, Stop, joined_to, with_piece, place, is_last, is_part, place_behind, chunk_links, row_of, chain_of, Unpatched}
 use Rattle.trace_model.specs.Written.{settled_fragments, settled_chunk, written_slots, written_row, chains_in, chains_of}
-use Rattle.trace_model.specs.Cut.{IsFull, is_marked_fate}
+use Rattle.trace_model.specs.Cut.{IsWellFormedPage, is_marked_fate}
 use Rattle.model_laws.proofs.WrittenStarts.{settled_long, fragments_long}
 
 -- Counting
@@ -237,30 +237,30 @@ laid_in_place size at passed (bytes ∷ next ∷ others) rest dropped first noth
           (omega (arith, long, front, four, whole)),
     )
 
-page_in_place : (size : ℕ) (page : Page) → IsFull size page → AreInPlace size 0 (fragments_from 4 page.dropped page.fragments)
+page_in_place : (size : ℕ) (page : Page) → IsWellFormedPage size page → AreInPlace size 0 (fragments_from 4 page.dropped page.fragments)
 page_in_place size page full =
     let whole = full.whole in
     laid_in_place size 4 0 page.fragments page.rest page.dropped (λ none. refl) (λ m. (full.dropped m).1) (omega (arith, whole))
 
-pages_firsts : (size : ℕ) (patches : List Patch) (first : ℕ) (pages : List Page) → All (IsFull size) pages
+pages_firsts : (size : ℕ) (patches : List Patch) (first : ℕ) (pages : List Page) → All (IsWellFormedPage size) pages
     → row_firsts (row_of false first 0 (written_slots patches first pages)) ≡ length pages
 pages_firsts size patches first [] full = refl
 pages_firsts size patches first (page ∷ pages) full =
-    let some = (All-head (IsFull size) page pages full).some in
+    let some = (All-head (IsWellFormedPage size) page pages full).some in
     let chunk : Chunk = settled_chunk patches first (chunk_of page) in
     let long : length chunk.fragments ≡ length page.fragments =
     settled_long patches first (chunk_of page).fragments ∙ fragments_long 4 page.dropped page.fragments in
     chunk_firsts chunk.fragments first chunk (row_of false (suc first) 0 (written_slots patches (suc first) pages)) refl (omega (arith, some, long))
-    ∙ ap suc (pages_firsts size patches (suc first) pages (All-tail (IsFull size) page pages full))
+    ∙ ap suc (pages_firsts size patches (suc first) pages (All-tail (IsWellFormedPage size) page pages full))
 
-pages_shaped : (size : ℕ) (patches : List Patch) (first : ℕ) (pages : List Page) → All (IsFull size) pages
+pages_shaped : (size : ℕ) (patches : List Patch) (first : ℕ) (pages : List Page) → All (IsWellFormedPage size) pages
     → RowShaped size (row_of false first 0 (written_slots patches first pages))
 pages_shaped size patches first [] full = tt
 pages_shaped size patches first (page ∷ pages) full =
     let chunk : Chunk = settled_chunk patches first (chunk_of page) in
     chunk_shaped size chunk.fragments first 0 chunk (row_of false (suc first) 0 (written_slots patches (suc first) pages)) refl
-    (in_place_settled size patches first (chunk_of page).fragments (page_in_place size page (All-head (IsFull size) page pages full)))
-    (pages_shaped size patches (suc first) pages (All-tail (IsFull size) page pages full))
+    (in_place_settled size patches first (chunk_of page).fragments (page_in_place size page (All-head (IsWellFormedPage size) page pages full)))
+    (pages_shaped size patches (suc first) pages (All-tail (IsWellFormedPage size) page pages full))
 
 -- The newest first
 
@@ -286,9 +286,9 @@ each_reversed size (chain ∷ chains) h =
     subst (EachShaped size) (sym (reverse-append (chain ∷ []) chains)) (each_append size (reverse chains) (chain ∷ []) (each_reversed size chains h.1) (h.0, tt))
 
 -- each page begins with one piece of one chain
-pub chains_counted : (size : ℕ) (pages : List Page) → All (IsFull size) pages → chains_firsts (chains_of pages) ≡ length pages
+pub chains_counted : (size : ℕ) (pages : List Page) → All (IsWellFormedPage size) pages → chains_firsts (chains_of pages) ≡ length pages
 chains_counted size pages full = firsts_reversed (chains_in (written_row pages)) ∙ pages_firsts size (patches_of pages) 0 pages full
 
-pub chains_shaped : (size : ℕ) (pages : List Page) → All (IsFull size) pages → EachShaped size (chains_of pages)
+pub chains_shaped : (size : ℕ) (pages : List Page) → All (IsWellFormedPage size) pages → EachShaped size (chains_of pages)
 chains_shaped size pages full =
     each_reversed size (chains_in (written_row pages)) (row_each size (written_row pages) (pages_shaped size (patches_of pages) 0 pages full))

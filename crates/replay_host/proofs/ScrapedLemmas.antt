@@ -3,7 +3,7 @@ use Rattle.std.proofs.Common.{◌≡◌, ◌∙◌, ℕ, zero, suc, ◌<◌, Opt
 use Rattle.byte_io.specs.Bytes.{Intake}
 use Rattle.chunk_plain.specs.Meaning.{Meaning, IsServiceStep}
 use Rattle.chunk_plain.specs.Setup.{Setup, IsChunkOf, producer_of, sequence_of}
-use Rattle.chunk_plain.specs.Views.{At, Begun, Held, Completed, Draft, Look, Noted, Partial, ServiceView, WriterView, taken_of}
+use Rattle.chunk_plain.specs.Views.{At, BegunChunk, Held, Completed, Draft, Look, Noted, Partial, ServiceView, WriterView, taken_of}
 use Rattle.chunk_plain.specs.World.{World}
 use Rattle.trace_writer.specs.declared.writer.WriterCore.{WriterCore}
 use Rattle.trace_writer.specs.Claims.{AreOwnChunks}
@@ -103,7 +103,7 @@ scrapes_own setup producer taken old new scrapes =
 
 -- ---- what writers hold
 
-own_at : (setup : Setup) (producer : ℕ) (begun : List Begun) → AreOwnChunks setup producer begun → (id chunk : ℕ) (draft : Draft)
+own_at : (setup : Setup) (producer : ℕ) (begun : List BegunChunk) → AreOwnChunks setup producer begun → (id chunk : ℕ) (draft : Draft)
     → At begun id (Held chunk draft) → IsChunkOf setup producer chunk
 own_at setup producer [] own id chunk draft at = absurd (cc)
 own_at setup producer (Held one head ∷ begun) own zero chunk draft at =

@@ -23,7 +23,7 @@ use Rattle.service_core.proofs.AnswerLemmas.{LeavesTaken, takes_nothing}
 use Rattle.service_core.specs.Agreement.{spec_at}
 use Rattle.service_core.specs.Taking.{places_of}
 use Rattle.replay_model.specs.Does as acts
-use Rattle.replay_model.specs.Does.{LeavesRest, IsFull, Collects, policy_of}
+use Rattle.replay_model.specs.Does.{LeavesRest, HasNoFreeChunk, Collects, policy_of}
 use Rattle.replay_host.specs.declared.helper.Collecting.{Collecting}
 use Rattle.replay_host.specs.Asking.{IsStalledCall, KeepsService}
 use Rattle.replay_host.specs.Helping.{MayHelp, Helps}
@@ -46,7 +46,7 @@ pub record StallsTo (setup : Setup) (place : ℕ) (was is : World) : Type 0 wher
   pub asking : World
   pub kept : World
   pub works : acts.Works setup place was asking
-  pub full : IsFull setup (producer_of setup place) asking
+  pub full : HasNoFreeChunk setup (producer_of setup place) asking
   pub help : TakesNothing setup (producer_of setup place) asking kept
   pub own : LeavesRest place kept is
   pub frees : (chunk : ℕ) → status is chunk ≡ Unclaimed → status kept chunk ≡ Unclaimed

@@ -9,7 +9,7 @@ use Rattle.chunk_plain.specs.declared.tokens.TheConstants.{ID_LIMIT}
 use Rattle.chunk_plain.specs.Histories.{completed_images}
 use Rattle.chunk_plain.specs.Owned.{IsOwned, times, claims_of, reads_of}
 use Rattle.chunk_plain.specs.Setup.{Setup, HasProducer, IsChunkOf, producer_of}
-use Rattle.chunk_plain.specs.Views.{At, Begun, Held, Completed, Draft, Content, Taken, WriterView, newcomer, ServiceView, none_taken, taken_of}
+use Rattle.chunk_plain.specs.Views.{At, BegunChunk, Held, Completed, Draft, Content, Taken, WriterView, newcomer, ServiceView, none_taken, taken_of}
 use Rattle.chunk_plain.specs.World.{World, Status, Unclaimed, Claimed, Stamped, Writing, Ready, Reading, status, writer}
 use Rattle.chunk_plain.specs.Words.{chunk_of}
 use Rattle.chunk_plain.proofs.Lists.{at_inside, at_one}
@@ -26,25 +26,25 @@ use Rattle.trace_writer.specs.Site.{Site, site_of}
 use Rattle.trace_writer.proofs.KeptChunks.{shown_none_held}
 use Rattle.trace_model.specs.Pages.{Page}
 use Rattle.service_core.specs.Told.{NoneLeft}
-use Rattle.replay_model.specs.Does.{LeavesRest, IsFull}
+use Rattle.replay_model.specs.Does.{LeavesRest, HasNoFreeChunk}
 use Rattle.replay_host.specs.Playing.{AreApart}
 use Rattle.replay_host.specs.Stopping.{AreOthers}
 
 -- ---- what a writer has begun
 
 -- none is completed behind one that is held
-abbrev pub CompletesFirst : List Begun → Type 0
+abbrev pub CompletesFirst : List BegunChunk → Type 0
 CompletesFirst [] = Unit {0}
 CompletesFirst (Held chunk draft ∷ begun) = begun ≡ []
 CompletesFirst (Completed chunk content ∷ begun) = CompletesFirst begun
 
-shown_first : (site : Site) (id : ℕ) (begun : List Begun) (pages : List Page) → ShowsPages site id begun pages → CompletesFirst begun
+shown_first : (site : Site) (id : ℕ) (begun : List BegunChunk) (pages : List Page) → ShowsPages site id begun pages → CompletesFirst begun
 shown_first site id [] pages shown = tt
 shown_first site id (Held chunk draft ∷ begun) pages shown = absurd shown
 shown_first site id (Completed chunk content ∷ begun) [] shown = absurd shown
 shown_first site id (Completed chunk content ∷ begun) (page ∷ pages) shown = shown_first site (suc id) begun pages shown.1
 
-held_first : (site : Site) (id : ℕ) (begun : List Begun) (pages : List Page) (chunk : ℕ) (draft : Draft) → ShowsPages site id begun pages
+held_first : (site : Site) (id : ℕ) (begun : List BegunChunk) (pages : List Page) (chunk : ℕ) (draft : Draft) → ShowsPages site id begun pages
     → CompletesFirst (begun ++ Held chunk draft ∷ [])
 held_first site id [] pages chunk draft shown = refl
 held_first site id (Held other head ∷ begun) pages chunk draft shown = absurd shown
@@ -86,38 +86,38 @@ stalled_holds_none setup place view one agrees (state.Stalled next_id) is halted
     shown_none_held (site_of setup place one.route) 0 view.begun stuck.1.pages stuck.1.shown
 
 -- one is held or completed
-not_both : (begun : List Begun) (about chunk : ℕ) (draft : Draft) (content : Content)
+not_both : (begun : List BegunChunk) (about chunk : ℕ) (draft : Draft) (content : Content)
     → At (Held about draft ∷ begun) zero (Completed chunk content) → ⊥
 not_both begun about chunk draft content at =
     let never : Held about draft ≡ Completed chunk content = at_one (Held about draft ∷ begun) (Held about draft)
     (Completed chunk content) zero refl at in cc
 
-same_chunk : (begun : List Begun) (about chunk : ℕ) (other content : Content)
+same_chunk : (begun : List BegunChunk) (about chunk : ℕ) (other content : Content)
     → At (Completed about other ∷ begun) zero (Completed chunk content) → about ≡ chunk
 same_chunk begun about chunk other content at =
     ap chunk_of (at_one (Completed about other ∷ begun) (Completed about other) (Completed chunk content) zero refl at)
 
 -- one that is completed stands among the completed ones
-completed_inside : (begun : List Begun) → CompletesFirst begun → (id chunk : ℕ) (content : Content)
+completed_inside : (begun : List BegunChunk) → CompletesFirst begun → (id chunk : ℕ) (content : Content)
     → At begun id (Completed chunk content) → id < length (completed_images begun)
 completed_inside [] first id chunk content at = absurd (let inside = at_inside [] (Completed chunk content) id at in omega (arith, inside))
 completed_inside (Held about draft ∷ begun) first zero chunk content at = absurd (not_both begun about chunk draft content at)
 completed_inside (Held about draft ∷ begun) first (suc id) chunk content at =
-    absurd (let inside = at_inside begun (Completed chunk content) id at in let none = ap (λ (xs : List Begun). length xs) first in omega
+    absurd (let inside = at_inside begun (Completed chunk content) id at in let none = ap (λ (xs : List BegunChunk). length xs) first in omega
     (arith, inside, none))
 completed_inside (Completed about other ∷ begun) first zero chunk content at = omega arith
 completed_inside (Completed about other ∷ begun) first (suc id) chunk content at =
     let inside = completed_inside begun first id chunk content at in omega (arith, inside)
 
 -- and so does each one before it
-completed_before : (begun : List Begun) → CompletesFirst begun → (id before chunk : ℕ) (content : Content)
+completed_before : (begun : List BegunChunk) → CompletesFirst begun → (id before chunk : ℕ) (content : Content)
     → At begun id (Completed chunk content) → before ≤ id
     → (about : ℕ) × (other : Content) × At begun before (Completed about other)
 completed_before [] first id before chunk content at order = absurd
     (let inside = at_inside [] (Completed chunk content) id at in omega (arith, inside))
 completed_before (Held about draft ∷ begun) first zero before chunk content at order = absurd (not_both begun about chunk draft content at)
 completed_before (Held about draft ∷ begun) first (suc id) before chunk content at order =
-    absurd (let inside = at_inside begun (Completed chunk content) id at in let none = ap (λ (xs : List Begun). length xs) first in omega
+    absurd (let inside = at_inside begun (Completed chunk content) id at in let none = ap (λ (xs : List BegunChunk). length xs) first in omega
     (arith, inside, none))
 completed_before (Completed about other ∷ begun) first id zero chunk content at order = (about, other, refl)
 completed_before (Completed about other ∷ begun) first zero (suc before) chunk content at order = absurd (omega (arith, order))
@@ -125,7 +125,7 @@ completed_before (Completed about other ∷ begun) first (suc id) (suc before) c
     completed_before begun first id before chunk content at (omega (arith, order))
 
 -- a chunk that was completed is the producer's
-own_at : (setup : Setup) (producer : ℕ) (begun : List Begun) → AreOwnChunks setup producer begun → (id chunk : ℕ) (content : Content)
+own_at : (setup : Setup) (producer : ℕ) (begun : List BegunChunk) → AreOwnChunks setup producer begun → (id chunk : ℕ) (content : Content)
     → At begun id (Completed chunk content) → IsChunkOf setup producer chunk
 own_at setup producer [] own id chunk content at = absurd
     (let inside = at_inside [] (Completed chunk content) id at in omega (arith, inside))
@@ -136,7 +136,7 @@ own_at setup producer (Completed about other ∷ begun) own zero chunk content a
 own_at setup producer (Completed about other ∷ begun) own (suc id) chunk content at = own_at setup producer begun own.1 id chunk content at
 
 -- where none is held, no place has a held one
-none_at : (begun : List Begun) → NoneHeld begun → (id chunk : ℕ) (draft : Draft) → At begun id (Held chunk draft) → ⊥
+none_at : (begun : List BegunChunk) → NoneHeld begun → (id chunk : ℕ) (draft : Draft) → At begun id (Held chunk draft) → ⊥
 none_at [] none id chunk draft at = let inside = at_inside [] (Held chunk draft) id at in omega (arith, inside)
 none_at (Held about other ∷ begun) none id chunk draft at = none
 none_at (Completed about content ∷ begun) none zero chunk draft at =
@@ -145,7 +145,7 @@ none_at (Completed about content ∷ begun) none zero chunk draft at =
 none_at (Completed about content ∷ begun) none (suc id) chunk draft at = none_at begun none id chunk draft at
 
 -- one that is completed behind steps, where none was held, was completed before them
-kept_at : (old new : List Begun) → KeepsChunks old new → NoneHeld old → (id chunk : ℕ) (content : Content)
+kept_at : (old new : List BegunChunk) → KeepsChunks old new → NoneHeld old → (id chunk : ℕ) (content : Content)
     → At new id (Completed chunk content)
     → (older : Content) × At old id (Completed chunk older)
 kept_at [] [] keeps none id chunk content at = absurd (let inside = at_inside [] (Completed chunk content) id at in omega (arith, inside))
@@ -187,7 +187,7 @@ pub record IsStuck (setup : Setup) (producer place : ℕ) (world : World) : Type
   pub owned : ∥ IsOwned world ∥₁
   pub many : length world.writers ≡ length setup.writers
   pub tidy : (other : ℕ) → other < length setup.writers → IsTidy setup other (writer world other)
-  pub full : IsFull setup producer world
+  pub full : HasNoFreeChunk setup producer world
   pub none_left : NoneLeft setup producer world
   pub none_read : world.service.reading ≡ []
   pub own : NoneHeld (writer world place).begun
@@ -210,7 +210,7 @@ module _ (setup : Setup) (producer place : ℕ) (world : World) (stuck : IsStuck
     | inr beyond ↦ ap (λ (v : WriterView). v.stamped) (newcomer_is other beyond)
   ]
 
-  inside_is : (other id : ℕ) (entry : Begun) → At (writer world other).begun id entry → other < length setup.writers
+  inside_is : (other id : ℕ) (entry : BegunChunk) → At (writer world other).begun id entry → other < length setup.writers
   inside_is other id entry at = elim (cases_lt other (length setup.writers)) [
     | inl inside ↦ inside
     | inr beyond ↦ absurd (let there = at_inside [] entry id

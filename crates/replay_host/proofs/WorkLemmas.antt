@@ -13,7 +13,7 @@ use Rattle.trace_writer.specs.OwnSteps.{IsQuiet, IsSilent, GetsChunk, IsOutNow}
 use Rattle.service_core.specs.Taking.{Takes, places_of}
 use Rattle.service_core.specs.Told.{LeavesNone}
 use Rattle.replay_model.specs.Does as acts
-use Rattle.replay_model.specs.Does.{LeavesRest, IsFull, policy_of, AreOpen, Collects}
+use Rattle.replay_model.specs.Does.{LeavesRest, HasNoFreeChunk, policy_of, AreOpen, Collects}
 use Rattle.replay_host.specs.declared.helper.Collecting.{Collecting}
 use Rattle.replay_host.specs.Helping.{Helps, Collected}
 use Rattle.replay_host.proofs.TakenLemmas.{open_is}
@@ -40,7 +40,7 @@ none_free_still first last was is frees none chunk least below unclaimed = none 
 
 -- the range of a route is that of its producer
 pub full_is : (setup : Setup) (place : ℕ) (route : Route) (world : World) → range_of setup (producer_of setup place) ≡ range_in route.arbiter
-    → NoneFree world route.arbiter.first (route.arbiter.first + route.arbiter.chunks) → IsFull setup (producer_of setup place) world
+    → NoneFree world route.arbiter.first (route.arbiter.first + route.arbiter.chunks) → HasNoFreeChunk setup (producer_of setup place) world
 full_is setup place route world range none =
     subst (λ (r : ChunkRange). NoneFree world r.first (r.first + r.count)) (sym range) none
 
@@ -90,7 +90,7 @@ helped_world means laws helper helped asking freed producer helps at was told_wa
 -- what a work comes to in the worlds that are told
 pub record WorksTo (setup : Setup) (place : ℕ) (policy : WriterPolicy) (stopped : Bool) (was is : World) : Type 0 where
   pub works : acts.Works setup place was is
-  pub full : stopped ≡ true → IsFull setup (producer_of setup place) is
+  pub full : stopped ≡ true → HasNoFreeChunk setup (producer_of setup place) is
 
 -- what it begins with
 pub record Begins {T W S : Type 0} (means : Meaning T W S) (setup : Setup) (place : ℕ) (route : Route) (helper : Collecting S) (old : T) (seat : W) : Type 0 where
@@ -209,6 +209,6 @@ works_world means laws setup place route range producer policy last quiet (Lost 
   where
     none_free_range : (setup : Setup) (place : ℕ) (route : Route) → range_of setup (producer_of setup place) ≡ range_in route.arbiter → (was is : World)
         → ((chunk : ℕ) → status is chunk ≡ Unclaimed → status was chunk ≡ Unclaimed)
-        → NoneFree was route.arbiter.first (route.arbiter.first + route.arbiter.chunks) → IsFull setup (producer_of setup place) is
+        → NoneFree was route.arbiter.first (route.arbiter.first + route.arbiter.chunks) → HasNoFreeChunk setup (producer_of setup place) is
     none_free_range setup place route range was is frees none =
         full_is setup place route is range (none_free_still route.arbiter.first (route.arbiter.first + route.arbiter.chunks) was is frees none)

@@ -16,7 +16,7 @@ use Rattle.service_core.specs.Agreement.{first_of}
 use Rattle.service_core.specs.Reading.{reads_in, noted_read}
 use Rattle.service_core.specs.Taking.{noted_more}
 use Rattle.replay_model.specs.Acts.{Act, Ask, ReadAll}
-use Rattle.replay_model.specs.Does.{Works, LeavesRest, IsFull, Collects, Reads, policy_of}
+use Rattle.replay_model.specs.Does.{Works, LeavesRest, HasNoFreeChunk, Collects, Reads, policy_of}
 use Rattle.replay_model.specs.Flushes.{FlushNote}
 use Rattle.replay_model.specs.Plays.{Plays}
 use Rattle.replay_host.specs.declared.fault.HostFault.{HostFault}
@@ -40,7 +40,7 @@ pub record StallsIn (setup : Setup) (place : ℕ) (call : Call) (old new : World
   pub asking : World
   pub kept : World
   pub works : Works setup place old asking
-  pub full : IsFull setup (producer_of setup place) asking
+  pub full : HasNoFreeChunk setup (producer_of setup place) asking
   pub collects : Collects setup (producer_of setup place) asking kept
   pub none : collects.taken ≡ 0
   pub own : LeavesRest place kept new

@@ -22,13 +22,13 @@ use Rattle.trace_model.specs.Delivery.{Delivered, IsFaithful, records_of}
 use Rattle.trace_model.specs.History.{records_after}
 use Rattle.chunk_plain.specs.Setup.{Setup, sequence_of}
 use Rattle.chunk_plain.specs.Drafts.{IsFound, IsThere, StillHas}
-use Rattle.chunk_plain.specs.Views.{At, Begun, Held, Completed, Content, Draft, Found, Look, Noted, Arrive, Partial, Patched, Closed, Read, Commit, ServiceView, taken_of, WriterView, newcomer}
+use Rattle.chunk_plain.specs.Views.{At, BegunChunk, Held, Completed, Content, Draft, Found, Look, Noted, Arrive, Partial, Patched, Closed, Read, Commit, ServiceView, taken_of, WriterView, newcomer}
 use Rattle.chunk_plain.specs.World.{World, writer}
 use Rattle.chunk_plain.specs.Histories.{completed_images, content_at, found_among, is_scraped, history_of}
 use Rattle.chunk_plain.specs.Owned.{IsOwned, held_count}
 use Rattle.chunk_plain.proofs.Lists.{at_inside, at_one, at_some}
 use Rattle.world_model.specs.FirstBuffers.{BufferSpec, payload_at, first_buffers}
-use Rattle.world_model.specs.FrontLaws.{StandsIn}
+use Rattle.world_model.specs.FrontLaws.{StandsInWords}
 use Rattle.world_model.specs.Accounts.{all_images, HasCut, IsScraped, InOrder, IsAccount}
 use Rattle.trace_model.specs.Cut.{newest_goes_on}
 use Rattle.delivery_laws.specs.DeliveryLaws.{IsAccountOf}
@@ -117,7 +117,7 @@ get_seam [] y = refl
 get_seam (x ∷ xs) y = get_seam xs y
 
 -- an image that was completed is among those of all chunks, at its own id
-completed_there : (begun : List Begun) (i chunk : ℕ) (content : Content) → At begun i (Completed chunk content)
+completed_there : (begun : List BegunChunk) (i chunk : ℕ) (content : Content) → At begun i (Completed chunk content)
     → (n : ℕ) × (slice_get (completed_images begun) n ≡ Some content.image)
 completed_there [] i chunk content at = absurd (cc)
 completed_there (Held other draft ∷ begun) zero chunk content at = absurd (cc)
@@ -149,7 +149,7 @@ module _ (setup : Setup) (world : World) (owned : ∥ IsOwned world ∥₁) (pla
   abbrev view : WriterView
   view = writer world place
 
-  abbrev begun : List Begun
+  abbrev begun : List BegunChunk
   begun = (writer world place).begun
 
   abbrev images : List Image
@@ -165,10 +165,10 @@ module _ (setup : Setup) (world : World) (owned : ∥ IsOwned world ∥₁) (pla
       inside : n < length begun
       inside = ∥∥₁_elim owned (hlevel le_prop) (λ (is : IsOwned world). let l = (is.counts place).learnt n content at in at_inside begun (Completed l.0 content) n l.1)
 
-      some : (one : Begun) × At begun n one
+      some : (one : BegunChunk) × At begun n one
       some = at_some begun n inside
 
-      by_entry : (one : Begun) → At begun n one → (chunk : ℕ) × At begun n (Completed chunk content)
+      by_entry : (one : BegunChunk) → At begun n one → (chunk : ℕ) × At begun n (Completed chunk content)
       by_entry (Held chunk draft) there =
           absurd (∥∥₁_elim owned (hlevel le_prop) (λ (is : IsOwned world).
           let l = (is.counts place).learnt n content at in
@@ -199,7 +199,7 @@ module _ (setup : Setup) (world : World) (owned : ∥ IsOwned world ∥₁) (pla
   record IsHeldAt (id chunk : ℕ) (draft : Draft) : Type 0 where
     image : Image
     there : slice_get images id ≡ Some image
-    stands : StandsIn draft image
+    stands : StandsInWords draft image
 
   image_of_held : (id chunk : ℕ) (draft : Draft) → At begun id (Held chunk draft) → IsHeldAt id chunk draft
   image_of_held id chunk draft at = by_held wrote.held refl
@@ -217,19 +217,19 @@ module _ (setup : Setup) (world : World) (owned : ∥ IsOwned world ∥₁) (pla
         there =
             subst (λ (xs : List Image). slice_get (completed_images begun ++ xs) id ≡ Some image) (sym is)
             (subst (λ (n : ℕ). slice_get (completed_images begun ++ image ∷ []) n ≡ Some image) (sym id_is) (get_seam (completed_images begun) image));
-        stands = subst (λ (d : Draft). StandsIn d image) same_draft stands_there;
+        stands = subst (λ (d : Draft). StandsInWords d image) same_draft stands_there;
       }
         where
           held_is : IsHeldImage view image
           held_is = wrote.stands image is
 
           last : At begun (length held_is.completed) (Held held_is.chunk held_is.draft)
-          last = subst (λ (bs : List Begun). At bs (length held_is.completed) (Held held_is.chunk held_is.draft)) (sym held_is.begun)
+          last = subst (λ (bs : List BegunChunk). At bs (length held_is.completed) (Held held_is.chunk held_is.draft)) (sym held_is.begun)
               (elem_at (held_is.completed ++ Held held_is.chunk held_is.draft ∷ []) (length held_is.completed) (Held held_is.chunk held_is.draft)
               (get_seam held_is.completed (Held held_is.chunk held_is.draft)))
 
           ends : length begun ≡ length held_is.completed + 1
-          ends = ap (λ (bs : List Begun). length bs) held_is.begun ∙ length-append held_is.completed (Held held_is.chunk held_is.draft ∷ [])
+          ends = ap (λ (bs : List BegunChunk). length bs) held_is.begun ∙ length-append held_is.completed (Held held_is.chunk held_is.draft ∷ [])
 
           id_last : id ≡ length held_is.completed
           id_last = by_order (cases_lt id (length held_is.completed))
@@ -253,7 +253,7 @@ module _ (setup : Setup) (world : World) (owned : ∥ IsOwned world ∥₁) (pla
               let long = ends in let at_end = id_last in
               omega (arith, all, many, one, long, at_end)
 
-          stands_there : StandsIn held_is.draft image
+          stands_there : StandsInWords held_is.draft image
           stands_there = record {
             head = held_is.head;
             before = held_is.before;
@@ -273,7 +273,7 @@ module _ (setup : Setup) (world : World) (owned : ∥ IsOwned world ∥₁) (pla
       omega (arith, long, small)
 
   -- what a look found of a chunk is there still
-  still : (id : ℕ) (one : Begun) → At begun id one → (n : ℕ) (look : Look) (found : Found) → At world.service.looks n look → look.found ≡ Some found
+  still : (id : ℕ) (one : BegunChunk) → At begun id one → (n : ℕ) (look : Look) (found : Found) → At world.service.looks n look → look.found ≡ Some found
       → found.place ≡ place → found.id ≡ id → IsOwned world → StillHas look.chunk found one
   still id one at n look found there is place_is id_is owns =
       let thing : IsThere view look.chunk found = subst (λ (p : ℕ). IsThere (writer world p) look.chunk found) place_is (owns.looks n look found there is).1 in
@@ -302,10 +302,10 @@ module _ (setup : Setup) (world : World) (owned : ∥ IsOwned world ∥₁) (pla
           subst (λ (p : ℕ). IsThere (writer world p) looked_at.look.chunk part.found) named_so.0 (is.looks looked_at.number looked_at.look part.found looked_at.at looked_at.found_is).1 in
           at_inside begun thing.entry id (subst (λ (i : ℕ). At begun i thing.entry) named_so.1 thing.at))
 
-      some : (one : Begun) × At begun id one
+      some : (one : BegunChunk) × At begun id one
       some = at_some begun id inside
 
-      by_entry : (one : Begun) → At begun id one → IsScraped images world.service (sequence_of place) id count
+      by_entry : (one : BegunChunk) → At begun id one → IsScraped images world.service (sequence_of place) id count
       by_entry (Completed chunk content) at = record {
         found = part.found;
         looked = part.looked;

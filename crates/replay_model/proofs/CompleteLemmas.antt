@@ -30,7 +30,7 @@ use Rattle.delivery_laws.proofs.AskLemmas.{every_ask_is_counted}
 use Rattle.chunk_plain.specs.declared.tokens.TheConstants.{ID_LIMIT}
 use Rattle.chunk_plain.specs.Setup.{Setup, producer_of, size_of, sequence_of}
 use Rattle.chunk_plain.specs.Plain.{first_world}
-use Rattle.chunk_plain.specs.Views.{Begun, Completed, WriterView, newcomer, taken_of}
+use Rattle.chunk_plain.specs.Views.{BegunChunk, Completed, WriterView, newcomer, taken_of}
 use Rattle.chunk_plain.specs.World.{World, writer}
 use Rattle.chunk_plain.specs.Histories.{history_of}
 use Rattle.chunk_plain.specs.Owned.{IsOwned, held_count}
@@ -250,7 +250,7 @@ module _ (scenario : Parts) (setup : Setup) (world : World) (notes : List FlushN
   taken_whole =
       let same : (writer flushes_all.mid place).begun ≡ (writer world place).begun =
       sym (begun_now ∙ ap (λ (ws : List WriterView). (get_or ws place newcomer).begun) writers_same) in
-      let long = ap (λ (xs : List Begun). length xs) same in
+      let long = ap (λ (xs : List BegunChunk). length xs) same in
       let left = ids_left in
       closes_keep setup buffers producers place collects_done.mid closes_done.mid collects_done.more collects_done.second behind_collects.0
       (collect_phase setup buffers producers place flushes_all.mid collects_done.mid flushes_all.more flushes_all.second behind_flushes.0 low among_producers empty
@@ -265,7 +265,7 @@ module _ (scenario : Parts) (setup : Setup) (world : World) (notes : List FlushN
       let most = taken_whole.most in
       let few : (taken_of closes_done.mid.service place).count ≤ length (writer closes_done.mid place).begun =
       ∥∥₁_elim behind_closes.1 (hlevel le_prop) (λ (owned : IsOwned closes_done.mid). at_most owned (cases_lt (length (writer closes_done.mid place).begun) (taken_of closes_done.mid.service place).count)) in
-      let same = ap (λ (xs : List Begun). length xs) begun_now in
+      let same = ap (λ (xs : List BegunChunk). length xs) begun_now in
       let pages = pages_begun scenario setup world notes played playable enough place spec get in
       omega (arith, most, few, same, pages)
     where

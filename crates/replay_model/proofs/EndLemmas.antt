@@ -12,7 +12,7 @@ use Rattle.trace_model.specs.Images.{Image}
 use Rattle.trace_model.specs.Packets.{Packet, Account, noted, nothing_yet, account_of, is_lost}
 use Rattle.chunk_plain.specs.declared.tokens.TheConstants.{ID_LIMIT}
 use Rattle.chunk_plain.specs.Setup.{Setup, producer_of, sequence_of, IsChunkOf}
-use Rattle.chunk_plain.specs.Views.{At, Begun, Held, Completed, Content, Draft, ServiceView, taken_of, WriterView, newcomer}
+use Rattle.chunk_plain.specs.Views.{At, BegunChunk, Held, Completed, Content, Draft, ServiceView, taken_of, WriterView, newcomer}
 use Rattle.chunk_plain.specs.World.{World, writer}
 use Rattle.chunk_plain.specs.Owned.{IsOwned, held_count}
 use Rattle.chunk_plain.proofs.Lists.{at_some}
@@ -71,7 +71,7 @@ flushed_now setup place old new (inr h) =
     ap (λ (calls : List Call). (account_of calls).flushed) h.0
     ∙ ap (λ (a : Account). a.flushed) (fold-append noted nothing_yet (writer old place).calls (Flushed ∷ GivenUp ∷ []))
 
-held_last : (begun : List Begun) (chunk : ℕ) (draft : Draft) → last_is_held (begun ++ Held chunk draft ∷ []) ≡ true
+held_last : (begun : List BegunChunk) (chunk : ℕ) (draft : Draft) → last_is_held (begun ++ Held chunk draft ∷ []) ≡ true
 held_last [] chunk draft = refl
 held_last (one ∷ []) chunk draft = refl
 held_last (one ∷ next ∷ begun) chunk draft = held_last (next ∷ begun) chunk draft
@@ -180,7 +180,7 @@ takes_grow setup (place ∷ places) taken old new sorted fits takes p =
         ap (λ (v : ServiceView). (taken_of v p).count) of.view ∙ ap (λ t. t.count) (taken_other old place p of.looks of.contents differs) in
         omega (arith, kept)
 
-own_at : (setup : Setup) (producer : ℕ) (begun : List Begun) (i chunk : ℕ) (content : Content) → AreOwnChunks setup producer begun → At begun i (Completed chunk content)
+own_at : (setup : Setup) (producer : ℕ) (begun : List BegunChunk) (i chunk : ℕ) (content : Content) → AreOwnChunks setup producer begun → At begun i (Completed chunk content)
     → IsChunkOf setup producer chunk
 own_at setup producer [] i chunk content own at = absurd (cc)
 own_at setup producer (Held other draft ∷ begun) zero chunk content own at = absurd (cc)
@@ -188,7 +188,7 @@ own_at setup producer (Held other draft ∷ begun) (suc i) chunk content own at 
 own_at setup producer (Completed other one ∷ begun) zero chunk content own at = let same : other ≡ chunk = cc in subst (IsChunkOf setup producer) same own.0
 own_at setup producer (Completed other one ∷ begun) (suc i) chunk content own at = own_at setup producer begun i chunk content own.1 at
 
-held_or_completed : (begun : List Begun) (i : ℕ) (one : Begun) → At begun i one
+held_or_completed : (begun : List BegunChunk) (i : ℕ) (one : BegunChunk) → At begun i one
     → ((chunk : ℕ) × (draft : Draft) × At begun i (Held chunk draft)) ⊎ ((chunk : ℕ) × (content : Content) × At begun i (Completed chunk content))
 held_or_completed begun i (Held chunk draft) at = inl (chunk, draft, at)
 held_or_completed begun i (Completed chunk content) at = inr (chunk, content, at)
@@ -227,7 +227,7 @@ whole_still : (old new : World) (place : ℕ) → new.writers ≡ old.writers �
     → IsTakenWhole old place → IsTakenWhole new place
 whole_still old new place is grows whole =
     let same = same_begun old new place is in
-    let long = ap (λ (xs : List Begun). length xs) same in
+    let long = ap (λ (xs : List BegunChunk). length xs) same in
     let most = whole.most in
     record { empty = ap held_count same ∙ whole.empty; most = omega (arith, long, grows, most) }
 

@@ -6,7 +6,7 @@ use Rattle.std.proofs.lemmas.List.Elements.{All-nil}
 use Rattle.trace_base.specs.declared.policy.WriterSpec.{WriterSpec}
 use Rattle.page_geometry.proofs.SizeLemmas.{payload_size_most}
 use Rattle.trace_model.specs.Fragments.{drop_size}
-use Rattle.trace_model.specs.Cut.{IsFull, CutsInto}
+use Rattle.trace_model.specs.Cut.{IsWellFormedPage, CutsInto}
 use Rattle.chunk_plain.specs.declared.setup.ProducerSpec.{ProducerSpec}
 use Rattle.chunk_plain.specs.Setup.{Setup, producer_of}
 use Rattle.chunk_plain.specs.Laying.{sizes_of, setup_of}
@@ -32,7 +32,7 @@ small_payload scenario setup is place =
 
 nothing_cut : (size : ℕ) → CutsInto size [] []
 nothing_cut size = record {
-  full = All-nil (IsFull size);
+  full = All-nil (IsWellFormedPage size);
   flags = tt;
   last = λ e. absurd (false≢true e);
   chains = tt;

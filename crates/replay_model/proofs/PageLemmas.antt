@@ -5,7 +5,7 @@ use Rattle.std.proofs.lemmas.List.{append_cancel_left}
 use Rattle.trace_model.specs.Fragments.{drop_size, drop_mark}
 use Rattle.trace_model.specs.Images.{Image, Fragment, Patch, has_flag_1, has_flag_2, has_flag_4}
 use Rattle.trace_model.specs.Pages.{Page, framed, laid, flags_of, image_of, fragments_from, chunk_of}
-use Rattle.trace_model.specs.Cut.{IsFull}
+use Rattle.trace_model.specs.Cut.{IsWellFormedPage}
 use Rattle.trace_model.specs.Reading.{Fragments, reading_of}
 use Rattle.world_model.proofs.OwnLemmas.{page_reads, page_continues, flag_2, flag_4}
 
@@ -45,7 +45,7 @@ abbrev made : Bool → Bool → Bool → List (List ℕ) → Bool → List ℕ �
 made continues runs_on awaits fragments dropped rest patches =
     record { continues = continues; runs_on = runs_on; awaits = awaits; fragments = fragments; dropped = dropped; rest = rest; patches = patches }
 
-pub pages_same : (size q i : ℕ) (one other : Page) → size < drop_size → IsFull size one → IsFull size other → image_of q i one ≡ image_of q i other
+pub pages_same : (size q i : ℕ) (one other : Page) → size < drop_size → IsWellFormedPage size one → IsWellFormedPage size other → image_of q i one ≡ image_of q i other
     → one.patches ≡ other.patches → one ≡ other
 pages_same size q i one other small full also same patches =
     let flags : flags_of one ≡ flags_of other = ap (λ (image : Image). image.flags) same in

@@ -9,7 +9,7 @@ use Rattle.trace_model.specs.History as model
 use Rattle.trace_model.specs.History.{Event, buffers_after, reads_of}
 use Rattle.chunk_plain.specs.declared.tokens.TheConstants.{ID_LIMIT}
 use Rattle.chunk_plain.specs.Setup.{Setup, producer_of, sequence_of}
-use Rattle.chunk_plain.specs.Views.{Begun, Noted, ServiceView, WriterView, newcomer}
+use Rattle.chunk_plain.specs.Views.{BegunChunk, Noted, ServiceView, WriterView, newcomer}
 use Rattle.chunk_plain.specs.World.{World, writer}
 use Rattle.chunk_plain.specs.Histories.{happened, history_of}
 use Rattle.chunk_plain.specs.Owned.{held_count}
@@ -57,7 +57,7 @@ collect_phase setup buffers (producer ∷ producers) place old new notes plays s
     empty_next = ap held_count same ∙ empty
 
     few_next : length (writer plays.0 place).begun ≤ ID_LIMIT
-    few_next = let long = ap (λ (xs : List Begun). length xs) same in omega (arith, long, few)
+    few_next = let long = ap (λ (xs : List BegunChunk). length xs) same in omega (arith, long, few)
 
     by_head : (Stands setup plays.0 → Among (producer_of setup place) producers → held_count (writer plays.0 place).begun ≡ 0
         → length (writer plays.0 place).begun ≤ ID_LIMIT → IsTakenWhole new place)

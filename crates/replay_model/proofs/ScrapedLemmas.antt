@@ -5,7 +5,7 @@ use Rattle.std.specs.List.{flat_map}
 use Rattle.std.proofs.lemmas.Bool.{eq-eqb, ne_eqb, ltb-true, cases_eq}
 use Rattle.trace_model.specs.Images.{Image}
 use Rattle.chunk_plain.specs.Setup.{Setup, sequence_of}
-use Rattle.chunk_plain.specs.Views.{At, Begun, Held, Completed, Draft, no_draft, Look, Noted, Partial, ServiceView, taken_of, WriterView}
+use Rattle.chunk_plain.specs.Views.{At, BegunChunk, Held, Completed, Draft, no_draft, Look, Noted, Partial, ServiceView, taken_of, WriterView}
 use Rattle.chunk_plain.specs.World.{World, writer}
 use Rattle.chunk_plain.specs.Histories.{completed_images}
 use Rattle.chunk_plain.specs.Owned.{held_count}
@@ -22,18 +22,18 @@ use Rattle.replay_model.proofs.SortedLemmas.{at_stage, IsSorted, Among, or_none,
 -- ---- what a writer holds
 
 -- each chunk that was begun is completed or held
-pub counted : (begun : List Begun) → length begun ≡ length (completed_images begun) + held_count begun
+pub counted : (begun : List BegunChunk) → length begun ≡ length (completed_images begun) + held_count begun
 counted [] = refl
 counted (Held chunk draft ∷ begun) = let h = counted begun in omega (arith, h)
 counted (Completed chunk content ∷ begun) = let h = counted begun in omega (arith, h)
 
-pub one_held : (begun : List Begun) (i chunk : ℕ) (draft : Draft) → At begun i (Held chunk draft) → 1 ≤ held_count begun
+pub one_held : (begun : List BegunChunk) (i chunk : ℕ) (draft : Draft) → At begun i (Held chunk draft) → 1 ≤ held_count begun
 one_held [] i chunk draft at = absurd (cc)
 one_held (Held other one ∷ begun) i chunk draft at = omega arith
 one_held (Completed other content ∷ begun) zero chunk draft at = absurd (cc)
 one_held (Completed other content ∷ begun) (suc i) chunk draft at = one_held begun i chunk draft at
 
-pub two_held : (begun : List Begun) (i j chunk other : ℕ) (draft next : Draft) → At begun i (Held chunk draft) → At begun j (Held other next) → i < j → 2 ≤ held_count begun
+pub two_held : (begun : List BegunChunk) (i j chunk other : ℕ) (draft next : Draft) → At begun i (Held chunk draft) → At begun j (Held other next) → i < j → 2 ≤ held_count begun
 two_held [] i j chunk other draft next first second below = absurd (cc)
 two_held (Held c d ∷ begun) i zero chunk other draft next first second below = absurd (omega (arith, below))
 two_held (Held c d ∷ begun) i (suc j) chunk other draft next first second below = let h = one_held begun j other next second in omega (arith, h)
@@ -61,7 +61,7 @@ record IsPart (q id : ℕ) (notes : List Noted) : Type 0 where
   some : 1 ≤ count
   is : notes ≡ Partial q id count ∷ []
 
-part_is : (place id : ℕ) (one : Begun) → (part_of_entry place id one ≡ []) ⊎ IsPart (sequence_of place) id (part_of_entry place id one)
+part_is : (place id : ℕ) (one : BegunChunk) → (part_of_entry place id one ≡ []) ⊎ IsPart (sequence_of place) id (part_of_entry place id one)
 part_is place id (Completed chunk content) = inl refl
 part_is place id (Held chunk draft) = step (nat_lt 1 draft.head.count) refl
   where
@@ -124,7 +124,7 @@ shut_parts q notes [] none = refl
 shut_parts q notes (place ∷ places) none =
     shut_append q (notes place) (flat_map notes places) ∙ ap (λ (b : Bool). b || is_shut q (flat_map notes places)) (none place) ∙ shut_parts q notes places none
 
-shut_part : (q place id : ℕ) (one : Begun) → is_shut q (part_of_entry place id one) ≡ false
+shut_part : (q place id : ℕ) (one : BegunChunk) → is_shut q (part_of_entry place id one) ≡ false
 shut_part q place id one = by_part (part_is place id one)
   where
     by_part : (part_of_entry place id one ≡ []) ⊎ IsPart (sequence_of place) id (part_of_entry place id one) → is_shut q (part_of_entry place id one) ≡ false
@@ -180,7 +180,7 @@ module _ (setup : Setup) (producer : ℕ) (old new : World) (sorted : IsSorted s
   note_of p = part_held new p
 
   -- the chunk that comes next of it
-  abbrev next_of : ℕ → Begun
+  abbrev next_of : ℕ → BegunChunk
   next_of p = get_or (writer new p).begun (taken_of new.service p).count (Held 0 no_draft)
 
   by_part : (target p : ℕ) → is_shut (sequence_of p) between.events ≡ false → AreKnownNotes view (note_of p)

@@ -89,14 +89,14 @@ pub record LeavesRest (place : ℕ) (old new : World) : Type 0 where
   pub service : new.service ≡ old.service
 
 -- no chunk of the producer is free
-abbrev pub IsFull : Setup → (producer : ℕ) → World → Type 0
-IsFull setup producer world = NoneFree world (range_of setup producer).first ((range_of setup producer).first + (range_of setup producer).count)
+abbrev pub HasNoFreeChunk : Setup → (producer : ℕ) → World → Type 0
+HasNoFreeChunk setup producer world = NoneFree world (range_of setup producer).first ((range_of setup producer).first + (range_of setup producer).count)
 
 -- Steps of the writer and, where it is one that stalls and no chunk is free, the taking of its producer's complete chunks, which takes some.
 pub data Works (setup : Setup) (place : ℕ) : World → World → Type 0 where
   Alone : (old new : World) → LeavesRest place old new → Works setup place old new
   Helped : (old asking freed new : World) → policy_of setup place ≡ Stalls → LeavesRest place old asking
-      → IsFull setup (producer_of setup place) asking → Collects setup (producer_of setup place) asking freed
+      → HasNoFreeChunk setup (producer_of setup place) asking → Collects setup (producer_of setup place) asking freed
       → freed.service.events ≢ asking.service.events → Works setup place freed new → Works setup place old new
 
 -- what is noted where no chunk is free: the packet is dropped at its begin, or given up
@@ -109,7 +109,7 @@ abbrev pub Notes : Setup → (place : ℕ) → Call → World → World → Type
 Notes setup place call old new =
     ((writer new place).calls ≡ (writer old place).calls ++ call ∷ [])
     ⊎ (((writer new place).calls ≡ (writer old place).calls ++ dropped_call call)
-    × (policy_of setup place ≡ Drops) × IsFull setup (producer_of setup place) new)
+    × (policy_of setup place ≡ Drops) × HasNoFreeChunk setup (producer_of setup place) new)
 
 -- What a writer has written, between two calls: its chunks are a cut of its packets; it holds its newest chunk exactly where its newest packet
 -- isn't lost and no flush came behind it, and what it holds is published but for the last fragment; and its claims are of its producer's chunks.

@@ -7,7 +7,7 @@ use Rattle.trace_model.specs.Images.{Image}
 use Rattle.trace_model.specs.Packets.{emissions_of}
 use Rattle.trace_model.specs.Tells.{Tells}
 use Rattle.chunk_plain.specs.Setup.{Setup}
-use Rattle.chunk_plain.specs.Views.{At, Begun, Held, Completed, Content, Draft}
+use Rattle.chunk_plain.specs.Views.{At, BegunChunk, Held, Completed, Content, Draft}
 use Rattle.chunk_plain.specs.World.{World, writer}
 use Rattle.chunk_plain.specs.Histories.{completed_images, history_of}
 use Rattle.chunk_plain.specs.Owned.{held_count}
@@ -53,14 +53,14 @@ emitted_long lines first (spec ∷ specs) = ap suc (emitted_long lines (suc firs
 
 -- ---- what a writer wrote that holds no chunk
 
-completed_at : (begun : List Begun) (held : List Image) → held_count begun ≡ 0 → (id chunk : ℕ) (content : Content) → At begun id (Completed chunk content)
+completed_at : (begun : List BegunChunk) (held : List Image) → held_count begun ≡ 0 → (id chunk : ℕ) (content : Content) → At begun id (Completed chunk content)
     → slice_get (completed_images begun ++ held) id ≡ Some content.image
 completed_at [] held none id chunk content at = absurd (cc)
 completed_at (Held other draft ∷ begun) held none id chunk content at = absurd (omega (arith, none))
 completed_at (Completed other one ∷ begun) held none zero chunk content at = let same : one ≡ content = cc in ap (λ (c : Content). Some c.image) same
 completed_at (Completed other one ∷ begun) held none (suc id) chunk content at = completed_at begun held none id chunk content at
 
-held_never : (begun : List Begun) → held_count begun ≡ 0 → (id chunk : ℕ) (draft : Draft) → At begun id (Held chunk draft) → ⊥
+held_never : (begun : List BegunChunk) → held_count begun ≡ 0 → (id chunk : ℕ) (draft : Draft) → At begun id (Held chunk draft) → ⊥
 held_never [] none id chunk draft at = cc
 held_never (Held other one ∷ begun) none id chunk draft at = omega (arith, none)
 held_never (Completed other content ∷ begun) none zero chunk draft at = cc

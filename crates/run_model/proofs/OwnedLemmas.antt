@@ -12,7 +12,7 @@ use Rattle.std.proofs.lemmas.Bool.{false≢true, eqb-true, and_parts}
 use Rattle.trace_model.specs.Images.{Image}
 use Rattle.chunk_plain.specs.Setup.{sequence_of}
 use Rattle.chunk_plain.specs.Drafts.{IsDraft, IsFound, IsThere, StillHas}
-use Rattle.chunk_plain.specs.Views.{At, Begun, Held, Completed, Content, Found, Look, ServiceView, WriterView, taken_of}
+use Rattle.chunk_plain.specs.Views.{At, BegunChunk, Held, Completed, Content, Found, Look, ServiceView, WriterView, taken_of}
 use Rattle.chunk_plain.specs.World.{World, Status, writer}
 use Rattle.chunk_plain.specs.Histories.{is_scraped, found_among}
 use Rattle.chunk_plain.specs.Owned.{IsOwned}
@@ -69,7 +69,7 @@ scraped_as place id count (look ∷ looks) found e = step (is_scraped place id c
 -- ---- one writer
 
 module _ (world : World) (owned : HasOwned world) (place : ℕ) where
-  abbrev begun : List Begun
+  abbrev begun : List BegunChunk
   begun = (writer world place).begun
 
   pub named : (n chunk : ℕ) (content : Content) → At begun n (Completed chunk content) → content.image.chunk_id ≡ n
@@ -84,10 +84,10 @@ module _ (world : World) (owned : HasOwned world) (place : ℕ) where
       inside = by_owned world (n < length begun) owned (hlevel le_prop)
           (λ chunks is. let l = (is.counts place).learnt n content at in at_inside begun (Completed l.0 content) n l.1)
 
-      some : (one : Begun) × At begun n one
+      some : (one : BegunChunk) × At begun n one
       some = at_some begun n inside
 
-      by_entry : (one : Begun) → At begun n one → (chunk : ℕ) × At begun n (Completed chunk content)
+      by_entry : (one : BegunChunk) → At begun n one → (chunk : ℕ) × At begun n (Completed chunk content)
       by_entry (Held chunk draft) there =
           absurd (by_owned world ⊥ owned (hlevel le_prop) (λ chunks is.
           let l = (is.counts place).learnt n content at in
@@ -104,7 +104,7 @@ module _ (world : World) (owned : HasOwned world) (place : ℕ) where
   finds n look found at is = by_owned world (IsFound found) owned (hlevel (ℕ_set, le_prop)) (λ chunks o. (o.looks n look found at is).0)
 
   -- what a look found of a chunk is there still
-  still : (id : ℕ) (one : Begun) → At begun id one → (n : ℕ) (look : Look) (found : Found) → At world.service.looks n look → look.found ≡ Some found
+  still : (id : ℕ) (one : BegunChunk) → At begun id one → (n : ℕ) (look : Look) (found : Found) → At world.service.looks n look → look.found ≡ Some found
       → found.place ≡ place → found.id ≡ id → (chunks : List Status) → IsOwned (with_chunks world chunks) → StillHas look.chunk found one
   still id one at n look found there is place_is id_is chunks owns =
       let thing : IsThere (writer world place) look.chunk found = subst (λ (p : ℕ). IsThere (writer world p) look.chunk found) place_is (owns.looks n look found there is).1 in
@@ -131,13 +131,13 @@ module _ (world : World) (owned : HasOwned world) (place : ℕ) where
             subst (λ (p : ℕ). IsThere (writer world p) looked_at.look.chunk part.found) named_so.0 (is.looks looked_at.number looked_at.look part.found looked_at.at looked_at.found_is).1 in
             at_inside begun thing.entry id (subst (λ (i : ℕ). At begun i thing.entry) named_so.1 thing.at))
 
-        some : (one : Begun) × At begun id one
+        some : (one : BegunChunk) × At begun id one
         some = at_some begun id inside
 
         found_so : IsFound part.found
         found_so = finds looked_at.number looked_at.look part.found looked_at.at looked_at.found_is
 
-        by_entry : (one : Begun) → At begun id one → IsScraped images world.service (sequence_of place) id count
+        by_entry : (one : BegunChunk) → At begun id one → IsScraped images world.service (sequence_of place) id count
         by_entry (Completed chunk content) at = record {
           found = part.found;
           looked = part.looked;

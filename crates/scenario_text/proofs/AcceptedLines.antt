@@ -24,7 +24,7 @@ use Rattle.scenario_text.specs.declared.open_packet.OpenPacket.{OpenPacket}
 use Rattle.scenario_text.specs.declared.reason.Reason.TheVariants as reasons
 use Rattle.scenario_text.specs.Pieces.{fields_part}
 use Rattle.scenario_text.specs.Ranges.{value, is_within}
-use Rattle.scenario_text.specs.State.{State, packet_of, depth_of, len_of}
+use Rattle.scenario_text.specs.State.{State, packet_of, nesting_of, len_of}
 use Rattle.scenario_text.specs.Reasons.{first, wants_none, meets_packet, lacks_packet, lacks_nesting, leaves_nesting, nested, given, given_by, step_len, bad_field, reserved_field, too_deep, too_long, too_many_bytes, before_fields, back_reasons, len_before}
 use Rattle.scenario_text.specs.Effects.{packet_after}
 use Rattle.scenario_text.specs.Accepted.{node_call}
@@ -129,10 +129,10 @@ given_at before len bytes writer step (Err faults.PacketTooLong) none = cc
 
 -- the packet that the line's writer has begun, and what the line gives it
 pub line_given : (state : State) (line : List ℕ) (writer : Numeral) (step : WriterStep) → first (back_reasons state line (OfWriter writer step)) ≡ None
-    → IsGiven (len_of (packet_of state writer)) step (given_by (depth_of (packet_of state writer)) line step)
+    → IsGiven (len_of (packet_of state writer)) step (given_by (nesting_of (packet_of state writer)) line step)
 unfolding back_reasons given len_before
 line_given state line writer step none =
-    given_at (before_fields line) (len_of (packet_of state writer)) state.bytes writer step (given_by (depth_of (packet_of state writer)) line step) none
+    given_at (before_fields line) (len_of (packet_of state writer)) state.bytes writer step (given_by (nesting_of (packet_of state writer)) line step) none
 
 -- ---- the calls of a line
 
@@ -159,10 +159,10 @@ same_call nodes fields is = ap (map node_call) is ∙ called_as fields
 
 step_leads : (account : Account) (packet : Option OpenPacket) (number : ℕ) (line : List ℕ) (step : WriterStep) (nodes : List Shown)
     → Stands account packet → IsInPlace packet step
-    → (step ≡ Unnest → depth_of packet ≢ 0) → (step ≡ End → depth_of packet ≡ 0)
-    → given_by (depth_of packet) line step ≡ Ok nodes → len_of packet + step_len step nodes ≤ MAX_PACKET_LEN
+    → (step ≡ Unnest → nesting_of packet ≢ 0) → (step ≡ End → nesting_of packet ≡ 0)
+    → given_by (nesting_of packet) line step ≡ Ok nodes → len_of packet + step_len step nodes ≤ MAX_PACKET_LEN
     → LeadTo account (step_calls step nodes) (packet_after number packet step (step_len step nodes))
-unfolding wants_none given_by step_len packet_after depth_of len_of
+unfolding wants_none given_by step_len packet_after nesting_of len_of
 step_leads account None number line (Packet true) nodes stands place nested level is short =
     let f = given_fields 0 (fields_part line) nodes is in
     rw (same_call nodes f.fields f.nodes_are) (writes_whole account f.fields stands (f.may 0 short))
@@ -192,9 +192,9 @@ some_open : (depth : ℕ) → nat_eq depth 0 ≡ false → depth ≢ 0
 some_open depth is same = grind (arith, common_steps, is, same)
 
 unnested_at : (state : State) (writer : Numeral) (step : WriterStep) → lacks_nesting state (OfWriter writer step) ≡ false → step ≡ Unnest
-    → depth_of (packet_of state writer) ≢ 0
+    → nesting_of (packet_of state writer) ≢ 0
 unfolding lacks_nesting
-unnested_at state writer Unnest none is = some_open (depth_of (packet_of state writer)) none
+unnested_at state writer Unnest none is = some_open (nesting_of (packet_of state writer)) none
 unnested_at state writer (Packet has_fields) none is = cc
 unnested_at state writer Begin none is = cc
 unnested_at state writer Add none is = cc
@@ -203,7 +203,7 @@ unnested_at state writer End none is = cc
 unnested_at state writer Flush none is = cc
 
 ended_at : (state : State) (writer : Numeral) (step : WriterStep) → leaves_nesting state (OfWriter writer step) ≡ false → step ≡ End
-    → depth_of (packet_of state writer) ≡ 0
+    → nesting_of (packet_of state writer) ≡ 0
 unfolding leaves_nesting
 ended_at state writer End none is = grind (arith, common_steps, none)
 ended_at state writer (Packet has_fields) none is = cc
@@ -215,7 +215,7 @@ ended_at state writer Flush none is = cc
 
 pub line_leads : (account : Account) (state : State) (number : ℕ) (line : List ℕ) (writer : Numeral) (step : WriterStep) (nodes : List Shown)
     → Stands account (packet_of state writer) → IsPassed state (OfWriter writer step)
-    → given_by (depth_of (packet_of state writer)) line step ≡ Ok nodes → len_of (packet_of state writer) + step_len step nodes ≤ MAX_PACKET_LEN
+    → given_by (nesting_of (packet_of state writer)) line step ≡ Ok nodes → len_of (packet_of state writer) + step_len step nodes ≤ MAX_PACKET_LEN
     → LeadTo account (step_calls step nodes) (packet_after number (packet_of state writer) step (step_len step nodes))
 unfolding meets_packet lacks_packet
 line_leads account state number line writer step nodes stands passed is short =

@@ -82,7 +82,7 @@ line_bytes : (state : State) (line : List ℕ) (writer : Numeral) (step : Writer
     → state.bytes + step_len step (nodes_given (given state line (OfWriter writer step))) ≤ MAX_SCENARIO_PACKET_BYTES
 unfolding back_reasons given len_before
 line_bytes state line writer step none =
-    bytes_at (before_fields line) (state_words.len_of (packet_of state writer)) state.bytes writer step (given_by (state_words.depth_of (packet_of state writer)) line step) none
+    bytes_at (before_fields line) (state_words.len_of (packet_of state writer)) state.bytes writer step (given_by (state_words.nesting_of (packet_of state writer)) line step) none
 
 counted_line : (state : State) (number : ℕ) (kind : LineKind) → line_len kind ≡ 0 → AreCounted state → AreCounted (with_line state number kind)
 unfolding with_line
@@ -102,7 +102,7 @@ counted_writer : (state : State) (number : ℕ) (line : List ℕ) (writer : Nume
 unfolding refusal_of moved given written with_line with_packet with_bytes
 counted_writer state number line writer step none counted =
     let reasons = first_none (front_reasons state (OfWriter writer step)) (back_reasons state line (OfWriter writer step)) none in
-    let depth = state_words.depth_of (packet_of state writer) in
+    let depth = state_words.nesting_of (packet_of state writer) in
     let kind = writer_kind (value writer) step (nodes_given (given_by depth line step)) in
     record {
       sum_is = lines_push state.lines (record { line = number; what = kind }) ∙ omega (arith, kind_len depth (value writer) line step, counted.sum_is);

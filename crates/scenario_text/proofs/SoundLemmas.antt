@@ -14,7 +14,7 @@ use Rattle.scenario_text.specs.Items.{item, with_item}
 use Rattle.scenario_text.specs.Ranges.{is_page_size, is_chunk_count}
 use Rattle.scenario_text.specs.declared.open_packet.OpenPacket.{OpenPacket}
 use Rattle.scenario_text.specs.Sound.{is_cut, is_shallow}
-use Rattle.scenario_text.specs.State.{depth_of}
+use Rattle.scenario_text.specs.State.{nesting_of}
 
 pub both : (a b : Bool) → a && b ≡ true → (a ≡ true) × (b ≡ true)
 both true b h = (refl, h)
@@ -96,18 +96,18 @@ unfolding with_item
 all_with_item p things (Fits n) thing all is = all_item_at (nat_eq n 0) p things (n - 1) thing all is
 all_with_item p things TooLarge thing all is = all
 
-shallow_depth : (packet : Option OpenPacket) → is_shallow packet ≡ true → depth_of packet ≤ MAX_NESTING
-unfolding is_shallow depth_of
+shallow_depth : (packet : Option OpenPacket) → is_shallow packet ≡ true → nesting_of packet ≤ MAX_NESTING
+unfolding is_shallow nesting_of
 shallow_depth None shallow = omega arith
 shallow_depth (Some packet) shallow = grind (arith, common_steps, shallow)
 
 found_shallow : (found : Option (Option OpenPacket)) (packets : List (Option OpenPacket)) (writer : Numeral)
-    → list_all is_shallow packets ≡ true → item packets writer ≡ found → depth_of (unwrap_or found None) ≤ MAX_NESTING
-unfolding depth_of
+    → list_all is_shallow packets ≡ true → item packets writer ≡ found → nesting_of (unwrap_or found None) ≤ MAX_NESTING
+unfolding nesting_of
 found_shallow None packets writer all is = omega arith
 found_shallow (Some packet) packets writer all is = shallow_depth packet (item_all is_shallow packets writer packet all is)
 
 -- so many messages may be open in the packet that a writer has begun
 pub packet_shallow : (packets : List (Option OpenPacket)) (writer : Numeral) → list_all is_shallow packets ≡ true
-    → depth_of (unwrap_or (item packets writer) None) ≤ MAX_NESTING
+    → nesting_of (unwrap_or (item packets writer) None) ≤ MAX_NESTING
 packet_shallow packets writer all = found_shallow (item packets writer) packets writer all refl

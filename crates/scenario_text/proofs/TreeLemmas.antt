@@ -131,7 +131,7 @@ moved_trees state number line (Buffer kb policy) all = all
 moved_trees state number line (Producer pages page_size chunks) all = all
 moved_trees state number line (Writer producer buffer policy) all = all
 moved_trees state number line (OfWriter writer step) all =
-    one_more state.lines _ all (step_tree (state_words.depth_of (packet_of state writer)) (value writer) line step)
+    one_more state.lines _ all (step_tree (state_words.nesting_of (packet_of state writer)) (value writer) line step)
 moved_trees state number line (OfProducer producer step) all =
     let P : List NumberedLine → Type 0 = λ lines. GiveTrees lines in
     subst P (sym (served_lines (with_line state number (producer_kind (value producer) step)) producer step))

@@ -16,7 +16,7 @@ use Rattle.scenario_text.specs.declared.open_packet.OpenPacket.{OpenPacket}
 use Rattle.scenario_text.specs.declared.reason.Reason.{Reason}
 use Rattle.scenario_text.specs.declared.reason.Reason.TheVariants as reasons
 use Rattle.scenario_text.specs.Ranges.{is_within, value}
-use Rattle.scenario_text.specs.State.{State, packet_of, depth_of, len_of}
+use Rattle.scenario_text.specs.State.{State, packet_of, nesting_of, len_of}
 use Rattle.scenario_text.specs.Sound.{is_shallow}
 use Rattle.scenario_text.specs.Reasons.{first, when, front_reasons, back_reasons, refusal_of, given, given_by, nested, before_fields, bad_field, reserved_field, too_deep, too_long, too_many_bytes, len_before, step_len}
 use Rattle.scenario_text.specs.Effects.{moved, packet_after, written, FieldFits}
@@ -52,7 +52,7 @@ fault_first before len bytes writer step faults.TooDeep = refl
 fault_first before len bytes writer step faults.PacketTooLong = refl
 
 by_fault : (state : State) (line : List ℕ) (writer : Numeral) (step : WriterStep) (fault : FieldFault)
-    → given_by (depth_of (packet_of state writer)) line step ≡ Err fault
+    → given_by (nesting_of (packet_of state writer)) line step ≡ Err fault
     → first (back_reasons state line (OfWriter writer step)) ≡ Some (fault_reason (before_fields line) fault)
 unfolding back_reasons given
 by_fault state line writer step fault is =
@@ -68,7 +68,7 @@ by_reason state number line writer step reason none is =
 
 refused_with : (given : Result (List Shown) FieldFault) (state : State) (number : ℕ) (line : List ℕ) (writer : Numeral) (step : WriterStep) (reason : Reason)
     → first (front_reasons state (OfWriter writer step)) ≡ None
-    → given_by (depth_of (packet_of state writer)) line step ≡ given
+    → given_by (nesting_of (packet_of state writer)) line step ≡ given
     → reason_given (before_fields line) given ≡ Some reason
     → after_form state number line (Some (OfWriter writer step)) ≡ Err reason
 unfolding reason_given
@@ -79,14 +79,14 @@ refused_with (Err fault) state number line writer step reason none is said =
 -- its FIELDS are at fault
 pub refused_by_fields : (state : State) (number : ℕ) (line : List ℕ) (writer : Numeral) (step : WriterStep) (reason : Reason)
     → first (front_reasons state (OfWriter writer step)) ≡ None
-    → reason_given (before_fields line) (given_by (depth_of (packet_of state writer)) line step) ≡ Some reason
+    → reason_given (before_fields line) (given_by (nesting_of (packet_of state writer)) line step) ≡ Some reason
     → after_form state number line (Some (OfWriter writer step)) ≡ Err reason
 refused_by_fields state number line writer step reason none said =
-    refused_with (given_by (depth_of (packet_of state writer)) line step) state number line writer step reason none refl said
+    refused_with (given_by (nesting_of (packet_of state writer)) line step) state number line writer step reason none refl said
 
 -- the reasons where the FIELDS are read
 lengths_left : (state : State) (line : List ℕ) (writer : Numeral) (step : WriterStep) (nodes : List Shown)
-    → given_by (depth_of (packet_of state writer)) line step ≡ Ok nodes
+    → given_by (nesting_of (packet_of state writer)) line step ≡ Ok nodes
     → first (back_reasons state line (OfWriter writer step))
     ≡ first (when (nat_lt MAX_PACKET_LEN (len_of (packet_of state writer) + step_len step nodes)) reasons.PacketTooLong
     ∷ when (nat_lt MAX_SCENARIO_PACKET_BYTES (state.bytes + step_len step nodes)) reasons.TooManyBytes ∷ [])
@@ -96,7 +96,7 @@ lengths_left state line writer step nodes is = rw is refl
 -- it makes its packet too long
 pub refused_as_too_long : (state : State) (number : ℕ) (line : List ℕ) (writer : Numeral) (step : WriterStep) (nodes : List Shown) (added : ℕ)
     → first (front_reasons state (OfWriter writer step)) ≡ None
-    → given_by (depth_of (packet_of state writer)) line step ≡ Ok nodes
+    → given_by (nesting_of (packet_of state writer)) line step ≡ Ok nodes
     → added ≡ step_len step nodes
     → MAX_PACKET_LEN < len_of (packet_of state writer) + added
     → after_form state number line (Some (OfWriter writer step)) ≡ Err reasons.PacketTooLong
@@ -109,7 +109,7 @@ refused_as_too_long state number line writer step nodes added none is len long =
 -- it makes all packets too long
 pub refused_as_too_many : (state : State) (number : ℕ) (line : List ℕ) (writer : Numeral) (step : WriterStep) (nodes : List Shown) (added : ℕ)
     → first (front_reasons state (OfWriter writer step)) ≡ None
-    → given_by (depth_of (packet_of state writer)) line step ≡ Ok nodes
+    → given_by (nesting_of (packet_of state writer)) line step ≡ Ok nodes
     → added ≡ step_len step nodes
     → len_of (packet_of state writer) + added ≤ MAX_PACKET_LEN
     → MAX_SCENARIO_PACKET_BYTES < state.bytes + added
@@ -125,7 +125,7 @@ refused_as_too_many state number line writer step nodes added none is len short 
 -- it is taken
 pub taken : (state : State) (number : ℕ) (line : List ℕ) (writer : Numeral) (step : WriterStep) (nodes : List Shown) (added : ℕ)
     → first (front_reasons state (OfWriter writer step)) ≡ None
-    → given_by (depth_of (packet_of state writer)) line step ≡ Ok nodes
+    → given_by (nesting_of (packet_of state writer)) line step ≡ Ok nodes
     → added ≡ step_len step nodes
     → len_of (packet_of state writer) + added ≤ MAX_PACKET_LEN
     → state.bytes + added ≤ MAX_SCENARIO_PACKET_BYTES
@@ -177,9 +177,9 @@ field_fits depth line Flush nodes is = tt
 
 -- so many messages may still be open in its packet
 pub still_shallow : (number : ℕ) (packet : Option OpenPacket) (line : List ℕ) (step : WriterStep) (nodes : List Shown) (added : ℕ)
-    → depth_of packet ≤ MAX_NESTING → given_by (depth_of packet) line step ≡ Ok nodes
+    → nesting_of packet ≤ MAX_NESTING → given_by (nesting_of packet) line step ≡ Ok nodes
     → is_shallow (packet_after number packet step added) ≡ true
-unfolding given_by is_shallow packet_after depth_of
+unfolding given_by is_shallow packet_after nesting_of
 still_shallow number None line (Packet has_fields) nodes added within is = refl
 still_shallow number (Some packet) line (Packet has_fields) nodes added within is = grind (arith, common_steps, within)
 still_shallow number packet line Begin nodes added within is = refl

@@ -23,7 +23,7 @@ use Rattle.field_tree.specs.Answers.{outcome}
 use Rattle.scenario_text.specs.Pieces.{fields_part}
 use Rattle.scenario_text.specs.Items.{item}
 use Rattle.scenario_text.specs.Ranges.{fits, value, is_within, is_page_size, is_chunk_count}
-use Rattle.scenario_text.specs.State.{State, is_played, is_closed, packet_of, depth_of, len_of}
+use Rattle.scenario_text.specs.State.{State, is_played, is_closed, packet_of, nesting_of, len_of}
 
 -- ---- a number other than a reference is outside its range, or any number is 2 ^ 64 or more
 
@@ -129,12 +129,12 @@ lacks_packet state form = false
 
 -- the line ends a nested message, and none is open
 unfoldable pub lacks_nesting : State → Form → Bool
-lacks_nesting state (OfWriter writer Unnest) = depth_of (packet_of state writer) == 0
+lacks_nesting state (OfWriter writer Unnest) = nesting_of (packet_of state writer) == 0
 lacks_nesting state form = false
 
 -- the line ends a packet with a nested message open
 unfoldable pub leaves_nesting : State → Form → Bool
-leaves_nesting state (OfWriter writer End) = nat_lt 0 (depth_of (packet_of state writer))
+leaves_nesting state (OfWriter writer End) = nat_lt 0 (nesting_of (packet_of state writer))
 leaves_nesting state form = false
 
 -- ---- the reasons in their order
@@ -185,7 +185,7 @@ given_by depth line step = Ok []
 
 -- the nodes that a line adds to a packet, or the fault of its FIELDS
 unfoldable pub given : State → List ℕ → Form → Result (List Shown) FieldFault
-given state line (OfWriter writer step) = given_by (depth_of (packet_of state writer)) line step
+given state line (OfWriter writer step) = given_by (nesting_of (packet_of state writer)) line step
 given state line form = Ok []
 
 -- how many bytes they make a packet longer

@@ -37,9 +37,9 @@ unfoldable pub packet_of : State → Numeral → Option OpenPacket
 packet_of state writer = unwrap_or (item state.packets writer) None
 
 -- how many nested messages are open in it
-unfoldable pub depth_of : Option OpenPacket → ℕ
-depth_of None = 0
-depth_of (Some packet) = packet.depth
+unfoldable pub nesting_of : Option OpenPacket → ℕ
+nesting_of None = 0
+nesting_of (Some packet) = packet.depth
 
 -- how long it is so far
 unfoldable pub len_of : Option OpenPacket → ℕ

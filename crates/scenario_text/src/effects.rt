@@ -1,7 +1,7 @@
 //! What an accepted line adds to the scenario, and how it changes the packet of its writer.
 ghost use Rattle.std.specs.Prelude.{◌≡◌, ◌+◌, ◌^◌, ◌<◌, ◌≤◌};
 ghost use Rattle.scenario_text.specs.Ranges.{value};
-ghost use Rattle.scenario_text.specs.State.{depth_of, len_of};
+ghost use Rattle.scenario_text.specs.State.{nesting_of, len_of};
 ghost use Rattle.scenario_text.specs.Effects.{limit_of, packet_after, producer_kind, writer_kind, FieldFits};
 
 use crate::form::{ProducerStep, WriterStep};
@@ -35,7 +35,7 @@ pub fn limit(limit: Option<Numeral>) -> u64
 }
 
 /// The packet that its writer has begun after a line that makes it so many bytes longer.
-#[tactic(auto, unfolding(crate::specs::Effects::packet_after, crate::specs::State::depth_of, crate::specs::State::len_of))]
+#[tactic(auto, unfolding(crate::specs::Effects::packet_after, crate::specs::State::nesting_of, crate::specs::State::len_of))]
 pub fn packet_after(
     line: u32,
     packet: Option<OpenPacket>,
@@ -43,7 +43,7 @@ pub fn packet_after(
     added: u32,
 ) -> Option<OpenPacket>
     requires len { len_of packet + added ≤ MAX_PACKET_LEN }
-    requires depth { depth_of packet ≤ MAX_NESTING }
+    requires depth { nesting_of packet ≤ MAX_NESTING }
     ensures { result ≡ packet_after line packet step added }
 {
     match step {

@@ -20,7 +20,7 @@ impl Reader {
     ghost use Rattle.scenario_text.specs.declared.line_fault.LineFault.TheVariants.{OutOfMemory};
     ghost use Rattle.scenario_text.specs.declared.scenario.LineKind.TheVariants as kinds;
     ghost use Rattle.scenario_text.specs.Sound.{is_shallow};
-    ghost use Rattle.scenario_text.specs.State.{depth_of, len_of, packet_of};
+    ghost use Rattle.scenario_text.specs.State.{nesting_of, len_of, packet_of};
     ghost use Rattle.scenario_text.specs.Reasons.{first, front_reasons};
     ghost use Rattle.scenario_text.specs.Effects.{limit_of, moved, packet_after, producer_kind, served, with_closed, with_line, with_packet, written, FieldFits};
     ghost use Rattle.scenario_text.specs.Ranges.{value};

@@ -152,7 +152,7 @@ impl Reader {
     ghost use Rattle.std.specs.Option.{ForSome};
     ghost use Rattle.scenario_text.specs.Items.{item};
     ghost use Rattle.scenario_text.specs.Sound.{is_cut};
-    ghost use Rattle.scenario_text.specs.State.{is_closed, packet_of, depth_of, len_of};
+    ghost use Rattle.scenario_text.specs.State.{is_closed, packet_of, nesting_of, len_of};
     ghost use Rattle.scenario_text.specs.View.{state_of};
     ghost use Rattle.scenario_text.specs.Reasons.{first, front_reasons, has_closed_producer, has_larger_chunks, is_closed_for, is_late, is_too_many, lacks_buffer, lacks_nesting, lacks_packet, lacks_producer, lacks_writer, leaves_nesting, meets_packet};
 
@@ -206,15 +206,15 @@ impl Reader {
     #[tactic(auto, unfolding(crate::specs::State::packet_of), using(crate::proofs::SoundLemmas::packet_shallow))]
     pub fn packet(&self, writer: Numeral) -> Option<OpenPacket>
         ensures value { result ≡ packet_of (state_of self.now) writer }
-        ensures shallow { depth_of result ≤ MAX_NESTING }
+        ensures shallow { nesting_of result ≤ MAX_NESTING }
     {
         item(&self.packets, writer).unwrap_or(None)
     }
 
     /// How many nested messages are open in it.
-    #[tactic(auto, unfolding(crate::specs::State::depth_of))]
+    #[tactic(auto, unfolding(crate::specs::State::nesting_of))]
     pub fn depth(&self, writer: Numeral) -> u8
-        ensures value { result ≡ depth_of (packet_of (state_of self.now) writer) }
+        ensures value { result ≡ nesting_of (packet_of (state_of self.now) writer) }
         ensures shallow { result ≤ MAX_NESTING }
     {
         match self.packet(writer) {

@@ -9,13 +9,13 @@ use Rattle.trace_model.specs.Images.{Image}
 use Rattle.trace_model.specs.Packets.{Account, account_of}
 use Rattle.commit_body.specs.Pending.{Pending}
 use Rattle.chunk_plain.specs.Setup.{Setup, IsLaid, HasProducer, IsChunkOf, range_of, producer_of}
-use Rattle.chunk_plain.specs.Views.{At, Begun, Held, Completed, Content, Draft, WriterView}
+use Rattle.chunk_plain.specs.Views.{At, BegunChunk, Held, Completed, Content, Draft, WriterView}
 use Rattle.chunk_plain.specs.Histories.{completed_images}
 use Rattle.chunk_plain.proofs.Lists.{at_more, at_one}
 use Rattle.delivery_laws.proofs.CompleteLemmas.{full_at}
 use Rattle.delivery_laws.proofs.WrittenPackets.{are_full}
 use Rattle.world_model.specs.FirstBuffers.{payload_at}
-use Rattle.world_model.specs.FrontLaws.{StandsIn}
+use Rattle.world_model.specs.FrontLaws.{StandsInWords}
 use Rattle.world_model.specs.Accounts.{all_images, HasCut}
 use Rattle.world_model.proofs.OwnLemmas.{image_at, elem_at}
 use Rattle.trace_writer.specs.declared.route.Route.{Route}
@@ -45,25 +45,25 @@ get_seam [] y = refl
 get_seam (x ∷ xs) y = get_seam xs y
 
 -- where none is held, each has its image under its own id
-completed_there : (begun : List Begun) (id chunk : ℕ) (content : Content) → NoneHeld begun → At begun id (Completed chunk content)
+completed_there : (begun : List BegunChunk) (id chunk : ℕ) (content : Content) → NoneHeld begun → At begun id (Completed chunk content)
     → slice_get (completed_images begun) id ≡ Some content.image
 completed_there [] id chunk content none at = absurd (cc)
 completed_there (Held other draft ∷ begun) id chunk content none at = absurd none
 completed_there (Completed other one ∷ begun) zero chunk content none at = let same : one ≡ content = cc in ap (λ (c : Content). Some c.image) same
 completed_there (Completed other one ∷ begun) (suc id) chunk content none at = completed_there begun id chunk content none at
 
-held_nowhere : (begun : List Begun) (id chunk : ℕ) (draft : Draft) → NoneHeld begun → At begun id (Held chunk draft) → ⊥
+held_nowhere : (begun : List BegunChunk) (id chunk : ℕ) (draft : Draft) → NoneHeld begun → At begun id (Held chunk draft) → ⊥
 held_nowhere [] id chunk draft none at = absurd (cc)
 held_nowhere (Held other one ∷ begun) id chunk draft none at = none
 held_nowhere (Completed other one ∷ begun) zero chunk draft none at = absurd (cc)
 held_nowhere (Completed other one ∷ begun) (suc id) chunk draft none at = held_nowhere begun id chunk draft none at
 
-completed_long : (begun : List Begun) → NoneHeld begun → length (completed_images begun) ≡ length begun
+completed_long : (begun : List BegunChunk) → NoneHeld begun → length (completed_images begun) ≡ length begun
 completed_long [] none = refl
 completed_long (Held other draft ∷ begun) none = absurd none
 completed_long (Completed other one ∷ begun) none = ap suc (completed_long begun none)
 
-front_images : (front : List Begun) (chunk : ℕ) (draft : Draft) → completed_images (front ++ Held chunk draft ∷ []) ≡ completed_images front
+front_images : (front : List BegunChunk) (chunk : ℕ) (draft : Draft) → completed_images (front ++ Held chunk draft ∷ []) ≡ completed_images front
 front_images [] chunk draft = refl
 front_images (Held other one ∷ front) chunk draft = front_images front chunk draft
 front_images (Completed other one ∷ front) chunk draft = ap (λ (images : List Image). one.image ∷ images) (front_images front chunk draft)
@@ -71,24 +71,24 @@ front_images (Completed other one ∷ front) chunk draft = ap (λ (images : List
 -- ---- what a writer holds
 
 -- the newest of these chunks is held, and stands in this image; the others are completed
-record IsLast (begun : List Begun) (image : Image) : Type 0 where
-  front : List Begun
+record IsLast (begun : List BegunChunk) (image : Image) : Type 0 where
+  front : List BegunChunk
   chunk : ℕ
   draft : Draft
   none : NoneHeld front
   begun_is : begun ≡ front ++ Held chunk draft ∷ []
-  stands : StandsIn draft image
+  stands : StandsInWords draft image
 
 -- all are completed, or all but the last one
-abbrev Holding : List Begun → List Image → Type 0
+abbrev Holding : List BegunChunk → List Image → Type 0
 Holding begun held = (NoneHeld begun × (held ≡ [])) ⊎ ((image : Image) × (held ≡ image ∷ []) × IsLast begun image)
 
 -- the draft of a chunk that is held last, whose image is published but for its last fragment
-last_of : (view : WriterView) (front : List Begun) (chunk : ℕ) (draft : Draft) (image : Image) → view.begun ≡ front ++ Held chunk draft ∷ [] → NoneHeld front
+last_of : (view : WriterView) (front : List BegunChunk) (chunk : ℕ) (draft : Draft) (image : Image) → view.begun ≡ front ++ Held chunk draft ∷ [] → NoneHeld front
     → IsHeldImage view image → IsLast view.begun image
 last_of view front chunk draft image begun_is none is =
-    let ends = ap (λ (bs : List Begun). length bs) begun_is in
-    let ends_too = ap (λ (bs : List Begun). length bs) is.begun in
+    let ends = ap (λ (bs : List BegunChunk). length bs) begun_is in
+    let ends_too = ap (λ (bs : List BegunChunk). length bs) is.begun in
     let same_place : length is.completed ≡ length front =
     omega (arith, ends, ends_too, length-append front (Held chunk draft ∷ []), length-append is.completed (Held is.chunk is.draft ∷ [])) in
     let here = at_last view.begun front chunk draft begun_is in
@@ -101,13 +101,13 @@ last_of view front chunk draft image begun_is none is =
       draft = draft;
       none = none;
       begun_is = begun_is;
-      stands = subst (λ (d : Draft). StandsIn d image) same
+      stands = subst (λ (d : Draft). StandsInWords d image) same
           record { head = is.head; before = is.before; count = is.count; rest = is.rest; payload = is.payload; bytes = is.bytes };
     }
   where
-    at_last : (begun front : List Begun) (chunk : ℕ) (draft : Draft) → begun ≡ front ++ Held chunk draft ∷ [] → At begun (length front) (Held chunk draft)
+    at_last : (begun front : List BegunChunk) (chunk : ℕ) (draft : Draft) → begun ≡ front ++ Held chunk draft ∷ [] → At begun (length front) (Held chunk draft)
     at_last begun front chunk draft is =
-        subst (λ (bs : List Begun). At bs (length front) (Held chunk draft)) (sym is)
+        subst (λ (bs : List BegunChunk). At bs (length front) (Held chunk draft)) (sym is)
         (elem_at (front ++ Held chunk draft ∷ []) (length front) (Held chunk draft) (get_seam front (Held chunk draft)))
 
 -- in each state of a writer
@@ -140,7 +140,7 @@ small_image size place view held cut id image there =
 
 -- what is asked of a chunk that a writer holds
 abbrev IsHeldThere : List Image → ℕ → Draft → Type 0
-IsHeldThere images id draft = (image : Image) × (slice_get images id ≡ Some image) × StandsIn draft image × (length image.payload < drop_size)
+IsHeldThere images id draft = (image : Image) × (slice_get images id ≡ Some image) × StandsInWords draft image × (length image.payload < drop_size)
 
 module _ (view : WriterView) (held : List Image) (small : (id : ℕ) (image : Image) → slice_get (all_images view held) id ≡ Some image → length image.payload < drop_size) where
   images_none : NoneHeld view.begun → HasImages view (all_images view held)
@@ -153,13 +153,13 @@ module _ (view : WriterView) (held : List Image) (small : (id : ℕ) (image : Im
     -- the images are those of the front, and this one
     images_are : all_images view held ≡ completed_images last.front ++ image ∷ []
     images_are =
-        ap (λ (begun : List Begun). completed_images begun ++ held) last.begun_is
+        ap (λ (begun : List BegunChunk). completed_images begun ++ held) last.begun_is
         ∙ ap (λ (images : List Image). images ++ held) (front_images last.front last.chunk last.draft)
         ∙ ap (λ (images : List Image). completed_images last.front ++ images) held_is
 
     -- and a chunk is one of the front, or the last one
-    place_of : (id : ℕ) (one : Begun) → At view.begun id one → At last.front id one ⊎ ((id ≡ length last.front) × (Held last.chunk last.draft ≡ one))
-    place_of id one at = at_more last.front (Held last.chunk last.draft) one id (subst (λ (begun : List Begun). At begun id one) last.begun_is at)
+    place_of : (id : ℕ) (one : BegunChunk) → At view.begun id one → At last.front id one ⊎ ((id ≡ length last.front) × (Held last.chunk last.draft ≡ one))
+    place_of id one at = at_more last.front (Held last.chunk last.draft) one id (subst (λ (begun : List BegunChunk). At begun id one) last.begun_is at)
 
     completed_one : (id chunk : ℕ) (content : Content) → At last.front id (Completed chunk content) ⊎ ((id ≡ length last.front) × (Held last.chunk last.draft ≡ Completed chunk content))
         → slice_get (all_images view held) id ≡ Some content.image
@@ -178,7 +178,7 @@ module _ (view : WriterView) (held : List Image) (small : (id : ℕ) (image : Im
         let there : slice_get (all_images view held) id ≡ Some image =
         subst (λ (images : List Image). slice_get images id ≡ Some image) (sym images_are)
         (subst (λ (n : ℕ). slice_get (completed_images last.front ++ image ∷ []) n ≡ Some image) (sym id_is) (get_seam (completed_images last.front) image)) in
-        (image, there, subst (λ (d : Draft). StandsIn d image) same last.stands, small id image there)
+        (image, there, subst (λ (d : Draft). StandsInWords d image) same last.stands, small id image there)
 
     images_held : HasImages view (all_images view held)
     images_held = record {
@@ -191,15 +191,15 @@ module _ (view : WriterView) (held : List Image) (small : (id : ℕ) (image : Im
   images_of (inr some) = images_held some.0 some.1 some.2
 
 -- what was begun was completed, or is held
-begun_long : (begun : List Begun) (held : List Image) → Holding begun held → length begun ≡ length (completed_images begun) + length held
+begun_long : (begun : List BegunChunk) (held : List Image) → Holding begun held → length begun ≡ length (completed_images begun) + length held
 begun_long begun held (inl all) =
     let completed = completed_long begun all.0 in let none = ap (λ (images : List Image). length images) all.1 in
     omega (arith, completed, none)
 begun_long begun held (inr some) =
     let last = some.2 in
-    let long = ap (λ (bs : List Begun). length bs) last.begun_is in
+    let long = ap (λ (bs : List BegunChunk). length bs) last.begun_is in
     let both = length-append last.front (Held last.chunk last.draft ∷ []) in
-    let images = ap (λ (bs : List Begun). length (completed_images bs)) last.begun_is in
+    let images = ap (λ (bs : List BegunChunk). length (completed_images bs)) last.begun_is in
     let front = ap (λ (images : List Image). length images) (front_images last.front last.chunk last.draft) in
     let completed = completed_long last.front last.none in
     let one = ap (λ (images : List Image). length images) some.1 in

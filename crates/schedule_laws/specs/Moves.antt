@@ -6,7 +6,7 @@ use Rattle.chunk_plain.specs.Setup.{sequence_of}
 use Rattle.chunk_plain.specs.Payload.{byte_of, byte_at, byte_in, sealed_to}
 use Rattle.chunk_plain.specs.Views.{At, Head, Draft, fresh, Content, Completed, Found, Noted, Commit, Committed, taken_of}
 use Rattle.chunk_plain.specs.World.{World, Status, Unclaimed, Claimed, Stamped, Writing, Ready, Reading, status, writer}
-use Rattle.chunk_plain.specs.Steps.{claims, stamps, begins, with_head, with_word, completes, notes_call, looks_at, takes_in, learns, lets_go, notes, notes_commit, drafted, moved, served, noted, serviced}
+use Rattle.chunk_plain.specs.Steps.{claims, stamps, begins, with_head, with_word, completes, notes_call, looks_at, takes_in, learns, lets_go, notes, notes_commit, drafted, moved, served, with_writer_view, serviced}
 use Rattle.chunk_plain.specs.Owned.{times}
 use Rattle.chunk_plain.specs.Drafts.{MayFollow, IsDraft, IsFound, IsThere, IsHolding, head_of, draft_at, ends_by}
 use Rattle.chunk_plain.specs.Plain.{read_as}
@@ -46,7 +46,7 @@ pub data Move : Type 0 where
 -- a claim wins exactly where nobody has the chunk
 abbrev pub claimed_in : World → (place chunk found : ℕ) → Status → World
 claimed_in world place chunk found Unclaimed = moved world place (claims (writer world place) chunk found true) chunk (Claimed place)
-claimed_in world place chunk found _ = noted world place (claims (writer world place) chunk found false)
+claimed_in world place chunk found _ = with_writer_view world place (claims (writer world place) chunk found false)
 
 -- the world behind a move
 abbrev pub behind : World → Move → World
@@ -60,7 +60,7 @@ behind world (SetsHeader place chunk id head) =
 behind world (Publishes place chunk id index word) = drafted world place chunk id (with_word (draft_at (writer world place) id) index word)
 behind world (Completes place chunk id content) =
     moved world place (completes (writer world place) chunk id content) chunk (Ready place id content)
-behind world (Calls place call) = noted world place (notes_call (writer world place) call)
+behind world (Calls place call) = with_writer_view world place (notes_call (writer world place) call)
 behind world (Looks chunk word header found) = serviced world (looks_at world.service chunk word header found)
 behind world (Takes place chunk word header) =
     served world (takes_in (looks_at world.service chunk word header None) place chunk) chunk (read_as (status world chunk))

@@ -8,7 +8,7 @@ use Rattle.chunk_image.specs.Values.{fragment_value}
 use Rattle.chunk_image.specs.declared.read.Fragment as code
 use Rattle.trace_model.specs.Fragments.{drop_size}
 use Rattle.trace_model.specs.Images.{Fragment}
-use Rattle.trace_model.specs.Reading.{Size, Reading, Fragments, Unreadable, size_of, fragment_of, place_behind, behind, read_on, reading_from, reading_of}
+use Rattle.trace_model.specs.Reading.{Size, Reading, Fragments, Unreadable, size_of, fragment_of, fragment_end, behind, read_on, reading_from, reading_of}
 use Rattle.trace_model.specs.Row.{is_last}
 use Rattle.trace_model.proofs.ReadingLemmas.{HasSize, size_sound}
 use Rattle.trace_buffer.specs.Records.{is_readable, fragments_of}
@@ -22,7 +22,7 @@ some_byte (byte ∷ bytes) whole = omega arith
 -- a fragment begins behind its size, and ends inside the bytes
 pub record IsInside (at : ℕ) (bytes : List ℕ) (fragment : Fragment) : Type 0 where
   pub after : at < fragment.offset
-  pub inside : place_behind fragment ≤ at + length bytes
+  pub inside : fragment_end fragment ≤ at + length bytes
 
 inside_with : (last : Bool) (at : ℕ) (bytes : List ℕ) (fragment : Fragment) (o : Option Size) → size_of 4 bytes ≡ o
     → fragment_of last at bytes o ≡ Some fragment → IsInside at bytes fragment
@@ -80,7 +80,7 @@ pub record ReadsNext (payload : List ℕ) (left at : ℕ) (fragments : List Frag
   pub found : fragment_of (left == 0) at (drop at payload) (size_of 4 (drop at payload)) ≡ Some fragment
   pub split : fragments ≡ fragment ∷ others
   pub after : at < fragment.offset
-  pub rest : ReadsBehind payload left (place_behind fragment) others
+  pub rest : ReadsBehind payload left (fragment_end fragment) others
 
 behind_is : (fragment : Fragment) (r : Reading) (fragments : List Fragment) → behind fragment r ≡ Fragments fragments
     → (r ≡ Fragments (fragments_of r)) × (fragments ≡ fragment ∷ fragments_of r)
@@ -92,15 +92,15 @@ reads_next payload left at fragments now =
     of (fragment_of (left == 0) at (drop at payload) (size_of 4 (drop at payload))) refl now.reads
   where
     others : Fragment → Reading
-    others f = reading_from left (suc now.number) (place_behind f) (drop (place_behind f - at) (drop at payload))
+    others f = reading_from left (suc now.number) (fragment_end f) (drop (fragment_end f - at) (drop at payload))
 
     of : (o : Option Fragment) → fragment_of (left == 0) at (drop at payload) (size_of 4 (drop at payload)) ≡ o → read_on now.number others o ≡ Fragments fragments → ReadsNext payload left at fragments
     of None found reads = absurd (true≢false (sym (ap is_readable reads)))
     of (Some f) found reads =
         let rest = behind_is f (others f) fragments reads in
         let is = fragment_inside (left == 0) at (drop at payload) f found in
-        let on : at + (place_behind f - at) ≡ place_behind f = omega (arith, is.after) in
-        let same : drop (place_behind f - at) (drop at payload) ≡ drop (place_behind f) payload = drop-drop (place_behind f - at) at payload ∙ ap (λ n. drop n payload) on in
+        let on : at + (fragment_end f - at) ≡ fragment_end f = omega (arith, is.after) in
+        let same : drop (fragment_end f - at) (drop at payload) ≡ drop (fragment_end f) payload = drop-drop (fragment_end f - at) at payload ∙ ap (λ n. drop n payload) on in
         record {
           fragment = f;
           others = fragments_of (others f);
@@ -111,7 +111,7 @@ reads_next payload left at fragments now =
           rest = record {
             number = suc now.number;
             within = omega (arith, is.inside, length-drop at payload, now.within);
-            reads = ap (reading_from left (suc now.number) (place_behind f)) (sym same) ∙ rest.0;
+            reads = ap (reading_from left (suc now.number) (fragment_end f)) (sym same) ∙ rest.0;
           };
         }
 
@@ -125,7 +125,7 @@ reads_further payload (suc passed) left n at fragments is now =
     let more : n ≡ suc (passed + left) = omega (arith, is) in
     let next : ReadsNext payload (passed + left) at fragments = reads_next payload (passed + left) at fragments (subst (λ m. ReadsBehind payload m at fragments) more now) in
     subst (λ fs. ReadsBehind payload left (start_from at (suc passed) fs) (drop (suc passed) fs)) (sym next.split)
-    (reads_further payload passed left (passed + left) (place_behind next.fragment) next.others refl next.rest)
+    (reads_further payload passed left (passed + left) (fragment_end next.fragment) next.others refl next.rest)
 
 readable_is : (r : Reading) → is_readable r ≡ true → r ≡ Fragments (fragments_of r)
 readable_is (Fragments fragments) reads = refl
@@ -145,11 +145,11 @@ reads_at count payload passed reads less =
 
 -- and the next one begins behind it
 pub start_next : (at passed : ℕ) (fragments : List Fragment) (fragment : Fragment) (others : List Fragment) → drop passed fragments ≡ fragment ∷ others
-    → start_from at (suc passed) fragments ≡ place_behind fragment
+    → start_from at (suc passed) fragments ≡ fragment_end fragment
 start_next at zero [] fragment others is = absurd (cc)
-start_next at zero (f ∷ fragments) fragment others is = let same : f ≡ fragment = cc in ap place_behind same
+start_next at zero (f ∷ fragments) fragment others is = let same : f ≡ fragment = cc in ap fragment_end same
 start_next at (suc passed) [] fragment others is = absurd (cc)
-start_next at (suc passed) (f ∷ fragments) fragment others is = start_next (place_behind f) passed fragments fragment others is
+start_next at (suc passed) (f ∷ fragments) fragment others is = start_next (fragment_end f) passed fragments fragment others is
 
 -- the last one, by its number
 last_is : (others : List Fragment) → is_last others ≡ (length others == 0)

@@ -67,12 +67,12 @@ module _ (b : Buffer) (bounds : Bounds) (spot : Spot) (stored : BufferRecord) (a
 
   -- the spot behind a fragment
   behind_fits : (piece : Piece) (is : IsPieceIn bounds.closed stored.chunk spot piece) (ended : Bool) → (is_last is.others && not (is_part bounds.closed stored.chunk)) ≡ ended
-      → IsSpot b bounds (spot_behind spot (reading.place_behind is.fragment) ended)
-  behind_fits piece is true e = λ low other found. start_fits bounds.closed other.chunk (spot_behind spot (reading.place_behind is.fragment) true) refl refl
+      → IsSpot b bounds (spot_behind spot (reading.fragment_end is.fragment) ended)
+  behind_fits piece is true e = λ low other found. start_fits bounds.closed other.chunk (spot_behind spot (reading.fragment_end is.fragment) true) refl refl
   behind_fits piece is false e = λ low other found.
       let both : Some other ≡ Some stored = sym found ∙ live in
       let same : stored ≡ other = cc in
-      subst (λ (r : BufferRecord). FitsChunk bounds.closed r.chunk (spot_behind spot (reading.place_behind is.fragment) false)) same
+      subst (λ (r : BufferRecord). FitsChunk bounds.closed r.chunk (spot_behind spot (reading.fragment_end is.fragment) false)) same
       (record {
         offset = λ less. sym (ap (λ n. start_from 0 n stored.chunk.fragments) (one_more spot.passed) ∙ start_next 0 spot.passed stored.chunk.fragments is.fragment is.others is.here);
         left = λ all some. part_left (is_last is.others) (is_part bounds.closed stored.chunk)
@@ -88,7 +88,7 @@ module _ (b : Buffer) (bounds : Bounds) (spot : Spot) (stored : BufferRecord) (a
       let goes : ((stored.chunk.awaits && is_last is.others) && not s.closed) ≡ false = ap (λ x. (stored.chunk.awaits && is_last is.others) && not x) are.closed ∙ is.unstopped in
       let place_is : place_behind (is_part s.closed stored.chunk) spot.chunk_id spot.passed (is_last is.others) ≡ cursor_of piece.behind =
       ap (λ x. place_behind (is_part x stored.chunk) spot.chunk_id spot.passed (is_last is.others)) are.closed
-      ∙ sym (ap cursor_of is.behind ∙ cursor_behind spot (reading.place_behind is.fragment) ended) in
+      ∙ sym (ap cursor_of is.behind ∙ cursor_behind spot (reading.fragment_end is.fragment) ended) in
       let runs_on = sym is.runs_on in
       let headless = sym is.headless in
       let awaits = sym is.awaits in

@@ -32,7 +32,7 @@ pub record AreBounds (buffer : Buffer) (bounds : Bounds) : Type 0 where
 abbrev pub start_from : ℕ → ℕ → List Fragment → ℕ
 start_from at zero fragments = at
 start_from at (suc passed) [] = at
-start_from at (suc passed) (fragment ∷ fragments) = start_from (reading.place_behind fragment) passed fragments
+start_from at (suc passed) (fragment ∷ fragments) = start_from (reading.fragment_end fragment) passed fragments
 
 -- a spot in a chunk: behind so many fragments that the chunk still has one, or only a part of it is there
 pub record FitsChunk (closed : Bool) (chunk : Chunk) (spot : Spot) : Type 0 where

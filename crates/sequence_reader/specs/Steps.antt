@@ -36,7 +36,7 @@ pub record IsPieceIn (closed : Bool) (chunk : Chunk) (spot : Spot) (piece : Piec
   pub runs_on : piece.runs_on ≡ (chunk.runs_on && is_last others)
   pub awaits : piece.awaits ≡ (chunk.awaits && is_last others)
   pub unstopped : ((chunk.awaits && is_last others) && not closed) ≡ false
-  pub behind : piece.behind ≡ spot_behind spot (reading.place_behind fragment) (is_last others && not (is_part closed chunk))
+  pub behind : piece.behind ≡ spot_behind spot (reading.fragment_end fragment) (is_last others && not (is_part closed chunk))
   pub further : reach_of spot + length piece.bytes.now < reach_of piece.behind
   pub near : reach_of piece.behind ≤ 2 ^ 59
 

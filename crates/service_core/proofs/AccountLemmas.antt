@@ -3,7 +3,7 @@ use Rattle.std.proofs.Common.{◌≡◌, ◌∙◌, ℕ, suc, ◌+◌, ◌-◌, 
 use Rattle.std.specs.Prelude.{◌==◌, cond, MatchBool}
 use Rattle.std.proofs.lemmas.Bool.{eqb-true, and_parts, false≢true}
 use Rattle.trace_model.specs.Images.{Image, Patch}
-use Rattle.chunk_plain.specs.Views.{At, Begun, Held, Completed, Found, Look, Noted, Arrive, Partial, Patched, Closed, Read, Commit, ServiceView}
+use Rattle.chunk_plain.specs.Views.{At, BegunChunk, Held, Completed, Found, Look, Noted, Arrive, Partial, Patched, Closed, Read, Commit, ServiceView}
 use Rattle.chunk_plain.specs.World.{World, writer}
 use Rattle.chunk_plain.specs.Owned.{IsOwned}
 use Rattle.chunk_plain.specs.Drafts.{IsFound, StillHas}
@@ -51,7 +51,7 @@ scraped world place q id count images place_is owned has part =
     subst (λ (p : ℕ). At (writer world p).begun id is.1.entry) (l.place_is ∙ place_is) (subst (λ (i : ℕ). At (writer world part.found.place).begun i is.1.entry) l.id_is is.1.at) in
     by_entry is.1.entry at l.look.chunk is.0 is.1.has
   where
-    by_entry : (entry : Begun) → At (writer world place).begun id entry → (about : ℕ) → IsFound part.found → StillHas about part.found entry → IsScraped images world.service q id count
+    by_entry : (entry : BegunChunk) → At (writer world place).begun id entry → (about : ℕ) → IsFound part.found → StillHas about part.found entry → IsScraped images world.service q id count
     by_entry (Completed chunk content) at about is has_it = record {
       found = part.found;
       looked = part.looked;

@@ -8,7 +8,7 @@ use native.Mathlib.Decide.{dec_le}
 use mathlib.Core.Logic.{dite}
 use Rattle.trace_model.specs.Fragments.{drop_size}
 use Rattle.trace_model.specs.Images.{Fragment}
-use Rattle.trace_model.specs.Reading.{Reading, Size, size_of, fragment_of, reading_from, reading_of, read_on, behind, place_behind}
+use Rattle.trace_model.specs.Reading.{Reading, Size, size_of, fragment_of, reading_from, reading_of, read_on, behind, fragment_end}
 use Rattle.chunk_plain.specs.Payload.{byte_in, size_at, size_bytes, IsFragment, start_of, sealed_to, HasFragments}
 use Rattle.chunk_plain.proofs.Sealing.{one_byte, four_bytes}
 
@@ -176,18 +176,18 @@ front_from whole tail ends s (suc left) number at k sum =
     (ap (drop size.width) split ∙ drop-append-le size.width ys tail (omega (arith, end, room, most, long)))
     ∙ ap (λ (l : List ℕ). let g : Fragment = record { bytes = l; dropped = false; offset = at + size.width } in g)
     (take-append-le size.value (drop size.width ys) tail (let rest = length-drop size.width ys in omega (arith, rest, end, room, most, long))) in
-    let go : List ℕ → Fragment → Reading = λ l f. reading_from left (suc number) (place_behind f) (drop (place_behind f - at) l) in
+    let go : List ℕ → Fragment → Reading = λ l f. reading_from left (suc number) (fragment_end f) (drop (fragment_end f - at) l) in
     let one = one_fragment (left == 0) at ys size sized (omega (arith, end, room, most, long)) (omega (arith, end, most, long, small)) in
     let one_too = one_fragment (left == 0) at xs size sized_too (omega (arith, end, room, most, long, total)) (omega (arith, end, most, long, small)) in
     let taken : length f.bytes ≡ size.value = length-take-le size.value (drop size.width ys) (let rest = length-drop size.width ys in omega (arith, rest, end, room, most, long)) in
-    let behind_is : place_behind f - at ≡ to - from = omega (arith, taken, end) in
-    let next : (l : List ℕ) → drop (place_behind f - at) (drop from l) ≡ drop to l = λ l.
+    let behind_is : fragment_end f - at ≡ to - from = omega (arith, taken, end) in
+    let next : (l : List ℕ) → drop (fragment_end f - at) (drop from l) ≡ drop to l = λ l.
     ap (λ (n : ℕ). drop n (drop from l)) behind_is ∙ drop-drop (to - from) from l ∙ ap (λ (n : ℕ). drop n l) (let sum : from + (to - from) ≡ to = omega (arith, end) in sum) in
-    let rest = front_from whole tail ends s left (suc number) (place_behind f) (suc k) (omega (arith, sum)) in
+    let rest = front_from whole tail ends s left (suc number) (fragment_end f) (suc k) (omega (arith, sum)) in
     ap (read_on number (go xs)) (one_too ∙ ap (λ (g : Fragment). Some g) same)
-    ∙ ap (λ (l : List ℕ). behind f (reading_from left (suc number) (place_behind f) l)) (next (whole ++ tail))
+    ∙ ap (λ (l : List ℕ). behind f (reading_from left (suc number) (fragment_end f) l)) (next (whole ++ tail))
     ∙ ap (behind f) rest
-    ∙ ap (λ (l : List ℕ). behind f (reading_from left (suc number) (place_behind f) l)) (sym (next whole))
+    ∙ ap (λ (l : List ℕ). behind f (reading_from left (suc number) (fragment_end f) l)) (sym (next whole))
     ∙ ap (read_on number (go ys)) (sym one)
 
 -- bytes that begin with so many fragments read as these

@@ -22,7 +22,7 @@ use Rattle.page_geometry.specs.Header.{packed}
 use Rattle.page_geometry.proofs.HeaderLemmas.{unpacked-packed}
 use Rattle.chunk_plain.specs.declared.tokens.Seen.{Seen}
 use Rattle.chunk_plain.specs.Setup.{Setup, spot, range_of, producer_of, IsChunkOf}
-use Rattle.chunk_plain.specs.Views.{At, Draft, no_draft, Begun, Held, Completed, WriterView, newcomer, Noted, Partial, ServiceView, Taken, none_taken, taken_of}
+use Rattle.chunk_plain.specs.Views.{At, Draft, no_draft, BegunChunk, Held, Completed, WriterView, newcomer, Noted, Partial, ServiceView, Taken, none_taken, taken_of}
 use Rattle.chunk_plain.specs.World.{World, Status, Writing, status, writer}
 use Rattle.chunk_plain.specs.Steps.{serviced}
 use Rattle.chunk_plain.specs.Owned.{IsOwned}
@@ -134,7 +134,7 @@ holds_none setup world place first count last owned own range all isnt =
         let many = lt_is 1 draft.head.count test in
         omega (arith, few, many)))
 
-    by_entry : (entry : Begun) → At (writer world place).begun (taken_of world.service place).count entry → part_of_entry place (taken_of world.service place).count entry ≡ []
+    by_entry : (entry : BegunChunk) → At (writer world place).begun (taken_of world.service place).count entry → part_of_entry place (taken_of world.service place).count entry ≡ []
     by_entry (Completed chunk content) at = refl
     by_entry (Held chunk draft) at = by_count chunk draft at (nat_lt 1 draft.head.count) refl
 

@@ -8,7 +8,7 @@ use Rattle.trace_base.specs.declared.policy.WriterSpec.{WriterSpec}
 use Rattle.chunk_plain.specs.declared.setup.ChunkRange.{ChunkRange}
 use Rattle.chunk_plain.specs.declared.tokens.TheConstants.{ID_LIMIT}
 use Rattle.chunk_plain.specs.Setup.{Setup, range_of, producer_of, IsChunkOf}
-use Rattle.chunk_plain.specs.Views.{At, Begun, Held, Completed, Content, ServiceView, Taken, none_taken, taken_of}
+use Rattle.chunk_plain.specs.Views.{At, BegunChunk, Held, Completed, Content, ServiceView, Taken, none_taken, taken_of}
 use Rattle.chunk_plain.specs.World.{World, Status, Unclaimed, Claimed, Stamped, Writing, Ready, Reading, status, writer}
 use Rattle.chunk_plain.specs.Steps.{served, serviced}
 use Rattle.chunk_plain.specs.Owned.{IsOwned}
@@ -365,7 +365,7 @@ none_ready setup producer world owned orderly none place inside named chunk id c
     writes = orderly place inside named
 
     step : IsOwned world → At (writer world place).begun id (Completed chunk content) → (taken_of world.service place).count ≤ id → (taken_of world.service place).count < ID_LIMIT
-        → (entry : Begun) → At (writer world place).begun (taken_of world.service place).count entry
+        → (entry : BegunChunk) → At (writer world place).begun (taken_of world.service place).count entry
         → (id ≡ (taken_of world.service place).count) ⊎ (id ≡ (taken_of world.service place).count → ⊥) → ⊥
     step o done least left entry here (inl same) = none place inside named chunk content own left (ready ∙ ap (λ (n : ℕ). Ready place n content) same)
     step o done least left (Held about draft) here (inr differs) =

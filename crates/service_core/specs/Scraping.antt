@@ -8,7 +8,7 @@ use Rattle.page_geometry.specs.PageBits.{HasState}
 use Rattle.page_geometry.specs.Header.{packed}
 use Rattle.chunk_plain.specs.declared.tokens.Seen.{Seen}
 use Rattle.chunk_plain.specs.Setup.{Setup, spot, producer_of, IsChunkOf, id_at, sequence_of}
-use Rattle.chunk_plain.specs.Views.{At, Draft, no_draft, Begun, Held, Completed, Found, Look, Noted, Partial, ServiceView, taken_of}
+use Rattle.chunk_plain.specs.Views.{At, Draft, no_draft, BegunChunk, Held, Completed, Found, Look, Noted, Partial, ServiceView, taken_of}
 use Rattle.chunk_plain.specs.World.{World, Writing, status, writer}
 use Rattle.chunk_plain.specs.Steps.{serviced}
 use Rattle.chunk_plain.specs.Drafts.{IsFound}
@@ -114,7 +114,7 @@ pub record PartLooked (view : ServiceView) (chunk place id count flags : ℕ) : 
 -- In told worlds
 
 -- the note of a chunk's finished fragments, where the writer holds it and there are any
-abbrev pub part_of_entry : (place id : ℕ) → Begun → List Noted
+abbrev pub part_of_entry : (place id : ℕ) → BegunChunk → List Noted
 part_of_entry place id (Completed chunk content) = []
 part_of_entry place id (Held chunk draft) = if nat_lt 1 draft.head.count then Partial (sequence_of place) id (draft.head.count - 1) ∷ [] else []
 

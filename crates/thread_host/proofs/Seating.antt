@@ -8,7 +8,7 @@ use Rattle.chunk_plain.specs.declared.tokens.TheConstants.{ID_LIMIT}
 use Rattle.chunk_plain.specs.Histories.{completed_images}
 use Rattle.chunk_plain.specs.Owned.{held_count}
 use Rattle.chunk_plain.specs.Setup.{producer_of, IsChunkOf}
-use Rattle.chunk_plain.specs.Views.{At, Begun, Held, Completed, Content, ServiceView, WriterView, newcomer}
+use Rattle.chunk_plain.specs.Views.{At, BegunChunk, Held, Completed, Content, ServiceView, WriterView, newcomer}
 use Rattle.chunk_plain.specs.Words.{chunk_of}
 use Rattle.chunk_words.specs.declared.host.HostTable.{HostTable}
 use Rattle.chunk_words.specs.declared.seats.ServiceSeat.{ServiceSeat}
@@ -94,7 +94,7 @@ done_seat lines table place writer seat counts played sits knows same counted_ =
   counts_are = counted_ ∙ ap (λ (v : WriterView). begun_counts v.calls) (sym knows);
 }
 
-few_begun : (begun : List Begun) → held_count begun ≡ 0 → length (completed_images begun) ≤ ID_LIMIT → length begun ≤ ID_LIMIT
+few_begun : (begun : List BegunChunk) → held_count begun ≡ 0 → length (completed_images begun) ≤ ID_LIMIT → length begun ≤ ID_LIMIT
 few_begun begun none few = let all = counted begun in omega (arith, all, none, few)
 
 -- what the service hears of it
@@ -115,7 +115,7 @@ heard_last lines table place view desk writer seat played knows few =
     }
 
 -- and what it had heard before
-heard_more : (looks : ℕ) (desk : Desk) (view : ServiceView) (number : ℕ) (begun : List Begun) (place : ℕ) (seat : WriterSeat) → HasHeard looks desk place seat
+heard_more : (looks : ℕ) (desk : Desk) (view : ServiceView) (number : ℕ) (begun : List BegunChunk) (place : ℕ) (seat : WriterSeat) → HasHeard looks desk place seat
     → HasHeard looks (with_tale desk view number begun) place seat
 heard_more looks desk view number begun place seat heard = record {
   number = heard.number;
@@ -129,7 +129,7 @@ heard_more looks desk view number begun place seat heard = record {
 
 -- ---- one behind another
 
-pub heard_all : (looks : ℕ) (desk : Desk) (view : ServiceView) (number : ℕ) (begun : List Begun) (seats : List WriterSeat) (seat : WriterSeat)
+pub heard_all : (looks : ℕ) (desk : Desk) (view : ServiceView) (number : ℕ) (begun : List BegunChunk) (seats : List WriterSeat) (seat : WriterSeat)
     → HasHeardAll looks desk seats → HasHeard looks (with_tale desk view number begun) (length seats) seat
     → HasHeardAll looks (with_tale desk view number begun) (seats ++ seat ∷ [])
 heard_all looks desk view number begun seats seat before last =
@@ -151,7 +151,7 @@ done_all lines table seats seat sequences counts room before last =
 
 -- ---- what is taken of what was heard
 
-complete : (begun : List Begun) → held_count begun ≡ 0 → (id : ℕ) → id < length begun → (chunk : ℕ) × (content : Content) × At begun id (Completed chunk content)
+complete : (begun : List BegunChunk) → held_count begun ≡ 0 → (id : ℕ) → id < length begun → (chunk : ℕ) × (content : Content) × At begun id (Completed chunk content)
 complete [] none id inside = absurd (omega (arith, inside))
 complete (Held chunk draft ∷ begun) none id inside = absurd (omega (arith, none))
 complete (Completed chunk content ∷ begun) none zero inside = (chunk, content, refl)
@@ -167,13 +167,13 @@ whole_tale lines table view desk place seat counts inside done heard =
     record {
       inside = subst (λ (p : ℕ). p < length setup.writers) (sym here) inside;
       heard = heard.heard;
-      complete = subst (λ (begun : List Begun). (id : ℕ) → id < length begun → (chunk : ℕ) × (content : Content) × At begun id (Completed chunk content))
+      complete = subst (λ (begun : List BegunChunk). (id : ℕ) → id < length begun → (chunk : ℕ) × (content : Content) × At begun id (Completed chunk content))
           (sym heard.begun_is) (complete (known_by seat).begun done.done.none_held);
-      own = subst (λ (begun : List Begun). (id : ℕ) (entry : Begun) → At begun id entry → IsChunkOf setup (producer_of setup heard.tale.place) (chunk_of entry))
+      own = subst (λ (begun : List BegunChunk). (id : ℕ) (entry : BegunChunk) → At begun id entry → IsChunkOf setup (producer_of setup heard.tale.place) (chunk_of entry))
           (sym heard.begun_is)
-          (subst (λ (p : ℕ). (id : ℕ) (entry : Begun) → At (known_by seat).begun id entry → IsChunkOf setup (producer_of setup p) (chunk_of entry))
+          (subst (λ (p : ℕ). (id : ℕ) (entry : BegunChunk) → At (known_by seat).begun id entry → IsChunkOf setup (producer_of setup p) (chunk_of entry))
           (done.place_is ∙ sym here) done.sits.rests.rests.begun);
-      few = subst (λ (begun : List Begun). length begun ≤ ID_LIMIT) (sym heard.begun_is) heard.few;
+      few = subst (λ (begun : List BegunChunk). length begun ≤ ID_LIMIT) (sym heard.begun_is) heard.few;
     }
 
 -- ---- seats and their views

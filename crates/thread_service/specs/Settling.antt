@@ -2,7 +2,7 @@
 use Rattle.std.specs.Prelude.{◌≡◌, ℕ, ◌<◌, ◌≤◌, ◌⊎◌, List, ◌++◌, length}
 use Rattle.chunk_plain.specs.declared.tokens.TheConstants.{ID_LIMIT}
 use Rattle.chunk_plain.specs.Setup.{Setup, producer_of, IsChunkOf}
-use Rattle.chunk_plain.specs.Views.{At, Begun, Completed, Content, Look, ServiceView, taken_of}
+use Rattle.chunk_plain.specs.Views.{At, BegunChunk, Completed, Content, Look, ServiceView, taken_of}
 use Rattle.chunk_plain.specs.Words.{chunk_of}
 use Rattle.chunk_words.specs.Knows.{Tale}
 use Rattle.service_core.specs.Taking.{ShowNone}
@@ -32,5 +32,5 @@ pub record IsWholeTale (setup : Setup) (view : ServiceView) (tale : Tale) : Type
   pub inside : tale.place < length setup.writers
   pub heard : tale.looks ≤ length view.looks
   pub complete : (id : ℕ) → id < length tale.begun → (chunk : ℕ) × (content : Content) × At tale.begun id (Completed chunk content)
-  pub own : (id : ℕ) (entry : Begun) → At tale.begun id entry → IsChunkOf setup (producer_of setup tale.place) (chunk_of entry)
+  pub own : (id : ℕ) (entry : BegunChunk) → At tale.begun id entry → IsChunkOf setup (producer_of setup tale.place) (chunk_of entry)
   pub few : length tale.begun ≤ ID_LIMIT

@@ -8,7 +8,7 @@ use Rattle.trace_model.specs.Buffers as model
 use Rattle.trace_model.specs.Buffers.{BufferRecord, with_losses}
 use Rattle.trace_model.specs.Counts.{raised, one_if}
 use Rattle.trace_model.specs.Images.{Fragment, has_flag_1}
-use Rattle.trace_model.specs.Reading.{Reading, Fragments, Unreadable, behind, read_on, reading_from, reading_of, fragment_of, size_of, place_behind}
+use Rattle.trace_model.specs.Reading.{Reading, Fragments, Unreadable, behind, read_on, reading_from, reading_of, fragment_of, size_of, fragment_end}
 use Rattle.trace_model.specs.Sequences as sequences
 use Rattle.trace_model.specs.Sequences.{Sequence, fresh, is_known, changed_at, unread_of}
 use Rattle.trace_buffer.specs.BufferFields.{NumbersOnce}
@@ -33,8 +33,8 @@ pub length_from : (left number at : ℕ) (bytes : List ℕ) → is_readable (rea
 length_from zero number at bytes reads = refl
 length_from (suc left) number at bytes reads =
     length_on left number (fragment_of (left == 0) at bytes (size_of 4 bytes))
-    (λ f. reading_from left (suc number) (place_behind f) (drop (place_behind f - at) bytes))
-    (λ f. length_from left (suc number) (place_behind f) (drop (place_behind f - at) bytes)) reads
+    (λ f. reading_from left (suc number) (fragment_end f) (drop (fragment_end f - at) bytes))
+    (λ f. length_from left (suc number) (fragment_end f) (drop (fragment_end f - at) bytes)) reads
 
 pub reading_length : (count : ℕ) (payload : List ℕ) → is_readable (reading_of count payload) ≡ true → length (fragments_of (reading_of count payload)) ≡ count
 reading_length zero payload reads = absurd (true≢false (sym reads))

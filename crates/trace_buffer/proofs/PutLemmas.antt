@@ -6,7 +6,7 @@ use Rattle.ring_bytes.specs.Value.{put_at}
 use Rattle.ring_bytes.proofs.SliceLemmas.{length_put, put_same, slice_put_within}
 use Rattle.trace_model.specs.Fragments.{drop_size}
 use Rattle.trace_model.specs.Images.{Fragment, Patch, holds_patch, last_holds, patched_fragment, patched_last, with_bytes}
-use Rattle.trace_model.specs.Reading.{Reading, Fragments, Unreadable, Size, size_of, longer_size, fragment_of, reading_from, reading_of, read_on, behind, place_behind}
+use Rattle.trace_model.specs.Reading.{Reading, Fragments, Unreadable, Size, size_of, longer_size, fragment_of, reading_from, reading_of, read_on, behind, fragment_end}
 use Rattle.trace_buffer.specs.Records.{fragments_of, is_readable}
 use Rattle.trace_buffer.proofs.LossLemmas.{length_from}
 use Rattle.trace_buffer.proofs.KeptLemmas.{both}
@@ -179,7 +179,7 @@ last_patched at bytes f patch four is holds = ⊎_elim marked plain is.kind
         short (suc n) [] = omega arith
         short (suc n) (x ∷ xs) = let rest = short n xs in omega arith
 
-before_same : (at : ℕ) (bytes : List ℕ) (f : Fragment) (patch : Patch) → length patch.bytes ≡ 4 → IsFragment false at bytes f → place_behind f ≤ patch.offset → IsInside patch at bytes → fragment_of false at (put_in patch at bytes) (size_of 4 (put_in patch at bytes)) ≡ Some f
+before_same : (at : ℕ) (bytes : List ℕ) (f : Fragment) (patch : Patch) → length patch.bytes ≡ 4 → IsFragment false at bytes f → fragment_end f ≤ patch.offset → IsInside patch at bytes → fragment_of false at (put_in patch at bytes) (size_of 4 (put_in patch at bytes)) ≡ Some f
 unfolding put_in
 before_same at bytes f patch four is behind_it inside = ⊎_elim marked plain is.kind
   where
@@ -232,19 +232,19 @@ one_patched number at bytes fs patch four reads holds = of (fragment_of true at 
           reads = ap (read_on number (λ x. Fragments [])) done.1 ∙ ap (λ xs. Fragments (patched_last patch xs)) all;
         }
 
-step_patched : (left number at : ℕ) (bytes : List ℕ) (f : Fragment) (gs : List Fragment) (patch : Patch) → length patch.bytes ≡ 4 → IsFragment false at bytes f → IsPatched patch (suc left) (suc number) (place_behind f) (drop (place_behind f - at) bytes) gs → IsInside patch at bytes × (reading_from (suc (suc left)) number at (put_in patch at bytes) ≡ behind f (Fragments (patched_last patch gs)))
+step_patched : (left number at : ℕ) (bytes : List ℕ) (f : Fragment) (gs : List Fragment) (patch : Patch) → length patch.bytes ≡ 4 → IsFragment false at bytes f → IsPatched patch (suc left) (suc number) (fragment_end f) (drop (fragment_end f - at) bytes) gs → IsInside patch at bytes × (reading_from (suc (suc left)) number at (put_in patch at bytes) ≡ behind f (Fragments (patched_last patch gs)))
 unfolding put_in
 step_patched left number at bytes f gs patch four is later =
-    let long = length-drop (place_behind f - at) bytes in
+    let long = length-drop (fragment_end f - at) bytes in
     let inside : IsInside patch at bytes = record { from = omega (arith, later.inside.from, is.offset); to = omega (arith, later.inside.from, later.inside.to, is.offset, long) } in
     let same = before_same at bytes f patch four is later.inside.from inside in
-    let shift : patch.offset - at - (place_behind f - at) ≡ patch.offset - place_behind f = omega (arith, later.inside.from, is.offset) in (
+    let shift : patch.offset - at - (fragment_end f - at) ≡ patch.offset - fragment_end f = omega (arith, later.inside.from, is.offset) in (
       inside,
-      ap (λ b. read_on number (λ x. reading_from (suc left) (suc number) (place_behind x) (drop (place_behind x - at) (put_at (patch.offset - at) patch.bytes bytes))) (fragment_of b at (put_at (patch.offset - at) patch.bytes bytes) (size_of 4 (put_at (patch.offset - at) patch.bytes bytes)))) (not_zero left)
-          ∙ ap (read_on number (λ x. reading_from (suc left) (suc number) (place_behind x) (drop (place_behind x - at) (put_at (patch.offset - at) patch.bytes bytes)))) same
-          ∙ ap (λ xs. behind f (reading_from (suc left) (suc number) (place_behind f) xs))
-          (drop_put (patch.offset - at) (place_behind f - at) patch.bytes bytes (omega (arith, later.inside.from)) (omega (arith, inside.from, inside.to, four))
-          ∙ ap (λ n. put_at n patch.bytes (drop (place_behind f - at) bytes)) shift)
+      ap (λ b. read_on number (λ x. reading_from (suc left) (suc number) (fragment_end x) (drop (fragment_end x - at) (put_at (patch.offset - at) patch.bytes bytes))) (fragment_of b at (put_at (patch.offset - at) patch.bytes bytes) (size_of 4 (put_at (patch.offset - at) patch.bytes bytes)))) (not_zero left)
+          ∙ ap (read_on number (λ x. reading_from (suc left) (suc number) (fragment_end x) (drop (fragment_end x - at) (put_at (patch.offset - at) patch.bytes bytes)))) same
+          ∙ ap (λ xs. behind f (reading_from (suc left) (suc number) (fragment_end f) xs))
+          (drop_put (patch.offset - at) (fragment_end f - at) patch.bytes bytes (omega (arith, later.inside.from)) (omega (arith, inside.from, inside.to, four))
+          ∙ ap (λ n. put_at n patch.bytes (drop (fragment_end f - at) bytes)) shift)
           ∙ ap (behind f) later.reads,
     )
 
@@ -252,24 +252,24 @@ many_patched : (left number at : ℕ) (bytes : List ℕ) (fs : List Fragment) (p
 many_patched zero number at bytes fs patch four reads holds = one_patched number at bytes fs patch four reads holds
 many_patched (suc left) number at bytes fs patch four reads holds =
     of (fragment_of false at bytes (size_of 4 bytes)) refl
-    (sym (ap (λ b. read_on number (λ x. reading_from (suc left) (suc number) (place_behind x) (drop (place_behind x - at) bytes)) (fragment_of b at bytes (size_of 4 bytes))) (not_zero left)) ∙ reads)
-    (λ f gs e h. many_patched left (suc number) (place_behind f) (drop (place_behind f - at) bytes) gs patch four e h)
+    (sym (ap (λ b. read_on number (λ x. reading_from (suc left) (suc number) (fragment_end x) (drop (fragment_end x - at) bytes)) (fragment_of b at bytes (size_of 4 bytes))) (not_zero left)) ∙ reads)
+    (λ f gs e h. many_patched left (suc number) (fragment_end f) (drop (fragment_end f - at) bytes) gs patch four e h)
   where
-    later : (f : Fragment) (gs : List Fragment) → IsFragment false at bytes f → reading_from (suc left) (suc number) (place_behind f) (drop (place_behind f - at) bytes) ≡ Fragments gs → f ∷ gs ≡ fs → (last_holds gs patch ≡ true → IsPatched patch (suc left) (suc number) (place_behind f) (drop (place_behind f - at) bytes) gs) → IsPatched patch (suc (suc left)) number at bytes fs
-    later f [] is e all rest = absurd (none_reads left (suc number) (place_behind f) (drop (place_behind f - at) bytes) e)
+    later : (f : Fragment) (gs : List Fragment) → IsFragment false at bytes f → reading_from (suc left) (suc number) (fragment_end f) (drop (fragment_end f - at) bytes) ≡ Fragments gs → f ∷ gs ≡ fs → (last_holds gs patch ≡ true → IsPatched patch (suc left) (suc number) (fragment_end f) (drop (fragment_end f - at) bytes) gs) → IsPatched patch (suc (suc left)) number at bytes fs
+    later f [] is e all rest = absurd (none_reads left (suc number) (fragment_end f) (drop (fragment_end f - at) bytes) e)
     later f (g ∷ gs) is e all rest =
         let held : last_holds (g ∷ gs) patch ≡ true = ap (λ xs. last_holds xs patch) all ∙ holds in
         let done = step_patched left number at bytes f (g ∷ gs) patch four is (rest held) in
         record { inside = done.0; reads = done.1 ∙ ap (λ xs. Fragments (patched_last patch xs)) all }
 
-    read : (f : Fragment) (r : Reading) → IsFragment false at bytes f → reading_from (suc left) (suc number) (place_behind f) (drop (place_behind f - at) bytes) ≡ r → behind f r ≡ Fragments fs → ((gs : List Fragment) → reading_from (suc left) (suc number) (place_behind f) (drop (place_behind f - at) bytes) ≡ Fragments gs → last_holds gs patch ≡ true → IsPatched patch (suc left) (suc number) (place_behind f) (drop (place_behind f - at) bytes) gs) → IsPatched patch (suc (suc left)) number at bytes fs
+    read : (f : Fragment) (r : Reading) → IsFragment false at bytes f → reading_from (suc left) (suc number) (fragment_end f) (drop (fragment_end f - at) bytes) ≡ r → behind f r ≡ Fragments fs → ((gs : List Fragment) → reading_from (suc left) (suc number) (fragment_end f) (drop (fragment_end f - at) bytes) ≡ Fragments gs → last_holds gs patch ≡ true → IsPatched patch (suc left) (suc number) (fragment_end f) (drop (fragment_end f - at) bytes) gs) → IsPatched patch (suc (suc left)) number at bytes fs
     read f (Fragments gs) is e all rest = let list : f ∷ gs ≡ fs = cc in later f gs is e list (rest gs e)
     read f (Unreadable n) is e all rest = absurd (cc)
 
-    of : (o : Option Fragment) → fragment_of false at bytes (size_of 4 bytes) ≡ o → read_on number (λ x. reading_from (suc left) (suc number) (place_behind x) (drop (place_behind x - at) bytes)) o ≡ Fragments fs → ((f : Fragment) (gs : List Fragment) → reading_from (suc left) (suc number) (place_behind f) (drop (place_behind f - at) bytes) ≡ Fragments gs → last_holds gs patch ≡ true → IsPatched patch (suc left) (suc number) (place_behind f) (drop (place_behind f - at) bytes) gs) → IsPatched patch (suc (suc left)) number at bytes fs
+    of : (o : Option Fragment) → fragment_of false at bytes (size_of 4 bytes) ≡ o → read_on number (λ x. reading_from (suc left) (suc number) (fragment_end x) (drop (fragment_end x - at) bytes)) o ≡ Fragments fs → ((f : Fragment) (gs : List Fragment) → reading_from (suc left) (suc number) (fragment_end f) (drop (fragment_end f - at) bytes) ≡ Fragments gs → last_holds gs patch ≡ true → IsPatched patch (suc left) (suc number) (fragment_end f) (drop (fragment_end f - at) bytes) gs) → IsPatched patch (suc (suc left)) number at bytes fs
     of None found e rest = absurd (cc)
     of (Some f) found e rest =
-        read f (reading_from (suc left) (suc number) (place_behind f) (drop (place_behind f - at) bytes)) (is_fragment false at bytes f found) refl e (rest f)
+        read f (reading_from (suc left) (suc number) (fragment_end f) (drop (fragment_end f - at) bytes)) (is_fragment false at bytes f found) refl e (rest f)
 
 -- The law: four bytes inside the last fragment's, replaced in the payload, are replaced in that fragment, and all else reads
 -- as before.

@@ -182,9 +182,9 @@ pub struct TraceReader<'a> {
 
 impl<'a> Model for TraceReader<'a> {
     ghost use Rattle.std.specs.Prelude.{◌≤◌, length, drop};
-    ghost use Rattle.trace_file.specs.Readers.{Reading};
+    ghost use Rattle.trace_file.specs.Readers.{ReaderView};
 
-    ghost Value = { Reading };
+    ghost Value = { ReaderView };
 
     ghost view = { λ reader. record { at = reader.at; rest = drop reader.at reader.bytes.now; fault = reader.fault } };
 

@@ -8,7 +8,7 @@ use Rattle.trace_model.specs.Images.{Chunk, Fragment}
 use Rattle.trace_model.specs.Sequences.{Cursor}
 use Rattle.trace_model.specs.Row.{Slot, Here, Gone, Never, Piece, Chain, Fate, Whole, Marked, IntoLost, CutOff, Open, Link, Joined, Gap, Stop, Missing, Partial, Unpatched, bytes_of, joined_to, with_piece, place, is_last, is_part, place_behind, chunk_links, row_of, chain_of}
 use Rattle.trace_model.proofs.ContinuedLemmas.{unstopped}
-use Rattle.trace_model.specs.Fading.{ShowFragments, ShowsChunk, Show, written_from, StandsIn, Fades, RowsFade}
+use Rattle.trace_model.specs.Fading.{ShowFragments, ShowsChunk, Show, written_from, StandsAsWritten, Fades, RowsFade}
 
 -- a row fades, and a chain at its front without its start begins at this place
 abbrev Front : Cursor → List Link → Type 0
@@ -40,7 +40,7 @@ merged chain other = record chain { next = other.next; pieces = chain.pieces ++ 
 -- two chains that follow one another stand in what was written
 stands_merged : (written : List Chunk) (chain first other : Chain) (rest : List Link) → other.at ≡ chain.next → other.headless ≡ true
     → rest ≡ written_from written chain.next → written_from written chain.at ≡ joined_to first rest
-    → first.headless ≡ chain.headless → bytes_of first.pieces ≡ bytes_of chain.pieces → StandsIn written other → StandsIn written (merged chain other)
+    → first.headless ≡ chain.headless → bytes_of first.pieces ≡ bytes_of chain.pieces → StandsAsWritten written other → StandsAsWritten written (merged chain other)
 stands_merged written chain first other rest at e r w h b is = record {
   same = merged first is.same;
   others = is.others;
@@ -72,12 +72,12 @@ fades_joined written chain first (Joined other ∷ links) rest f r w h b = step 
     )
 fades_joined written chain first (Gap at next lost ∷ links) rest f r w h b = (step lost, f.fades)
   where
-    step : (x : Bool) → cond x IntoLost CutOff ≡ Whole → chain.awaits ≡ false → StandsIn written (record chain { fate = cond x IntoLost CutOff })
+    step : (x : Bool) → cond x IntoLost CutOff ≡ Whole → chain.awaits ≡ false → StandsAsWritten written (record chain { fate = cond x IntoLost CutOff })
     step true e a = absurd (never_whole IntoLost refl e)
     step false e a = absurd (never_whole CutOff refl e)
 fades_joined written chain first (Stop at why may ∷ links) rest f r w h b = (step may, f.fades)
   where
-    step : (x : Bool) → cond x Open CutOff ≡ Whole → chain.awaits ≡ false → StandsIn written (record chain { fate = cond x Open CutOff })
+    step : (x : Bool) → cond x Open CutOff ≡ Whole → chain.awaits ≡ false → StandsAsWritten written (record chain { fate = cond x Open CutOff })
     step true e a = absurd (never_whole Open refl e)
     step false e a = absurd (never_whole CutOff refl e)
 

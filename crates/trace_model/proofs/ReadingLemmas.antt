@@ -9,7 +9,7 @@ use Rattle.std.proofs.Math.Seq.{drop-append_seam}
 use Rattle.wire_varint.specs.Reading.{joined, IsWhole}
 use Rattle.trace_model.specs.Images.{Fragment}
 use Rattle.trace_model.specs.Fragments.{drop_mark, drop_size, ReadsOne, ReadsDropped}
-use Rattle.trace_model.specs.Reading.{Size, longer_size, size_of, fragment_of, place_behind}
+use Rattle.trace_model.specs.Reading.{Size, longer_size, size_of, fragment_of, fragment_end}
 
 -- Sizes
 
@@ -154,7 +154,7 @@ marked_size (a ∷ b ∷ c ∷ d ∷ x ∷ xs) h k bytes e = absurd (omega (arit
 -- what is read stands in front
 abbrev pub StandsFirst : Bool → ℕ → List ℕ → Fragment → Type 0
 StandsFirst last at bytes fragment =
-    ((last ≡ true) × ReadsDropped at bytes fragment) ⊎ ReadsOne at bytes fragment (drop (place_behind fragment - at) bytes)
+    ((last ≡ true) × ReadsDropped at bytes fragment) ⊎ ReadsOne at bytes fragment (drop (fragment_end fragment - at) bytes)
 
 pub read_sound : (last : Bool) (at : ℕ) (bytes : List ℕ) (fragment : Fragment) → All (λ byte. byte < 256) bytes → fragment_of last at bytes (size_of 4 bytes) ≡ Some fragment → StandsFirst last at bytes fragment
 read_sound last at bytes fragment below e = by_size (size_of 4 bytes) refl e
@@ -192,7 +192,7 @@ read_sound last at bytes fragment below e = by_size (size_of 4 bytes) refl e
         let inside : size.value ≤ length has.rest = omega (arith, long, ap length has.cut, length-append has.front has.rest, has.width) in
         let count : length (take size.value (drop size.width bytes)) ≡ size.value =
         ap (λ (xs : List ℕ). length (take size.value xs)) rest_is ∙ length-take size.value has.rest ∙ omega (arith, inside) in
-        inr (subst (λ (r : Fragment). ReadsOne at bytes r (drop (place_behind r - at) bytes)) same (record {
+        inr (subst (λ (r : Fragment). ReadsOne at bytes r (drop (fragment_end r - at) bytes)) same (record {
           size = has.front;
           is_size = record { whole = has.whole; most = has.few; value = has.value ∙ sym count };
           cut = has.cut

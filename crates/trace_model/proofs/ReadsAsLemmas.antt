@@ -5,12 +5,12 @@ use Rattle.std.specs.Prelude.{All, ◌==◌}
 use Rattle.std.proofs.lemmas.Bool.{eqb-true, false≢true}
 use Rattle.trace_model.specs.Images.{Fragment}
 use Rattle.trace_model.specs.Fragments.{ReadsOne, ReadsFrom}
-use Rattle.trace_model.specs.Reading.{size_of, fragment_of, Reading, Fragments, Unreadable, behind, place_behind, read_on, reading_from, reading_of}
+use Rattle.trace_model.specs.Reading.{size_of, fragment_of, Reading, Fragments, Unreadable, behind, fragment_end, read_on, reading_from, reading_of}
 use Rattle.trace_model.specs.ReadingLaws.{ReadingIsExact}
 use Rattle.trace_model.proofs.ReadingLemmas.{StandsFirst, read_kept, read_dropped, read_sound, drop-front}
 
 -- the rest behind a fragment
-pub rest_behind : (at : ℕ) (bytes : List ℕ) (fragment : Fragment) (rest : List ℕ) → ReadsOne at bytes fragment rest → drop (place_behind fragment - at) bytes ≡ rest
+pub rest_behind : (at : ℕ) (bytes : List ℕ) (fragment : Fragment) (rest : List ℕ) → ReadsOne at bytes fragment rest → drop (fragment_end fragment - at) bytes ≡ rest
 rest_behind at bytes fragment rest reads =
     ap (λ (n : ℕ). drop n bytes) (omega (arith, reads.offset, length-append reads.size fragment.bytes))
     ∙ ap (drop (length (reads.size ++ fragment.bytes))) reads.cut
@@ -24,10 +24,10 @@ complete_from (fragment ∷ []) number at bytes (inr h) =
     ap (read_on number (λ f. Fragments [])) (read_kept true at bytes fragment h.0 h.1)
 complete_from (fragment ∷ next ∷ others) number at bytes h =
     let left : ℕ = length (next ∷ others) in
-    let go : Fragment → Reading = λ f. reading_from left (suc number) (place_behind f) (drop (place_behind f - at) bytes) in
+    let go : Fragment → Reading = λ f. reading_from left (suc number) (fragment_end f) (drop (fragment_end f - at) bytes) in
     ap (read_on number go) (read_kept (left == 0) at bytes fragment h.0 h.1)
-    ∙ ap (λ (xs : List ℕ). behind fragment (reading_from left (suc number) (place_behind fragment) xs)) (rest_behind at bytes fragment h.0 h.1)
-    ∙ ap (behind fragment) (complete_from (next ∷ others) (suc number) (place_behind fragment) h.0 h.2)
+    ∙ ap (λ (xs : List ℕ). behind fragment (reading_from left (suc number) (fragment_end fragment) xs)) (rest_behind at bytes fragment h.0 h.1)
+    ∙ ap (behind fragment) (complete_from (next ∷ others) (suc number) (fragment_end fragment) h.0 h.2)
 
 -- what a reading has
 abbrev is_read : Reading → Bool
@@ -46,17 +46,17 @@ IsSound left at bytes fragments = ReadsFrom at bytes fragments × (length fragme
 
 -- a fragment that was read, and then these
 first_read : (left at : ℕ) (bytes : List ℕ) (fragment : Fragment) (others : List Fragment) → StandsFirst (suc left == 0) at bytes fragment
-    → IsSound left (place_behind fragment) (drop (place_behind fragment - at) bytes) others → IsSound (suc left) at bytes (fragment ∷ others)
+    → IsSound left (fragment_end fragment) (drop (fragment_end fragment - at) bytes) others → IsSound (suc left) at bytes (fragment ∷ others)
 first_read left at bytes fragment [] h k = absurd k.0
 first_read left at bytes fragment (next ∷ others) (inl h) k = absurd (omega (arith, eqb-true (suc left) 0 h.0))
-first_read left at bytes fragment (next ∷ others) (inr h) k = ((drop (place_behind fragment - at) bytes, h, k.0), ap suc k.1)
+first_read left at bytes fragment (next ∷ others) (inr h) k = ((drop (fragment_end fragment - at) bytes, h, k.0), ap suc k.1)
 
 sound_from : (left number at : ℕ) (bytes : List ℕ) (fragments : List Fragment) → All (λ byte. byte < 256) bytes → reading_from (suc left) number at bytes ≡ Fragments fragments → IsSound left at bytes fragments
 sound_from zero number at bytes fragments below e = by_fragment (fragment_of true at bytes (size_of 4 bytes)) refl e
   where
     only : (fragment : Fragment) → StandsFirst true at bytes fragment → IsSound zero at bytes (fragment ∷ [])
     only fragment (inl h) = (inl h.1, refl)
-    only fragment (inr h) = (inr (drop (place_behind fragment - at) bytes, h), refl)
+    only fragment (inr h) = (inr (drop (fragment_end fragment - at) bytes, h), refl)
 
     by_fragment : (o : Option Fragment) → fragment_of true at bytes (size_of 4 bytes) ≡ o → read_on number (λ f. Fragments []) o ≡ Fragments fragments → IsSound zero at bytes fragments
     by_fragment None f g = absurd (unread number fragments g)
@@ -65,20 +65,20 @@ sound_from zero number at bytes fragments below e = by_fragment (fragment_of tru
 sound_from (suc left) number at bytes fragments below e = by_fragment (fragment_of (suc left == 0) at bytes (size_of 4 bytes)) refl e (sound_from left)
   where
     by_rest : (fragment : Fragment) → StandsFirst (suc left == 0) at bytes fragment → (r : Reading)
-        → reading_from (suc left) (suc number) (place_behind fragment) (drop (place_behind fragment - at) bytes) ≡ r → behind fragment r ≡ Fragments fragments
+        → reading_from (suc left) (suc number) (fragment_end fragment) (drop (fragment_end fragment - at) bytes) ≡ r → behind fragment r ≡ Fragments fragments
         → ((n a : ℕ) (bs : List ℕ) (fs : List Fragment) → All (λ byte. byte < 256) bs → reading_from (suc left) n a bs ≡ Fragments fs → IsSound left a bs fs) → IsSound (suc left) at bytes fragments
     by_rest fragment h (Unreadable n) f g rest = absurd (unread n fragments g)
     by_rest fragment h (Fragments others) f g rest =
         subst (λ (fs : List Fragment). IsSound (suc left) at bytes fs) (ap fragments_in g)
-        (first_read left at bytes fragment others h (rest (suc number) (place_behind fragment) (drop (place_behind fragment - at) bytes) others (All-drop (λ byte. byte < 256) (place_behind fragment - at) bytes below) f))
+        (first_read left at bytes fragment others h (rest (suc number) (fragment_end fragment) (drop (fragment_end fragment - at) bytes) others (All-drop (λ byte. byte < 256) (fragment_end fragment - at) bytes below) f))
 
     by_fragment : (o : Option Fragment) → fragment_of (suc left == 0) at bytes (size_of 4 bytes) ≡ o
-        → read_on number (λ f. reading_from (suc left) (suc number) (place_behind f) (drop (place_behind f - at) bytes)) o ≡ Fragments fragments
+        → read_on number (λ f. reading_from (suc left) (suc number) (fragment_end f) (drop (fragment_end f - at) bytes)) o ≡ Fragments fragments
         → ((n a : ℕ) (bs : List ℕ) (fs : List Fragment) → All (λ byte. byte < 256) bs → reading_from (suc left) n a bs ≡ Fragments fs → IsSound left a bs fs) → IsSound (suc left) at bytes fragments
     by_fragment None f g rest = absurd (unread number fragments g)
     by_fragment (Some fragment) f g rest =
         by_rest fragment (read_sound (suc left == 0) at bytes fragment below f)
-        (reading_from (suc left) (suc number) (place_behind fragment) (drop (place_behind fragment - at) bytes)) refl g rest
+        (reading_from (suc left) (suc number) (fragment_end fragment) (drop (fragment_end fragment - at) bytes)) refl g rest
 
 complete_of : (payload : List ℕ) (fragments : List Fragment) → ReadsFrom 0 payload fragments → reading_of (length fragments) payload ≡ Fragments fragments
 complete_of payload [] h = absurd h

@@ -5,14 +5,14 @@ use Rattle.wire_varint.specs.Varint.{varint, groups, tag, redundant}
 use Rattle.trace_model.specs.Encoding.{number_field}
 use Rattle.trace_model.specs.Record.{content_of, record_of}
 use Rattle.trace_model.specs.Packets.{packets_of}
-use Rattle.trace_model.specs.Cut.{IsFull, CutsInto}
+use Rattle.trace_model.specs.Cut.{IsWellFormedPage, CutsInto}
 use Rattle.trace_model.specs.WorkedWriters.{number_calls, number_page}
 use Rattle.trace_model.specs.WorkedRounds.{last_calls, lost_calls, HandsOver, AnswersFlush, Races, Crowds, WorkedRounds}
 
 flushed_cut : CutsInto 4080 (packets_of (number_calls 1)) (number_page 1 4074 ∷ [])
 unfolding groups varint tag redundant number_field
 flushed_cut = record {
-  full = All-from_recursion (IsFull 4080) (number_page 1 4074 ∷ []) (
+  full = All-from_recursion (IsWellFormedPage 4080) (number_page 1 4074 ∷ []) (
     record { some = omega arith; most = omega arith; whole = refl; dropped = λ h. absurd (cc) },
     tt,
   );
@@ -26,7 +26,7 @@ flushed_cut = record {
 first_cut : CutsInto 4080 (packets_of (last_calls 1)) (number_page 1 4074 ∷ [])
 unfolding groups varint tag redundant number_field
 first_cut = record {
-  full = All-from_recursion (IsFull 4080) (number_page 1 4074 ∷ []) (
+  full = All-from_recursion (IsWellFormedPage 4080) (number_page 1 4074 ∷ []) (
     record { some = omega arith; most = omega arith; whole = refl; dropped = λ h. absurd (cc) },
     tt,
   );
@@ -40,7 +40,7 @@ first_cut = record {
 second_cut : CutsInto 4080 (packets_of (last_calls 2)) (number_page 2 4074 ∷ [])
 unfolding groups varint tag redundant number_field
 second_cut = record {
-  full = All-from_recursion (IsFull 4080) (number_page 2 4074 ∷ []) (
+  full = All-from_recursion (IsWellFormedPage 4080) (number_page 2 4074 ∷ []) (
     record { some = omega arith; most = omega arith; whole = refl; dropped = λ h. absurd (cc) },
     tt,
   );
@@ -54,7 +54,7 @@ second_cut = record {
 lost_cut : CutsInto 4080 (packets_of (lost_calls 2)) []
 unfolding groups varint tag redundant number_field
 lost_cut = record {
-  full = All-from_recursion (IsFull 4080) [] tt;
+  full = All-from_recursion (IsWellFormedPage 4080) [] tt;
   flags = tt;
   last = λ h. absurd (cc);
   chains = tt;

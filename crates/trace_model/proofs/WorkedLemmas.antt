@@ -4,7 +4,7 @@ use Rattle.std.proofs.lemmas.List.Elements.{All-from_recursion}
 use Rattle.wire_varint.specs.Varint.{varint, groups, tag, redundant}
 use Rattle.trace_model.specs.Encoding.{number_field, bytes_head, bytes_field}
 use Rattle.trace_model.specs.Record.{content_of, record_of}
-use Rattle.trace_model.specs.Cut.{IsFull}
+use Rattle.trace_model.specs.Cut.{IsWellFormedPage}
 use Rattle.trace_model.specs.WorkedWriters.{letters, small_pages, empty_pages, long_pages, patched_pages, moved_pages, given_up_pages}
 use Rattle.trace_model.specs.WorkedRows.{shared_pages, WorkedRows, SmallPacket, EmptyPacket, LongPacket, PatchedPacket, MovedLength, GivenUpPacket, OverwritesUnread, DiscardsRest, FillsBuffer, DropsAtBegin, LosesScraped, RewritesScraped, ClosesUnpatched, AwaitsPatch, RunsIntoDiscarded, halved_pages}
 
@@ -12,7 +12,7 @@ small : SmallPacket
 unfolding groups varint tag redundant number_field bytes_head bytes_field content_of record_of
 small = record {
   cut = record {
-    full = All-from_recursion (IsFull 284) small_pages (
+    full = All-from_recursion (IsWellFormedPage 284) small_pages (
       record { some = omega arith; most = omega arith; whole = refl; dropped = λ h. absurd (cc) },
       tt,
     );
@@ -30,7 +30,7 @@ empty : EmptyPacket
 unfolding groups varint tag redundant number_field bytes_head bytes_field content_of record_of
 empty = record {
   cut = record {
-    full = All-from_recursion (IsFull 284) empty_pages (
+    full = All-from_recursion (IsWellFormedPage 284) empty_pages (
       record { some = omega arith; most = omega arith; whole = refl; dropped = λ h. absurd (cc) },
       tt,
     );
@@ -48,7 +48,7 @@ long : LongPacket
 unfolding groups varint tag redundant number_field bytes_head bytes_field content_of record_of
 long = record {
   cut = record {
-    full = All-from_recursion (IsFull 284) long_pages (
+    full = All-from_recursion (IsWellFormedPage 284) long_pages (
       record { some = omega arith; most = omega arith; whole = refl; dropped = λ h. absurd (cc) },
       (
         record { some = omega arith; most = omega arith; whole = refl; dropped = λ h. absurd (cc) },
@@ -69,7 +69,7 @@ patched : PatchedPacket
 unfolding groups varint tag redundant number_field bytes_head bytes_field content_of record_of
 patched = record {
   cut = record {
-    full = All-from_recursion (IsFull 284) patched_pages (
+    full = All-from_recursion (IsWellFormedPage 284) patched_pages (
       record { some = omega arith; most = omega arith; whole = refl; dropped = λ h. absurd (cc) },
       (
         record { some = omega arith; most = omega arith; whole = refl; dropped = λ h. absurd (cc) },
@@ -90,7 +90,7 @@ moved : MovedLength
 unfolding groups varint tag redundant number_field bytes_head bytes_field content_of record_of
 moved = record {
   cut = record {
-    full = All-from_recursion (IsFull 284) moved_pages (
+    full = All-from_recursion (IsWellFormedPage 284) moved_pages (
       record { some = omega arith; most = omega arith; whole = refl; dropped = λ h. absurd (cc) },
       (
         record { some = omega arith; most = omega arith; whole = refl; dropped = λ h. absurd (cc) },
@@ -111,7 +111,7 @@ given_up : GivenUpPacket
 unfolding groups varint tag redundant number_field bytes_head bytes_field content_of record_of
 given_up = record {
   cut = record {
-    full = All-from_recursion (IsFull 2036) given_up_pages (
+    full = All-from_recursion (IsWellFormedPage 2036) given_up_pages (
       record { some = omega arith; most = omega arith; whole = refl; dropped = λ h. absurd (cc) },
       (
         record { some = omega arith; most = omega arith; whole = refl; dropped = λ h. (refl, refl) },
@@ -168,7 +168,7 @@ drops : DropsAtBegin
 unfolding groups varint tag redundant number_field bytes_head bytes_field content_of record_of
 drops = record {
   cut = record {
-    full = All-from_recursion (IsFull 4080) shared_pages (
+    full = All-from_recursion (IsWellFormedPage 4080) shared_pages (
       record { some = omega arith; most = omega arith; whole = refl; dropped = λ h. absurd (cc) },
       (
         record { some = omega arith; most = omega arith; whole = refl; dropped = λ h. absurd (cc) },
@@ -210,7 +210,7 @@ halved : RunsIntoDiscarded
 unfolding groups varint tag redundant number_field bytes_head bytes_field content_of record_of
 halved = record {
   cut = record {
-    full = All-from_recursion (IsFull 2036) halved_pages (
+    full = All-from_recursion (IsWellFormedPage 2036) halved_pages (
       record { some = omega arith; most = omega arith; whole = refl; dropped = λ h. absurd (cc) },
       (record { some = omega arith; most = omega arith; whole = refl; dropped = λ h. absurd (cc) }, tt),
     );

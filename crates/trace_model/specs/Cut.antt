@@ -18,7 +18,7 @@ use Rattle.trace_model.specs.Written.{chains_of}
 
 -- A page of this payload size has a count from 1 to 1,023. A drop mark stands only in a last fragment that runs on nowhere,
 -- and its bytes are all that follows.
-pub record IsFull (size : ℕ) (page : Page) : Type 0 where
+pub record IsWellFormedPage (size : ℕ) (page : Page) : Type 0 where
   pub some : 1 ≤ length page.fragments
   pub most : length page.fragments ≤ MAX_FRAGMENTS
   pub whole : length (laid page.dropped page.fragments page.rest) ≡ size
@@ -174,7 +174,7 @@ pub record PatchesAgree (packets : List Packet) (chains : List Chain) (pages : L
 
 -- The pages are a cut of the packets, which stand the newest first.
 pub record CutsInto (size : ℕ) (packets : List Packet) (pages : List Page) : Type 0 where
-  pub full : All (IsFull size) pages
+  pub full : All (IsWellFormedPage size) pages
   pub flags : FlagsAgree false pages
   -- only a packet that goes on leaves flag 2 on the last page
   pub last : last_runs_on false pages ≡ true → newest_goes_on packets ≡ true

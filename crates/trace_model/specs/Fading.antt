@@ -45,7 +45,7 @@ abbrev pub written_from : List Chunk → Cursor → List Link
 written_from written at = row_of false at.chunk_id at.passed (map Here (drop at.chunk_id written))
 
 -- the chain stands in the row of what was written, whole, byte for byte
-pub record StandsIn (written : List Chunk) (chain : Chain) : Type 0 where
+pub record StandsAsWritten (written : List Chunk) (chain : Chain) : Type 0 where
   pub same : Chain
   pub others : List Link
   pub there : written_from written chain.at ≡ Joined same ∷ others
@@ -57,7 +57,7 @@ pub record StandsIn (written : List Chunk) (chain : Chain) : Type 0 where
 abbrev pub Fades : List Chunk → List Link → Type 0
 Fades written [] = ⊤
 Fades written (Joined chain ∷ links) =
-    (chain.fate ≡ Whole → chain.awaits ≡ false → StandsIn written chain) × Fades written links
+    (chain.fate ≡ Whole → chain.awaits ≡ false → StandsAsWritten written chain) × Fades written links
 Fades written (Gap at next lost ∷ links) = Fades written links
 Fades written (Stop at why may ∷ links) = Fades written links
 

@@ -44,9 +44,9 @@ abbrev pub behind : Fragment → Reading → Reading
 behind fragment (Fragments fragments) = Fragments (fragment ∷ fragments)
 behind fragment (Unreadable number) = Unreadable number
 
--- the place behind a fragment
-abbrev pub place_behind : Fragment → ℕ
-place_behind fragment = fragment.offset + length fragment.bytes
+-- where a fragment ends: the place of the payload behind it
+abbrev pub fragment_end : Fragment → ℕ
+fragment_end fragment = fragment.offset + length fragment.bytes
 
 -- the fragment with this number, if it can be read, and then the others
 abbrev pub read_on : ℕ → (Fragment → Reading) → Option Fragment → Reading
@@ -58,7 +58,7 @@ abbrev pub reading_from : ℕ → ℕ → ℕ → List ℕ → Reading
 reading_from zero number at bytes = Fragments []
 reading_from (suc left) number at bytes =
     read_on number
-    (λ fragment. reading_from left (suc number) (place_behind fragment) (drop (place_behind fragment - at) bytes))
+    (λ fragment. reading_from left (suc number) (fragment_end fragment) (drop (fragment_end fragment - at) bytes))
     (fragment_of (left == 0) at bytes (size_of 4 bytes))
 
 -- so many fragments of a payload; of none the first is missing

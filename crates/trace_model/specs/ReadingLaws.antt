@@ -3,7 +3,7 @@ use Rattle.std.specs.Prelude.{◌≡◌, ℕ, ◌<◌, List, length, All}
 use Rattle.trace_model.specs.Images.{Fragment}
 use Rattle.trace_model.specs.Fragments.{ReadsAs, drop_size}
 use Rattle.trace_model.specs.Pages.{Page, laid, chunk_of}
-use Rattle.trace_model.specs.Cut.{IsFull}
+use Rattle.trace_model.specs.Cut.{IsWellFormedPage}
 use Rattle.trace_model.specs.Reading.{Fragments, reading_of}
 
 -- what is read is a reading of the payload, with so many fragments
@@ -15,5 +15,5 @@ pub record ReadingIsExact : Type 0 where
 
 -- a writer's image reads as the fragments that it wrote
 abbrev pub PagesReadAsWritten : Type 0
-PagesReadAsWritten = (size : ℕ) (page : Page) → size < drop_size → IsFull size page
+PagesReadAsWritten = (size : ℕ) (page : Page) → size < drop_size → IsWellFormedPage size page
     → ReadsAs (laid page.dropped page.fragments page.rest) (chunk_of page).fragments

@@ -2,7 +2,7 @@
 use Rattle.std.specs.Prelude.{◌≡◌, ℕ, zero, suc, ◌<◌, List, [], ◌∷◌, length}
 use Rattle.trace_model.specs.Images.{Fragment}
 use Rattle.trace_model.specs.Fragments.{ReadsOne, ReadsDropped}
-use Rattle.trace_model.specs.Reading.{place_behind}
+use Rattle.trace_model.specs.Reading.{fragment_end}
 
 -- The bytes from the place `at` on begin with these fragments, none of which has the drop mark, and the rest stands from
 -- the place `next` on.
@@ -10,7 +10,7 @@ abbrev pub BeginsWith : ℕ → List ℕ → List Fragment → ℕ → List ℕ 
 BeginsWith at bytes [] next rest = (next ≡ at) × (rest ≡ bytes)
 BeginsWith at bytes (fragment ∷ others) next rest =
     (behind : List ℕ) × ReadsOne at bytes fragment behind
-    × BeginsWith (place_behind fragment) behind others next rest
+    × BeginsWith (fragment_end fragment) behind others next rest
 
 -- The fragment with this number is among the payload's, those before it can be read, and it can't.
 pub record StopsAt (count number : ℕ) (payload : List ℕ) : Type 0 where

@@ -9,7 +9,7 @@ use Rattle.std.proofs.lemmas.List.Elements.{filter-append}
 use Rattle.std.proofs.lemmas.List.{append-nil}
 use Rattle.std.proofs.lemmas.List.Sums.{sum_by-append, count_by-le-length, length-filter}
 use Rattle.trace_file.specs.declared.fault.TraceFault.{TraceFault}
-use Rattle.trace_file.specs.Readers.{Reading, StillReads}
+use Rattle.trace_file.specs.Readers.{ReaderView, StillReads}
 use Rattle.trace_file.specs.Traces.{TracePacket, ReadsFrom}
 use Rattle.trace_summary.specs.declared.summary.Totals.{Totals}
 use Rattle.trace_summary.specs.declared.summary.Summary.{Summary}
@@ -19,7 +19,7 @@ use Rattle.trace_summary.specs.Tallies.{none, totals_in, totals_before}
 use Rattle.trace_summary.specs.declared.tally.Tally.{Tally}
 
 -- the packets that were read, what the reader has left, and the totals of each sequence and of all
-pub record IsCounted (trace : List ℕ) (reader : Reading) (counts : ℕ → Option Totals) (all : Totals) : Type 0 where
+pub record IsCounted (trace : List ℕ) (reader : ReaderView) (counts : ℕ → Option Totals) (all : Totals) : Type 0 where
   pub packets : List TracePacket
   pub reads : (others : List TracePacket) (ending : Option TraceFault) → StillReads reader others ending → ReadsFrom 0 trace (packets ++ others) ending
   pub each : (q : ℕ) → counts q ≡ totals_at q packets
@@ -136,7 +136,7 @@ small_more : (all : Totals) (marked : Bool) (bytes new old whole : ℕ) → new 
 unfolding with_packet
 small_more all marked bytes new old whole shorter h = omega (arith, shorter, h)
 
-pub count_more : (trace : List ℕ) (old new : Reading) (counts others : ℕ → Option Totals) (all : Totals) (packet : TracePacket)
+pub count_more : (trace : List ℕ) (old new : ReaderView) (counts others : ℕ → Option Totals) (all : Totals) (packet : TracePacket)
     → IsCounted trace old counts all
     → ((packets : List TracePacket) (ending : Option TraceFault) → StillReads new packets ending → StillReads old (packet ∷ packets) ending)
     → length new.rest + length packet.content + 2 ≤ length old.rest
@@ -163,7 +163,7 @@ count_more trace old new counts others all packet h next shorter updates = recor
           ∙ h.each q ∙ sym (at_other q h.packets packet apart)
     ]
 
-pub count_end : (trace : List ℕ) (reader : Reading) (counts : ℕ → Option Totals) (all : Totals) (summary : Summary) → IsCounted trace reader counts all
+pub count_end : (trace : List ℕ) (reader : ReaderView) (counts : ℕ → Option Totals) (all : Totals) (summary : Summary) → IsCounted trace reader counts all
     → ((q : ℕ) → get nat_cmp summary.sequences q ≡ counts q) → IsOrdered nat_cmp summary.sequences
     → summary.packets ≡ all.packets → summary.bytes ≡ all.bytes → StillReads reader [] None → IsSummaryOf trace (summary_text summary)
 unfolding summary_text totals_of
@@ -213,12 +213,12 @@ unfolding totals_at
 met_of q packets = met_before (of_sequence q packets)
 
 -- the totals of one sequence are at most those of all
-pub before_fits : (trace : List ℕ) (reader : Reading) (counts : ℕ → Option Totals) (all : Totals) (q : ℕ) → IsCounted trace reader counts all
+pub before_fits : (trace : List ℕ) (reader : ReaderView) (counts : ℕ → Option Totals) (all : Totals) (q : ℕ) → IsCounted trace reader counts all
     → Fits (unwrap_or (counts q) none) all
 before_fits trace reader counts all q h =
     let was : unwrap_or (counts q) none ≡ totals_of (of_sequence q h.packets) = ap (λ (o : Option Totals). unwrap_or o none) (h.each q) ∙ met_of q h.packets in
     let few = few_at q h.packets in
     subst (λ (t : Totals). Fits (unwrap_or (counts q) none) t) (sym h.all_is) (subst (λ (t : Totals). Fits t (totals_of h.packets)) (sym was) (few.0, few_marked (of_sequence q h.packets), few.1))
 
-pub all_fits : (trace : List ℕ) (reader : Reading) (counts : ℕ → Option Totals) (all : Totals) → IsCounted trace reader counts all → all.marked ≤ all.packets
+pub all_fits : (trace : List ℕ) (reader : ReaderView) (counts : ℕ → Option Totals) (all : Totals) → IsCounted trace reader counts all → all.marked ≤ all.packets
 all_fits trace reader counts all h = subst (λ (t : Totals). t.marked ≤ t.packets) (sym h.all_is) (few_marked h.packets)

@@ -2,9 +2,9 @@
 use Rattle.std.proofs.Common.{◌≡◌, ◌∙◌, ℕ, ◌+◌, ◌-◌, true, List, [], ◌∷◌, ◌++◌, length, Option, Some, None, IfNone, refl, sym, ap, subst, arith, length-append}
 use Rattle.chunk_plain.specs.declared.tokens.Held.{Held as HeldToken}
 use Rattle.chunk_plain.specs.Setup.{Setup}
-use Rattle.chunk_plain.specs.Views.{Ask, Begun, Held, WriterView, ServiceView, fresh}
+use Rattle.chunk_plain.specs.Views.{Ask, BegunChunk, Held, WriterView, ServiceView, fresh}
 use Rattle.chunk_plain.specs.Drafts.{draft_at}
-use Rattle.chunk_plain.specs.Steps.{moved, noted}
+use Rattle.chunk_plain.specs.Steps.{moved, with_writer_view}
 use Rattle.chunk_plain.specs.Meaning.{Meaning, IsWriterStep}
 use Rattle.chunk_plain.specs.World.{World, Unclaimed, Writing, status}
 use Rattle.chunk_plain.proofs.SeatSteps.{steps_follow}
@@ -35,7 +35,7 @@ wins_in_turn setup route chunk old mid new so_far claims = record {
   least = claims.least;
   below = claims.below;
   words = claims.payload;
-  begun = ap (λ (v : WriterView). v.begun) claims.view ∙ ap (λ (xs : List Begun). xs ++ Held chunk (fresh claims.payload) ∷ []) so_far.begun;
+  begun = ap (λ (v : WriterView). v.begun) claims.view ∙ ap (λ (xs : List BegunChunk). xs ++ Held chunk (fresh claims.payload) ∷ []) so_far.begun;
   calls = ap (λ (v : WriterView). v.calls) claims.view ∙ so_far.calls;
 }
 
@@ -90,7 +90,7 @@ module _ {T W S : Type 0} (means : Meaning T W S) where
   pub out_now : (route : Route) (old : T) (seat : W) (new : T) (after : W) → IsWriterStep means old seat new after
       → AsksInVain (means.setup old) route.arbiter.first route.arbiter.chunks (means.view old seat) (means.view new after) → NoneHeld (means.view old seat).begun
       → ((world : World) → means.told old ≡ Some world → NoneFree world route.arbiter.first (route.arbiter.first + route.arbiter.chunks)
-      × (means.told new ≡ Some (noted world (means.place seat) (means.view new after))))
+      × (means.told new ≡ Some (with_writer_view world (means.place seat) (means.view new after))))
       → IsOutNow means route old seat new after
   out_now route old seat new after step vain none tells =
       let begun : (means.view new after).begun ≡ (means.view old seat).begun = ap (λ (v : WriterView). v.begun) vain.view in
@@ -102,16 +102,16 @@ module _ {T W S : Type 0} (means : Meaning T W S) where
         asked = ap (λ (v : WriterView). v.asked) vain.view;
         claimed = ap (λ (v : WriterView). v.claimed) vain.view;
         stamped = ap (λ (v : WriterView). v.stamped) vain.view;
-        chunks = subst (λ (chunks : List Begun). KeepsChunks (means.view old seat).begun chunks) (sym begun) (keeps_same (means.view old seat).begun);
+        chunks = subst (λ (chunks : List BegunChunk). KeepsChunks (means.view old seat).begun chunks) (sym begun) (keeps_same (means.view old seat).begun);
         none_held = subst NoneHeld (sym begun) none;
-        none_free = λ world is. (noted world (means.place seat) (means.view new after), (tells world is).1, (tells world is).0);
+        none_free = λ world is. (with_writer_view world (means.place seat) (means.view new after), (tells world is).1, (tells world is).0);
       }
 
   -- the same where the writer still holds a chunk, and completes it behind the round
   pub out_after : (route : Route) (old : T) (seat : W) (mid : T) (between : W) (new : T) (after : W) → IsWriterStep means old seat mid between
       → AsksInVain (means.setup old) route.arbiter.first route.arbiter.chunks (means.view old seat) (means.view mid between)
       → ((world : World) → means.told old ≡ Some world → NoneFree world route.arbiter.first (route.arbiter.first + route.arbiter.chunks)
-      × (means.told mid ≡ Some (noted world (means.place seat) (means.view mid between))))
+      × (means.told mid ≡ Some (with_writer_view world (means.place seat) (means.view mid between))))
       → IsQuiet means mid between new after → NoneHeld (means.view new after).begun
       → IsOutNow means route old seat new after
   out_after route old seat mid between new after step vain tells quiet none =
@@ -123,10 +123,10 @@ module _ {T W S : Type 0} (means : Meaning T W S) where
         asked = quiet.asked ∙ ap (λ (v : WriterView). v.asked) vain.view;
         claimed = quiet.claimed ∙ ap (λ (v : WriterView). v.claimed) vain.view;
         stamped = quiet.stamped ∙ ap (λ (v : WriterView). v.stamped) vain.view;
-        chunks = subst (λ (begun : List Begun). KeepsChunks begun (means.view new after).begun) (ap (λ (v : WriterView). v.begun) vain.view) quiet.chunks;
+        chunks = subst (λ (begun : List BegunChunk). KeepsChunks begun (means.view new after).begun) (ap (λ (v : WriterView). v.begun) vain.view) quiet.chunks;
         none_held = none;
         none_free = λ world is.
             let found = tells world is in
-            let kept = quiet.frees_none (noted world (means.place seat) (means.view mid between)) found.1 in
+            let kept = quiet.frees_none (with_writer_view world (means.place seat) (means.view mid between)) found.1 in
             (kept.0, kept.1, λ chunk least below free. found.0 chunk least below (kept.2 chunk free));
       }

@@ -8,7 +8,7 @@ use Rattle.trace_model.specs.Packets.{Packet, Account, account_of, begun_packet,
 use Rattle.commit_body.specs.Pending.{Pending}
 use Rattle.chunk_plain.specs.declared.tokens.Held.{Held as HeldToken}
 use Rattle.chunk_plain.specs.Setup.{Setup}
-use Rattle.chunk_plain.specs.Views.{Begun, WriterView}
+use Rattle.chunk_plain.specs.Views.{BegunChunk, WriterView}
 use Rattle.chunk_plain.specs.Steps.{redrafts, notes_call}
 use Rattle.cut_steps.specs.RawChains.{raw_chains}
 use Rattle.cut_steps.proofs.Beginning.{between_lost}
@@ -54,7 +54,7 @@ begin_nowhere setup place view new writer after next_id open_one len starts note
     let begun : new.begun ≡ view.begun = ap (λ (v : WriterView). v.begun) notes in
     let lost : IsIdle site later new writer.pending = record {
       pages = idle.pages;
-      shown = subst (λ (xs : List Begun). ShowsPages site 0 xs idle.pages) (sym begun) idle.shown;
+      shown = subst (λ (xs : List BegunChunk). ShowsPages site 0 xs idle.pages) (sym begun) idle.shown;
       holes = idle.holes;
       unsent = idle.unsent;
       ended = idle.ended;

@@ -10,7 +10,7 @@ use Rattle.trace_model.specs.Encoding.{bytes_head, bytes_field, nested_tag}
 use Rattle.trace_model.specs.Pages.{Page}
 use Rattle.trace_model.specs.Packets.{Packet, Account, account_of, on_newest, with_more, packets_of, body_of, front_of, is_writing}
 use Rattle.chunk_plain.specs.Setup.{Setup}
-use Rattle.chunk_plain.specs.Views.{Begun, Held, Completed, WriterView, Draft}
+use Rattle.chunk_plain.specs.Views.{BegunChunk, Held, Completed, WriterView, Draft}
 use Rattle.trace_writer.specs.declared.fault.CallFault.{CallFault}
 use Rattle.trace_writer.specs.declared.fault.CallFault.TheVariants.{Reserved, TooDeep, PacketTooLong}
 use Rattle.trace_writer.specs.declared.chunk.HeldChunk.{HeldChunk}
@@ -19,7 +19,7 @@ use Rattle.trace_writer.specs.declared.packet.OpenPacket.{OpenPacket}
 use Rattle.trace_writer.specs.declared.state.State.TheVariants.{Idle, Between, Writing, Dropping, Stalled}
 use Rattle.trace_writer.specs.declared.state.Writer.{Writer}
 use Rattle.trace_writer.specs.Refusals.{field_refusal, nested_refusal}
-use Rattle.trace_writer.specs.Agreement.{Agrees, StateAgrees, IsInPacketOf, is_begun, len_of, depth_of}
+use Rattle.trace_writer.specs.Agreement.{Agrees, StateAgrees, IsInPacketOf, is_begun, len_of, open_message_count}
 use Rattle.trace_writer.specs.Core.{in_packet, newest_depth, newest_len, open_depth, field_fault, nested_fault}
 use Rattle.chunk_plain.specs.Histories.{completed_images}
 use Rattle.trace_writer.specs.Filled.{ShowsPages}
@@ -40,7 +40,7 @@ pub begun_is_writing : (setup : Setup) (place : ℕ) (view : WriterView) (writer
 begun_is_writing setup place view writer agrees = in_packet_of (packets_of view.calls) writer.packet agrees.packet
 
 newest_depth_of : (packets : List Packet) (open_one : Option OpenPacket) → IsInPacketOf packets open_one → is_begun open_one ≡ true
-    → depth_of open_one ≡ newest_depth packets
+    → open_message_count open_one ≡ newest_depth packets
 newest_depth_of packets None e begun = absurd (cc)
 newest_depth_of [] (Some open_packet) e begun = absurd e
 newest_depth_of (packet ∷ older) (Some open_packet) e begun = measured_depth open_packet packet e.1
@@ -53,7 +53,7 @@ newest_len_of (packet ∷ older) (Some open_packet) e begun =
     omega (arith, e.1.len, length-drop (length (front_of packet)) (body_of packet))
 
 pub begun_depth : (setup : Setup) (place : ℕ) (view : WriterView) (writer : Writer) → Agrees setup place view writer → in_packet view ≡ true
-    → depth_of writer.packet ≡ newest_depth (packets_of view.calls)
+    → open_message_count writer.packet ≡ newest_depth (packets_of view.calls)
 begun_depth setup place view writer agrees writes =
     newest_depth_of (packets_of view.calls) writer.packet agrees.packet (begun_is_writing setup place view writer agrees ∙ writes)
 
@@ -63,13 +63,13 @@ begun_len setup place view writer agrees writes =
     newest_len_of (packets_of view.calls) writer.packet agrees.packet (begun_is_writing setup place view writer agrees ∙ writes)
 
 open_depth_of : (packets : List Packet) (open_one : Option OpenPacket) → IsInPacketOf packets open_one
-    → depth_of open_one ≡ (if is_writing packets then newest_depth packets else 0)
+    → open_message_count open_one ≡ (if is_writing packets then newest_depth packets else 0)
 open_depth_of packets None e = sym (ap (λ (b : Bool). if b then newest_depth packets else 0) e)
 open_depth_of [] (Some open_packet) e = absurd e
 open_depth_of (packet ∷ older) (Some open_packet) e =
     measured_depth open_packet packet e.1 ∙ sym (ap (λ (b : Bool). if not b then newest_depth (packet ∷ older) else 0) e.0)
 
-pub depth_is : (setup : Setup) (place : ℕ) (view : WriterView) (writer : Writer) → Agrees setup place view writer → depth_of writer.packet ≡ open_depth view
+pub depth_is : (setup : Setup) (place : ℕ) (view : WriterView) (writer : Writer) → Agrees setup place view writer → open_message_count writer.packet ≡ open_depth view
 depth_is setup place view writer agrees = open_depth_of (packets_of view.calls) writer.packet agrees.packet
 
 -- Refusals
@@ -110,13 +110,13 @@ field_long depth len field more other long longer =
 
 -- the refusals by the writer's packet are those by the view
 pub field_fault_is : (setup : Setup) (place : ℕ) (view : WriterView) (writer : Writer) (field more : ℕ) → Agrees setup place view writer → in_packet view ≡ true
-    → field_refusal (depth_of writer.packet) (len_of writer.packet) field more ≡ field_fault view field more
+    → field_refusal (open_message_count writer.packet) (len_of writer.packet) field more ≡ field_fault view field more
 field_fault_is setup place view writer field more agrees writes =
     ap (λ (depth : ℕ). field_refusal depth (len_of writer.packet) field more) (begun_depth setup place view writer agrees writes)
     ∙ ap (λ (len : ℕ). field_refusal (newest_depth (packets_of view.calls)) len field more) (begun_len setup place view writer agrees writes)
 
 pub nested_fault_is : (setup : Setup) (place : ℕ) (view : WriterView) (writer : Writer) (field : ℕ) (tag : List ℕ) → Agrees setup place view writer → in_packet view ≡ true
-    → tag ≡ nested_tag field → nested_refusal (depth_of writer.packet) (len_of writer.packet) field (length tag) ≡ nested_fault view field
+    → tag ≡ nested_tag field → nested_refusal (open_message_count writer.packet) (len_of writer.packet) field (length tag) ≡ nested_fault view field
 nested_fault_is setup place view writer field tag agrees writes tag_is =
     ap (λ (depth : ℕ). nested_refusal depth (len_of writer.packet) field (length tag)) (begun_depth setup place view writer agrees writes)
     ∙ ap (λ (len : ℕ). nested_refusal (newest_depth (packets_of view.calls)) len field (length tag)) (begun_len setup place view writer agrees writes)
@@ -154,18 +154,18 @@ bytes_call field times text head account is = ap (λ (bytes : List ℕ). on_newe
 
 -- Chunks
 
-many_images : (site : Site) (id : ℕ) (begun : List Begun) (pages : List Page) → ShowsPages site id begun pages → length (completed_images begun) ≡ length begun
+many_images : (site : Site) (id : ℕ) (begun : List BegunChunk) (pages : List Page) → ShowsPages site id begun pages → length (completed_images begun) ≡ length begun
 many_images site id [] pages shown = refl
 many_images site id (Held chunk head ∷ begun) pages shown = absurd shown
 many_images site id (Completed chunk content ∷ begun) [] shown = absurd shown
 many_images site id (Completed chunk content ∷ begun) (page ∷ pages) shown = ap suc (many_images site (suc id) begun pages shown.1)
 
 -- so many chunks were begun, and so many of them completed, where one is held
-pub record CountsHeld (id : ℕ) (begun : List Begun) : Type 0 where
+pub record CountsHeld (id : ℕ) (begun : List BegunChunk) : Type 0 where
   pub begun_is : length begun ≡ id + 1
   pub completed_is : id ≡ length (completed_images begun)
 
-counts_held : (site : Site) (id chunk : ℕ) (head : Draft) (begun completed : List Begun) (pages : List Page) → begun ≡ completed ++ Held chunk head ∷ []
+counts_held : (site : Site) (id chunk : ℕ) (head : Draft) (begun completed : List BegunChunk) (pages : List Page) → begun ≡ completed ++ Held chunk head ∷ []
     → ShowsPages site 0 completed pages → id ≡ length pages → CountsHeld id begun
 counts_held site id chunk head begun completed pages is shown id_is =
     let long : length completed ≡ length pages = shows_long site 0 completed pages shown in
@@ -189,11 +189,11 @@ writing_counts setup place view writer fragment state agrees =
     into.inside.begun into.inside.shown into.inside.id
 
 -- and where none is held
-pub record CountsIdle (next_id : ℕ) (begun : List Begun) : Type 0 where
+pub record CountsIdle (next_id : ℕ) (begun : List BegunChunk) : Type 0 where
   pub begun_is : length begun ≡ next_id
   pub completed_is : next_id ≡ length (completed_images begun)
 
-counts_idle : (site : Site) (next_id : ℕ) (begun : List Begun) (pages : List Page) → next_id ≡ length begun → ShowsPages site 0 begun pages → CountsIdle next_id begun
+counts_idle : (site : Site) (next_id : ℕ) (begun : List BegunChunk) (pages : List Page) → next_id ≡ length begun → ShowsPages site 0 begun pages → CountsIdle next_id begun
 counts_idle site next_id begun pages next shown = record { begun_is = sym next; completed_is = next ∙ sym (many_images site 0 begun pages shown) }
 
 pub idle_counts : (setup : Setup) (place : ℕ) (view : WriterView) (writer : Writer) (next_id : ℕ) → writer.state ≡ Idle next_id

@@ -6,12 +6,12 @@ use Rattle.trace_model.specs.Images.{Image, Patch}
 use Rattle.trace_model.specs.Packets.{Packet, account_of, is_lost}
 use Rattle.trace_model.specs.Pages.{Page, laid, image_of, images_from}
 use Rattle.trace_model.specs.Row.{Chain}
-use Rattle.trace_model.specs.Cut.{IsFull, CutsInto, newest_goes_on}
+use Rattle.trace_model.specs.Cut.{IsWellFormedPage, CutsInto, newest_goes_on}
 use Rattle.commit_body.specs.declared.hole.Hole.{Hole}
 use Rattle.commit_body.specs.Patches.{hole_chunks, with_lasts}
 use Rattle.commit_body.specs.Pending.{Pending}
 use Rattle.chunk_plain.specs.Setup.{Setup}
-use Rattle.chunk_plain.specs.Views.{Begun, Held, Completed, Content, WriterView, Draft}
+use Rattle.chunk_plain.specs.Views.{BegunChunk, Held, Completed, Content, WriterView, Draft}
 use Rattle.cut_steps.specs.RawChains.{raw_chains, page_with, offset_behind}
 use Rattle.cut_steps.specs.Between.{IsBetween}
 use Rattle.cut_steps.proofs.RawCutLemmas.{raw_cut_is_cut}
@@ -43,7 +43,7 @@ patches_in pages = map (λ (page : Page). page.patches) pages
 
 -- Completed chunks
 
-shown_images : (site : Site) (id : ℕ) (begun : List Begun) (pages : List Page) → ShowsPages site id begun pages
+shown_images : (site : Site) (id : ℕ) (begun : List BegunChunk) (pages : List Page) → ShowsPages site id begun pages
     → completed_images begun ≡ images_from (site.place + 2) id pages
 shown_images site id [] [] shown = refl
 shown_images site id [] (page ∷ pages) shown = absurd shown
@@ -53,7 +53,7 @@ shown_images site id (Completed chunk content ∷ begun) (page ∷ pages) shown 
     ap (λ (c : Content). c.image ∷ completed_images begun) shown.0
     ∙ ap (λ (images : List Image). image_of (site.place + 2) id page ∷ images) (shown_images site (suc id) begun pages shown.1)
 
-shown_patches : (site : Site) (id : ℕ) (begun : List Begun) (pages : List Page) → ShowsPages site id begun pages
+shown_patches : (site : Site) (id : ℕ) (begun : List BegunChunk) (pages : List Page) → ShowsPages site id begun pages
     → completed_patches begun ≡ patches_in pages
 shown_patches site id [] [] shown = refl
 shown_patches site id [] (page ∷ pages) shown = absurd shown
@@ -64,12 +64,12 @@ shown_patches site id (Completed chunk content ∷ begun) (page ∷ pages) shown
     ∙ ap (λ (lists : List (List Patch)). page.patches ∷ lists) (shown_patches site (suc id) begun pages shown.1)
 
 -- a held chunk behind them is none of them
-pub images_held : (completed : List Begun) (chunk : ℕ) (head : Draft) → completed_images (completed ++ Held chunk head ∷ []) ≡ completed_images completed
+pub images_held : (completed : List BegunChunk) (chunk : ℕ) (head : Draft) → completed_images (completed ++ Held chunk head ∷ []) ≡ completed_images completed
 images_held [] chunk head = refl
 images_held (Held c h ∷ begun) chunk head = images_held begun chunk head
 images_held (Completed c content ∷ begun) chunk head = ap (λ (images : List Image). content.image ∷ images) (images_held begun chunk head)
 
-patches_held : (completed : List Begun) (chunk : ℕ) (head : Draft) → completed_patches (completed ++ Held chunk head ∷ []) ≡ completed_patches completed
+patches_held : (completed : List BegunChunk) (chunk : ℕ) (head : Draft) → completed_patches (completed ++ Held chunk head ∷ []) ≡ completed_patches completed
 patches_held [] chunk head = refl
 patches_held (Held c h ∷ begun) chunk head = patches_held begun chunk head
 patches_held (Completed c content ∷ begun) chunk head = ap (λ (lists : List (List Patch)). content.patches ∷ lists) (patches_held begun chunk head)
@@ -111,18 +111,18 @@ stuck_cut site view stuck = record {
 
 -- A chunk is held: it is the last page
 
-held_cut : (site : Site) (view : WriterView) (completed : List Begun) (pages : List Page) (page : Page) (chunk id : ℕ) (head : Draft) (image : Image)
+held_cut : (site : Site) (view : WriterView) (completed : List BegunChunk) (pages : List Page) (page : Page) (chunk id : ℕ) (head : Draft) (image : Image)
     → view.begun ≡ completed ++ Held chunk head ∷ [] → ShowsPages site 0 completed pages → id ≡ length pages → image ≡ image_of (site.place + 2) id page
     → CutsInto site.size (account_of view.calls).packets (pages ++ page ∷ [])
     → HasCut site.size (site.place + 2) view.calls (completed_images view.begun ++ image ∷ []) (completed_patches view.begun ++ page.patches ∷ []) (image ∷ [])
 held_cut site view completed pages page chunk id head image begun shown id_is image_is cut = record {
   cut = record {
     pages = pages ++ page ∷ [];
-    images_are = ap (λ (xs : List Begun). completed_images xs ++ image ∷ []) begun
+    images_are = ap (λ (xs : List BegunChunk). completed_images xs ++ image ∷ []) begun
         ∙ ap (λ (images : List Image). images ++ image ∷ []) (images_held completed chunk head ∙ shown_images site 0 completed pages shown)
         ∙ ap (λ (i : Image). images_from (site.place + 2) 0 pages ++ i ∷ []) (image_is ∙ ap (λ (i : ℕ). image_of (site.place + 2) i page) (omega (arith, id_is)))
         ∙ sym (images_one (site.place + 2) 0 pages page);
-    patches_are = ap (λ (xs : List Begun). completed_patches xs ++ page.patches ∷ []) begun
+    patches_are = ap (λ (xs : List BegunChunk). completed_patches xs ++ page.patches ∷ []) begun
         ∙ ap (λ (lists : List (List Patch)). lists ++ page.patches ∷ []) (patches_held completed chunk head ∙ shown_patches site 0 completed pages shown)
         ∙ sym (map-append (λ (p : Page). p.patches) pages (page ∷ []));
     cut = cut;
@@ -152,7 +152,7 @@ between_is_cut site view pending chunk behind =
     let same_chains : raw_chains (behind.pages ++ page_with chunk.continues fragments ∷ []) ≡ raw_chains (behind.pages ++ page ∷ []) =
     raw_chains-one behind.pages (page_with chunk.continues fragments) page refl refl refl refl in
     let brings : page.patches ≡ with_lasts [] pending.unsent = ap (λ (holes : List Hole). with_lasts (hole_chunks holes) pending.unsent) behind.holes in
-    let full : IsFull site.size page = record {
+    let full : IsWellFormedPage site.size page = record {
       some = omega arith;
       most = omega (arith, behind.filled.count_is, chunk.few);
       whole = ap length (sym payload_is) ∙ sym chunk.held.body.payload.ok.0 ∙ behind.whole;
@@ -182,7 +182,7 @@ writing_is_cut site view pending fragment packet older packets inside byte =
     let count_is : fragment.count ≡ length fragments = inside.written.count_is ∙ sym (length-append inside.done (inside.now ∷ [])) in
     let run = full_run payload fragment.start fragment.at fragment.count site.size inside.done inside.now fragment.continues false patches inside.written
     (sym fragment.held.body.payload.ok.0 ∙ inside.whole) fragment.few in
-    let full : IsFull site.size page = record { some = run.some; most = run.most; whole = run.whole; dropped = λ marked. absurd (cc) } in
+    let full : IsWellFormedPage site.size page = record { some = run.some; most = run.most; whole = run.whole; dropped = λ marked. absurd (cc) } in
     held_cut site view inside.completed inside.pages page fragment.held.chunk fragment.held.id inside.draft
     (held_image site.place fragment.held.id fragment.count fragment.continues (fragment_payload fragment)) inside.begun inside.shown inside.id
     (held_image_is site fragment.held.id fragment.count (fragment_payload fragment) fragment.continues fragments inside.written.rest patches count_is payload_is)

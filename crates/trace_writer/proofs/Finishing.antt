@@ -29,7 +29,7 @@ use Rattle.trace_writer.specs.declared.state.State.TheVariants.{Between, Writing
 use Rattle.trace_writer.specs.declared.state.Writer.{Writer}
 use Rattle.trace_writer.specs.Drafted.{IsDrafted}
 use Rattle.trace_writer.specs.Site.{Site, site_of}
-use Rattle.trace_writer.specs.Agreement.{Agrees, StateAgrees, IsWritingInto, IsInPacketOf, is_begun, depth_of, counted}
+use Rattle.trace_writer.specs.Agreement.{Agrees, StateAgrees, IsWritingInto, IsInPacketOf, is_begun, open_message_count, counted}
 use Rattle.trace_writer.proofs.Accounts.{dropped_in, dropped-changed, account_one, on_newest-packets, begun_is, none_open as no_places_open}
 use Rattle.trace_writer.specs.Filled.{frames, IsFilled, HasByte}
 use Rattle.trace_writer.specs.States.{InFragment, IsBehind, has_room}
@@ -177,7 +177,7 @@ finished_behind site packet older view new pending fragment chunk within few no_
 -- A writer that agrees with its view finishes the packet that it writes.
 pub finish_writing : (setup : Setup) (place : ℕ) (view new : WriterView) (writer after : Writer) (fragment : OpenFragment) (chunk : HeldChunk)
     → fragment.at ≤ vec_len fragment.held.body.payload → fragment.count ≤ 1023
-    → writer.state ≡ Writing fragment → is_begun writer.packet ≡ true → depth_of writer.packet ≡ 0 → new ≡ notes_call view Finished → IsEnded fragment chunk
+    → writer.state ≡ Writing fragment → is_begun writer.packet ≡ true → open_message_count writer.packet ≡ 0 → new ≡ notes_call view Finished → IsEnded fragment chunk
     → after ≡ record writer { state = Between chunk; packet = None; follows_loss = false }
     → Agrees setup place view writer → Agrees setup place new after
 finish_writing setup place view new writer after fragment chunk within few state begun depth notes ended is agrees =
@@ -187,7 +187,7 @@ finish_writing setup place view new writer after fragment chunk within few state
     let open_one = begun_is writer.packet begun in
     let in_packet : IsInPacketOf (w.packet ∷ w.older) (Some open_one.value) =
     subst (λ (ps : List Packet). IsInPacketOf ps (Some open_one.value)) w.packets (subst (IsInPacketOf account.packets) open_one.is agrees.packet) in
-    let no_lengths : open_places w.packet.text.levels ≡ [] = no_places_open open_one.value w.packet in_packet.1 (sym (ap depth_of open_one.is) ∙ depth) in
+    let no_lengths : open_places w.packet.text.levels ≡ [] = no_places_open open_one.value w.packet in_packet.1 (sym (ap open_message_count open_one.is) ∙ depth) in
     let later : Account = record { packets = finished_packet w.packet ∷ w.older; flushed = false } in
     let calls : account_of new.calls ≡ later =
     ap (λ (v : WriterView). account_of v.calls) notes ∙ account_one view.calls Finished ∙ on_newest-packets finished_packet account w.packet w.older w.packets w.unflushed in

@@ -11,7 +11,7 @@ use Rattle.trace_model.specs.Packets.{Packet, Text, flat, open_length, open_plac
 use Rattle.trace_model.specs.Pages.{Page, laid}
 use Rattle.trace_model.specs.Sequences.{is_among}
 use Rattle.trace_model.specs.Row.{bytes_of, Piece, Chain}
-use Rattle.trace_model.specs.Cut.{IsFull, is_fresh, is_end, newest_piece}
+use Rattle.trace_model.specs.Cut.{IsWellFormedPage, is_fresh, is_end, newest_piece}
 use Rattle.wire_varint.proofs.Lengths.{length-redundant}
 use Rattle.commit_body.specs.declared.hole.Hole.{Hole}
 use Rattle.commit_body.specs.declared.closed.Closed.{Closed}
@@ -21,7 +21,7 @@ use Rattle.commit_body.specs.Pending.{Pending, ClosesHole, patch_for}
 use Rattle.commit_body.proofs.InnerFirst.{inner_first_closed}
 use Rattle.chunk_plain.specs.declared.tokens.Held.{Held as HeldToken}
 use Rattle.chunk_plain.specs.Setup.{spot}
-use Rattle.chunk_plain.specs.Views.{Begun, Held, Completed, WriterView, Draft}
+use Rattle.chunk_plain.specs.Views.{BegunChunk, Held, Completed, WriterView, Draft}
 use Rattle.chunk_plain.specs.Drafts.{head_at, IsHolding}
 use Rattle.chunk_plain.specs.Steps.{redrafts, completes}
 use Rattle.cut_steps.specs.RawChains.{raw_chains, earlier_pieces, current_piece, offset_behind}
@@ -218,7 +218,7 @@ pub record EndsGivenUp (site : Site) (old new : WriterView) (before after : Pend
   pub none_left : after ≡ record pending { unsent = [] }
   pub payload : List ℕ
   pub payload_is : payload ≡ with_bytes last.held.body.payload.items last.start drop_mark
-  pub begun : (completed : List Begun) (draft : Draft) → old.begun ≡ completed ++ Held first.held.chunk draft ∷ [] → first.held.id ≡ length completed
+  pub begun : (completed : List BegunChunk) (draft : Draft) → old.begun ≡ completed ++ Held first.held.chunk draft ∷ [] → first.held.id ≡ length completed
       → new.begun ≡ completed ++ Completed first.held.chunk (completed_chunk site.place first.held.id first.count (flags_value first.continues false false) payload (with_lasts [] pending.unsent) site.buffer) ∷ []
 
 fresh_lost : (size : ℕ) (packet : Packet) (older : List Packet) (text : Text) (chains : List Chain) → packet.kept ≡ true → packet.given_up ≡ Some text
@@ -244,7 +244,7 @@ given_idle site packet next older old new before after first text kept_is flush 
     let fragments : List (List ℕ) = w.done ++ (g.now ++ written.rest) ∷ [] in
     let page : Page = lost_page first.continues fragments (with_lasts [] e.pending.unsent) in
     let pages : List Page = w.pages ++ page ∷ [] in
-    let full : IsFull site.size page =
+    let full : IsWellFormedPage site.size page =
     full_lost e.last.held.body.payload.items first.start first.at first.count site.size w.done g.now first.continues (with_lasts [] e.pending.unsent) written long few in
     let unused : length written.rest + first.at ≡ site.size =
     let all : length e.last.held.body.payload.items ≡ first.at + length written.rest =
@@ -266,7 +266,7 @@ given_idle site packet next older old new before after first text kept_is flush 
     ∙ written_dropped e.last.held.body.payload.items first.start first.at first.count w.done g.now written in
     record {
       pages = pages;
-      shown = subst (λ (begun : List Begun). ShowsPages site 0 begun pages)
+      shown = subst (λ (begun : List BegunChunk). ShowsPages site 0 begun pages)
           (sym (e.begun w.completed w.draft w.begun (w.id ∙ sym (shows_long site 0 w.completed w.pages w.shown))))
           (shows_one site 0 first.held.id first.held.chunk w.completed w.pages _ page w.shown last_is (content_is site first.held.id first.count e.payload page count laid_is));
       holes = ap (λ (p : Pending). p.holes) e.none_left ∙ e.none_open;

@@ -4,7 +4,7 @@ use Rattle.wire_varint.specs.Varint.{redundant}
 use Rattle.trace_model.specs.Images.{Image}
 use Rattle.trace_model.specs.Packets.{Packet, Account, account_of}
 use Rattle.commit_body.specs.Pending.{Pending}
-use Rattle.chunk_plain.specs.Views.{Begun, Held, Completed, WriterView, Draft}
+use Rattle.chunk_plain.specs.Views.{BegunChunk, Held, Completed, WriterView, Draft}
 use Rattle.trace_writer.specs.declared.chunk.HeldChunk.{HeldChunk}
 use Rattle.trace_writer.specs.declared.fragment.OpenFragment.{OpenFragment}
 use Rattle.trace_writer.specs.declared.state.State.{State}
@@ -23,13 +23,13 @@ use Rattle.trace_writer.proofs.Ending.{behind_payload}
 use Rattle.trace_writer.proofs.Payloads.{laid_behind, written_ended}
 use Rattle.trace_writer.proofs.Seats.{shows_long}
 
-none_last : (begun : List Begun) → NoneHeld begun → last_is_held begun ≡ false
+none_last : (begun : List BegunChunk) → NoneHeld begun → last_is_held begun ≡ false
 none_last [] none = refl
 none_last (Held chunk head ∷ begun) none = absurd none
 none_last (Completed chunk content ∷ []) none = refl
 none_last (Completed chunk content ∷ next ∷ begun) none = none_last (next ∷ begun) none
 
-held_last : (begun : List Begun) (chunk : ℕ) (head : Draft) → last_is_held (begun ++ Held chunk head ∷ []) ≡ true
+held_last : (begun : List BegunChunk) (chunk : ℕ) (head : Draft) → last_is_held (begun ++ Held chunk head ∷ []) ≡ true
 held_last [] chunk head = refl
 held_last (one ∷ []) chunk head = refl
 held_last (one ∷ next ∷ begun) chunk head = held_last (next ∷ begun) chunk head

@@ -4,11 +4,11 @@ use Rattle.trace_model.specs.Images.{Patch}
 use Rattle.trace_model.specs.Packets.{Packet, Text, Account, is_lost}
 use Rattle.trace_model.specs.Pages.{Page}
 use Rattle.trace_model.specs.Row.{Chain}
-use Rattle.trace_model.specs.Cut.{IsFull, is_fresh, is_end, newest_piece}
+use Rattle.trace_model.specs.Cut.{IsWellFormedPage, is_fresh, is_end, newest_piece}
 use Rattle.commit_body.specs.declared.hole.Hole.{Hole}
 use Rattle.commit_body.specs.Patches.{hole_chunks, with_lasts}
 use Rattle.commit_body.specs.Pending.{Pending}
-use Rattle.chunk_plain.specs.Views.{Begun, Completed, Head, Content, WriterView}
+use Rattle.chunk_plain.specs.Views.{BegunChunk, Completed, Head, Content, WriterView}
 use Rattle.chunk_plain.specs.Steps.{redrafts, completes}
 use Rattle.cut_steps.specs.RawChains.{raw_chains, page_with, offset_behind}
 use Rattle.cut_steps.specs.Between.{IsBetween}
@@ -34,7 +34,7 @@ pub changed_idle : (site : Site) (packet later : Packet) (older : List Packet) (
     → new.begun ≡ view.begun → IsIdle site (newest_of packet older) view pending → IsIdle site (newest_of later older) new pending
 changed_idle site packet later older view new pending lost kept flush given same idle = record {
   pages = idle.pages;
-  shown = subst (λ (begun : List Begun). ShowsPages site 0 begun idle.pages) (sym same) idle.shown;
+  shown = subst (λ (begun : List BegunChunk). ShowsPages site 0 begun idle.pages) (sym same) idle.shown;
   holes = idle.holes;
   unsent = idle.unsent;
   ended = idle.ended;
@@ -61,7 +61,7 @@ pub flushed_idle : (site : Site) (account : Account) (view new : WriterView) (pe
     → IsIdle site account view pending → IsIdle site (record account { flushed = true }) new pending
 flushed_idle site account view new pending same idle = record {
   pages = idle.pages;
-  shown = subst (λ (begun : List Begun). ShowsPages site 0 begun idle.pages) (sym same) idle.shown;
+  shown = subst (λ (begun : List BegunChunk). ShowsPages site 0 begun idle.pages) (sym same) idle.shown;
   holes = idle.holes;
   unsent = idle.unsent;
   ended = idle.ended;
@@ -110,7 +110,7 @@ completed_idle site account flushed view new later pending after chunk few pendi
     let same_chains : raw_chains pages ≡ raw_chains (behind.pages ++ page_with chunk.continues fragments ∷ []) =
     raw_chains-one behind.pages page (page_with chunk.continues fragments) refl refl refl refl in
     let brings : page.patches ≡ with_lasts [] pending.unsent = ap (λ (holes : List Hole). with_lasts (hole_chunks holes) pending.unsent) behind.holes in
-    let full : IsFull site.size page = record {
+    let full : IsWellFormedPage site.size page = record {
       some = omega arith;
       most = omega (arith, behind.filled.count_is, few);
       whole = ap length (laid_all fragments behind.filled.rest ∙ sym behind.filled.payload_is) ∙ sized chunk ∙ behind.whole;
@@ -118,7 +118,7 @@ completed_idle site account flushed view new later pending after chunk few pendi
     } in
     record {
       pages = pages;
-      shown = subst (λ (xs : List Begun). ShowsPages site 0 xs pages) (sym (same ∙ begun))
+      shown = subst (λ (xs : List BegunChunk). ShowsPages site 0 xs pages) (sym (same ∙ begun))
           (shows_one site 0 chunk.held.id chunk.held.chunk behind.completed behind.pages (behind_content site pending chunk) page behind.shown (omega (arith, behind.id)) content);
       holes = ap (λ (p : Pending). p.holes) pending_is ∙ behind.holes;
       unsent = ap (λ (p : Pending). p.unsent) pending_is;

@@ -28,7 +28,7 @@ use Rattle.trace_writer.specs.Fragment.{IsSameChunk, IsPutInto, OpensMessage}
 use Rattle.trace_writer.specs.Flows.{SetsAside}
 use Rattle.trace_writer.specs.Ids.{HasIds}
 use Rattle.trace_writer.specs.InPlace.{PutsField, PutsNested}
-use Rattle.trace_writer.specs.Agreement.{IsWritingInto, Agrees, NeedsNoChunk, is_begun, len_of, depth_of}
+use Rattle.trace_writer.specs.Agreement.{IsWritingInto, Agrees, NeedsNoChunk, is_begun, len_of, open_message_count}
 use Rattle.trace_writer.proofs.Putting.{inside_more, ids_behind, repeat-next}
 use Rattle.trace_writer.proofs.SettingAside.{sets_here}
 use Rattle.trace_writer.proofs.Measuring.{measured_more, measured_nested}
@@ -128,7 +128,7 @@ agrees_put setup place view new before after bytes call a puts fits noted_is new
 
 -- there is room for one more hole where there is for one more message
 pub few_holes : (setup : Setup) (place : ℕ) (view : WriterView) (writer : Writer) (packet : Option OpenPacket) (fragment : OpenFragment) → writer.packet ≡ packet
-    → Agrees setup place view writer → writer.state ≡ Writing fragment → is_begun packet ≡ true → depth_of packet < 16 → length writer.pending.holes < 16
+    → Agrees setup place view writer → writer.state ≡ Writing fragment → is_begun packet ≡ true → open_message_count packet < 16 → length writer.pending.holes < 16
 few_holes setup place view writer None fragment is a was begun depth = absurd (true≢false (sym begun))
 few_holes setup place view writer (Some open_one) fragment is a was begun depth =
     subst (λ (n : ℕ). n < 16) (sym (as_many_holes setup place view writer fragment open_one a was is)) depth

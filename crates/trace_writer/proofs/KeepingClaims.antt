@@ -7,7 +7,7 @@ use Rattle.trace_base.specs.declared.policy.WriterPolicy.{WriterPolicy}
 use Rattle.trace_base.specs.declared.policy.WriterPolicy.TheVariants.{Drops, Stalls}
 use Rattle.trace_model.specs.Calls.{Call}
 use Rattle.trace_model.specs.Packets.{packets_of}
-use Rattle.chunk_plain.specs.Views.{Ask, Begun, Held, Completed, Draft, WriterView, ServiceView, fresh}
+use Rattle.chunk_plain.specs.Views.{Ask, BegunChunk, Held, Completed, Draft, WriterView, ServiceView, fresh}
 use Rattle.chunk_plain.specs.Meaning.{Meaning}
 use Rattle.chunk_plain.specs.Owned.{times}
 use Rattle.chunk_plain.specs.declared.setup.ChunkRange.{ChunkRange}
@@ -32,7 +32,7 @@ own_lost setup producer calls first [] least most = tt
 own_lost setup producer calls first (word ∷ words) least most =
     (record { least = least; below = omega (arith, most) }, own_lost setup producer calls (first + 1) words (omega (arith, least)) (omega (arith, most)))
 
-chunks_kept : (setup : Setup) (producer : ℕ) (old new : List Begun) → KeepsChunks old new → AreOwnChunks setup producer old → AreOwnChunks setup producer new
+chunks_kept : (setup : Setup) (producer : ℕ) (old new : List BegunChunk) → KeepsChunks old new → AreOwnChunks setup producer old → AreOwnChunks setup producer new
 chunks_kept setup producer [] [] keeps own = tt
 chunks_kept setup producer [] (one ∷ new) keeps own = absurd keeps
 chunks_kept setup producer (Held chunk head ∷ old) [] keeps own = absurd keeps
@@ -45,7 +45,7 @@ chunks_kept setup producer (Completed chunk content ∷ old) (Held other next �
 chunks_kept setup producer (Completed chunk content ∷ old) (Completed other later ∷ new) keeps own =
     (subst (λ (c : ℕ). IsChunkOf setup producer c) (sym keeps.0) own.0, chunks_kept setup producer old new keeps.1 own.1)
 
-chunks_more : (setup : Setup) (producer chunk : ℕ) (head : Draft) (begun : List Begun) → IsChunkOf setup producer chunk → AreOwnChunks setup producer begun
+chunks_more : (setup : Setup) (producer chunk : ℕ) (head : Draft) (begun : List BegunChunk) → IsChunkOf setup producer chunk → AreOwnChunks setup producer begun
     → AreOwnChunks setup producer (begun ++ Held chunk head ∷ [])
 chunks_more setup producer chunk head [] own all = (own, tt)
 chunks_more setup producer chunk head (Held c h ∷ begun) own all = (all.0, chunks_more setup producer chunk head begun own all.1)
@@ -99,7 +99,7 @@ most_gets setup now producer chunk route old new range claims kept =
             (own_both setup producer old.asked lost kept.own_asks
             (own_lost setup producer (length old.calls) route.arbiter.first claims.words (omega (arith, first)) (omega (arith, first, count, claims.count_is, claims.below))))
             (own, tt));
-        own_chunks = subst (λ (begun : List Begun). AreOwnChunks setup producer begun) (sym (ap (λ (v : WriterView). v.begun) claims.view))
+        own_chunks = subst (λ (begun : List BegunChunk). AreOwnChunks setup producer begun) (sym (ap (λ (v : WriterView). v.begun) claims.view))
             (chunks_more setup producer chunk (fresh claims.payload) old.begun own kept.own_chunks);
       },
       λ other has. subst (λ (asks : List Ask). HasAsked asks other) (sym asked)

@@ -3,8 +3,8 @@ use Rattle.std.proofs.Common.{◌≡◌, ◌∙◌, ℕ, zero, suc, ◌+◌, ◌
 use mathlib.Core.Option.{some}
 use Rattle.std.proofs.lemmas.Bool.{true≢false}
 use Rattle.trace_model.specs.Pages.{Page}
-use Rattle.chunk_plain.specs.Views.{At, Begun, Held, Completed, Draft, Content, WriterView}
-use Rattle.chunk_plain.specs.Steps.{moved, noted}
+use Rattle.chunk_plain.specs.Views.{At, BegunChunk, Held, Completed, Draft, Content, WriterView}
+use Rattle.chunk_plain.specs.Steps.{moved, with_writer_view}
 use Rattle.chunk_plain.specs.World.{World, Status, Unclaimed, Writing, Ready}
 use Rattle.chunk_plain.specs.Owned.{held_count}
 use Rattle.chunk_plain.specs.Words.{chunk_of}
@@ -14,12 +14,12 @@ use Rattle.trace_writer.specs.OwnSteps.{KeepsChunks, NoneHeld, FreesNone}
 
 -- Chunks
 
-pub keeps_same : (begun : List Begun) → KeepsChunks begun begun
+pub keeps_same : (begun : List BegunChunk) → KeepsChunks begun begun
 keeps_same [] = tt
 keeps_same (Held chunk head ∷ begun) = (refl, keeps_same begun)
 keeps_same (Completed chunk content ∷ begun) = (refl, keeps_same begun)
 
-pub keeps_both : (old mid new : List Begun) → KeepsChunks old mid → KeepsChunks mid new → KeepsChunks old new
+pub keeps_both : (old mid new : List BegunChunk) → KeepsChunks old mid → KeepsChunks mid new → KeepsChunks old new
 keeps_both [] [] new one two = two
 keeps_both [] (y ∷ mid) new one two = absurd one
 keeps_both (Held chunk head ∷ old) [] new one two = absurd one
@@ -35,7 +35,7 @@ keeps_both (Completed chunk content ∷ old) (Completed other later ∷ mid) [] 
 keeps_both (Completed chunk content ∷ old) (Completed other later ∷ mid) (Held last h ∷ new) one two = absurd two
 keeps_both (Completed chunk content ∷ old) (Completed other later ∷ mid) (Completed last c ∷ new) one two = (two.0 ∙ one.0, keeps_both old mid new one.1 two.1)
 
-pub keeps_long : (old new : List Begun) → KeepsChunks old new → length new ≡ length old
+pub keeps_long : (old new : List BegunChunk) → KeepsChunks old new → length new ≡ length old
 keeps_long [] [] keeps = refl
 keeps_long [] (y ∷ new) keeps = absurd keeps
 keeps_long (Held chunk head ∷ old) [] keeps = absurd keeps
@@ -45,16 +45,16 @@ keeps_long (Held chunk head ∷ old) (Completed other content ∷ new) keeps = a
 keeps_long (Completed chunk content ∷ old) (Held other next ∷ new) keeps = absurd keeps
 keeps_long (Completed chunk content ∷ old) (Completed other later ∷ new) keeps = ap suc (keeps_long old new keeps.1)
 
-is_held : Begun → Bool
+is_held : BegunChunk → Bool
 is_held (Held chunk head) = true
 is_held (Completed chunk content) = false
 
 -- the one that stands first
-first_is : (x y : Begun) (begun : List Begun) → At (x ∷ begun) 0 y → x ≡ y
+first_is : (x y : BegunChunk) (begun : List BegunChunk) → At (x ∷ begun) 0 y → x ≡ y
 first_is x y begun at = let same : some x ≡ some y = at in cc
 
 -- another thing stands in a held chunk
-pub keeps_redrafted : (begun : List Begun) (chunk id : ℕ) (head next : Draft) → At begun id (Held chunk head) → KeepsChunks begun (set begun id (Held chunk next))
+pub keeps_redrafted : (begun : List BegunChunk) (chunk id : ℕ) (head next : Draft) → At begun id (Held chunk head) → KeepsChunks begun (set begun id (Held chunk next))
 unfolding is_held
 keeps_redrafted [] chunk id head next held = tt
 keeps_redrafted (Held other h ∷ begun) chunk zero head next held = (sym (ap chunk_of (first_is (Held other h) (Held chunk head) begun held)), keeps_same begun)
@@ -63,7 +63,7 @@ keeps_redrafted (Completed other c ∷ begun) chunk zero head next held = absurd
 keeps_redrafted (Completed other c ∷ begun) chunk (suc id) head next held = (refl, keeps_redrafted begun chunk id head next held)
 
 -- or the chunk is completed
-pub keeps_set : (begun : List Begun) (chunk id : ℕ) (head : Draft) (content : Content) → At begun id (Held chunk head) → KeepsChunks begun (set begun id (Completed chunk content))
+pub keeps_set : (begun : List BegunChunk) (chunk id : ℕ) (head : Draft) (content : Content) → At begun id (Held chunk head) → KeepsChunks begun (set begun id (Completed chunk content))
 unfolding is_held
 keeps_set [] chunk id head content held = tt
 keeps_set (Held other h ∷ begun) chunk zero head content held = (sym (ap chunk_of (first_is (Held other h) (Held chunk head) begun held)), keeps_same begun)
@@ -72,19 +72,19 @@ keeps_set (Completed other c ∷ begun) chunk zero head content held = absurd (t
 keeps_set (Completed other c ∷ begun) chunk (suc id) head content held = (refl, keeps_set begun chunk id head content held)
 
 -- completed chunks are none that is held
-pub shown_none_held : (site : Site) (id : ℕ) (begun : List Begun) (pages : List Page) → ShowsPages site id begun pages → NoneHeld begun
+pub shown_none_held : (site : Site) (id : ℕ) (begun : List BegunChunk) (pages : List Page) → ShowsPages site id begun pages → NoneHeld begun
 shown_none_held site id [] pages shown = tt
 shown_none_held site id (Held chunk head ∷ begun) pages shown = absurd shown
 shown_none_held site id (Completed chunk content ∷ begun) [] shown = absurd shown
 shown_none_held site id (Completed chunk content ∷ begun) (page ∷ pages) shown = shown_none_held site (suc id) begun pages shown.1
 
 -- how many are held
-pub none_counted : (begun : List Begun) → NoneHeld begun → held_count begun ≡ 0
+pub none_counted : (begun : List BegunChunk) → NoneHeld begun → held_count begun ≡ 0
 none_counted [] none = refl
 none_counted (Held chunk draft ∷ begun) none = absurd none
 none_counted (Completed chunk content ∷ begun) none = none_counted begun none
 
-pub one_held : (begun : List Begun) (chunk : ℕ) (draft : Draft) → held_count (begun ++ Held chunk draft ∷ []) ≡ held_count begun + 1
+pub one_held : (begun : List BegunChunk) (chunk : ℕ) (draft : Draft) → held_count (begun ++ Held chunk draft ∷ []) ≡ held_count begun + 1
 one_held [] chunk draft = refl
 one_held (Held c d ∷ begun) chunk draft = ap (λ (n : ℕ). n + 1) (one_held begun chunk draft)
 one_held (Completed c content ∷ begun) chunk draft = one_held begun chunk draft
@@ -129,5 +129,5 @@ frees_moved told old new place chunk view to used tells = λ world is.
 
 -- or no chunk
 pub frees_noted : {T : Type 0} (told : T → Option World) (old new : T) (place : ℕ) (view : WriterView)
-    → ((world : World) → told old ≡ Some world → told new ≡ Some (noted world place view)) → FreesNone told old new
-frees_noted told old new place view tells = λ world is. (noted world place view, tells world is, λ other free. free)
+    → ((world : World) → told old ≡ Some world → told new ≡ Some (with_writer_view world place view)) → FreesNone told old new
+frees_noted told old new place view tells = λ world is. (with_writer_view world place view, tells world is, λ other free. free)

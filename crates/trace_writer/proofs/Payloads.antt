@@ -5,7 +5,7 @@ use Rattle.wire_varint.specs.Varint.{redundant}
 use Rattle.trace_model.specs.Images.{Patch, with_bytes}
 use Rattle.trace_model.specs.Fragments.{drop_mark}
 use Rattle.trace_model.specs.Pages.{Page, framed, laid}
-use Rattle.trace_model.specs.Cut.{IsFull}
+use Rattle.trace_model.specs.Cut.{IsWellFormedPage}
 use Rattle.wire_varint.proofs.Lengths.{length-redundant}
 use Rattle.cut_steps.specs.RawChains.{offset_behind}
 use Rattle.cut_steps.proofs.Places.{with_bytes_left, with_bytes_right, with_bytes_mid, length_with_bytes}
@@ -156,7 +156,7 @@ lost_page continues fragments patches = record {
 
 pub full_run : (payload : List ℕ) (start at count size : ℕ) (done : List (List ℕ)) (now : List ℕ) (continues awaits : Bool) (patches : List Patch)
     (w : IsWritten payload start at count done now) → length payload ≡ size → count ≤ 1023
-    → IsFull size (run_page continues awaits (done ++ now ∷ []) w.rest patches)
+    → IsWellFormedPage size (run_page continues awaits (done ++ now ∷ []) w.rest patches)
 full_run payload start at count size done now continues awaits patches w long few =
     let many : length (done ++ now ∷ []) ≡ length done + 1 = length-append done (now ∷ []) in
     let fills : start + length (redundant (at - start - 4)) ≤ length payload =
@@ -172,7 +172,7 @@ full_run payload start at count size done now continues awaits patches w long fe
 
 pub full_lost : (payload : List ℕ) (start at count size : ℕ) (done : List (List ℕ)) (now : List ℕ) (continues : Bool) (patches : List Patch)
     (w : IsWritten payload start at count done now) → length payload ≡ size → count ≤ 1023
-    → IsFull size (lost_page continues (done ++ (now ++ w.rest) ∷ []) patches)
+    → IsWellFormedPage size (lost_page continues (done ++ (now ++ w.rest) ∷ []) patches)
 full_lost payload start at count size done now continues patches w long few =
     let many : length (done ++ (now ++ w.rest) ∷ []) ≡ length done + 1 = length-append done ((now ++ w.rest) ∷ []) in
     let fills : start + length drop_mark ≤ length payload = omega (arith, written_long payload start at count done now w, w.at_is) in

@@ -11,7 +11,7 @@ use Rattle.chunk_plain.specs.Shows.{content_of}
 use Rattle.chunk_plain.specs.declared.tokens.Held.{Held as HeldToken}
 use Rattle.chunk_plain.specs.Setup.{Setup, spot}
 use Rattle.chunk_plain.specs.Payload.{byte_at, byte_in, sealed_to, HasFragments, ends_from}
-use Rattle.chunk_plain.specs.Views.{Begun, Held, Completed, Head, Draft, fresh, Content, WriterView}
+use Rattle.chunk_plain.specs.Views.{BegunChunk, Held, Completed, Head, Draft, fresh, Content, WriterView}
 use Rattle.chunk_plain.specs.Drafts.{IsHolding, MayFollow, draft_at, head_at, published, ends_by}
 use Rattle.chunk_plain.specs.Steps.{redrafts, with_head, completes}
 use Rattle.chunk_plain.specs.Words.{KeepsSealed, IsPublished, PublishesBytes}
@@ -40,7 +40,7 @@ small_each (one ∷ done) few =
     (omega (arith, few, both, long), small_each done (omega (arith, few, both)))
 
 -- What a held chunk has, as a step asks it.
-pub fits : (setup : Setup) (view : WriterView) (chunk : HeldChunk) (draft : Draft) (continues : Bool) (completed later : List Begun) (count many to : ℕ)
+pub fits : (setup : Setup) (view : WriterView) (chunk : HeldChunk) (draft : Draft) (continues : Bool) (completed later : List BegunChunk) (count many to : ℕ)
     (done before : List (List ℕ)) (rest other : List ℕ) → view.begun ≡ completed ++ Held chunk.held.chunk draft ∷ later → chunk.held.id ≡ length completed
     → vec_len chunk.held.body.payload ≡ (spot setup chunk.held.chunk).payload_size → chunk.held.body.payload.items ≡ frames done ++ rest
     → count ≡ length done → length (frames done) ≤ to → chunk.held.body.payload.items ≡ frames before ++ other → chunk.sealed ≡ length (frames before)
@@ -63,7 +63,7 @@ fits setup view chunk draft continues completed later count many to done before 
     }
 
 -- a chunk that was just begun has no fragment
-pub fits_new : (setup : Setup) (view : WriterView) (chunk : HeldChunk) (words : List ℕ) (completed later : List Begun)
+pub fits_new : (setup : Setup) (view : WriterView) (chunk : HeldChunk) (words : List ℕ) (completed later : List BegunChunk)
     → view.begun ≡ completed ++ Held chunk.held.chunk (fresh words) ∷ later → chunk.held.id ≡ length completed
     → vec_len chunk.held.body.payload ≡ (spot setup chunk.held.chunk).payload_size → chunk.sealed ≡ 0 → chunk.at ≡ 0 → chunk.count ≡ 0
     → IsFit setup view chunk chunk.count chunk.at
@@ -82,7 +82,7 @@ fits_new setup view chunk words completed later begun id size sealed at count =
     }
 
 -- The header of it has no fragment either.
-pub heads_new : (view : WriterView) (chunk id : ℕ) (words : List ℕ) (completed later : List Begun) (next : Head)
+pub heads_new : (view : WriterView) (chunk id : ℕ) (words : List ℕ) (completed later : List BegunChunk) (next : Head)
     → view.begun ≡ completed ++ Held chunk (fresh words) ∷ later → id ≡ length completed → MayFollow (head_at view id) next
 heads_new view chunk id words completed later next begun id_is =
     subst (λ (d : Draft). MayFollow d.head next) (sym (draft_here view completed later chunk id (fresh words) begun id_is))
@@ -145,7 +145,7 @@ counts_next setup view mid new chunk fit held flags publishes same head is =
           let inside = fit.inside in omega (arith, reads, inside);
       view = here
           ∙ ap (λ (v : WriterView). redrafts v c id next) publishes.view
-          ∙ ap (λ (xs : List Begun). record view { begun = xs }) (set-set view.begun id (Held c one) (Held c next));
+          ∙ ap (λ (xs : List BegunChunk). record view { begun = xs }) (set-set view.begun id (Held c one) (Held c next));
     }
 
 -- The chunk is completed behind the publishing of all its bytes and the storing of its last header.
@@ -165,8 +165,8 @@ completes_all view mid two new chunk held other words draft content publishes ch
     ∙ ap (λ (d : ℕ). completes (redrafts mid d held.id draft) c id content) chunk_is
     ∙ ap (λ (i : ℕ). completes (redrafts mid c i draft) c id content) id_is
     ∙ ap (λ (v : WriterView). completes (redrafts v c id draft) c id content) publishes
-    ∙ ap (λ (xs : List Begun). record view { begun = xs })
-    (ap (λ (ys : List Begun). set ys id (Completed c content)) (set-set view.begun id (Held c one) (Held c draft)) ∙ set-set view.begun id (Held c draft) (Completed c content))
+    ∙ ap (λ (xs : List BegunChunk). record view { begun = xs })
+    (ap (λ (ys : List BegunChunk). set ys id (Completed c content)) (set-set view.begun id (Held c one) (Held c draft)) ∙ set-set view.begun id (Held c draft) (Completed c content))
 
 -- All bytes are published, whatever header is stored behind that.
 pub published_all : (setup : Setup) (view mid two : WriterView) (chunk : HeldChunk) (count : ℕ) (fit : IsFit setup view chunk count (vec_len chunk.held.body.payload))

@@ -9,7 +9,7 @@ use Rattle.trace_model.specs.Packets.{Packet, with_more}
 use Rattle.commit_body.specs.Patches.{holes_outside}
 use Rattle.commit_body.specs.Pending.{Pending}
 use Rattle.chunk_plain.specs.Setup.{spot}
-use Rattle.chunk_plain.specs.Views.{Begun, Held, Draft, WriterView}
+use Rattle.chunk_plain.specs.Views.{BegunChunk, Held, Draft, WriterView}
 use Rattle.trace_model.proofs.EncodingLemmas.{length-repeat}
 use Rattle.cut_steps.specs.Writing.{with_open, IsWriting}
 use Rattle.cut_steps.proofs.Places.{with_bytes_right}
@@ -51,7 +51,7 @@ written_more payload start at count done now bytes w =
     }
 
 -- the view still shows the chunk that is held
-pub held_same : (begun completed : List Begun) (chunk other : ℕ) (draft : Draft) → other ≡ chunk
+pub held_same : (begun completed : List BegunChunk) (chunk other : ℕ) (draft : Draft) → other ≡ chunk
     → begun ≡ completed ++ Held chunk draft ∷ [] → begun ≡ completed ++ Held other draft ∷ []
 held_same begun completed chunk other draft chunk_is is = is ∙ ap (λ (n : ℕ). completed ++ Held n draft ∷ []) (sym chunk_is)
 

@@ -1,9 +1,9 @@
 -- The steps of a writer by which it asks for no chunk.
 use Rattle.std.proofs.Common.{◌≡◌, ℕ, List, Option, Some, sym, ap, subst, set}
 use Rattle.trace_model.specs.Calls.{Call}
-use Rattle.chunk_plain.specs.Views.{Begun, Held, Draft, Content, WriterView, ServiceView}
+use Rattle.chunk_plain.specs.Views.{BegunChunk, Held, Draft, Content, WriterView, ServiceView}
 use Rattle.chunk_plain.specs.Drafts.{IsHolding, draft_at}
-use Rattle.chunk_plain.specs.Steps.{redrafts, completes, notes_call, moved, noted}
+use Rattle.chunk_plain.specs.Steps.{redrafts, completes, notes_call, moved, with_writer_view}
 use Rattle.chunk_plain.specs.Meaning.{Meaning, IsWriterStep}
 use Rattle.chunk_plain.specs.Setup.{Setup}
 use Rattle.chunk_plain.specs.World.{World, Writing, Ready}
@@ -11,7 +11,7 @@ use Rattle.trace_writer.specs.OwnSteps.{KeepsChunks, FreesNone, IsQuiet}
 use Rattle.trace_writer.proofs.KeptChunks.{keeps_same, keeps_redrafted, keeps_set, frees_moved, frees_noted, writing_used, ready_used}
 
 module _ {T W S : Type 0} (means : Meaning T W S) where
-  quiet_chunks : (old : T) (seat : W) (new : T) (after : W) (begun : List Begun) → IsWriterStep means old seat new after
+  quiet_chunks : (old : T) (seat : W) (new : T) (after : W) (begun : List BegunChunk) → IsWriterStep means old seat new after
       → means.view new after ≡ record (means.view old seat) { begun = begun } → KeepsChunks (means.view old seat).begun begun → FreesNone means.told old new
       → IsQuiet means old seat new after
   quiet_chunks old seat new after begun step is keeps frees = record {
@@ -19,7 +19,7 @@ module _ {T W S : Type 0} (means : Meaning T W S) where
     asked = ap (λ (v : WriterView). v.asked) is;
     claimed = ap (λ (v : WriterView). v.claimed) is;
     stamped = ap (λ (v : WriterView). v.stamped) is;
-    chunks = subst (λ (chunks : List Begun). KeepsChunks (means.view old seat).begun chunks) (sym (ap (λ (v : WriterView). v.begun) is)) keeps;
+    chunks = subst (λ (chunks : List BegunChunk). KeepsChunks (means.view old seat).begun chunks) (sym (ap (λ (v : WriterView). v.begun) is)) keeps;
     frees_none = frees;
   }
 
@@ -46,13 +46,13 @@ module _ {T W S : Type 0} (means : Meaning T W S) where
   -- a call is noted
   pub quiet_noted : (old : T) (seat : W) (new : T) (after : W) (by : ℕ) (call : Call) → IsWriterStep means old seat new after
       → means.view new after ≡ notes_call (means.view old seat) call
-      → ((world : World) → means.told old ≡ Some world → means.told new ≡ Some (noted world by (means.view new after)))
+      → ((world : World) → means.told old ≡ Some world → means.told new ≡ Some (with_writer_view world by (means.view new after)))
       → IsQuiet means old seat new after
   quiet_noted old seat new after by call step is tells = record {
     step = step;
     asked = ap (λ (v : WriterView). v.asked) is;
     claimed = ap (λ (v : WriterView). v.claimed) is;
     stamped = ap (λ (v : WriterView). v.stamped) is;
-    chunks = subst (λ (chunks : List Begun). KeepsChunks (means.view old seat).begun chunks) (sym (ap (λ (v : WriterView). v.begun) is)) (keeps_same (means.view old seat).begun);
+    chunks = subst (λ (chunks : List BegunChunk). KeepsChunks (means.view old seat).begun chunks) (sym (ap (λ (v : WriterView). v.begun) is)) (keeps_same (means.view old seat).begun);
     frees_none = frees_noted means.told old new by (means.view new after) tells;
   }

@@ -5,7 +5,7 @@ use Rattle.chunk_plain.specs.declared.tokens.Held.{Held as HeldToken}
 use Rattle.chunk_plain.specs.Setup.{Setup}
 use Rattle.chunk_plain.specs.Views.{WriterView, ServiceView}
 use Rattle.chunk_plain.specs.Drafts.{draft_at}
-use Rattle.chunk_plain.specs.Steps.{moved, noted}
+use Rattle.chunk_plain.specs.Steps.{moved, with_writer_view}
 use Rattle.chunk_plain.specs.Meaning.{Meaning, IsWriterStep}
 use Rattle.chunk_plain.specs.World.{World, Unclaimed, Writing, status}
 use Rattle.claim_arbiter.specs.Claiming.{AsksInVain, ClaimsInTurn, NoneFree}
@@ -28,7 +28,7 @@ module _ {H T W S : Type 0} (means : Meaning T W S) (needs : H → T → Type 0)
       → IfNone answer (AsksInVain (means.setup old) route.arbiter.first route.arbiter.chunks (means.view old seat) (means.view new after))
       → IfNone answer (later ≡ steps + route.arbiter.chunks)
       → IfNone answer ((world : World) → means.told old ≡ Some world → NoneFree world route.arbiter.first (route.arbiter.first + route.arbiter.chunks)
-      × (means.told new ≡ Some (noted world (means.place seat) (means.view new after))))
+      × (means.told new ≡ Some (with_writer_view world (means.place seat) (means.view new after))))
       → IsWork means needs helps route helper old seat steps (not (is_some answer)) helper new after later
   round_work route helper old seat steps id new after later (Some held) keeps needed drops none step won steps_won told_won lost steps_lost told_lost =
       work_gets means needs helps route helper old seat steps new after later keeps needed

@@ -9,7 +9,7 @@ use Rattle.trace_model.specs.Images.{with_bytes}
 use Rattle.trace_model.specs.Packets.{Packet, body_of}
 use Rattle.trace_model.specs.Pages.{Page, laid}
 use Rattle.trace_model.specs.Sequences.{is_among}
-use Rattle.trace_model.specs.Cut.{IsFull, left_behind, length_places}
+use Rattle.trace_model.specs.Cut.{IsWellFormedPage, left_behind, length_places}
 use Rattle.commit_body.specs.Patches.{hole_chunks, with_lasts}
 use Rattle.commit_body.specs.Pending.{Pending}
 use Rattle.chunk_plain.specs.declared.setup.ChunkRange.{ChunkRange}
@@ -17,7 +17,7 @@ use Rattle.chunk_plain.specs.declared.tokens.Held.{Held as HeldToken}
 use Rattle.chunk_plain.specs.declared.tokens.TheConstants.{MAX_HELD}
 use Rattle.chunk_plain.specs.Owned.{held_count}
 use Rattle.chunk_plain.specs.Setup.{Setup, spot}
-use Rattle.chunk_plain.specs.Views.{Begun, Held, Completed, Head, Draft, fresh, Content, WriterView}
+use Rattle.chunk_plain.specs.Views.{BegunChunk, Held, Completed, Head, Draft, fresh, Content, WriterView}
 use Rattle.chunk_plain.specs.Drafts.{MayFollow, head_at}
 use Rattle.chunk_plain.specs.Steps.{redrafts, completes}
 use Rattle.claim_arbiter.specs.Claiming.{AsksInVain}
@@ -47,7 +47,7 @@ use Rattle.trace_writer.proofs.Publishing.{fits, fits_new, heads_new}
 pub next_id : (site : Site) (packet : Packet) (older : List Packet) (view : WriterView) (pending : Pending) (fragment : OpenFragment)
     → InFragment site packet older view pending fragment [] → fragment.held.id + 1 ≡ length view.begun
 next_id site packet older view pending fragment w =
-    let entry : Begun = Held fragment.held.chunk w.draft in
+    let entry : BegunChunk = Held fragment.held.chunk w.draft in
     let many : length view.begun ≡ length w.completed + 1 = ap length w.begun ∙ length-append w.completed (entry ∷ []) in
     omega (arith, many, shows_long site 0 w.completed w.pages w.shown, w.id)
 
@@ -56,7 +56,7 @@ pub few_inside : (site : Site) (packet : Packet) (older : List Packet) (view : W
     → InFragment site packet older view pending fragment [] → held_count view.begun < MAX_HELD
 few_inside site packet older view pending fragment w =
     let one = one_held w.completed fragment.held.chunk w.draft in let none = none_counted w.completed (shown_none_held site 0 w.completed w.pages w.shown) in
-    subst (λ (begun : List Begun). held_count begun < MAX_HELD) (sym w.begun) (omega (arith, one, none))
+    subst (λ (begun : List BegunChunk). held_count begun < MAX_HELD) (sym w.begun) (omega (arith, one, none))
 
 -- The view while the packet runs on
 
@@ -93,17 +93,17 @@ ends_as fragment ended held bytes sealed count continues = record {
 }
 
 -- a further chunk is begun behind the held one
-pub claimed_behind : (route : Route) (chunk : ℕ) (old new : WriterView) (completed : List Begun) (entry : Begun) (wins : Wins route chunk old new)
+pub claimed_behind : (route : Route) (chunk : ℕ) (old new : WriterView) (completed : List BegunChunk) (entry : BegunChunk) (wins : Wins route chunk old new)
     → old.begun ≡ completed ++ entry ∷ [] → new.begun ≡ completed ++ entry ∷ Held chunk (fresh wins.words) ∷ []
 claimed_behind route chunk old new completed entry wins begun =
     wins.begun
-    ∙ ap (λ (xs : List Begun). xs ++ Held chunk (fresh wins.words) ∷ []) begun
+    ∙ ap (λ (xs : List BegunChunk). xs ++ Held chunk (fresh wins.words) ∷ []) begun
     ∙ append_assoc completed (entry ∷ []) (Held chunk (fresh wins.words) ∷ [])
 
 -- the fragment's chunk is held in this view too, before these
 pub record IsHeldStill (site : Site) (packet : Packet) (older : List Packet) (old : WriterView) (pending : Pending) (fragment : OpenFragment) (one : WriterView) : Type 0 where
   pub inside : InFragment site packet older old pending fragment []
-  pub later : List Begun
+  pub later : List BegunChunk
   pub begun : one.begun ≡ inside.completed ++ Held fragment.held.chunk inside.draft ∷ later
 
 pub held_first : (site : Site) (packet : Packet) (older : List Packet) (old : WriterView) (pending : Pending) (fragment : OpenFragment)
@@ -148,7 +148,7 @@ ended_head site packet older old one pending fragment ended h e =
 
 -- the held chunk is completed
 pub completed_before : (place : ℕ) (site : Site) (one two : WriterView) (before : Pending) (fragment : OpenFragment) (ended : HeldChunk)
-    (completed later : List Begun) (draft : Draft) → Ends fragment ended → place ≡ site.place
+    (completed later : List BegunChunk) (draft : Draft) → Ends fragment ended → place ≡ site.place
     → two ≡ run_completion place site.buffer before one ended.held.body.payload.items ended.held.chunk ended.held.id ended.count ended.continues
     → one.begun ≡ completed ++ Held fragment.held.chunk draft ∷ later → fragment.held.id ≡ length completed
     → two.begun ≡ completed ++ Completed fragment.held.chunk (run_content site before ended.held.body.payload.items fragment.held.id fragment.count fragment.continues) ∷ later
@@ -169,7 +169,7 @@ completed_before place site one two before fragment ended completed later draft 
 pub record BeginsNext (site : Site) (before : Pending) (fragment : OpenFragment) (payload : List ℕ) (chunk : ℕ) (old two : WriterView) : Type 0 where
   -- what stands in it
   pub words : List ℕ
-  pub begun : (completed : List Begun) (draft : Draft) → old.begun ≡ completed ++ Held fragment.held.chunk draft ∷ []
+  pub begun : (completed : List BegunChunk) (draft : Draft) → old.begun ≡ completed ++ Held fragment.held.chunk draft ∷ []
       → fragment.held.id ≡ length completed
       → two.begun ≡ (completed ++ Completed fragment.held.chunk (run_content site before payload fragment.held.id fragment.count fragment.continues) ∷ []) ++ Held chunk (fresh words) ∷ []
   pub calls : two.calls ≡ old.calls
@@ -212,7 +212,7 @@ next_last setup place chunk route old one two before fragment ended r wins e vie
       words = wins.words;
       begun = λ completed draft begun id.
           wins.begun
-          ∙ ap (λ (xs : List Begun). xs ++ Held chunk (fresh wins.words) ∷ []) (completed_before place site old one before fragment ended completed [] draft e refl view begun id);
+          ∙ ap (λ (xs : List BegunChunk). xs ++ Held chunk (fresh wins.words) ∷ []) (completed_before place site old one before fragment ended completed [] draft e refl view begun id);
       calls = wins.calls ∙ ap (λ (v : WriterView). v.calls) view;
       sized = claimed_size setup place chunk route one two r wins;
     }
@@ -238,7 +238,7 @@ pub record GoesOnIn (site : Site) (old new : WriterView) (before after : Pending
   pub payload : List ℕ
   pub payload_is : payload ≡ with_bytes fragment.held.body.payload.items fragment.start (redundant (fragment.at - fragment.start - 4))
   pub draft : Draft
-  pub begun : (completed : List Begun) (last : Draft) → old.begun ≡ completed ++ Held fragment.held.chunk last ∷ [] → fragment.held.id ≡ length completed
+  pub begun : (completed : List BegunChunk) (last : Draft) → old.begun ≡ completed ++ Held fragment.held.chunk last ∷ [] → fragment.held.id ≡ length completed
       → new.begun ≡ (completed ++ Completed fragment.held.chunk (run_content site before payload fragment.held.id fragment.count fragment.continues) ∷ [])
       ++ Held next.held.chunk draft ∷ []
   pub drafted : IsDrafted draft next.count next.continues []
@@ -258,7 +258,7 @@ page_run site packet older old before fragment w =
     (with_lasts (hole_chunks before.holes) before.unsent)
 
 pub page_full : (site : Site) (packet : Packet) (older : List Packet) (old : WriterView) (before : Pending) (fragment : OpenFragment)
-    (w : InFragment site packet older old before fragment []) → IsFull site.size (page_run site packet older old before fragment w)
+    (w : InFragment site packet older old before fragment []) → IsWellFormedPage site.size (page_run site packet older old before fragment w)
 page_full site packet older old before fragment w =
     let items : List ℕ = fragment.held.body.payload.items in
     let long : length items ≡ site.size = let all = fragment.held.body.payload.ok.0 in omega (arith, w.whole, all) in
@@ -365,7 +365,7 @@ pub run_begun : (site : Site) (packet : Packet) (older : List Packet) (old two :
     × (started.held.id ≡ length (w.completed ++ Completed fragment.held.chunk (run_content site before payload fragment.held.id fragment.count fragment.continues) ∷ []))
 run_begun site packet older old two before fragment payload started token w begins s =
     let id : fragment.held.id ≡ length w.completed = w.id ∙ sym (shows_long site 0 w.completed w.pages w.shown) in
-    let entry : Begun = Completed fragment.held.chunk (run_content site before payload fragment.held.id fragment.count fragment.continues) in (
+    let entry : BegunChunk = Completed fragment.held.chunk (run_content site before payload fragment.held.id fragment.count fragment.continues) in (
       begins.begun w.completed w.draft w.begun id ∙ ap (λ (t : HeldToken). (w.completed ++ entry ∷ []) ++ Held t.chunk (fresh begins.words) ∷ []) (sym s.held),
       ap (λ (t : HeldToken). t.id) s.held ∙ s.id ∙ ap (λ (n : ℕ). n + 1) id ∙ sym (length-append w.completed (entry ∷ [])),
     )
@@ -374,7 +374,7 @@ pub run_fits : (site : Site) (packet : Packet) (older : List Packet) (old two : 
     (payload : List ℕ) (started : HeldChunk) (token : HeldToken) → InFragment site packet older old before fragment []
     → BeginsNext site before fragment payload token.chunk old two → Starts site fragment token started → IsFit site.setup two started started.count started.at
 run_fits site packet older old two before fragment payload started token w begins s =
-    let entry : Begun = Completed fragment.held.chunk (run_content site before payload fragment.held.id fragment.count fragment.continues) in
+    let entry : BegunChunk = Completed fragment.held.chunk (run_content site before payload fragment.held.id fragment.count fragment.continues) in
     let there = run_begun site packet older old two before fragment payload started token w begins s in
     fits_new site.setup two started begins.words (w.completed ++ entry ∷ []) [] there.0 there.1
     (ap (λ (t : HeldToken). vec_len t.body.payload) s.held ∙ s.whole ∙ ap (λ (t : HeldToken). (spot site.setup t.chunk).payload_size) (sym s.held)) s.sealed s.at s.count
@@ -383,7 +383,7 @@ pub run_follows : (site : Site) (packet : Packet) (older : List Packet) (old two
     (payload : List ℕ) (started : HeldChunk) (token : HeldToken) (head : Head) → InFragment site packet older old before fragment []
     → BeginsNext site before fragment payload token.chunk old two → Starts site fragment token started → MayFollow (head_at two started.held.id) head
 run_follows site packet older old two before fragment payload started token head w begins s =
-    let entry : Begun = Completed fragment.held.chunk (run_content site before payload fragment.held.id fragment.count fragment.continues) in
+    let entry : BegunChunk = Completed fragment.held.chunk (run_content site before payload fragment.held.id fragment.count fragment.continues) in
     let there = run_begun site packet older old two before fragment payload started token w begins s in
     heads_new two started.held.chunk started.held.id begins.words (w.completed ++ entry ∷ []) [] head there.0 there.1
 
@@ -407,7 +407,7 @@ goes_on_in site old two new before after fragment ended started token next begin
       draft = counts.draft;
       begun = λ completed last begun id.
           let content : Content = run_content site before payload fragment.held.id fragment.count fragment.continues in
-          let entry : Begun = Completed fragment.held.chunk content in
+          let entry : BegunChunk = Completed fragment.held.chunk content in
           let last_id : token.id ≡ length (completed ++ entry ∷ []) = s.id ∙ ap (λ (m : ℕ). m + 1) id ∙ sym (length-append completed (entry ∷ [])) in
           redrafted_here two new (completed ++ entry ∷ []) [] token.chunk token.id (fresh begins.words) counts.draft (begins.begun completed last begun id) last_id drafted
           ∙ ap (λ (c : ℕ). (completed ++ entry ∷ []) ++ Held c counts.draft ∷ []) (sym chunk_is);

@@ -14,7 +14,7 @@ use Rattle.trace_model.specs.Cut.{left_behind, length_places}
 use Rattle.commit_body.specs.Patches.{hole_chunks}
 use Rattle.commit_body.specs.Pending.{Pending}
 use Rattle.chunk_plain.specs.Setup.{Setup}
-use Rattle.chunk_plain.specs.Views.{Begun, Held, Completed, Content, WriterView, Draft}
+use Rattle.chunk_plain.specs.Views.{BegunChunk, Held, Completed, Content, WriterView, Draft}
 use Rattle.chunk_plain.specs.Steps.{redrafts, completes}
 use Rattle.cut_steps.specs.RawChains.{current_piece}
 use Rattle.cut_steps.specs.GoesOn.{GoesOn}
@@ -42,7 +42,7 @@ pub record EndsStuck (site : Site) (old new : WriterView) (before : Pending) (fr
   pub payload : List ℕ
   pub payload_is : payload ≡ with_bytes fragment.held.body.payload.items fragment.start (redundant (fragment.at - fragment.start - 4))
   pub calls : new.calls ≡ old.calls
-  pub begun : (completed : List Begun) (draft : Draft) → old.begun ≡ completed ++ Held fragment.held.chunk draft ∷ [] → fragment.held.id ≡ length completed
+  pub begun : (completed : List BegunChunk) (draft : Draft) → old.begun ≡ completed ++ Held fragment.held.chunk draft ∷ [] → fragment.held.id ≡ length completed
       → new.begun ≡ completed ++ Completed fragment.held.chunk (run_content site before payload fragment.held.id fragment.count fragment.continues) ∷ []
 
 -- the pages are a cut of the packet with all that its writer was asked to write
@@ -57,7 +57,7 @@ stuck_with site packet later older old new before fragment coming w left writing
     record {
       stalls = e.stalls;
       pages = w.pages ++ page ∷ [];
-      shown = subst (λ (begun : List Begun). ShowsPages site 0 begun (w.pages ++ page ∷ []))
+      shown = subst (λ (begun : List BegunChunk). ShowsPages site 0 begun (w.pages ++ page ∷ []))
           (sym (e.begun w.completed w.draft w.begun (w.id ∙ sym (shows_long site 0 w.completed w.pages w.shown))))
           (page_shown site packet older old before fragment e.payload w e.payload_is);
       cut = raw_cut_is_cut site.size (later ∷ older) (w.pages ++ page ∷ [])

@@ -16,7 +16,7 @@ use Rattle.commit_body.specs.declared.hole.Hole.{Hole}
 use Rattle.commit_body.specs.Patches.{holes_outside}
 use Rattle.commit_body.specs.Pending.{Pending}
 use Rattle.chunk_plain.specs.Payload.{byte_in}
-use Rattle.chunk_plain.specs.Views.{Begun, Held, Head, Draft, fresh, WriterView, ServiceView}
+use Rattle.chunk_plain.specs.Views.{BegunChunk, Held, Head, Draft, fresh, WriterView, ServiceView}
 use Rattle.chunk_plain.specs.Drafts.{head_at}
 use Rattle.chunk_plain.specs.Steps.{redrafts, completes}
 use Rattle.chunk_plain.specs.Meaning.{Meaning, IsWriterStep}
@@ -71,7 +71,7 @@ started_written payload at count done room filled =
 
 -- The writer is inside the packet that begins there.
 pub started_inside : (site : Site) (account : Account) (packet : Packet) (view new : WriterView) (pending : Pending) (chunk : HeldChunk) (fragment : OpenFragment)
-    (pages : List Page) (completed : List Begun) (draft : Draft) (done : List (List ℕ)) (counted : WriterView)
+    (pages : List Page) (completed : List BegunChunk) (draft : Draft) (done : List (List ℕ)) (counted : WriterView)
     → chunk.at + 12 ≤ vec_len chunk.held.body.payload → IsFilled chunk.held.body.payload.items chunk.at chunk.count done
     → view.begun ≡ completed ++ Held chunk.held.chunk draft ∷ [] → ShowsPages site 0 completed pages → chunk.held.id ≡ length pages
     → (spot site.setup chunk.held.chunk).payload_size ≡ site.size → vec_len chunk.held.body.payload ≡ site.size
@@ -156,7 +156,7 @@ pub none_idle : (site : Site) (account : Account) (view new : WriterView) (pendi
     → IsIdle site account view pending → IsIdle site account new pending
 none_idle site account view new pending same idle = record {
   pages = idle.pages;
-  shown = subst (λ (begun : List Begun). ShowsPages site 0 begun idle.pages) (sym same) idle.shown;
+  shown = subst (λ (begun : List BegunChunk). ShowsPages site 0 begun idle.pages) (sym same) idle.shown;
   holes = idle.holes;
   unsent = idle.unsent;
   ended = idle.ended;

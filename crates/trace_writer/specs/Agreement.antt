@@ -80,9 +80,9 @@ len_of None = 0
 len_of (Some open_one) = open_one.len
 
 -- how many nested messages are open
-abbrev pub depth_of : Option OpenPacket → ℕ
-depth_of None = 0
-depth_of (Some open_one) = length open_one.starts.items
+abbrev pub open_message_count : Option OpenPacket → ℕ
+open_message_count None = 0
+open_message_count (Some open_one) = length open_one.starts.items
 
 -- a count stays at its type's end
 abbrev pub counted : ℕ → ℕ

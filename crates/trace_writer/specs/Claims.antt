@@ -2,7 +2,7 @@
 use Rattle.std.specs.Prelude.{◌≡◌, ℕ, ◌+◌, ◌<◌, ◌≤◌, ◌⊎◌, ⊤, None, List, [], ◌∷◌, ◌++◌, length, filter}
 use Rattle.trace_model.specs.Packets.{Packet, is_lost, packets_of}
 use Rattle.chunk_plain.specs.Setup.{Setup, producer_of, IsChunkOf}
-use Rattle.chunk_plain.specs.Views.{Ask, Begun, Held, Completed, WriterView, fresh}
+use Rattle.chunk_plain.specs.Views.{Ask, BegunChunk, Held, Completed, WriterView, fresh}
 use Rattle.trace_writer.specs.declared.route.Route.{Route}
 
 -- a chunk of the producer is begun
@@ -24,7 +24,7 @@ AreOwnAsks setup producer [] = ⊤
 AreOwnAsks setup producer (ask ∷ asks) = IsChunkOf setup producer ask.chunk × AreOwnAsks setup producer asks
 
 -- and each of these chunks is one of the producer's
-abbrev pub AreOwnChunks : Setup → ℕ → List Begun → Type 0
+abbrev pub AreOwnChunks : Setup → ℕ → List BegunChunk → Type 0
 AreOwnChunks setup producer [] = ⊤
 AreOwnChunks setup producer (Held chunk head ∷ begun) = IsChunkOf setup producer chunk × AreOwnChunks setup producer begun
 AreOwnChunks setup producer (Completed chunk content ∷ begun) = IsChunkOf setup producer chunk × AreOwnChunks setup producer begun

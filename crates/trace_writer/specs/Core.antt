@@ -3,7 +3,7 @@ use Rattle.std.specs.Prelude.{◌≡◌, ℕ, ◌+◌, ◌*◌, Bool, true, fals
 use Rattle.trace_model.specs.Encoding.{bytes_head, nested_tag}
 use Rattle.trace_model.specs.Packets.{Packet, Account, account_of, packets_of, packet_encoding, open_places, newest_is_lost, is_writing, AreCalls}
 use Rattle.chunk_plain.specs.Setup.{Setup}
-use Rattle.chunk_plain.specs.Views.{Begun as BegunChunk, Held, Completed, WriterView}
+use Rattle.chunk_plain.specs.Views.{BegunChunk, Held, Completed, WriterView}
 use Rattle.trace_writer.specs.declared.fault.CallFault.{CallFault}
 use Rattle.trace_writer.specs.declared.fault.CallFault.TheVariants.{Stalled}
 use Rattle.trace_writer.specs.declared.route.Route.{Route}

@@ -2,7 +2,7 @@
 use Rattle.std.specs.Prelude.{◌≡◌, ℕ, suc, ◌+◌, ◌<◌, true, List, [], ◌∷◌, ◌++◌, length, ⊤}
 use Rattle.std.specs.List.{flat_map}
 use Rattle.trace_model.specs.Pages.{Page, framed, image_of}
-use Rattle.chunk_plain.specs.Views.{Begun, Held, Completed}
+use Rattle.chunk_plain.specs.Views.{BegunChunk, Held, Completed}
 use Rattle.trace_writer.specs.declared.fragment.OpenFragment.{OpenFragment}
 use Rattle.trace_writer.specs.Site.{Site}
 
@@ -28,7 +28,7 @@ pub record IsWritten (payload : List ℕ) (start at count : ℕ) (done : List (L
   pub count_is : count ≡ length done + 1
 
 -- these chunks, which have the ids from this one on, were completed with these pages
-abbrev pub ShowsPages : Site → ℕ → List Begun → List Page → Type 0
+abbrev pub ShowsPages : Site → ℕ → List BegunChunk → List Page → Type 0
 ShowsPages site id [] [] = ⊤
 ShowsPages site id [] (page ∷ pages) = ⊥
 ShowsPages site id (Held chunk head ∷ begun) pages = ⊥

@@ -5,7 +5,7 @@ use Rattle.trace_model.specs.Images.{Image}
 use Rattle.trace_model.specs.Packets.{account_of}
 use Rattle.chunk_plain.specs.Setup.{Setup}
 use Rattle.chunk_plain.specs.Payload.{byte_at, byte_in}
-use Rattle.chunk_plain.specs.Views.{Draft, Begun, Held, WriterView}
+use Rattle.chunk_plain.specs.Views.{Draft, BegunChunk, Held, WriterView}
 use Rattle.trace_writer.specs.declared.state.Writer.{Writer}
 use Rattle.trace_writer.specs.Core.{WriterAgrees, last_is_held, holds_newest}
 use Rattle.trace_writer.specs.Filled.{frames}
@@ -30,7 +30,7 @@ NewestIsHeld = (setup : Setup) (place : ℕ) (view : WriterView) (writer : Write
 -- What is held stands in the table's words: the header has the count and the flags of this image, and the bytes of all its fragments but the last
 -- one were published.
 pub record IsHeldImage (view : WriterView) (image : Image) : Type 0 where
-  pub completed : List Begun
+  pub completed : List BegunChunk
   pub chunk : ℕ
   pub draft : Draft
   pub begun : view.begun ≡ completed ++ Held chunk draft ∷ []

@@ -1,14 +1,14 @@
 -- The steps of a writer's own: those by which it asks for no chunk, the claims until it gets one, and a full round of claims in vain.
 use Rattle.std.specs.Prelude.{◌≡◌, ℕ, ◌+◌, ⊤, Bool, true, false, List, [], ◌∷◌, ◌++◌, length, Option, Some}
 use Rattle.chunk_plain.specs.Setup.{Setup}
-use Rattle.chunk_plain.specs.Views.{Begun, Held, Completed, WriterView, ServiceView}
+use Rattle.chunk_plain.specs.Views.{BegunChunk, Held, Completed, WriterView, ServiceView}
 use Rattle.chunk_plain.specs.Meaning.{Meaning, IsWriterStep}
 use Rattle.chunk_plain.specs.World.{World, Unclaimed, status}
 use Rattle.claim_arbiter.specs.Claiming.{ClaimsInTurn, AllClaimed, NoneFree, lost_asks}
 use Rattle.trace_writer.specs.declared.route.Route.{Route}
 
 -- The same chunks were begun. One that was held may be held still, or be completed.
-abbrev pub KeepsChunks : List Begun → List Begun → Type 0
+abbrev pub KeepsChunks : List BegunChunk → List BegunChunk → Type 0
 KeepsChunks [] [] = ⊤
 KeepsChunks [] (one ∷ others) = ⊥
 KeepsChunks (one ∷ others) [] = ⊥
@@ -18,7 +18,7 @@ KeepsChunks (Completed chunk content ∷ old) (Held other head ∷ new) = ⊥
 KeepsChunks (Completed chunk content ∷ old) (Completed other later ∷ new) = (other ≡ chunk) × KeepsChunks old new
 
 -- none of the chunks that were begun is held
-abbrev pub NoneHeld : List Begun → Type 0
+abbrev pub NoneHeld : List BegunChunk → Type 0
 NoneHeld [] = ⊤
 NoneHeld (Held chunk head ∷ begun) = ⊥
 NoneHeld (Completed chunk content ∷ begun) = NoneHeld begun

@@ -8,7 +8,7 @@ use Rattle.trace_model.specs.Cut.{CutsInto, last_runs_on, newest_goes_on, is_fre
 use Rattle.commit_body.specs.Patches.{holes_outside}
 use Rattle.commit_body.specs.Pending.{Pending}
 use Rattle.chunk_plain.specs.Setup.{spot}
-use Rattle.chunk_plain.specs.Views.{Draft, Begun, Held, WriterView}
+use Rattle.chunk_plain.specs.Views.{Draft, BegunChunk, Held, WriterView}
 use Rattle.cut_steps.specs.RawChains.{raw_chains, page_with, offset_behind}
 use Rattle.cut_steps.specs.Writing.{IsWriting}
 use Rattle.cut_steps.specs.Between.{IsBetween}
@@ -23,7 +23,7 @@ pub record InFragment (site : Site) (packet : Packet) (older : List Packet) (vie
   pub pages : List Page
   pub done : List (List ℕ)
   pub now : List ℕ
-  pub completed : List Begun
+  pub completed : List BegunChunk
   pub draft : Draft
   pub begun : view.begun ≡ completed ++ Held fragment.held.chunk draft ∷ []
   pub drafted : IsDrafted draft fragment.count fragment.continues done
@@ -55,7 +55,7 @@ pub record IsBehind (site : Site) (account : Account) (view : WriterView) (pendi
   pub pages : List Page
   pub first : List ℕ
   pub others : List (List ℕ)
-  pub completed : List Begun
+  pub completed : List BegunChunk
   pub draft : Draft
   pub begun : view.begun ≡ completed ++ Held chunk.held.chunk draft ∷ []
   -- all its fragments but the last one were published

@@ -70,7 +70,7 @@ fn new_place<W: Words, L: Ledger, H: HelperOn<W>>(
 }
 
 /// A place in the held chunk where room is left there, and else in a new one.
-fn place_behind<W: Words, L: Ledger, H: HelperOn<W>>(
+fn held_or_new_place<W: Words, L: Ledger, H: HelperOn<W>>(
     route: &Route,
     table: &mut W,
     seat: &mut W::Writer,
@@ -210,7 +210,7 @@ pub(crate) fn begin<W: Words, L: Ledger, H: HelperOn<W>>(
     let place = match take_state(&mut writer.state) {
         State::Idle { next_id } => new_place(&route, table, seat, help, next_id, steps),
         State::Between(chunk) => {
-            place_behind(&route, table, seat, help, &mut writer.pending, chunk, steps)
+            held_or_new_place(&route, table, seat, help, &mut writer.pending, chunk, steps)
         }
         State::Writing(_fragment) => unreachable!(),
         State::Dropping { next_id: _ } => unreachable!(),

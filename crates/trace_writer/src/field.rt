@@ -6,7 +6,7 @@ ghost use Rattle.trace_model.specs.Calls as call;
 ghost use Rattle.trace_model.specs.Encoding.{nested_tag};
 ghost use Rattle.trace_model.specs.Packets.{Account, noted, on_newest, with_more, packets_of, newest_is_lost};
 ghost use Rattle.chunk_plain.specs.Words.{call_of};
-ghost use Rattle.trace_writer.specs.Agreement.{Agrees, NeedsNoChunk, is_begun, len_of, depth_of};
+ghost use Rattle.trace_writer.specs.Agreement.{Agrees, NeedsNoChunk, is_begun, len_of, open_message_count};
 ghost use Rattle.trace_writer.specs.declared.fault.CallFault.TheVariants as call_fault;
 ghost use Rattle.trace_writer.specs.Asked.{IsAsked, written_as};
 ghost use Rattle.trace_writer.specs.Empty.{is_empty, is_stalled as is_stalled_state};
@@ -137,7 +137,7 @@ pub(crate) fn write_nested<W: Words, L: Ledger, H: HelperOn<W>>(
     requires begun { is_begun writer.old.packet ≡ true }
     requires tag { tag.now ≡ nested_tag field }
     requires fits { len_of writer.old.packet + (length tag.now + 4) ≤ MAX_PACKET_LEN }
-    requires depth { depth_of writer.old.packet < MAX_OPEN_HOLES }
+    requires depth { open_message_count writer.old.packet < MAX_OPEN_HOLES }
     ensures agrees { Agrees (W.means.setup table.old) (W.means.place seat.old) (W.means.view table.new seat.new) writer.new }
     ensures route { writer.new.route ≡ writer.old.route }
     ensures stays { is_stalled_state writer.old.state ≡ true
@@ -174,7 +174,7 @@ fn write_nested_on<W: Words, L: Ledger, H: HelperOn<W>>(
     requires begun { is_begun writer.old.packet ≡ true }
     requires tag { tag.now ≡ nested_tag field }
     requires fits { len_of writer.old.packet + (length tag.now + 4) ≤ MAX_PACKET_LEN }
-    requires depth { depth_of writer.old.packet < MAX_OPEN_HOLES }
+    requires depth { open_message_count writer.old.packet < MAX_OPEN_HOLES }
     ensures agrees { Agrees (W.means.setup table.old) (W.means.place seat.old) (W.means.view table.new seat.new) writer.new }
     ensures route { writer.new.route ≡ writer.old.route }
     ensures stays { is_stalled_state writer.old.state ≡ true
@@ -254,7 +254,7 @@ pub(crate) fn end_message<W: Words>(writer: &mut Writer, table: &mut W, seat: &m
     requires seat { W.means.sits table.old seat.old }
     requires agrees { Agrees (W.means.setup table.old) (W.means.place seat.old) (W.means.view table.old seat.old) writer.old }
     requires begun { is_begun writer.old.packet ≡ true }
-    requires depth { 0 < depth_of writer.old.packet }
+    requires depth { 0 < open_message_count writer.old.packet }
     ensures agrees { Agrees (W.means.setup table.old) (W.means.place seat.old) (W.means.view table.new seat.new) writer.new }
     ensures route { writer.new.route ≡ writer.old.route }
     ensures stalled { is_stalled_state writer.old.state ≡ true → (writer.new ≡ writer.old) × (table.new ≡ table.old) × (seat.new ≡ seat.old) }

@@ -1,7 +1,7 @@
 //! The end of a packet, and of a chunk between two packets.
 ghost use Rattle.std.specs.Prelude.{◌≡◌, ℕ, ◌+◌, ◌<◌, ◌≤◌, true, false, [], ◌∷◌, ◌++◌, List, length};
 ghost use Rattle.trace_model.specs.Calls as call;
-ghost use Rattle.trace_writer.specs.Agreement.{Agrees, is_begun, depth_of};
+ghost use Rattle.trace_writer.specs.Agreement.{Agrees, is_begun, open_message_count};
 ghost use Rattle.trace_writer.specs.Empty.{is_empty, is_stalled as is_stalled_state};
 ghost use Rattle.trace_writer.specs.OwnSteps.{IsQuiet};
 
@@ -13,7 +13,7 @@ pub(crate) fn finish<W: Words>(writer: &mut Writer, table: &mut W, seat: &mut W:
     requires seat { W.means.sits table.old seat.old }
     requires agrees { Agrees (W.means.setup table.old) (W.means.place seat.old) (W.means.view table.old seat.old) writer.old }
     requires begun { is_begun writer.old.packet ≡ true }
-    requires depth { depth_of writer.old.packet ≡ 0 }
+    requires depth { open_message_count writer.old.packet ≡ 0 }
     ensures agrees { Agrees (W.means.setup table.old) (W.means.place seat.old) (W.means.view table.new seat.new) writer.new }
     ensures route { writer.new.route ≡ writer.old.route }
     ensures stalled { is_stalled_state writer.old.state ≡ true → (writer.new ≡ writer.old) × (table.new ≡ table.old) × (seat.new ≡ seat.old) }

@@ -5,7 +5,7 @@ ghost use Rattle.std.specs.List.{repeat};
 ghost use Rattle.trace_base.specs.declared.limits.TheConstants.{MAX_PACKET_LEN, MAX_OPEN_HOLES};
 ghost use Rattle.trace_writer.specs.declared.fragment.OpenFragment.{OpenFragment};
 ghost use Rattle.trace_writer.specs.declared.state.State.TheVariants.{Writing};
-ghost use Rattle.trace_writer.specs.Agreement.{is_begun, len_of, depth_of};
+ghost use Rattle.trace_writer.specs.Agreement.{is_begun, len_of, open_message_count};
 ghost use Rattle.trace_writer.specs.InPlace.{PutsField, PutsNested};
 
 use crate::state::{State, Writer};
@@ -35,7 +35,7 @@ pub(crate) fn put_field_here(writer: &mut Writer, head: &[u8], text: &[u8], time
 pub(crate) fn put_nested_here(writer: &mut Writer, tag: &[u8]) -> bool
     requires begun { is_begun writer.old.packet ≡ true }
     requires fits { len_of writer.old.packet + (length tag.now + 4) ≤ MAX_PACKET_LEN }
-    requires depth { depth_of writer.old.packet < MAX_OPEN_HOLES }
+    requires depth { open_message_count writer.old.packet < MAX_OPEN_HOLES }
     requires few { (fragment : OpenFragment) → writer.old.state ≡ Writing fragment → length writer.old.pending.holes < MAX_OPEN_HOLES }
     ensures fits { (fragment : OpenFragment) → writer.old.state ≡ Writing fragment → fragment.at + (length tag.now + 4) ≤ vec_len fragment.held.body.payload → result ≡ true }
     ensures unchanged { result ≡ false → writer.new ≡ writer.old }

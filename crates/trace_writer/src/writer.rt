@@ -12,7 +12,7 @@ ghost use Rattle.chunk_plain.specs.Setup.{Setup, spot, range_of, producer_of, Ha
 ghost use Rattle.chunk_plain.specs.Views.{WriterView, newcomer};
 ghost use Rattle.chunk_plain.specs.Meaning.{IsWriterStep};
 ghost use Rattle.claim_arbiter.specs.Claiming.{range_in};
-ghost use Rattle.trace_writer.specs.Agreement.{is_begun, len_of, depth_of, counted};
+ghost use Rattle.trace_writer.specs.Agreement.{is_begun, len_of, open_message_count, counted};
 ghost use Rattle.trace_writer.specs.Asked.{IsAsked, LeavesAll, begun_as, written_as, stops_with};
 ghost use Rattle.trace_writer.specs.declared.fault.CallFault.TheVariants as call_fault;
 ghost use Rattle.trace_writer.specs.Helping.{LeavesOthers};
@@ -415,8 +415,8 @@ fn drop_state(state: State) {
 /// Whether a field of so many bytes may come next in the packet that is begun.
 fn check_field(packet: &Option<OpenPacket>, field: u32, more: u64) -> Result<(), CallFault>
     requires { is_begun packet.now ≡ true }
-    ensures refused { IfErr result (λ fault. field_refusal (depth_of packet.now) (len_of packet.now) field more ≡ Some fault) }
-    ensures accepted { IfOk result (λ _. field_refusal (depth_of packet.now) (len_of packet.now) field more ≡ None) }
+    ensures refused { IfErr result (λ fault. field_refusal (open_message_count packet.now) (len_of packet.now) field more ≡ Some fault) }
+    ensures accepted { IfOk result (λ _. field_refusal (open_message_count packet.now) (len_of packet.now) field more ≡ None) }
 {
     let Some(packet) = packet else { unreachable!() };
     packet.check_field(field, more)
@@ -426,9 +426,9 @@ fn check_field(packet: &Option<OpenPacket>, field: u32, more: u64) -> Result<(),
 fn check_nested(packet: &Option<OpenPacket>, field: u32, tag_len: u32) -> Result<(), CallFault>
     requires begun { is_begun packet.now ≡ true }
     requires tag { tag_len ≤ 10 }
-    ensures refused { IfErr result (λ fault. nested_refusal (depth_of packet.now) (len_of packet.now) field tag_len ≡ Some fault) }
-    ensures accepted { IfOk result (λ _. nested_refusal (depth_of packet.now) (len_of packet.now) field tag_len ≡ None) }
-    ensures shallow { IfOk result (λ _. depth_of packet.now < MAX_OPEN_HOLES) }
+    ensures refused { IfErr result (λ fault. nested_refusal (open_message_count packet.now) (len_of packet.now) field tag_len ≡ Some fault) }
+    ensures accepted { IfOk result (λ _. nested_refusal (open_message_count packet.now) (len_of packet.now) field tag_len ≡ None) }
+    ensures shallow { IfOk result (λ _. open_message_count packet.now < MAX_OPEN_HOLES) }
 {
     let Some(packet) = packet else { unreachable!() };
     packet.check_nested(field, tag_len)

@@ -94,4 +94,4 @@ IsCheckRefusal input line = RefusesAt input (divider_of input) line
 -- a fault's line says so; memory is free to run out
 abbrev pub GivesRefusal : (List ℕ → Type 0) → CheckingFault → Type 0
 GivesRefusal Refuses OutOfMemory = Unit {0}
-GivesRefusal Refuses (Refused line) = Refuses line.items
+GivesRefusal Refuses (Refused refusal) = Refuses refusal.items

@@ -80,7 +80,7 @@ abbrev pub Ended : Command → List ℕ → Result (Option Done) CommandFault �
 Ended command given (Ok None) old new = Wrote command given old new []
 Ended command given (Ok (Some done)) old new = LeavesReport command × Wrote command given old new (report_of done)
 Ended command given (Err OutOfMemory) old new = new ≡ old
-Ended command given (Err (Refused line)) old new = Refuses command given line.items × (new ≡ old)
+Ended command given (Err (Refused refusal)) old new = Refuses command given refusal.items × (new ≡ old)
 Ended command given (Err (Stalled writer)) old new = HasStalled command given writer old new
 Ended command given (Err WriteFault) old new = WrotePart command given old new
 

@@ -17,7 +17,7 @@ use trace_base::limits::MAX_INPUT;
 pub enum CheckingFault {
     OutOfMemory,
     /// It isn't in its grammar, as this line says.
-    Refused { line: ArrayVec<u8, 64> },
+    Refused { refusal: ArrayVec<u8, 64> },
 }
 
 /// Where the first line `==` begins. One without its line feed divides nothing.
@@ -92,11 +92,11 @@ fn undivided_fault(alloc: Global, input: &[u8]) -> CheckingFault
 {
     match read_scenario(alloc, input) {
         Ok(_) => CheckingFault::Refused {
-            line: no_trace_line(line_behind(input)),
+            refusal: no_trace_line(line_behind(input)),
         },
         Err(ScenarioFault::OutOfMemory) => CheckingFault::OutOfMemory,
         Err(ScenarioFault::Bad { line, reason }) => CheckingFault::Refused {
-            line: refusal_line(line, reason),
+            refusal: refusal_line(line, reason),
         },
     }
 }
@@ -112,7 +112,7 @@ fn divided_verdict(alloc: Global, text: &[u8], trace: &[u8]) -> Result<Verdict, 
         Err(ScenarioFault::OutOfMemory) => return Err(CheckingFault::OutOfMemory),
         Err(ScenarioFault::Bad { line, reason }) => {
             return Err(CheckingFault::Refused {
-                line: refusal_line(line, reason),
+                refusal: refusal_line(line, reason),
             });
         }
     };
@@ -120,7 +120,7 @@ fn divided_verdict(alloc: Global, text: &[u8], trace: &[u8]) -> Result<Verdict, 
         Ok(verdict) => Ok(verdict),
         Err(CheckFault::OutOfMemory) => Err(CheckingFault::OutOfMemory),
         Err(CheckFault::Trace(fault)) => Err(CheckingFault::Refused {
-            line: trace_fault_line(fault),
+            refusal: trace_fault_line(fault),
         }),
     }
 }

@@ -25,7 +25,7 @@ use trace_summary::{SummaryFault, put_summary, summarize};
 pub enum CommandFault {
     OutOfMemory,
     /// What it was given isn't in its grammar, as this line says.
-    Refused { line: ArrayVec<u8, 64> },
+    Refused { refusal: ArrayVec<u8, 64> },
     WriteFault,
     /// A writer of the replay stalled. Writers count from 1.
     Stalled { writer: u16 },
@@ -48,7 +48,7 @@ pub fn replay<T: Sink>(
         Err(ScenarioFault::OutOfMemory) => return Err(CommandFault::OutOfMemory),
         Err(ScenarioFault::Bad { line, reason }) => {
             return Err(CommandFault::Refused {
-                line: refusal_line(line, reason),
+                refusal: refusal_line(line, reason),
             });
         }
     };
@@ -80,13 +80,13 @@ pub fn run<R: Threads + Wait + Sync, T: Sink + Send, G: Gate + Sync>(
         Err(ScenarioFault::OutOfMemory) => return Err(CommandFault::OutOfMemory),
         Err(ScenarioFault::Bad { line, reason }) => {
             return Err(CommandFault::Refused {
-                line: refusal_line(line, reason),
+                refusal: refusal_line(line, reason),
             });
         }
     };
     drop(text);
-    if let Some(line) = find_unfit(&scenario.lines) {
-        return Err(CommandFault::Refused { line });
+    if let Some(refusal) = find_unfit(&scenario.lines) {
+        return Err(CommandFault::Refused { refusal });
     }
     match gather::run(rt, alloc, &scenario, trace, gate) {
         Ok(done) => Ok(Some(done)),
@@ -110,7 +110,7 @@ pub fn read<T: Sink>(
         Err(SummaryFault::OutOfMemory) => return Err(CommandFault::OutOfMemory),
         Err(SummaryFault::Trace(fault)) => {
             return Err(CommandFault::Refused {
-                line: trace_fault_line(fault),
+                refusal: trace_fault_line(fault),
             });
         }
     };
@@ -133,7 +133,9 @@ pub fn check<T: Sink>(
     let verdict = match verdict_for(alloc, input) {
         Ok(verdict) => verdict,
         Err(CheckingFault::OutOfMemory) => return Err(CommandFault::OutOfMemory),
-        Err(CheckingFault::Refused { line }) => return Err(CommandFault::Refused { line }),
+        Err(CheckingFault::Refused { refusal }) => {
+            return Err(CommandFault::Refused { refusal });
+        },
     };
     match put_all(out, &verdict_line(verdict)) {
         Ok(()) => Ok(None),

@@ -139,7 +139,7 @@ pub fn trace_top<R: Threads + Wait + Sync, S: Source, T: Sink + Send, O: Sink, G
         Ok(None) => 0,
         Ok(Some(done)) => say_report(text, &done),
         Err(CommandFault::OutOfMemory) => say_out_of_memory(text),
-        Err(CommandFault::Refused { line }) => say_refusal(text, &line),
+        Err(CommandFault::Refused { refusal }) => say_refusal(text, &refusal),
         Err(CommandFault::WriteFault) => say_write_fault(text),
         Err(CommandFault::Stalled { writer }) => say_stalled(text, writer),
     }

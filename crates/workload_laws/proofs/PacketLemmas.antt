@@ -19,7 +19,7 @@ use Rattle.scenario_text.specs.Pieces.{pieces, pieces_behind, behind_space, fiel
 use Rattle.scenario_text.specs.Forms.{form_of, with_number, long_form, form_of_words}
 use Rattle.scenario_text.specs.Items.{item, with_item}
 use Rattle.scenario_text.specs.Ranges.{fits, value}
-use Rattle.scenario_text.specs.State.{State, is_closed, packet_of, depth_of, len_of}
+use Rattle.scenario_text.specs.State.{State, is_closed, packet_of, nesting_of, len_of}
 use Rattle.scenario_text.specs.Reasons.{first, front_reasons, given_by, step_len, is_out_of_range, is_late, is_set_up, is_too_many, lacks_producer, lacks_buffer, lacks_writer, has_larger_chunks, has_closed_producer, is_closed_for, meets_packet, wants_none, lacks_packet, lacks_nesting, leaves_nesting}
 use Rattle.scenario_text.specs.Effects.{writer_kind, packet_after, with_line, with_packet, with_bytes, written}
 use Rattle.scenario_text.specs.Grammar.{says_nothing, after_form, after_line}
@@ -120,10 +120,10 @@ written_is state number writer nodes is =
 packet_form_leads : (state : State) (number writer : ℕ) (line : List ℕ) (nodes : List Shown) → IsFree state writer
     → outcome 0 (fields_part line) ≡ Ok nodes → nodes_len nodes ≤ 42 → state.bytes + nodes_len nodes ≤ MAX_SCENARIO_PACKET_BYTES
     → after_form state number line (Some (OfWriter (Fits writer) (Packet true))) ≡ Ok (with_packet_line state number writer nodes)
-unfolding given_by step_len depth_of len_of
+unfolding given_by step_len nesting_of len_of
 packet_form_leads state number writer line nodes is read short few =
     let none : packet_of state (Fits writer) ≡ None = none_begun state writer is in
-    let given : given_by (depth_of (packet_of state (Fits writer))) line (Packet true) ≡ Ok nodes = rw none read in
+    let given : given_by (nesting_of (packet_of state (Fits writer))) line (Packet true) ≡ Ok nodes = rw none read in
     let len : len_of (packet_of state (Fits writer)) ≡ 0 = rw none refl in
     taken state number line (Fits writer) (Packet true) nodes (nodes_len nodes) (front_none state writer is) given refl (omega arith) few
     ∙ ap (λ (after : State). Ok after) (written_is state number writer nodes is)

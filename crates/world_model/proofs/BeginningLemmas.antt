@@ -5,7 +5,7 @@ use Rattle.std.proofs.lemmas.List.{length-map}
 use Rattle.std.proofs.lemmas.List.Elements.{All-nil}
 use Rattle.trace_base.specs.declared.policy.WriterSpec.{WriterSpec}
 use Rattle.trace_model.specs.Fragments.{drop_size}
-use Rattle.trace_model.specs.Cut.{IsFull, CutsInto}
+use Rattle.trace_model.specs.Cut.{IsWellFormedPage, CutsInto}
 use Rattle.chunk_plain.specs.Views.{WriterView, newcomer}
 use Rattle.chunk_plain.proofs.MadeLemmas.{all_same, first_owned}
 use Rattle.world_model.specs.FirstBuffers.{payload_at}
@@ -14,7 +14,7 @@ use Rattle.world_model.specs.AccountLaws.{TablesBeginAsAccounts}
 
 nothing_cut : (size : ℕ) → CutsInto size [] []
 nothing_cut size = record {
-  full = All-nil (IsFull size);
+  full = All-nil (IsWellFormedPage size);
   flags = tt;
   last = λ e. absurd (false≢true e);
   chains = tt;

@@ -11,7 +11,7 @@ use Rattle.chunk_plain.specs.Drafts.{IsDraft, IsFound, MayFollow, StillHas}
 use Rattle.chunk_plain.proofs.Frames.{frames_read}
 use Rattle.chunk_plain.proofs.Sealing.{ends_grow, length-ends_from}
 use Rattle.world_model.specs.Accounts.{IsFrontOf}
-use Rattle.world_model.specs.FrontLaws.{StandsIn, FindsAreFronts}
+use Rattle.world_model.specs.FrontLaws.{StandsInWords, FindsAreFronts}
 use Rattle.world_model.proofs.PartLemmas.{all_small}
 
 record Begins (front whole : List ℕ) : Type 0 where
@@ -48,7 +48,7 @@ completed about chunk found content is has least =
     front_of found (record { count = content.image.count; flags = content.image.flags }) content.image is has.1 refl least
     (begins found.sealed content.image.payload has.2 has.3)
 
-held : (about chunk : ℕ) (found : Found) (draft : Draft) (image : Image) → IsFound found → StillHas about found (Held chunk draft) → IsDraft draft → StandsIn draft image
+held : (about chunk : ℕ) (found : Found) (draft : Draft) (image : Image) → IsFound found → StillHas about found (Held chunk draft) → IsDraft draft → StandsInWords draft image
     → length image.payload < drop_size → 0 < length found.ends → IsFrontOf found image
 held about chunk found draft image is has sealed stands small least =
     let frames : List ℕ = flat_map framed stands.before in

@@ -6,14 +6,14 @@ use mathlib.Core.Option.{some}
 use Rattle.trace_model.specs.Fragments.{drop_size}
 use Rattle.trace_model.specs.Images.{Image, Chunk, Patch, has_flag_1, has_flag_2, has_flag_4, whole_chunk}
 use Rattle.trace_model.specs.Pages.{Page, laid, flag_where, flags_of, image_of, images_from, chunk_of}
-use Rattle.trace_model.specs.Cut.{IsFull, last_runs_on}
+use Rattle.trace_model.specs.Cut.{IsWellFormedPage, last_runs_on}
 use Rattle.trace_model.specs.Reading.{Fragments, reading_of}
 use Rattle.trace_model.specs.History as model
 use Rattle.trace_model.proofs.PageLemmas.{pages_read_as_written}
 use Rattle.trace_model.proofs.ReadsAsLemmas.{reading_is_exact}
 use Rattle.delivery_laws.specs.WriterSheets.{sheet_of, sheets_from}
 use Rattle.delivery_laws.proofs.WrittenPackets.{page_long}
-use Rattle.chunk_plain.specs.Views.{At, Content, Begun, Held, Completed, WriterView}
+use Rattle.chunk_plain.specs.Views.{At, Content, BegunChunk, Held, Completed, WriterView}
 use Rattle.chunk_plain.specs.Histories.{completed_images, completed_patches, once_read, arrival_of}
 use Rattle.world_model.specs.Accounts.{HasCut}
 
@@ -24,12 +24,12 @@ elem_at (y ∷ ys) (suc i) x e = elem_at ys i x e
 
 -- A completed chunk among those that were completed
 
-record IsAmong (begun : List Begun) (content : Content) : Type 0 where
+record IsAmong (begun : List BegunChunk) (content : Content) : Type 0 where
   place : ℕ
   image : slice_get (completed_images begun) place ≡ Some content.image
   patches : slice_get (completed_patches begun) place ≡ Some content.patches
 
-is_among : (begun : List Begun) (n chunk : ℕ) (content : Content) → At begun n (Completed chunk content) → IsAmong begun content
+is_among : (begun : List BegunChunk) (n chunk : ℕ) (content : Content) → At begun n (Completed chunk content) → IsAmong begun content
 is_among [] n chunk content at = absurd (cc)
 is_among (Held other draft ∷ begun) zero chunk content at = absurd (cc)
 is_among (Completed other first ∷ begun) zero chunk content at =
@@ -161,7 +161,7 @@ sheet_some patches goes (other ∷ next ∷ pages) first (suc n) page get =
 
 -- What a page reads as
 
-pub page_reads : (size : ℕ) (page : Page) → size < drop_size → IsFull size page
+pub page_reads : (size : ℕ) (page : Page) → size < drop_size → IsWellFormedPage size page
     → reading_of (length page.fragments) (laid page.dropped page.fragments page.rest) ≡ Fragments (chunk_of page).fragments
 page_reads size page small full =
     ap (λ (n : ℕ). reading_of n (laid page.dropped page.fragments page.rest)) (sym (page_long 4 page.dropped page.fragments))
@@ -208,7 +208,7 @@ chunk_is page =
     ∙ ap (λ (b : Bool). record (whole_chunk (flags_of page) chunk.fragments) { continues = page.continues; runs_on = page.runs_on; awaits = b }) (flag_4 page.continues page.runs_on page.awaits)
 
 -- the event of a content that is a page
-pub page_arrives : (size q n : ℕ) (page : Page) (content : Content) → size < drop_size → IsFull size page → content.image ≡ image_of q n page
+pub page_arrives : (size q n : ℕ) (page : Page) (content : Content) → size < drop_size → IsWellFormedPage size page → content.image ≡ image_of q n page
     → arrival_of q n (Some content) ≡ model.Arrives q n (chunk_of page) ∷ []
 page_arrives size q n page content small full is =
     let event : Chunk → model.Event = λ chunk. model.Arrives q n chunk in

@@ -11,7 +11,7 @@ use Rattle.trace_model.specs.Images.{Fragment, Patch, patched_last}
 use Rattle.trace_model.specs.Pages.{Page, framed, laid, fragments_from}
 use Rattle.trace_model.specs.Fading.{ShowFragments}
 use Rattle.trace_model.specs.Written.{settled_fragments}
-use Rattle.trace_model.specs.Cut.{IsFull}
+use Rattle.trace_model.specs.Cut.{IsWellFormedPage}
 use Rattle.trace_model.specs.Reading.{Fragments, reading_of}
 use Rattle.wire_varint.specs.Varint.{redundant}
 use Rattle.chunk_plain.specs.Views.{At, Found, Look}
@@ -129,7 +129,7 @@ front_reads k texts sealed is least more most small =
     let first : List (List ℕ) = take k texts in
     let many : length first ≡ k = omega (arith, length-take k texts, more) in
     let laid_is : laid false first [] ≡ sealed = laid_frames first ∙ sym is in
-    let full : IsFull (length sealed) (front_page first) = record {
+    let full : IsWellFormedPage (length sealed) (front_page first) = record {
       some = omega (arith, many, least);
       most = omega (arith, many, more, most);
       whole = ap (λ (xs : List ℕ). length xs) laid_is;

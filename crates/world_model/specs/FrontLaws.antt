@@ -11,7 +11,7 @@ use Rattle.world_model.specs.Accounts.{IsFrontOf}
 
 -- The image stands in the words of a held chunk: its header says the image's count and flags, and the bytes of all fragments but
 -- the last one are there.
-pub record StandsIn (draft : Draft) (image : Image) : Type 0 where
+pub record StandsInWords (draft : Draft) (image : Image) : Type 0 where
   pub head : draft.head ≡ record { count = image.count; flags = image.flags }
   pub before : List (List ℕ)
   pub count : image.count ≡ length before + 1
@@ -25,5 +25,5 @@ pub record FindsAreFronts : Type 0 where
   pub completed : (about chunk : ℕ) (found : Found) (content : Content) → IsFound found
       → StillHas about found (Completed chunk content) → 0 < length found.ends → IsFrontOf found content.image
   pub held : (about chunk : ℕ) (found : Found) (draft : Draft) (image : Image) → IsFound found
-      → StillHas about found (Held chunk draft) → IsDraft draft → StandsIn draft image → length image.payload < drop_size
+      → StillHas about found (Held chunk draft) → IsDraft draft → StandsInWords draft image → length image.payload < drop_size
       → 0 < length found.ends → IsFrontOf found image

@@ -1,6 +1,6 @@
 use Rattle.std.proofs.Common.{◌≡◌, ◌+◌, ◌-◌, ◌<◌, ◌∙◌, true, false, Some, subst, sym, refl, ap, arith}
 use Rattle.chunk_plain.specs.World.{Unclaimed, Claimed, Writing, status}
-use Rattle.chunk_plain.specs.Steps.{moved, noted}
+use Rattle.chunk_plain.specs.Steps.{moved, with_writer_view}
 use Rattle.chunk_plain.specs.Owned.{held_count}
 use Rattle.chunk_plain.specs.Drafts.{draft_at}
 use Rattle.chunk_plain.specs.Words.{HasClaimed, TriesClaim, BeginsChunk}
@@ -68,8 +68,8 @@ returns-in-Some-clause-told_won g c = λ world told.
     let mid = g.W.Words.means.view c.loop-chunk.table c.loop-chunk.seat in let won = g.W.Words.means.view c.claim_try.new.self c.claim_try.new.seat in
     let new = g.W.Words.means.view c.begin.new.self c.begin.new.seat in
     let before = i.told world told in
-    let claimed = c.in-Some.ensures.told_won (noted world place mid) before.1 in
-    let begun = c.begin.ensures.told (moved (noted world place mid) other won chunk (Claimed other)) claimed.1 in
+    let claimed = c.in-Some.ensures.told_won (with_writer_view world place mid) before.1 in
+    let begun = c.begin.ensures.told (moved (with_writer_view world place mid) other won chunk (Claimed other)) claimed.1 in
     let chunk_is = c.begin.ensures.held.chunk_is ∙ c.in-Some.ensures.chunk in
     let last_is = c.in-Some.ensures.step.place_stays ∙ i.step.place_stays in
     let at = turns.told_begun (g.W.Words.means.told c.begin.new.self) world place other last chunk c.in-Some.claimed.chunk c.args.id mid won new (draft_at new c.args.id) i.step.place_stays last_is c.in-Some.ensures.chunk begun in
@@ -90,7 +90,7 @@ loop-chunk-preserved g c =
       counted = omega arith;
       told = λ world told.
           let before = i.told world told in
-          let after = c.in_default.ensures.told_lost (noted world place mid) before.1 in (
+          let after = c.in_default.ensures.told_lost (with_writer_view world place mid) before.1 in (
             turns.none_free world first chunk before.0 after.0,
             after.1 ∙ ap (λ w. Some w) (turns.noted_again world place (g.W.Words.means.place c.loop-chunk.seat) mid new i.step.place_stays),
           );

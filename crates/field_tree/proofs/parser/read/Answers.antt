@@ -1,5 +1,5 @@
 use Rattle.std.proofs.Common.{arith, None, [], ◌∷◌, List, ℕ, sym, ap, subst}
-use Rattle.field_tree.specs.Machine.{Reading, beginning}
+use Rattle.field_tree.specs.Machine.{TextReading, beginning}
 use Rattle.field_tree.specs.Scanning.{RunsOver}
 use Rattle.field_tree.specs.Views.{reading}
 use Rattle.field_tree.proofs.AnswerLemmas.{nodes_fit}
@@ -9,7 +9,7 @@ use Rattle.field_tree.proofs.parser.read.Goals as goal
 
 pub bytes-init : goal.bytes-init
 bytes-init c = (
-  subst (λ (r : Reading). RunsOver beginning c.args.text.now r c.args.text.now) (sym c.start.ensures.reading) (stays_here beginning c.args.text.now),
+  subst (λ (r : TextReading). RunsOver beginning c.args.text.now r c.args.text.now) (sym c.start.ensures.reading) (stays_here beginning c.args.text.now),
   c.start.ensures.kept,
 )
 

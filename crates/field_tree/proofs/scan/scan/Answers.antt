@@ -1,5 +1,5 @@
 use Rattle.std.proofs.Common.{◌≡◌, [], append-nil}
-use Rattle.field_tree.specs.Scanning.{place}
+use Rattle.field_tree.specs.Scanning.{reading_with}
 use Rattle.field_tree.proofs.ScanLemmas.{stays_here}
 use Rattle.field_tree.proofs.scan.scan.Goals as goal
 
@@ -9,4 +9,4 @@ returns-in-Start-Some c nodes depth text valid =
     rw (c.in-Start-Some.is-0, empty, c.in-Start-Some.ensures) (c.scan_field.ensures c.in-Start-Some.opened-0 nodes depth)
 
 pub returns-in_default : goal.returns-in_default
-returns-in_default c nodes depth text valid = rw (append-nil text) (stays_here (place nodes depth text c.args.mode) c.args.bytes.now)
+returns-in_default c nodes depth text valid = rw (append-nil text) (stays_here (reading_with nodes depth text c.args.mode) c.args.bytes.now)

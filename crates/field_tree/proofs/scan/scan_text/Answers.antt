@@ -2,7 +2,7 @@ use Rattle.std.proofs.Common.{◌≡◌, ℕ, List, [], ◌∷◌, ◌++◌, tak
 use Rattle.std.specs.List.{AllByRecursion}
 use Rattle.field_tree.specs.declared.mode.Mode.TheVariants.{Text, Quoted}
 use Rattle.field_tree.specs.Grammar.{IsTextByte}
-use Rattle.field_tree.specs.Scanning.{place, RunsOver}
+use Rattle.field_tree.specs.Scanning.{reading_with, RunsOver}
 use Rattle.field_tree.proofs.ScanLemmas.{over_front, over_both, text_over, at_second_quote}
 use Rattle.field_tree.proofs.scan.scan_text.Goals as goal
 
@@ -12,11 +12,11 @@ returns-in-Some-eq34-default c nodes depth =
     let quote = c.in-Some-eq34-default in
     let text = c.split_at.result.0.now in
     let back = c.split_at.result.1.now in
-    let read = place nodes depth text (Text field) in
-    let to = place nodes depth text c.scan_times-times.result.mode in
-    over_both (place nodes depth [] (Text field)) read to c.args.bytes.now back c.scan_times-times.result.behind.now
+    let read = reading_with nodes depth text (Text field) in
+    let to = reading_with nodes depth text c.scan_times-times.result.mode in
+    over_both (reading_with nodes depth [] (Text field)) read to c.args.bytes.now back c.scan_times-times.result.behind.now
     (text_over c.args.bytes.now text back c.text_len.result nodes depth field c.split_at.ensures.front c.split_at.ensures.back c.text_len.ensures.text)
-    (over_front 34 read (place nodes depth text (Quoted field)) to back quote.rest.now c.scan_times-times.result.behind.now
+    (over_front 34 read (reading_with nodes depth text (Quoted field)) to back quote.rest.now c.scan_times-times.result.behind.now
     (quote.ensures ∙ ap (λ (b : ℕ). b ∷ quote.rest.now) quote.field-0-0-test) (at_second_quote nodes depth field text) (c.scan_times-times.ensures nodes depth text))
 
 pub returns-in_default : goal.returns-in_default

@@ -1,5 +1,5 @@
 use Rattle.std.proofs.Common.{◌≡◌, ◌+◌, ◌-◌, ◌≤◌, false, suc, length, drop, sym, ap, ◌∙◌, subst, arith}
-use Rattle.trace_model.specs.Reading.{reading_of, place_behind}
+use Rattle.trace_model.specs.Reading.{reading_of, fragment_end}
 use Rattle.trace_buffer.specs.Records.{fragments_of}
 use Rattle.sequence_reader.specs.Spots.{start_from}
 use Rattle.sequence_reader.proofs.FragmentLemmas.{reads_at, not_last, rest_fits, start_next, none_read, some_read}
@@ -31,7 +31,7 @@ loop-passed-preserved c =
     record {
       few = omega (arith, c.loop-passed-test.true);
       at =
-          ap place_behind same
+          ap fragment_end same
           ∙ sym (start_next 0 c.loop-passed.passed (fragments_of (reading_of c.args.count c.args.payload.now)) next.fragment next.others next.split)
           ∙ ap (λ n. start_from 0 n (fragments_of (reading_of c.args.count c.args.payload.now))) one;
     }

@@ -1,6 +1,6 @@
 use Rattle.std.proofs.Common.{◌≡◌, ℕ, suc, ◌+◌, ◌-◌, ◌<◌, ◌≤◌, ◌==◌, ◌^◌, ◌/◌, ◌%◌, ◌&&◌, not, Bool, List, length, drop, inl, inr, refl, sym, ap, ap₂, ◌∙◌, subst, arith}
 use Rattle.trace_model.specs.Images.{Fragment}
-use Rattle.trace_model.specs.Reading.{place_behind}
+use Rattle.trace_model.specs.Reading.{fragment_end}
 use Rattle.trace_model.specs.Row.{is_last}
 use Rattle.trace_buffer.proofs.LossLemmas.{reading_length}
 use Rattle.chunk_image.specs.Values.{fragment_value}
@@ -72,11 +72,11 @@ returns c =
     let same : fragment_value c.in-Some.fragment ≡ s.next.fragment =
     some_read c.args.payload.now (c.args.key.count - suc k) (start_from 0 k fs) c.args.spot.offset (drop k fs) s.next s.at
     (k + 1 == c.args.key.count) c.read_fragment.result c.in-Some.fragment (sym (left_none k c.args.key.count c.if-spot-key.false)) c.read_fragment.ensures.value c.in-Some.is in
-    let end : ℕ = place_behind s.next.fragment in
+    let end : ℕ = fragment_end s.next.fragment in
     let ended : Bool = is_last s.next.others && not (c.args.key.partial && not c.args.closed) in
     let behind : c.spot_behind.result ≡ spot_behind c.args.spot end ended =
     c.spot_behind.ensures
-    ∙ ap₂ (spot_behind c.args.spot) (ap place_behind same)
+    ∙ ap₂ (spot_behind c.args.spot) (ap fragment_end same)
     (c.both-3.ensures ∙ ap₂ (λ a b. a && not b) (sym s.last) c.both-stays.ensures) in
     let start : c.args.spot.offset ≡ start_from 0 k fs = s.at in
     let after : start_from 0 k fs < s.next.fragment.offset = s.next.after in

@@ -7,8 +7,8 @@ use Rattle.trace_writer.proofs.Starting.{HasFound, found_there, found_place, fou
 use Rattle.trace_writer.proofs.begin.begin.Goals.{in-Idle, in-Between}
 use Rattle.trace_writer.proofs.begin.begin.Goals as goal
 
-pub place_behind-place-requires-clause-ids : goal.place_behind-place-requires-clause-ids
-place_behind-place-requires-clause-ids g c =
+pub held_or_new_place-place-requires-clause-ids : goal.held_or_new_place-place-requires-clause-ids
+held_or_new_place-place-requires-clause-ids g c =
     let behind = behind_of (g.W.Words.means.setup c.args.table.now) (g.W.Words.means.place c.args.seat.now) (g.W.Words.means.view c.args.table.now c.args.seat.now) c.args.writer.now c.in-Between.chunk
     (sym c.take_state.ensures.taken ∙ c.in-Between.is) c.requires.agrees in
     let id = behind_id _ _ (g.W.Words.means.view c.args.table.now c.args.seat.now) _ c.in-Between.chunk behind in
@@ -30,7 +30,7 @@ begin_at-requires-clause-place g c =
           let e = w.new_place-place.ensures in
           found_there w.writer-is w.help-is w.table-is w.seat-is w.steps-is w.place-is (record { route_is = refl; calls = e.calls; at = e.place _ _ (idle_of _ _ _ _ _ (sym c.take_state.ensures.taken ∙ w.in-Idle.is) c.requires.agrees); work = e.work })
       | in-Between w ↦
-          let e = w.place_behind-place.ensures in
+          let e = w.held_or_new_place-place.ensures in
           found_there w.writer-is w.help-is w.table-is w.seat-is w.steps-is w.place-is (record { route_is = refl; calls = e.calls; at = e.place _ (behind_of _ _ _ _ _ (sym c.take_state.ensures.taken ∙ w.in-Between.is) c.requires.agrees); work = e.work })
     ] in
     found_place found
@@ -45,7 +45,7 @@ returns g c =
           let e = w.new_place-place.ensures in
           found_there w.writer-is w.help-is w.table-is w.seat-is w.steps-is w.place-is (record { route_is = refl; calls = e.calls; at = e.place _ _ (idle_of _ _ _ _ _ (sym c.take_state.ensures.taken ∙ w.in-Idle.is) c.requires.agrees); work = e.work })
       | in-Between w ↦
-          let e = w.place_behind-place.ensures in
+          let e = w.held_or_new_place-place.ensures in
           found_there w.writer-is w.help-is w.table-is w.seat-is w.steps-is w.place-is (record { route_is = refl; calls = e.calls; at = e.place _ (behind_of _ _ _ _ _ (sym c.take_state.ensures.taken ∙ w.in-Between.is) c.requires.agrees); work = e.work })
     ] in
     record {
@@ -58,8 +58,8 @@ returns g c =
       asked = λ here. c.begin_at.ensures.quiet.asked ∙ elim c.match-take_state.branch [
         | in-Idle w ↦ absurd (subst BeginsHere (sym c.take_state.ensures.taken ∙ w.in-Idle.is) here)
         | in-Between w ↦
-            ap (λ table. (g.W.Words.means.view table c.match-take_state.seat).asked) w.table-is ∙ ap (λ seat. (g.W.Words.means.view w.place_behind-place.new.table seat).asked) w.seat-is
-            ∙ w.place_behind-place.ensures.asked (subst BeginsHere (sym c.take_state.ensures.taken ∙ w.in-Between.is) here)
+            ap (λ table. (g.W.Words.means.view table c.match-take_state.seat).asked) w.table-is ∙ ap (λ seat. (g.W.Words.means.view w.held_or_new_place-place.new.table seat).asked) w.seat-is
+            ∙ w.held_or_new_place-place.ensures.asked (subst BeginsHere (sym c.take_state.ensures.taken ∙ w.in-Between.is) here)
       ];
       few_steps = search rules;
     }

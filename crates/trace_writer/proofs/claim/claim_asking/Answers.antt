@@ -1,6 +1,6 @@
 use Rattle.std.proofs.Common.{Bool, true, false, List, sym, subst, arith}
 use Rattle.chunk_plain.specs.Setup.{Setup}
-use Rattle.chunk_plain.specs.Views.{Begun, WriterView}
+use Rattle.chunk_plain.specs.Views.{BegunChunk, WriterView}
 use Rattle.claim_arbiter.specs.Claiming.{ClaimsInTurn}
 use Rattle.trace_writer.specs.Claims.{FindsNone}
 use Rattle.trace_writer.specs.OwnSteps.{NoneHeld, IsOutNow}
@@ -52,7 +52,7 @@ returns-then-not-help-clause-work g c =
     route c.claims.table c.claims.seat c.claim_over.new.table c.claim_over.new.seat =
     out_now g.W.Words.means
     route c.claims.table c.claims.seat c.claim_over.new.table c.claim_over.new.seat c.claim_over.ensures.step c.in_default.ensures.lost
-    (subst (λ (begun : List Begun). NoneHeld begun) (sym c.claims.invariant.none.begun) c.requires.none_held) c.in_default.ensures.told_lost in
+    (subst (λ (begun : List BegunChunk). NoneHeld begun) (sym c.claims.invariant.none.begun) c.requires.none_held) c.in_default.ensures.told_lost in
     work_behind g.W.Words.means g.H.HelperOn.needs g.H.HelperOn.helps
     route c.args.help.now c.args.table.now c.args.seat.now c.args.steps.now c.claims.help c.claims.table c.claims.seat c.claims.steps true c.help.new.self
     c.help.new.table c.claim_over.new.seat c.claim_over.new.steps c.claims.invariant.work
@@ -72,7 +72,7 @@ claims-preserved g c =
     route c.claims.table c.claims.seat c.claim_over.new.table c.claim_over.new.seat =
     out_now g.W.Words.means
     route c.claims.table c.claims.seat c.claim_over.new.table c.claim_over.new.seat c.claim_over.ensures.step c.in_default.ensures.lost
-    (subst (λ (begun : List Begun). NoneHeld begun) (sym c.claims.invariant.none.begun) c.requires.none_held) c.in_default.ensures.told_lost in
+    (subst (λ (begun : List BegunChunk). NoneHeld begun) (sym c.claims.invariant.none.begun) c.requires.none_held) c.in_default.ensures.told_lost in
     record {
       none = subst (λ (v : WriterView). FindsNone old v) (sym (c.help.ensures.leaves.writers_stay c.claim_over.new.seat c.claim_over.ensures.step.seat_stays).1)
           (none_again (g.W.Words.means.setup c.claims.table) route old mid new c.claims.invariant.none c.in_default.ensures.lost);
@@ -89,5 +89,5 @@ claims-preserved g c =
 pub claim_over-requires-clause-few : goal.claim_over-requires-clause-few
 claim_over-requires-clause-few g c =
     let none = none_counted (g.W.Words.means.view c.claims.table c.claims.seat).begun
-    (subst (λ (begun : List Begun). NoneHeld begun) (sym c.claims.invariant.none.begun) c.requires.none_held) in
+    (subst (λ (begun : List BegunChunk). NoneHeld begun) (sym c.claims.invariant.none.begun) c.requires.none_held) in
     omega (arith, none)

@@ -3,7 +3,7 @@ use Rattle.trace_model.specs.Packets.{account_of}
 use Rattle.trace_writer.specs.declared.packet.OpenPacket.{OpenPacket}
 use Rattle.trace_writer.specs.declared.state.Writer.{Writer}
 use Rattle.trace_writer.specs.Site.{site_of}
-use Rattle.trace_writer.specs.Agreement.{Agrees, depth_of}
+use Rattle.trace_writer.specs.Agreement.{Agrees, open_message_count}
 use Rattle.trace_writer.proofs.Closing.{Pops, pops_few, start_within, hole_within, agrees_ended, agrees_ended_dropping}
 use Rattle.trace_writer.proofs.Agreeing.{writing_agrees}
 use Rattle.trace_writer.proofs.QuietRows.{quiet_none}
@@ -19,7 +19,7 @@ pub close_hole-requires-clause-fits : goal.close_hole-requires-clause-fits
 close_hole-requires-clause-fits g c =
     pops_few c.in-Some.packet c.end_nested-length.new.self c.end_nested-length.result
     (record {
-      some = subst (λ (o : Option OpenPacket). 0 < depth_of o) c.in-Some.is c.requires.depth;
+      some = subst (λ (o : Option OpenPacket). 0 < open_message_count o) c.in-Some.is c.requires.depth;
       len = c.end_nested-length.ensures.len;
       starts = c.end_nested-length.ensures.starts;
     })
@@ -36,7 +36,7 @@ returns-clause-agrees g c =
     let setup = g.W.Words.means.setup c.args.table.now in let place = g.W.Words.means.place c.args.seat.now in
     let view = g.W.Words.means.view c.args.table.now c.args.seat.now in let new = g.W.Words.means.view c.note_call.new.self c.note_call.new.seat in
     let pops : Pops c.in-Some.packet c.end_nested-length.new.self c.end_nested-length.result = record {
-      some = subst (λ (o : Option OpenPacket). 0 < depth_of o) c.in-Some.is c.requires.depth;
+      some = subst (λ (o : Option OpenPacket). 0 < open_message_count o) c.in-Some.is c.requires.depth;
       len = c.end_nested-length.ensures.len;
       starts = c.end_nested-length.ensures.starts;
     } in

@@ -4,7 +4,7 @@ use Rattle.trace_model.specs.Encoding.{nested_tag}
 use Rattle.trace_model.specs.Packets.{Packet, Account, noted, on_newest, with_more}
 use Rattle.cut_steps.specs.Writing.{with_open}
 use Rattle.trace_writer.specs.declared.packet.OpenPacket.{OpenPacket}
-use Rattle.trace_writer.specs.Agreement.{len_of, depth_of}
+use Rattle.trace_writer.specs.Agreement.{len_of, open_message_count}
 use Rattle.trace_writer.specs.Empty.{is_stalled}
 use Rattle.trace_writer.specs.Flows.{is_stopped}
 use Rattle.trace_writer.proofs.Agreeing.{agrees_behind, agrees_dropping, notes_behind, writing_not_lost, as_many_holes, grows_nested}
@@ -25,7 +25,7 @@ pub put_nested-flow-requires-clause-few : goal.put_nested-flow-requires-clause-f
 put_nested-flow-requires-clause-few g c =
     let many = as_many_holes (g.W.Words.means.setup c.args.table.now) (g.W.Words.means.place c.args.seat.now) (g.W.Words.means.view c.args.table.now c.args.seat.now)
     c.args.writer.now c.in-Writing.fragment c.in-Some.packet c.requires.agrees (sym c.in-Writing.ensures.taken) c.in-Some.is in
-    subst (λ (n : ℕ). n < 16) (sym many) (subst (λ (o : Option OpenPacket). depth_of o < 16) c.in-Some.is c.requires.depth)
+    subst (λ (n : ℕ). n < 16) (sym many) (subst (λ (o : Option OpenPacket). open_message_count o < 16) c.in-Some.is c.requires.depth)
 
 pub returns-in-Writing-clause-agrees : goal.returns-in-Writing-clause-agrees
 returns-in-Writing-clause-agrees g c =

@@ -1,6 +1,6 @@
 use Rattle.std.proofs.Common.{◌≡◌, ◌==◌, ◌-◌, ◌∷◌, length, Some, ap, sym, ◌∙◌, arith}
 use Rattle.std.proofs.lemmas.List.{take_rest}
-use Rattle.trace_model.specs.Reading.{size_of, fragment_of, place_behind}
+use Rattle.trace_model.specs.Reading.{size_of, fragment_of, fragment_end}
 use Rattle.chunk_image.specs.Values.{fragment_value}
 use Rattle.chunk_image.specs.Readable.{readable_from}
 use Rattle.chunk_image.proofs.NextLemmas.{next_some}
@@ -12,8 +12,8 @@ returns-clause-steps c =
     let found : fragment_of (c.self.inside.left == 1) c.self.inside.at c.self.inside.rest.now (size_of 4 c.self.inside.rest.now) ≡ Some fragment =
     sym c.in_ok-fragment.ensures.value in
     sym c.self.view_is ∙ next_some c.self.inside.left c.self.inside.at c.self.inside.rest.now fragment c.if-self-eq0.false found
-    ∙ ap (λ rest. fragment ∷ readable_from (c.self.inside.left - 1) (place_behind fragment) rest)
-    (sym (take_rest c.self.inside.rest.now (place_behind fragment - c.self.inside.at)))
+    ∙ ap (λ rest. fragment ∷ readable_from (c.self.inside.left - 1) (fragment_end fragment) rest)
+    (sym (take_rest c.self.inside.rest.now (fragment_end fragment - c.self.inside.at)))
 
 -- an item leaves one fewer
 pub returns-clause-goes : goal.returns-clause-goes

@@ -8,7 +8,7 @@ use Rattle.std.proofs.Common.{Some}
 use Rattle.page_geometry.specs.PageBits.{IsClaimed}
 use Rattle.chunk_plain.specs.declared.step.Step.TheVariants.{Claim}
 use Rattle.chunk_plain.specs.World.{World, Unclaimed, Claimed, status, writer}
-use Rattle.chunk_plain.specs.Steps.{claims, moved, noted}
+use Rattle.chunk_plain.specs.Steps.{claims, moved, with_writer_view}
 use Rattle.chunk_plain.specs.Plain.{world_after}
 
 pub invariant_of-self-clause-kept : goal.invariant_of-self-clause-kept
@@ -42,7 +42,7 @@ returns-then-claimed-clause-told_lost c = λ world e.
     let same : self.seat.me.0 ≡ world = cc in
     let next = c.make_step.new.seat.me.0 in
     let next_is = subst (λ b. next ≡ world_after self.seat.me.0 (Claim place c.args.chunk found (not b))) c.if-claimed.true c.make_step.ensures.world in
-    subst (λ (w : World). (status w c.args.chunk ≡ Unclaimed → ⊥) × (Some next ≡ Some (noted w place (writer next place)))) same (
+    subst (λ (w : World). (status w c.args.chunk ≡ Unclaimed → ⊥) × (Some next ≡ Some (with_writer_view w place (writer next place)))) same (
       known.claim_taken self.layout self.words.items self.slots.items self.seat.me.0 self.kept c.args.chunk found at c.spot-spot.ensures.spot inside_c is (c.claimed-claimed.ensures.0 c.if-claimed.true),
       ap (λ (w : World). Some w) (known.told_noted self.layout self.words.items self.slots.items self.seat.me.0 self.kept next place (claims (writer self.seat.me.0 place) c.args.chunk found false) c.requires.seat.inside next_is),
     )

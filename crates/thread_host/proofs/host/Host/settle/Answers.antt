@@ -3,7 +3,7 @@ use Rattle.std.proofs.Common.{◌∙◌, ℕ, ◌≤◌, Option, List, length, s
 use Rattle.std.specs.Option.{IsSomeAnd}
 use Rattle.std.proofs.lemmas.List.{with_items_is}
 use Rattle.std.proofs.lemmas.Option.{slice_get_within}
-use Rattle.chunk_plain.specs.Views.{Begun, taken_of}
+use Rattle.chunk_plain.specs.Views.{BegunChunk, taken_of}
 use Rattle.chunk_words.specs.declared.seats.WriterSeat.{WriterSeat}
 use Rattle.chunk_words.specs.Sits.{setup_in}
 use Rattle.loss_report.specs.declared.counts.SequenceCounts.{SequenceCounts}
@@ -52,7 +52,7 @@ returns-clause-settled c scenario host played =
           let many = ends.many in
           let whole = whole_tale scenario.lines table (serving.view_in mid) (serving.desk_in mid) place seat _ (omega (arith, inside, many)) (done place seat there) heard in
           let taken = settles.taken heard.number heard.tale heard.told whole in
-          subst (λ (begun : List Begun). length begun ≤ (taken_of (serving.view_in last) place).count) heard.begun_is
+          subst (λ (begun : List BegunChunk). length begun ≤ (taken_of (serving.view_in last) place).count) heard.begun_is
           (subst (λ (p : ℕ). length heard.tale.begun ≤ (taken_of (serving.view_in last) p).count) heard.place_is taken);
       pass = host.pass;
       known = host.known;

@@ -3,7 +3,7 @@ use Rattle.wire_varint.proofs.Lengths.{length-tag-le}
 use Rattle.trace_model.specs.Packets.{with_nested}
 use Rattle.trace_model.specs.Calls as call
 use Rattle.trace_writer.specs.declared.writer.WriterCore.{WriterCore}
-use Rattle.trace_writer.specs.Agreement.{NeedsNoChunk, depth_of, len_of}
+use Rattle.trace_writer.specs.Agreement.{NeedsNoChunk, open_message_count, len_of}
 use Rattle.trace_writer.specs.Core.{nested_fault}
 use Rattle.trace_writer.specs.Refusals.{nested_refusal}
 use Rattle.trace_writer.proofs.CoreDone.{left_written, refused_so, never_none, refused_stalled, none_stalled}
@@ -16,7 +16,7 @@ returns-in_err-check_nested-clause-refused g c = λ fault asked.
     let found = c.in_err-check_nested.field-0.0 in
     let result_is : c.from_residual.result ≡ Err found = search rules in
     let is = nested_fault_is (g.W.Words.means.setup c.args.table.now) (g.W.Words.means.place c.args.self.now.seat) (g.W.Words.means.view c.args.table.now c.args.self.now.seat) c.args.self.now.writer c.args.field c.as_slice-tag.result.now c.requires.agrees.writes c.requires.begun (c.as_slice-tag.ensures ∙ c.head_nested-head.ensures) in
-    let refused : nested_refusal (depth_of c.args.self.now.writer.packet) (len_of c.args.self.now.writer.packet) c.args.field (length c.as_slice-tag.result.now) ≡ Some found = c.in_err-check_nested.ensures.refused in
+    let refused : nested_refusal (open_message_count c.args.self.now.writer.packet) (len_of c.args.self.now.writer.packet) c.args.field (length c.as_slice-tag.result.now) ≡ Some found = c.in_err-check_nested.ensures.refused in
     record {
       answer_is = result_is ∙ ap Err (refused_so c.args.self.now (nested_fault (g.W.Words.means.view c.args.table.now c.args.self.now.seat) c.args.field) found fault (sym is ∙ refused) asked);
       writer_stays = refl;
@@ -29,20 +29,20 @@ pub returns-in_err-check_nested-clause-answers : goal.returns-in_err-check_neste
 returns-in_err-check_nested-clause-answers g c = λ asked.
     let found = c.in_err-check_nested.field-0.0 in
     let is = nested_fault_is (g.W.Words.means.setup c.args.table.now) (g.W.Words.means.place c.args.self.now.seat) (g.W.Words.means.view c.args.table.now c.args.self.now.seat) c.args.self.now.writer c.args.field c.as_slice-tag.result.now c.requires.agrees.writes c.requires.begun (c.as_slice-tag.ensures ∙ c.head_nested-head.ensures) in
-    let refused : nested_refusal (depth_of c.args.self.now.writer.packet) (len_of c.args.self.now.writer.packet) c.args.field (length c.as_slice-tag.result.now) ≡ Some found = c.in_err-check_nested.ensures.refused in
+    let refused : nested_refusal (open_message_count c.args.self.now.writer.packet) (len_of c.args.self.now.writer.packet) c.args.field (length c.as_slice-tag.result.now) ≡ Some found = c.in_err-check_nested.ensures.refused in
     absurd (never_none c.args.self.now (nested_fault (g.W.Words.means.view c.args.table.now c.args.self.now.seat) c.args.field) found (sym is ∙ refused) asked)
 
 pub returns-in_err-check_nested-clause-done : goal.returns-in_err-check_nested-clause-done
 returns-in_err-check_nested-clause-done g c = λ asked.
     let found = c.in_err-check_nested.field-0.0 in
     let is = nested_fault_is (g.W.Words.means.setup c.args.table.now) (g.W.Words.means.place c.args.self.now.seat) (g.W.Words.means.view c.args.table.now c.args.self.now.seat) c.args.self.now.writer c.args.field c.as_slice-tag.result.now c.requires.agrees.writes c.requires.begun (c.as_slice-tag.ensures ∙ c.head_nested-head.ensures) in
-    let refused : nested_refusal (depth_of c.args.self.now.writer.packet) (len_of c.args.self.now.writer.packet) c.args.field (length c.as_slice-tag.result.now) ≡ Some found = c.in_err-check_nested.ensures.refused in
+    let refused : nested_refusal (open_message_count c.args.self.now.writer.packet) (len_of c.args.self.now.writer.packet) c.args.field (length c.as_slice-tag.result.now) ≡ Some found = c.in_err-check_nested.ensures.refused in
     absurd (never_none c.args.self.now (nested_fault (g.W.Words.means.view c.args.table.now c.args.self.now.seat) c.args.field) found (sym is ∙ refused) asked)
 
 pub returns-clause-refused : goal.returns-clause-refused
 returns-clause-refused g c = λ fault asked.
     let is = nested_fault_is (g.W.Words.means.setup c.args.table.now) (g.W.Words.means.place c.args.self.now.seat) (g.W.Words.means.view c.args.table.now c.args.self.now.seat) c.args.self.now.writer c.args.field c.as_slice-tag.result.now c.requires.agrees.writes c.requires.begun (c.as_slice-tag.ensures ∙ c.head_nested-head.ensures) in
-    let accepted : nested_refusal (depth_of c.args.self.now.writer.packet) (len_of c.args.self.now.writer.packet) c.args.field (length c.as_slice-tag.result.now) ≡ None = c.in_ok-check_nested.ensures.accepted in
+    let accepted : nested_refusal (open_message_count c.args.self.now.writer.packet) (len_of c.args.self.now.writer.packet) c.args.field (length c.as_slice-tag.result.now) ≡ None = c.in_ok-check_nested.ensures.accepted in
     let now = refused_stalled c.args.self.now (nested_fault (g.W.Words.means.view c.args.table.now c.args.self.now.seat) c.args.field) fault (sym is ∙ accepted) asked in
     let stays = c.write_nested.ensures.stays now.stalled_is in
     record {
@@ -57,13 +57,13 @@ returns-clause-refused g c = λ fault asked.
 pub returns-clause-answers : goal.returns-clause-answers
 returns-clause-answers g c = λ asked.
     let is = nested_fault_is (g.W.Words.means.setup c.args.table.now) (g.W.Words.means.place c.args.self.now.seat) (g.W.Words.means.view c.args.table.now c.args.self.now.seat) c.args.self.now.writer c.args.field c.as_slice-tag.result.now c.requires.agrees.writes c.requires.begun (c.as_slice-tag.ensures ∙ c.head_nested-head.ensures) in
-    let accepted : nested_refusal (depth_of c.args.self.now.writer.packet) (len_of c.args.self.now.writer.packet) c.args.field (length c.as_slice-tag.result.now) ≡ None = c.in_ok-check_nested.ensures.accepted in
+    let accepted : nested_refusal (open_message_count c.args.self.now.writer.packet) (len_of c.args.self.now.writer.packet) c.args.field (length c.as_slice-tag.result.now) ≡ None = c.in_ok-check_nested.ensures.accepted in
     c.write_nested.ensures.answers (none_stalled c.args.self.now (nested_fault (g.W.Words.means.view c.args.table.now c.args.self.now.seat) c.args.field) (sym is ∙ accepted) asked)
 
 pub returns-clause-done : goal.returns-clause-done
 returns-clause-done g c = λ asked.
     let is = nested_fault_is (g.W.Words.means.setup c.args.table.now) (g.W.Words.means.place c.args.self.now.seat) (g.W.Words.means.view c.args.table.now c.args.self.now.seat) c.args.self.now.writer c.args.field c.as_slice-tag.result.now c.requires.agrees.writes c.requires.begun (c.as_slice-tag.ensures ∙ c.head_nested-head.ensures) in
-    let accepted : nested_refusal (depth_of c.args.self.now.writer.packet) (len_of c.args.self.now.writer.packet) c.args.field (length c.as_slice-tag.result.now) ≡ None = c.in_ok-check_nested.ensures.accepted in
+    let accepted : nested_refusal (open_message_count c.args.self.now.writer.packet) (len_of c.args.self.now.writer.packet) c.args.field (length c.as_slice-tag.result.now) ≡ None = c.in_ok-check_nested.ensures.accepted in
     let d = c.write_nested.ensures.done (none_stalled c.args.self.now (nested_fault (g.W.Words.means.view c.args.table.now c.args.self.now.seat) c.args.field) (sym is ∙ accepted) asked) in
     (d.0, d.1)
 

@@ -4,7 +4,7 @@ use Rattle.trace_model.specs.Encoding.{bytes_head, bytes_field}
 use Rattle.trace_model.specs.Packets.{with_more}
 use Rattle.trace_model.specs.Calls as call
 use Rattle.trace_writer.specs.declared.writer.WriterCore.{WriterCore}
-use Rattle.trace_writer.specs.Agreement.{NeedsNoChunk, depth_of, len_of}
+use Rattle.trace_writer.specs.Agreement.{NeedsNoChunk, open_message_count, len_of}
 use Rattle.trace_writer.specs.Core.{field_fault, bytes_size}
 use Rattle.trace_writer.specs.Refusals.{field_refusal}
 use Rattle.trace_writer.proofs.CoreCalls.{more_keeps}
@@ -20,9 +20,9 @@ returns-in_err-check_field-clause-refused g c = λ fault asked.
     let total : ℕ = c.args.times * length c.args.value.now in
     let counted : c.min.result ≡ min total MAX_PACKET_LEN = search rules in
     let head : c.as_slice.result.now ≡ bytes_head c.args.field c.min.result = c.as_slice.ensures ∙ c.head_bytes-head.ensures in
-    let is = bytes_fault (depth_of c.args.self.now.writer.packet) (len_of c.args.self.now.writer.packet) c.args.field total c.min.result c.as_slice.result.now head counted
+    let is = bytes_fault (open_message_count c.args.self.now.writer.packet) (len_of c.args.self.now.writer.packet) c.args.field total c.min.result c.as_slice.result.now head counted
     ∙ field_fault_is (g.W.Words.means.setup c.args.table.now) (g.W.Words.means.place c.args.self.now.seat) (g.W.Words.means.view c.args.table.now c.args.self.now.seat) c.args.self.now.writer c.args.field (length (bytes_head c.args.field total) + total) c.requires.agrees.writes c.requires.begun in
-    let refused : field_refusal (depth_of c.args.self.now.writer.packet) (len_of c.args.self.now.writer.packet) c.args.field (length c.as_slice.result.now + total) ≡ Some found = search rules in
+    let refused : field_refusal (open_message_count c.args.self.now.writer.packet) (len_of c.args.self.now.writer.packet) c.args.field (length c.as_slice.result.now + total) ≡ Some found = search rules in
     record {
       answer_is = result_is ∙ ap Err (refused_so c.args.self.now (field_fault (g.W.Words.means.view c.args.table.now c.args.self.now.seat) c.args.field (bytes_size c.args.field c.args.times c.args.value.now)) found fault (sym is ∙ refused) asked);
       writer_stays = refl;
@@ -37,9 +37,9 @@ returns-in_err-check_field-clause-answers g c = λ asked.
     let total : ℕ = c.args.times * length c.args.value.now in
     let counted : c.min.result ≡ min total MAX_PACKET_LEN = search rules in
     let head : c.as_slice.result.now ≡ bytes_head c.args.field c.min.result = c.as_slice.ensures ∙ c.head_bytes-head.ensures in
-    let is = bytes_fault (depth_of c.args.self.now.writer.packet) (len_of c.args.self.now.writer.packet) c.args.field total c.min.result c.as_slice.result.now head counted
+    let is = bytes_fault (open_message_count c.args.self.now.writer.packet) (len_of c.args.self.now.writer.packet) c.args.field total c.min.result c.as_slice.result.now head counted
     ∙ field_fault_is (g.W.Words.means.setup c.args.table.now) (g.W.Words.means.place c.args.self.now.seat) (g.W.Words.means.view c.args.table.now c.args.self.now.seat) c.args.self.now.writer c.args.field (length (bytes_head c.args.field total) + total) c.requires.agrees.writes c.requires.begun in
-    let refused : field_refusal (depth_of c.args.self.now.writer.packet) (len_of c.args.self.now.writer.packet) c.args.field (length c.as_slice.result.now + total) ≡ Some found = search rules in
+    let refused : field_refusal (open_message_count c.args.self.now.writer.packet) (len_of c.args.self.now.writer.packet) c.args.field (length c.as_slice.result.now + total) ≡ Some found = search rules in
     absurd (never_none c.args.self.now (field_fault (g.W.Words.means.view c.args.table.now c.args.self.now.seat) c.args.field (bytes_size c.args.field c.args.times c.args.value.now)) found (sym is ∙ refused) asked)
 
 pub returns-in_err-check_field-clause-done : goal.returns-in_err-check_field-clause-done
@@ -48,9 +48,9 @@ returns-in_err-check_field-clause-done g c = λ asked.
     let total : ℕ = c.args.times * length c.args.value.now in
     let counted : c.min.result ≡ min total MAX_PACKET_LEN = search rules in
     let head : c.as_slice.result.now ≡ bytes_head c.args.field c.min.result = c.as_slice.ensures ∙ c.head_bytes-head.ensures in
-    let is = bytes_fault (depth_of c.args.self.now.writer.packet) (len_of c.args.self.now.writer.packet) c.args.field total c.min.result c.as_slice.result.now head counted
+    let is = bytes_fault (open_message_count c.args.self.now.writer.packet) (len_of c.args.self.now.writer.packet) c.args.field total c.min.result c.as_slice.result.now head counted
     ∙ field_fault_is (g.W.Words.means.setup c.args.table.now) (g.W.Words.means.place c.args.self.now.seat) (g.W.Words.means.view c.args.table.now c.args.self.now.seat) c.args.self.now.writer c.args.field (length (bytes_head c.args.field total) + total) c.requires.agrees.writes c.requires.begun in
-    let refused : field_refusal (depth_of c.args.self.now.writer.packet) (len_of c.args.self.now.writer.packet) c.args.field (length c.as_slice.result.now + total) ≡ Some found = search rules in
+    let refused : field_refusal (open_message_count c.args.self.now.writer.packet) (len_of c.args.self.now.writer.packet) c.args.field (length c.as_slice.result.now + total) ≡ Some found = search rules in
     absurd (never_none c.args.self.now (field_fault (g.W.Words.means.view c.args.table.now c.args.self.now.seat) c.args.field (bytes_size c.args.field c.args.times c.args.value.now)) found (sym is ∙ refused) asked)
 
 pub returns-clause-refused : goal.returns-clause-refused
@@ -58,9 +58,9 @@ returns-clause-refused g c = λ fault asked.
     let total : ℕ = c.args.times * length c.args.value.now in
     let counted : c.min.result ≡ min total MAX_PACKET_LEN = search rules in
     let head : c.as_slice.result.now ≡ bytes_head c.args.field c.min.result = c.as_slice.ensures ∙ c.head_bytes-head.ensures in
-    let is = bytes_fault (depth_of c.args.self.now.writer.packet) (len_of c.args.self.now.writer.packet) c.args.field total c.min.result c.as_slice.result.now head counted
+    let is = bytes_fault (open_message_count c.args.self.now.writer.packet) (len_of c.args.self.now.writer.packet) c.args.field total c.min.result c.as_slice.result.now head counted
     ∙ field_fault_is (g.W.Words.means.setup c.args.table.now) (g.W.Words.means.place c.args.self.now.seat) (g.W.Words.means.view c.args.table.now c.args.self.now.seat) c.args.self.now.writer c.args.field (length (bytes_head c.args.field total) + total) c.requires.agrees.writes c.requires.begun in
-    let accepted : field_refusal (depth_of c.args.self.now.writer.packet) (len_of c.args.self.now.writer.packet) c.args.field (length c.as_slice.result.now + total) ≡ None = search rules in
+    let accepted : field_refusal (open_message_count c.args.self.now.writer.packet) (len_of c.args.self.now.writer.packet) c.args.field (length c.as_slice.result.now + total) ≡ None = search rules in
     let now = refused_stalled c.args.self.now (field_fault (g.W.Words.means.view c.args.table.now c.args.self.now.seat) c.args.field (bytes_size c.args.field c.args.times c.args.value.now)) fault (sym is ∙ accepted) asked in
     let stays = c.write_field.ensures.stays now.stalled_is in
     record {
@@ -77,9 +77,9 @@ returns-clause-answers g c = λ asked.
     let total : ℕ = c.args.times * length c.args.value.now in
     let counted : c.min.result ≡ min total MAX_PACKET_LEN = search rules in
     let head : c.as_slice.result.now ≡ bytes_head c.args.field c.min.result = c.as_slice.ensures ∙ c.head_bytes-head.ensures in
-    let is = bytes_fault (depth_of c.args.self.now.writer.packet) (len_of c.args.self.now.writer.packet) c.args.field total c.min.result c.as_slice.result.now head counted
+    let is = bytes_fault (open_message_count c.args.self.now.writer.packet) (len_of c.args.self.now.writer.packet) c.args.field total c.min.result c.as_slice.result.now head counted
     ∙ field_fault_is (g.W.Words.means.setup c.args.table.now) (g.W.Words.means.place c.args.self.now.seat) (g.W.Words.means.view c.args.table.now c.args.self.now.seat) c.args.self.now.writer c.args.field (length (bytes_head c.args.field total) + total) c.requires.agrees.writes c.requires.begun in
-    let accepted : field_refusal (depth_of c.args.self.now.writer.packet) (len_of c.args.self.now.writer.packet) c.args.field (length c.as_slice.result.now + total) ≡ None = search rules in
+    let accepted : field_refusal (open_message_count c.args.self.now.writer.packet) (len_of c.args.self.now.writer.packet) c.args.field (length c.as_slice.result.now + total) ≡ None = search rules in
     c.write_field.ensures.answers (none_stalled c.args.self.now (field_fault (g.W.Words.means.view c.args.table.now c.args.self.now.seat) c.args.field (bytes_size c.args.field c.args.times c.args.value.now)) (sym is ∙ accepted) asked)
 
 pub returns-clause-done : goal.returns-clause-done
@@ -87,9 +87,9 @@ returns-clause-done g c = λ asked.
     let total : ℕ = c.args.times * length c.args.value.now in
     let counted : c.min.result ≡ min total MAX_PACKET_LEN = search rules in
     let head : c.as_slice.result.now ≡ bytes_head c.args.field c.min.result = c.as_slice.ensures ∙ c.head_bytes-head.ensures in
-    let is = bytes_fault (depth_of c.args.self.now.writer.packet) (len_of c.args.self.now.writer.packet) c.args.field total c.min.result c.as_slice.result.now head counted
+    let is = bytes_fault (open_message_count c.args.self.now.writer.packet) (len_of c.args.self.now.writer.packet) c.args.field total c.min.result c.as_slice.result.now head counted
     ∙ field_fault_is (g.W.Words.means.setup c.args.table.now) (g.W.Words.means.place c.args.self.now.seat) (g.W.Words.means.view c.args.table.now c.args.self.now.seat) c.args.self.now.writer c.args.field (length (bytes_head c.args.field total) + total) c.requires.agrees.writes c.requires.begun in
-    let accepted : field_refusal (depth_of c.args.self.now.writer.packet) (len_of c.args.self.now.writer.packet) c.args.field (length c.as_slice.result.now + total) ≡ None = search rules in
+    let accepted : field_refusal (open_message_count c.args.self.now.writer.packet) (len_of c.args.self.now.writer.packet) c.args.field (length c.as_slice.result.now + total) ≡ None = search rules in
     let d = c.write_field.ensures.done (none_stalled c.args.self.now (field_fault (g.W.Words.means.view c.args.table.now c.args.self.now.seat) c.args.field (bytes_size c.args.field c.args.times c.args.value.now)) (sym is ∙ accepted) asked) in
     (d.0, d.1)
 
@@ -171,7 +171,7 @@ write_field-requires-clause-call g c = λ account.
     let counted : c.min.result ≡ min total MAX_PACKET_LEN = search rules in
     let head : c.as_slice-2.result.now ≡ bytes_head c.args.field c.min.result = c.as_slice-2.ensures ∙ c.head_bytes-head.ensures in
     bytes_call c.args.field c.args.times c.args.value.now c.as_slice-2.result.now account
-    (accepted_head (depth_of c.args.self.now.writer.packet) (len_of c.args.self.now.writer.packet) c.args.field total c.min.result c.as_slice-2.result.now head counted
+    (accepted_head (open_message_count c.args.self.now.writer.packet) (len_of c.args.self.now.writer.packet) c.args.field total c.min.result c.as_slice-2.result.now head counted
     (search rules))
 
 pub returns-clause-asked : goal.returns-clause-asked
@@ -180,4 +180,4 @@ returns-clause-asked g c = λ needs.
     let counted : c.min.result ≡ min total MAX_PACKET_LEN = search rules in
     let head : c.as_slice-2.result.now ≡ bytes_head c.args.field c.min.result = c.as_slice-2.ensures ∙ c.head_bytes-head.ensures in
     c.write_field.ensures.asked (subst (λ (n : ℕ). NeedsNoChunk c.args.self.now.writer.state n)
-    (ap (λ (bytes : List ℕ). length bytes + total) (sym (accepted_head (depth_of c.args.self.now.writer.packet) (len_of c.args.self.now.writer.packet) c.args.field total c.min.result c.as_slice-2.result.now head counted (search rules)))) needs)
+    (ap (λ (bytes : List ℕ). length bytes + total) (sym (accepted_head (open_message_count c.args.self.now.writer.packet) (len_of c.args.self.now.writer.packet) c.args.field total c.min.result c.as_slice-2.result.now head counted (search rules)))) needs)

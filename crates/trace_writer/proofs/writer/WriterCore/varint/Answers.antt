@@ -3,7 +3,7 @@ use Rattle.trace_model.specs.Encoding.{number_field}
 use Rattle.trace_model.specs.Packets.{with_more}
 use Rattle.trace_model.specs.Calls as call
 use Rattle.trace_writer.specs.declared.writer.WriterCore.{WriterCore}
-use Rattle.trace_writer.specs.Agreement.{NeedsNoChunk, depth_of, len_of}
+use Rattle.trace_writer.specs.Agreement.{NeedsNoChunk, open_message_count, len_of}
 use Rattle.trace_writer.specs.Core.{field_fault}
 use Rattle.trace_writer.specs.Refusals.{field_refusal}
 use Rattle.trace_writer.proofs.CoreCalls.{more_keeps}
@@ -18,7 +18,7 @@ returns-in_err-check_field-clause-refused g c = λ fault asked.
     let result_is : c.from_residual.result ≡ Err found = search rules in
     let is = field_fault_is (g.W.Words.means.setup c.args.table.now) (g.W.Words.means.place c.args.self.now.seat) (g.W.Words.means.view c.args.table.now c.args.self.now.seat) c.args.self.now.writer c.args.field (length c.as_slice.result.now) c.requires.agrees.writes c.requires.begun
     ∙ ap (λ (bytes : List ℕ). field_fault (g.W.Words.means.view c.args.table.now c.args.self.now.seat) c.args.field (length bytes)) (c.as_slice.ensures ∙ c.head_number-head.ensures) in
-    let refused : field_refusal (depth_of c.args.self.now.writer.packet) (len_of c.args.self.now.writer.packet) c.args.field (length c.as_slice.result.now) ≡ Some found = c.in_err-check_field.ensures.refused in
+    let refused : field_refusal (open_message_count c.args.self.now.writer.packet) (len_of c.args.self.now.writer.packet) c.args.field (length c.as_slice.result.now) ≡ Some found = c.in_err-check_field.ensures.refused in
     record {
       answer_is = result_is ∙ ap Err (refused_so c.args.self.now (field_fault (g.W.Words.means.view c.args.table.now c.args.self.now.seat) c.args.field (length (number_field c.args.field c.args.value))) found fault (sym is ∙ refused) asked);
       writer_stays = refl;
@@ -32,7 +32,7 @@ returns-in_err-check_field-clause-answers g c = λ asked.
     let found = c.in_err-check_field.field-0.0 in
     let is = field_fault_is (g.W.Words.means.setup c.args.table.now) (g.W.Words.means.place c.args.self.now.seat) (g.W.Words.means.view c.args.table.now c.args.self.now.seat) c.args.self.now.writer c.args.field (length c.as_slice.result.now) c.requires.agrees.writes c.requires.begun
     ∙ ap (λ (bytes : List ℕ). field_fault (g.W.Words.means.view c.args.table.now c.args.self.now.seat) c.args.field (length bytes)) (c.as_slice.ensures ∙ c.head_number-head.ensures) in
-    let refused : field_refusal (depth_of c.args.self.now.writer.packet) (len_of c.args.self.now.writer.packet) c.args.field (length c.as_slice.result.now) ≡ Some found = c.in_err-check_field.ensures.refused in
+    let refused : field_refusal (open_message_count c.args.self.now.writer.packet) (len_of c.args.self.now.writer.packet) c.args.field (length c.as_slice.result.now) ≡ Some found = c.in_err-check_field.ensures.refused in
     absurd (never_none c.args.self.now (field_fault (g.W.Words.means.view c.args.table.now c.args.self.now.seat) c.args.field (length (number_field c.args.field c.args.value))) found (sym is ∙ refused) asked)
 
 pub returns-in_err-check_field-clause-done : goal.returns-in_err-check_field-clause-done
@@ -40,14 +40,14 @@ returns-in_err-check_field-clause-done g c = λ asked.
     let found = c.in_err-check_field.field-0.0 in
     let is = field_fault_is (g.W.Words.means.setup c.args.table.now) (g.W.Words.means.place c.args.self.now.seat) (g.W.Words.means.view c.args.table.now c.args.self.now.seat) c.args.self.now.writer c.args.field (length c.as_slice.result.now) c.requires.agrees.writes c.requires.begun
     ∙ ap (λ (bytes : List ℕ). field_fault (g.W.Words.means.view c.args.table.now c.args.self.now.seat) c.args.field (length bytes)) (c.as_slice.ensures ∙ c.head_number-head.ensures) in
-    let refused : field_refusal (depth_of c.args.self.now.writer.packet) (len_of c.args.self.now.writer.packet) c.args.field (length c.as_slice.result.now) ≡ Some found = c.in_err-check_field.ensures.refused in
+    let refused : field_refusal (open_message_count c.args.self.now.writer.packet) (len_of c.args.self.now.writer.packet) c.args.field (length c.as_slice.result.now) ≡ Some found = c.in_err-check_field.ensures.refused in
     absurd (never_none c.args.self.now (field_fault (g.W.Words.means.view c.args.table.now c.args.self.now.seat) c.args.field (length (number_field c.args.field c.args.value))) found (sym is ∙ refused) asked)
 
 pub returns-clause-refused : goal.returns-clause-refused
 returns-clause-refused g c = λ fault asked.
     let is = field_fault_is (g.W.Words.means.setup c.args.table.now) (g.W.Words.means.place c.args.self.now.seat) (g.W.Words.means.view c.args.table.now c.args.self.now.seat) c.args.self.now.writer c.args.field (length c.as_slice.result.now) c.requires.agrees.writes c.requires.begun
     ∙ ap (λ (bytes : List ℕ). field_fault (g.W.Words.means.view c.args.table.now c.args.self.now.seat) c.args.field (length bytes)) (c.as_slice.ensures ∙ c.head_number-head.ensures) in
-    let accepted : field_refusal (depth_of c.args.self.now.writer.packet) (len_of c.args.self.now.writer.packet) c.args.field (length c.as_slice.result.now) ≡ None = c.in_ok-check_field.ensures.accepted in
+    let accepted : field_refusal (open_message_count c.args.self.now.writer.packet) (len_of c.args.self.now.writer.packet) c.args.field (length c.as_slice.result.now) ≡ None = c.in_ok-check_field.ensures.accepted in
     let now = refused_stalled c.args.self.now (field_fault (g.W.Words.means.view c.args.table.now c.args.self.now.seat) c.args.field (length (number_field c.args.field c.args.value))) fault (sym is ∙ accepted) asked in
     let stays = c.write_field.ensures.stays now.stalled_is in
     record {
@@ -63,14 +63,14 @@ pub returns-clause-answers : goal.returns-clause-answers
 returns-clause-answers g c = λ asked.
     let is = field_fault_is (g.W.Words.means.setup c.args.table.now) (g.W.Words.means.place c.args.self.now.seat) (g.W.Words.means.view c.args.table.now c.args.self.now.seat) c.args.self.now.writer c.args.field (length c.as_slice.result.now) c.requires.agrees.writes c.requires.begun
     ∙ ap (λ (bytes : List ℕ). field_fault (g.W.Words.means.view c.args.table.now c.args.self.now.seat) c.args.field (length bytes)) (c.as_slice.ensures ∙ c.head_number-head.ensures) in
-    let accepted : field_refusal (depth_of c.args.self.now.writer.packet) (len_of c.args.self.now.writer.packet) c.args.field (length c.as_slice.result.now) ≡ None = c.in_ok-check_field.ensures.accepted in
+    let accepted : field_refusal (open_message_count c.args.self.now.writer.packet) (len_of c.args.self.now.writer.packet) c.args.field (length c.as_slice.result.now) ≡ None = c.in_ok-check_field.ensures.accepted in
     c.write_field.ensures.answers (none_stalled c.args.self.now (field_fault (g.W.Words.means.view c.args.table.now c.args.self.now.seat) c.args.field (length (number_field c.args.field c.args.value))) (sym is ∙ accepted) asked)
 
 pub returns-clause-done : goal.returns-clause-done
 returns-clause-done g c = λ asked.
     let is = field_fault_is (g.W.Words.means.setup c.args.table.now) (g.W.Words.means.place c.args.self.now.seat) (g.W.Words.means.view c.args.table.now c.args.self.now.seat) c.args.self.now.writer c.args.field (length c.as_slice.result.now) c.requires.agrees.writes c.requires.begun
     ∙ ap (λ (bytes : List ℕ). field_fault (g.W.Words.means.view c.args.table.now c.args.self.now.seat) c.args.field (length bytes)) (c.as_slice.ensures ∙ c.head_number-head.ensures) in
-    let accepted : field_refusal (depth_of c.args.self.now.writer.packet) (len_of c.args.self.now.writer.packet) c.args.field (length c.as_slice.result.now) ≡ None = c.in_ok-check_field.ensures.accepted in
+    let accepted : field_refusal (open_message_count c.args.self.now.writer.packet) (len_of c.args.self.now.writer.packet) c.args.field (length c.as_slice.result.now) ≡ None = c.in_ok-check_field.ensures.accepted in
     let d = c.write_field.ensures.done (none_stalled c.args.self.now (field_fault (g.W.Words.means.view c.args.table.now c.args.self.now.seat) c.args.field (length (number_field c.args.field c.args.value))) (sym is ∙ accepted) asked) in
     (d.0, d.1)
 

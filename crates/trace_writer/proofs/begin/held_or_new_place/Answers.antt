@@ -6,7 +6,7 @@ use Rattle.trace_writer.proofs.Idling.{begun_one_more}
 use Rattle.trace_writer.proofs.KeptChunks.{shown_none_held}
 use Rattle.trace_writer.proofs.Starting.{behind_roomy, behind_idle, room_of, idle_there, place_here}
 use Rattle.trace_writer.proofs.Working.{work_none, work_before}
-use Rattle.trace_writer.proofs.begin.place_behind.Goals as goal
+use Rattle.trace_writer.proofs.begin.held_or_new_place.Goals as goal
 
 pub complete-requires-clause-fit : goal.complete-requires-clause-fit
 complete-requires-clause-fit g c = behind_fits _ _ (g.W.Words.means.view c.args.table.now c.args.seat.now) _ c.args.chunk c.requires.behind.1
