@@ -1,10 +1,9 @@
 -- From what a text comes to, to what the answer means.
-use Rattle.std.proofs.Common.{◌≡◌, ℕ, ◌+◌, ◌≤◌, sum_by, map, Bool, true, false, ◌==◌, nat_lt, Option, Some, None, Result, Ok, Err, List, [], ◌∷◌, length, take, drop, refl, sym, ap, subst, arith, ◌∙◌, length-drop}
+use Rattle.std.proofs.Common.{◌≡◌, ℕ, ◌+◌, Bool, true, false, ◌==◌, nat_lt, Option, Some, None, Result, Ok, Err, List, refl, sym, ap, subst, ◌∙◌}
 use Rattle.std.proofs.lemmas.Bool.{cond_both}
 use Rattle.std.specs.List.{AllByRecursion}
 use Rattle.trace_base.specs.declared.limits.TheConstants.{MAX_NESTING, MAX_PACKET_LEN}
 use Rattle.trace_model.specs.Encoding.{Fields, encoding_len, depth_of}
-use Rattle.field_tree.specs.declared.node.FieldNode.{FieldNode}
 use Rattle.field_tree.specs.declared.fault.FieldFault.{FieldFault}
 use Rattle.field_tree.specs.declared.fault.FieldFault.TheVariants.{BadField, Reserved, TooDeep, PacketTooLong}
 use Rattle.field_tree.specs.declared.fault.FieldError.{FieldError}
@@ -12,7 +11,7 @@ use Rattle.field_tree.specs.declared.fault.FieldError.TheVariants.{OutOfMemory, 
 use Rattle.field_tree.specs.declared.tree.FieldTree.{FieldTree}
 use Rattle.field_tree.specs.Nodes.{Shown, nodes_of, IsFit}
 use Rattle.field_tree.specs.Grammar.{IsTextOf, IsFaultAt, Spells}
-use Rattle.field_tree.specs.Refusals.{first_reserved, reserved_fault, when, or_else, refusal_by, refusal_of}
+use Rattle.field_tree.specs.Refusals.{first_reserved, reserved_fault, when, or_else, refusal_of}
 use Rattle.field_tree.specs.Judged.{nodes_refusal}
 use Rattle.field_tree.specs.Machine.{nodes_or_column}
 use Rattle.field_tree.specs.Answers.{IsRefused, Means, unless, judged, outcome, Parses, Gives}

@@ -1,9 +1,9 @@
 -- Nodes as bytes, with the length of their encoding.
-use Rattle.std.proofs.Common.{◌≡◌, ℕ, List, [], sym, ap, subst, arith, ◌∙◌}
+use Rattle.std.proofs.Common.{◌≡◌, [], sym, ap, subst, arith}
 use Rattle.std.specs.List.{AllByRecursion}
 use Rattle.field_tree.specs.Nodes.{Shown, IsFit}
 use Rattle.field_tree.specs.Judged.{nodes_len}
-use Rattle.field_tree.specs.Written.{shown_in, AreFitNodes}
+use Rattle.field_tree.specs.Written.{shown_in}
 use Rattle.field_tree.specs.Encoded.{IsEncoded}
 use Rattle.field_tree.proofs.WrittenLemmas.{none_written}
 

@@ -1,5 +1,5 @@
 -- The node in front of nodes that were written.
-use Rattle.std.proofs.Common.{◌≡◌, ℕ, zero, suc, ◌+◌, ◌-◌, ◌*◌, ◌/◌, ◌%◌, ◌^◌, ◌<◌, ◌≤◌, ◌==◌, Bool, true, false, List, [], ◌∷◌, ◌++◌, length, take, drop, refl, sym, ap, subst, arith, ◌∙◌, append_assoc, length-append, length-drop}
+use Rattle.std.proofs.Common.{◌≡◌, ℕ, ◌-◌, ◌/◌, ◌%◌, ◌^◌, ◌<◌, ◌≤◌, ◌==◌, Bool, true, false, List, [], ◌∷◌, ◌++◌, length, take, drop, refl, sym, ap, subst, arith, ◌∙◌, append_assoc, length-append, length-drop}
 use Rattle.std.specs.List.{AllByRecursion}
 use Rattle.std.proofs.lemmas.Bool.{eqb-true, false≢true}
 use Rattle.std.proofs.lemmas.List.{take_at, drop_at, take_all, take-append-drop}
@@ -9,9 +9,9 @@ use Rattle.wire_varint.proofs.Varints.{varint_is_varint, one_varint}
 use Rattle.field_tree.specs.declared.node.FieldNode.{FieldNode}
 use Rattle.field_tree.specs.declared.node.FieldNode.TheVariants.{Number, Bytes, Begin, End}
 use Rattle.field_tree.specs.Nodes.{Shown, IsFit}
-use Rattle.field_tree.specs.Written.{tag_of, written_value, written_node, written_nodes, IsWritable, shown_in, AreWritten, AreFitNodes, IsFirst}
+use Rattle.field_tree.specs.Written.{tag_of, written_value, written_node, written_nodes, IsWritable, shown_in, AreFitNodes, IsFirst}
 use Rattle.field_tree.proofs.EncodedLemmas.{nothing_shown}
-use Rattle.field_tree.proofs.WrittenLemmas.{tag_fits, node_cut, nodes_read_again, are_written}
+use Rattle.field_tree.proofs.WrittenLemmas.{tag_fits, node_cut, are_written}
 
 -- ---- the parts of what is read
 

@@ -1,5 +1,5 @@
 -- What a reading of the bytes in front of a text says of those behind them.
-use Rattle.std.proofs.Common.{◌≡◌, ℕ, ◌+◌, ◌-◌, ◌≤◌, Option, Some, None, Err, List, [], ◌∷◌, ◌++◌, length, length-append, sym, ap, subst, refl, arith, ◌∙◌, append-nil}
+use Rattle.std.proofs.Common.{◌≡◌, ℕ, ◌+◌, ◌-◌, ◌≤◌, Option, Some, None, Err, List, [], ◌∷◌, ◌++◌, length, length-append, ap, subst, refl, arith, ◌∙◌, append-nil}
 use Rattle.field_tree.specs.Nodes.{Shown}
 use Rattle.field_tree.specs.Machine.{TextReading, next, run, finish, beginning, taken_back, at_end, nodes_or_column, IsValid}
 use Rattle.field_tree.specs.Scanning.{RunsOver}
@@ -7,7 +7,6 @@ use Rattle.field_tree.proofs.Completes.{valid_here}
 use Rattle.field_tree.proofs.Cuts.{depth_within}
 use Rattle.field_tree.proofs.Faults.{back_within}
 use Rattle.field_tree.proofs.Outcomes.{outcome_refused, outcome_end}
-use Rattle.field_tree.proofs.Runs.{run_last}
 use Rattle.field_tree.proofs.ScanLemmas.{stays_here, over_front, over_both}
 
 both_long : (text front rest : List ℕ) → text ≡ front ++ rest → length text ≡ length front + length rest

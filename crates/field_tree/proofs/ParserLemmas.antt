@@ -1,5 +1,5 @@
 -- What the parser keeps, and which node and which action may come where it stands.
-use Rattle.std.proofs.Common.{◌≡◌, ℕ, ◌^◌, ◌<◌, Bool, Option, Some, None, List, [], ◌∷◌, ◌++◌, length, refl, arith}
+use Rattle.std.proofs.Common.{◌≡◌, ℕ, ◌^◌, ◌<◌, Bool, Some, List, [], ◌∷◌, ◌++◌, length}
 use Rattle.field_tree.specs.declared.node.FieldNode.{FieldNode}
 use Rattle.field_tree.specs.declared.node.FieldNode.TheVariants.{Number, Bytes, Begin, End}
 use Rattle.field_tree.specs.declared.mode.Mode.{Mode}
@@ -7,7 +7,7 @@ use Rattle.field_tree.specs.declared.mode.Mode.TheVariants.{Start, Field, Value,
 use Rattle.field_tree.specs.declared.mode.Action.{Action}
 use Rattle.field_tree.specs.declared.mode.Action.TheVariants.{Refuse, Go, Keep, Open, Close}
 use Rattle.field_tree.specs.Machine.{act, pending, IsValid, IsBetween, MayHave, HalfFits}
-use Rattle.field_tree.specs.Written.{written_node, shown_in, HasItsNumbers, HasItsText, IsWritable, AreWritten}
+use Rattle.field_tree.specs.Written.{written_node, shown_in, HasItsNumbers, IsWritable, AreWritten}
 use Rattle.field_tree.proofs.Steps.{Back, act_back}
 use Rattle.field_tree.proofs.WrittenLemmas.{node_added}
 

@@ -1,5 +1,5 @@
 -- What follows where a reading stands, and that each step back adds its byte in front of it.
-use Rattle.std.proofs.Common.{◌≡◌, ℕ, suc, ◌+◌, ◌-◌, ◌*◌, ◌^◌, ◌<◌, ◌≤◌, Bool, true, false, cond, ◌&&◌, ◌==◌, List, [], ◌∷◌, ◌++◌, refl, sym, ap, subst, arith, ◌∙◌, append_assoc}
+use Rattle.std.proofs.Common.{◌≡◌, ℕ, suc, ◌+◌, ◌-◌, ◌*◌, ◌^◌, ◌<◌, Bool, true, false, cond, ◌&&◌, ◌==◌, List, [], ◌∷◌, ◌++◌, refl, sym, ap, subst, arith, ◌∙◌, append_assoc}
 use Rattle.std.proofs.lemmas.Bool.{cond_both, and_parts, eqb-true}
 use Rattle.std.specs.List.{AllByRecursion}
 use Rattle.trace_base.specs.declared.limits.TheConstants.{MAX_FIELD, MAX_PACKET_LEN}
@@ -8,7 +8,7 @@ use Rattle.field_tree.specs.declared.mode.Mode.{Mode}
 use Rattle.field_tree.specs.declared.mode.Mode.TheVariants.{Start, Field, Value, Zero, Digits, Text, Quoted, Star, Times, Tick, Pairs, Half, Packed, After}
 use Rattle.field_tree.specs.declared.mode.Action.{Action}
 use Rattle.field_tree.specs.declared.mode.Action.TheVariants.{Refuse, Go, Keep, Open, Close}
-use Rattle.field_tree.specs.Nodes.{Shown, IsField}
+use Rattle.field_tree.specs.Nodes.{Shown}
 use Rattle.field_tree.specs.Grammar.{IsTextByte, IsByte, number, hex_digit, pairs}
 use Rattle.field_tree.specs.Machine.{is_first_digit, is_text_byte, grown, hex_value, go_on, act, IsValid}
 use Rattle.field_tree.proofs.TestLemmas.{first_digit_range, text_byte, by_grown, by_hex, number_digit, number_more, pairs-push}

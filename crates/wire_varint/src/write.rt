@@ -16,6 +16,13 @@ pub fn put_varint(value: u64, out: &mut [u8; 10]) -> usize
     put_shortest(value, out)
 }
 
+/// The number of which a tag is the varint.
+fn tag_number(field: u32, wire: u8) -> u64
+    ensures { result ≡ 8 * field + wire }
+{
+    8 * u64::from(field) + u64::from(wire)
+}
+
 /// Writes what stands in front of a field into the first bytes of `out`, and answers its length.
 /// `wire` says how the value is written: 0 as a varint, 1 in eight bytes, 2 with its length in
 /// front, 5 in four bytes; 3 and 4 enclose a group.
@@ -28,7 +35,7 @@ pub fn put_tag(field: u32, wire: u8, out: &mut [u8; 5]) -> usize
     ensures within { (1 ≤ result) × (result ≤ 5) }
     ensures behind { drop result out.new ≡ drop result out.old }
 {
-    put_shortest(8 * u64::from(field) + u64::from(wire), out)
+    put_shortest(tag_number(field, wire), out)
 }
 
 /// Appends the shortest varint of `value`.
@@ -57,7 +64,7 @@ pub fn push_tag<const CAP: usize>(out: &mut ArrayVec<u8, CAP>, field: u32, wire:
     requires room { length out.old.items + length (tag field wire) ≤ CAP }
     ensures { out.new.items ≡ out.old.items ++ tag field wire }
 {
-    push_varint(out, 8 * u64::from(field) + u64::from(wire));
+    push_varint(out, tag_number(field, wire));
 }
 
 /// `put_varint` into any array that has the room.

@@ -1,4 +1,4 @@
-use Rattle.std.proofs.Common.{◌≡◌, ℕ, ◌+◌, List, ◌∷◌, length, max, ap, sym, refl, arith, ◌∙◌}
+use Rattle.std.proofs.Common.{ℕ, ◌+◌, List, length, ap, sym, refl, arith, ◌∙◌}
 use Rattle.std.proofs.lemmas.List.Sums.{sum_by-cons}
 use Rattle.std.specs.Option.{option_or}
 use Rattle.field_tree.specs.Nodes.{Shown}

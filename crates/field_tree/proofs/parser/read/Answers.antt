@@ -1,4 +1,4 @@
-use Rattle.std.proofs.Common.{arith, None, [], ◌∷◌, List, ℕ, sym, ap, subst}
+use Rattle.std.proofs.Common.{arith, None, [], ◌∷◌, sym, subst}
 use Rattle.field_tree.specs.Machine.{TextReading, beginning}
 use Rattle.field_tree.specs.Scanning.{RunsOver}
 use Rattle.field_tree.specs.Views.{reading}

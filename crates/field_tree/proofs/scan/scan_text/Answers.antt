@@ -1,8 +1,6 @@
-use Rattle.std.proofs.Common.{◌≡◌, ℕ, List, [], ◌∷◌, ◌++◌, take, drop, take-append-drop, sym, ap, subst, ◌∙◌}
-use Rattle.std.specs.List.{AllByRecursion}
+use Rattle.std.proofs.Common.{ℕ, [], ◌∷◌, ap, ◌∙◌}
 use Rattle.field_tree.specs.declared.mode.Mode.TheVariants.{Text, Quoted}
-use Rattle.field_tree.specs.Grammar.{IsTextByte}
-use Rattle.field_tree.specs.Scanning.{reading_with, RunsOver}
+use Rattle.field_tree.specs.Scanning.{reading_with}
 use Rattle.field_tree.proofs.ScanLemmas.{over_front, over_both, text_over, at_second_quote}
 use Rattle.field_tree.proofs.scan.scan_text.Goals as goal
 

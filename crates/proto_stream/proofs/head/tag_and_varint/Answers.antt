@@ -12,6 +12,12 @@ push_tag-requires c =
 pub push_varint-requires : goal.push_varint-requires
 push_varint-requires c =
     let room : length c.push_tag.new.out.items + length (varint c.args.value) ≤ 15 =
-    omega (arith, ap length c.push_tag.ensures, length-append c.new-bytes.result.items (tag c.args.field c.args.wire), ap length c.new-bytes.ensures,
-    length-tag-le c.args.field c.args.wire c.requires.field.1 (omega (arith, c.requires.wire)), length-varint-le c.args.value) in
+    omega (
+      arith,
+      ap length c.push_tag.ensures,
+      length-append c.new-bytes.result.items (tag c.args.field c.args.wire),
+      ap length c.new-bytes.ensures,
+      length-tag-le c.args.field c.args.wire c.requires.field.1 (omega (arith, c.requires.wire)),
+      length-varint-le c.args.value,
+    ) in
     (omega arith, room)

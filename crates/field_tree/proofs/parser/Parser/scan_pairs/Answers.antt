@@ -1,4 +1,3 @@
-use Rattle.std.proofs.Common.{ℕ}
 use Rattle.field_tree.specs.declared.mode.Mode.TheVariants.{Pairs}
 use Rattle.field_tree.specs.Scanning.{RunsOver}
 use Rattle.field_tree.specs.Views.{nodes_read, text_read, reading}
