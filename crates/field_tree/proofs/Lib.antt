@@ -17,6 +17,7 @@ pub mod Runs
 pub mod ScanLemmas
 pub mod Spelled
 pub mod Steps
+pub mod SurveyLemmas
 pub mod TestLemmas
 pub mod Words
 pub mod WrittenLemmas

@@ -1,15 +1,21 @@
 -- What the parser keeps, and which node and which action may come where it stands.
-use Rattle.std.proofs.Common.{◌≡◌, ℕ, ◌^◌, ◌<◌, Bool, Some, List, [], ◌∷◌, ◌++◌, length}
+use Rattle.std.proofs.Common.{◌≡◌, ℕ, ◌^◌, ◌<◌, Bool, Some, List, [], ◌∷◌, ◌++◌, length, ap, refl, subst, sym, ◌∙◌}
 use Rattle.field_tree.specs.declared.node.FieldNode.{FieldNode}
 use Rattle.field_tree.specs.declared.node.FieldNode.TheVariants.{Number, Bytes, Begin, End}
 use Rattle.field_tree.specs.declared.mode.Mode.{Mode}
 use Rattle.field_tree.specs.declared.mode.Mode.TheVariants.{Start, Field, Value, Zero, Digits, Text, Quoted, Star, Times, Tick, Pairs, Half, Packed, After}
 use Rattle.field_tree.specs.declared.mode.Action.{Action}
 use Rattle.field_tree.specs.declared.mode.Action.TheVariants.{Refuse, Go, Keep, Open, Close}
+use Rattle.field_tree.specs.declared.survey.Survey.{Survey}
+use Rattle.field_tree.specs.Nodes.{Shown}
+use Rattle.field_tree.specs.Judged.{level}
+use Rattle.field_tree.specs.Surveys.{IsSurvey, level_behind}
+use Rattle.field_tree.specs.Views.{KeepsNodes}
 use Rattle.field_tree.specs.Machine.{act, pending, IsValid, IsBetween, MayHave, HalfFits}
 use Rattle.field_tree.specs.Written.{written_node, shown_in, HasItsNumbers, IsWritable, AreWritten}
 use Rattle.field_tree.proofs.Steps.{Back, act_back}
-use Rattle.field_tree.proofs.WrittenLemmas.{node_added}
+use Rattle.field_tree.proofs.SurveyLemmas.{level_more}
+use Rattle.field_tree.proofs.WrittenLemmas.{node_added, none_written}
 
 -- ---- the node that may end where the reading stands
 
@@ -84,3 +90,22 @@ node_kept code t node kept numbers may few = (node_added code (node, t) kept (no
 pub node_shown : (code t : List ℕ) (node : FieldNode) → AreWritten code → HasItsNumbers node → MayHave node t → length t < 2 ^ 64
     → shown_in (code ++ written_node (node, t)) ≡ shown_in code ++ (node, t) ∷ []
 node_shown code t node kept numbers may few = (node_added code (node, t) kept (node_writable node t numbers may few)).1
+
+pub nothing_kept : (found : Survey) → IsSurvey found [] → KeepsNodes [] 0 found
+nothing_kept found none = record {
+  written = none_written.0;
+  open_messages = ap (level_behind 0) none_written.1;
+  surveyed = subst (IsSurvey found) (sym none_written.1) none;
+}
+
+pub more_kept : (code t : List ℕ) (node : FieldNode) (depth : ℕ) (found new : Survey) → KeepsNodes code depth found
+    → HasItsNumbers node → MayHave node t → length t < 2 ^ 64
+    → ((nodes : List Shown) (text : List ℕ) → length text ≡ length t → level_behind 0 nodes ≡ depth → IsSurvey found nodes → IsSurvey new (nodes ++ (node, text) ∷ []))
+    → KeepsNodes (code ++ written_node (node, t)) (level depth node) new
+more_kept code t node depth found new kept numbers may few surveyed =
+    let shown = node_shown code t node kept.written numbers may few in
+    record {
+      written = node_kept code t node kept.written numbers may few;
+      open_messages = ap (level_behind 0) shown ∙ level_more 0 (shown_in code) (node, t) ∙ ap (λ (n : ℕ). level n node) kept.open_messages;
+      surveyed = subst (IsSurvey new) (sym shown) (surveyed (shown_in code) t refl kept.open_messages kept.surveyed);
+    }

@@ -7,6 +7,7 @@ pub mod Machine
 pub mod Nodes
 pub mod Refusals
 pub mod Scanning
+pub mod Surveys
 pub mod Trees
 pub mod Views
 pub mod Written

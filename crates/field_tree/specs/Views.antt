@@ -7,8 +7,11 @@ use Rattle.field_tree.specs.declared.fault.FieldFault.{FieldFault}
 use Rattle.field_tree.specs.declared.fault.FieldFault.TheVariants.{BadField}
 use Rattle.field_tree.specs.declared.fault.FieldError.{FieldError}
 use Rattle.field_tree.specs.declared.fault.FieldError.TheVariants.{OutOfMemory, Fault}
+use Rattle.field_tree.specs.declared.survey.Survey.{Survey}
 use Rattle.field_tree.specs.Nodes.{Shown}
 use Rattle.field_tree.specs.Machine.{TextReading}
+use Rattle.field_tree.specs.Judged.{level}
+use Rattle.field_tree.specs.Surveys.{IsSurvey, level_behind}
 use Rattle.field_tree.specs.Encoded.{IsEncoded}
 use Rattle.field_tree.specs.Written.{shown_in, AreWritten, AreFitNodes}
 
@@ -27,7 +30,7 @@ reading p mode = record { nodes = nodes_read p; depth = p.depth; text = text_rea
 -- one node more, whose text is the one that was being read
 abbrev pub AddsNode : FieldNode → Parser → Parser → Type 0
 AddsNode node old new =
-    (nodes_read new ≡ nodes_read old ++ (node, text_read old) ∷ []) × (text_read new ≡ []) × (new.depth ≡ old.depth)
+    (nodes_read new ≡ nodes_read old ++ (node, text_read old) ∷ []) × (text_read new ≡ []) × (new.depth ≡ level old.depth node)
 
 -- one byte more of that text
 abbrev pub AddsByte : ℕ → Parser → Parser → Type 0
@@ -39,9 +42,15 @@ abbrev pub AddsText : List ℕ → Parser → Parser → Type 0
 AddsText bytes old new =
     (nodes_read new ≡ nodes_read old) × (text_read new ≡ text_read old ++ bytes) × (new.depth ≡ old.depth)
 
--- what a parser keeps says its nodes
+-- these bytes say some nodes, so many messages are open behind them, and this is found of them
+pub record KeepsNodes (code : List ℕ) (depth : ℕ) (found : Survey) : Type 0 where
+  pub written : AreWritten code
+  pub open_messages : level_behind 0 (shown_in code) ≡ depth
+  pub surveyed : IsSurvey found (shown_in code)
+
+-- what a parser keeps
 abbrev pub Keeps : Parser → Type 0
-Keeps p = AreWritten p.code.items
+Keeps p = KeepsNodes p.code.items p.depth p.found
 
 -- whether a byte was taken, and where the reading stands then
 abbrev pub Takes : Bool → Option TextReading → TextReading → Type 0

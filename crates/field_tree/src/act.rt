@@ -265,7 +265,7 @@ pub(crate) fn pending_node(mode: Mode) -> Option<FieldNode>
 }
 
 /// Whether the text may end where the reading stands.
-pub(crate) fn may_end(mode: Mode, depth: u32) -> bool
+pub(crate) fn may_end(mode: Mode, depth: usize) -> bool
     ensures { result ≡ (machine.is_after mode && depth == 0) }
 {
     let behind = match mode {

@@ -15,6 +15,7 @@ mod node;
 mod parse;
 mod parser;
 mod scan;
+mod survey;
 mod tree;
 mod written;
 

@@ -41,8 +41,11 @@ fn read_packet(parser: &mut Parser, text: &[u8], depth: u8) -> Result<u32, Field
     requires depth { depth ≤ MAX_NESTING }
     ensures { GivesCode result parser.new.code.items (outcome depth text.now) }
 {
+    if parser.make_code_room(text.len()).is_err() {
+        return Err(FieldError::OutOfMemory);
+    }
     read(parser, text)?;
-    match judge(&parser.code, depth) {
+    match judge(parser.found, depth) {
         Ok(encoded) => Ok(encoded),
         Err(fault) => Err(FieldError::Fault(fault)),
     }

@@ -3,13 +3,15 @@ ghost use Rattle.std.specs.Prelude.{◌≡◌, ℕ, ◌+◌, ◌-◌, ◌<◌, �
 ghost use Rattle.field_tree.specs.Machine.{IsValid, IsBetween, MayHave, settled, before_byte, applied, next, finish, nodes_or_column, beginning};
 ghost use Rattle.field_tree.specs.declared.mode.Mode.TheVariants.{Pairs};
 ghost use Rattle.field_tree.specs.Scanning.{RunsOver};
-ghost use Rattle.field_tree.specs.Views.{reading, text_read, AddsNode, AddsByte, AddsText, Takes, Keeps, Ends, GivesNodes};
+ghost use Rattle.field_tree.specs.Views.{reading, text_read, AddsNode, AddsByte, AddsText, Takes, Keeps, Ends, GivesNodes, nodes_read};
+ghost use Rattle.field_tree.specs.Surveys.{IsSurvey};
 
 use crate::act::{act, may_end, pending_node, taken_back};
 use crate::fault::{FieldError, FieldFault};
 use crate::mode::{Action, Mode};
 use crate::node::FieldNode;
 use crate::scan::{first_byte, first_pair, scan};
+use crate::survey::{Survey, level};
 use crate::written::push_node;
 use std::alloc::{AllocError, Global};
 use trace_base::limits::MAX_INPUT;
@@ -20,14 +22,14 @@ const FIRST_CODE: usize = 256;
 
 const FIRST_BYTES: usize = 64;
 
-/// What was read so far of a text of `len` bytes: the nodes as they are written, and the text that
-/// is being read.
+/// What was read so far of a text: the nodes as they are written, how many messages are open behind
+/// them, what is found of them, and the text that is being read.
 #[derive(Drop)]
 pub(crate) struct Parser {
     pub code: Vec<u8>,
+    pub depth: usize,
+    pub found: Survey,
     pub text: Vec<u8>,
-    pub depth: u32,
-    pub len: usize,
 }
 
 /// Whether a field ends before this byte.
@@ -49,53 +51,54 @@ fn make_room(bytes: &mut Vec<u8>) -> Result<(), AllocError>
     Ok(())
 }
 
-/// The same for the nodes of a text of this length, which mostly are written in no more bytes than
-/// it has. It stays a call, so that the loop over the bytes stays short.
-#[inline(never)]
-fn make_code_room(code: &mut Vec<u8>, len: usize) -> Result<(), AllocError>
-    ensures { OnOk result (code.new.items ≡ code.old.items) }
-{
-    if code.is_empty() {
-        code.reserve_exact(len.min(FIRST_CODE))?;
-    }
-    Ok(())
-}
-
 impl Parser {
     pub fn new(alloc: Global) -> Self
         ensures { Keeps result }
     {
         Parser {
             code: Vec::new(alloc),
-            text: Vec::new(alloc),
             depth: 0,
-            len: 0,
+            found: Survey::new(),
+            text: Vec::new(alloc),
         }
     }
 
-    /// Begins a text of this length. What memory the texts before took is kept.
+    /// Takes room for the nodes of a text of this length, which mostly are written in no more bytes
+    /// than it has, where none is taken yet.
+    pub fn make_code_room(&mut self, len: usize) -> Result<(), AllocError>
+        ensures { self.new.code.items ≡ self.old.code.items }
+    {
+        if self.code.capacity() == 0 {
+            self.code.reserve_exact(len.min(FIRST_CODE))?;
+        }
+        Ok(())
+    }
+
+    /// Begins a text. What memory the texts before took is kept.
     #[tactic(auto, unfolding(crate::specs::Machine::beginning))]
-    fn start(&mut self, len: usize)
+    fn start(&mut self)
         ensures reading { reading self.new (Mode.Start false) ≡ beginning }
         ensures kept { Keeps self.new }
     {
         self.code.clear();
-        self.text.clear();
         self.depth = 0;
-        self.len = len;
+        self.found = Survey::new();
+        self.text.clear();
     }
 
     /// Adds a node whose text is the one that was being read.
-    #[tactic(auto, using(crate::proofs::ParserLemmas::node_kept, crate::proofs::ParserLemmas::node_shown))]
+    #[tactic(auto, using(crate::proofs::ParserLemmas::more_kept, crate::proofs::ParserLemmas::node_shown))]
     #[inline(never)]
     fn push_node(&mut self, node: FieldNode) -> Result<(), AllocError>
         requires kept { Keeps self.old }
         requires text { MayHave node (text_read self.old) }
+        requires depth { self.old.depth < usize.MAX }
         ensures pushed { OnOk result (AddsNode node self.old self.new) }
         ensures kept { OnOk result (Keeps self.new) }
     {
-        make_code_room(&mut self.code, self.len)?;
         push_node(&mut self.code, node, &self.text)?;
+        self.found = self.found.with_node(self.depth, node, self.text.len());
+        self.depth = level(self.depth, node);
         self.text.clear();
         Ok(())
     }
@@ -158,11 +161,12 @@ impl Parser {
     }
 
     /// Ends the field that may end here, if one may.
-    #[tactic(auto, unfolding(crate::specs::Machine::settled), using(crate::proofs::ParserLemmas::pending_may))]
+    #[tactic(auto, unfolding(crate::specs::Machine::settled), using(crate::proofs::ParserLemmas::pending_may, crate::proofs::SurveyLemmas::pending_flat))]
     #[inline(always)]
     fn settle(&mut self, mode: &mut Mode) -> Result<(), AllocError>
         requires kept { Keeps self.old }
         requires valid { IsValid mode.old (text_read self.old) }
+        requires depth { self.old.depth < usize.MAX }
         ensures valid { OnOk result (IsValid mode.new (text_read self.new)) }
         ensures settled { OnOk result (reading self.new mode.new ≡ settled (reading self.old mode.old)) }
         ensures kept { OnOk result (Keeps self.new) }
@@ -178,12 +182,12 @@ impl Parser {
     }
 
     /// Does what is to be done at a byte, and answers whether the byte is taken.
-    #[tactic(auto, unfolding(crate::specs::Machine::applied))]
+    #[tactic(auto, unfolding(crate::specs::Machine::applied, crate::specs::Judged::level))]
     #[inline(always)]
     fn perform(&mut self, mode: &mut Mode, action: Action) -> Result<bool, AllocError>
         requires kept { Keeps self.old }
         requires between { IsBetween action (text_read self.old) }
-        requires depth { self.old.depth < u32.MAX }
+        requires depth { self.old.depth < usize.MAX }
         ensures taken { IfOk result (λ taken. Takes taken (applied action (reading self.old mode.old)) (reading self.new mode.new)) }
         ensures kept { OnOk result (Keeps self.new) }
     {
@@ -196,12 +200,10 @@ impl Parser {
             }
             Action::Open(field) => {
                 self.push_node(FieldNode::Begin { field })?;
-                self.depth += 1;
                 *mode = Mode::Start { opened: true };
             }
             Action::Close => {
                 self.push_node(FieldNode::End)?;
-                self.depth = self.depth.saturating_sub(1);
                 *mode = Mode::After;
             }
         }
@@ -212,6 +214,7 @@ impl Parser {
     fn before(&mut self, mode: &mut Mode, byte: u8) -> Result<(), AllocError>
         requires kept { Keeps self.old }
         requires valid { IsValid mode.old (text_read self.old) }
+        requires depth { self.old.depth < usize.MAX }
         ensures valid { OnOk result (IsValid mode.new (text_read self.new)) }
         ensures before { OnOk result (reading self.new mode.new ≡ before_byte byte (reading self.old mode.old)) }
         ensures kept { OnOk result (Keeps self.new) }
@@ -227,7 +230,7 @@ impl Parser {
     #[inline(always)]
     fn step(&mut self, mode: &mut Mode, byte: u8) -> Result<bool, AllocError>
         requires kept { Keeps self.old }
-        requires depth { self.old.depth < u32.MAX }
+        requires depth { self.old.depth < usize.MAX }
         requires valid { IsValid mode.old (text_read self.old) }
         ensures taken { IfOk result (λ taken. Takes taken (next (reading self.old mode.old) byte) (reading self.new mode.new)) }
         ensures kept { OnOk result (Keeps self.new) }
@@ -241,6 +244,7 @@ impl Parser {
     fn end(&mut self, mode: &mut Mode) -> Result<bool, AllocError>
         requires kept { Keeps self.old }
         requires valid { IsValid mode.old (text_read self.old) }
+        requires depth { self.old.depth < usize.MAX }
         ensures ended { IfOk result (λ ended. Ends ended (finish (reading self.old mode.old)) self.new) }
         ensures kept { OnOk result (Keeps self.new) }
     {
@@ -261,9 +265,10 @@ fn bad_field(column: usize) -> FieldError
 /// Reads the nodes of a text, or the column of its fault.
 pub(crate) fn read(parser: &mut Parser, text: &[u8]) -> Result<(), FieldError>
     requires { length text.now ≤ MAX_INPUT }
-    ensures { GivesNodes result parser.new.code.items (nodes_or_column text.now) }
+    ensures nodes { GivesNodes result parser.new.code.items (nodes_or_column text.now) }
+    ensures found { OnOk result (IsSurvey parser.new.found (nodes_read parser.new)) }
 {
-    parser.start(text.len());
+    parser.start();
     let mut mode = Mode::Start { opened: false };
     let mut rest = text;
     'bytes: loop {

@@ -35,6 +35,7 @@ fn push_long(code: &mut Vec<u8>, number: u64) -> Result<(), AllocError>
 
 /// Appends a number. Most have one byte, or two.
 #[tactic(auto, unfolding(wire_varint::specs::Varint::varint, wire_varint::specs::Varint::groups))]
+#[inline(always)]
 fn push_number(code: &mut Vec<u8>, number: u64) -> Result<(), AllocError>
     ensures { OnOk result (code.new.items ≡ code.old.items ++ varint number) }
 {
@@ -51,6 +52,7 @@ fn push_number(code: &mut Vec<u8>, number: u64) -> Result<(), AllocError>
 }
 
 /// Appends what stands behind a node's tag.
+#[inline(always)]
 fn push_value(code: &mut Vec<u8>, node: FieldNode, text: &[u8]) -> Result<(), AllocError>
     ensures pushed { OnOk result (code.new.items ≡ code.old.items ++ written.written_value node text.now) }
     ensures numbers { HasItsNumbers node }
@@ -68,6 +70,7 @@ fn push_value(code: &mut Vec<u8>, node: FieldNode, text: &[u8]) -> Result<(), Al
 
 /// Appends a node with its text.
 #[tactic(auto, unfolding(crate::specs::Written::written_node))]
+#[inline(always)]
 pub(crate) fn push_node(code: &mut Vec<u8>, node: FieldNode, text: &[u8]) -> Result<(), AllocError>
     ensures pushed { OnOk result (code.new.items ≡ code.old.items ++ written_node (node, text.now)) }
     ensures numbers { OnOk result (HasItsNumbers node) }

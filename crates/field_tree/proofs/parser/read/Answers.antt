@@ -16,6 +16,11 @@ bytes-init c = (
 pub scan-requires-clause-valid : goal.scan-requires-clause-valid
 scan-requires-clause-valid c = valid_before _ _ (reading c.bytes.parser c.bytes.mode) c.bytes.invariant.0
 
+pub end-requires-clause-depth : goal.end-requires-clause-depth
+end-requires-clause-depth c =
+    let deep = depth_before _ _ (reading c.scan.new.self c.scan.new.mode) (over_both _ _ _ _ _ _ c.bytes.invariant.0 c.in-Ok.ensures.over) in
+    omega arith
+
 pub end-requires-clause-valid : goal.end-requires-clause-valid
 end-requires-clause-valid c =
     valid_before _ _ (reading c.scan.new.self c.scan.new.mode) (over_both _ _ _ _ _ _ c.bytes.invariant.0 c.in-Ok.ensures.over)
@@ -24,12 +29,18 @@ pub returns-in-Ok-true : goal.returns-in-Ok-true
 returns-in-Ok-true c =
     let over = reads_on _ _ _ [] _ _ c.bytes.invariant.0 c.in-Ok.ensures.over c.in_default-first_byte.ensures in
     let given = ends_at c.args.text.now _ _ over (rw c.in-Ok-true.field-0-test at c.in-Ok-true.ensures.ended) in
-    (given, record { are = c.in-Ok-true.ensures.kept; fit = nodes_fit c.args.text.now _ given })
+    record {
+      nodes = (given, record { are = c.in-Ok-true.ensures.kept.written; fit = nodes_fit c.args.text.now _ given });
+      found = c.in-Ok-true.ensures.kept.surveyed;
+    }
 
 pub returns-in-Ok-false : goal.returns-in-Ok-false
 returns-in-Ok-false c =
     let over = reads_on _ _ _ [] _ _ c.bytes.invariant.0 c.in-Ok.ensures.over c.in_default-first_byte.ensures in
-    rw c.bad_field.ensures (ends_at c.args.text.now _ None over (rw c.in-Ok-false.field-0-test at c.in-Ok-false.ensures.ended))
+    record {
+      nodes = rw c.bad_field.ensures (ends_at c.args.text.now _ None over (rw c.in-Ok-false.field-0-test at c.in-Ok-false.ensures.ended));
+      found = tt;
+    }
 
 pub step-requires-clause-depth : goal.step-requires-clause-depth
 step-requires-clause-depth c =
@@ -57,4 +68,7 @@ pub returns-in-Ok-false-step : goal.returns-in-Ok-false-step
 returns-in-Ok-false-step c =
     let over = reads_on _ _ _ (c.in-Some.byte ∷ c.in-Some.behind.now) _ _ c.bytes.invariant.0 c.in-Ok.ensures.over c.in-Some.ensures in
     let refused = rw c.in-Ok-false-step.field-0-test at c.in-Ok-false-step.ensures.taken in
-    rw (c.bad_field-in-Ok-false-step.ensures, c.taken_back.ensures) (refused_at _ _ c.in-Some.byte _ over refused)
+    record {
+      nodes = rw (c.bad_field-in-Ok-false-step.ensures, c.taken_back.ensures) (refused_at _ _ c.in-Some.byte _ over refused);
+      found = tt;
+    }
