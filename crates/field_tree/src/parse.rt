@@ -21,14 +21,6 @@ pub fn parse_fields(alloc: Global, text: &[u8], depth: u8) -> Result<FieldTree, 
     ensures means { Parses depth text.now result }
     ensures exact { Gives result (outcome depth text.now) }
 {
-    parse(alloc, text, depth)
-}
-
-fn parse(alloc: Global, text: &[u8], depth: u8) -> Result<FieldTree, FieldError>
-    requires text { length text.now ≤ MAX_INPUT }
-    requires depth { depth ≤ MAX_NESTING }
-    ensures { Gives result (outcome depth text.now) }
-{
     let mut parser = Parser::new(alloc);
     let encoded = read_packet(&mut parser, text, depth)?;
     Ok(FieldTree::from_parts(parser.code, encoded))
@@ -76,16 +68,6 @@ impl FieldParser {
         requires text { length text.now ≤ MAX_INPUT }
         requires depth { depth ≤ MAX_NESTING }
         ensures means { Parses depth text.now (nodes_found result) }
-        ensures exact { Gives (nodes_found result) (outcome depth text.now) }
-        ensures len { IfOk result (λ found. found.encoded ≡ nodes_len found.fields) }
-        ensures most { IfOk result (λ found. found.encoded ≤ MAX_PACKET_LEN) }
-    {
-        self.find(text, depth)
-    }
-
-    fn find(&mut self, text: &[u8], depth: u8) -> Result<Found<'_>, FieldError>
-        requires text { length text.now ≤ MAX_INPUT }
-        requires depth { depth ≤ MAX_NESTING }
         ensures exact { Gives (nodes_found result) (outcome depth text.now) }
         ensures len { IfOk result (λ found. found.encoded ≡ nodes_len found.fields) }
         ensures most { IfOk result (λ found. found.encoded ≤ MAX_PACKET_LEN) }
