@@ -12,4 +12,5 @@ mod top;
 mod unfit;
 mod words;
 
+pub use say::say_out_of_memory;
 pub use top::trace_top;
