@@ -65,9 +65,11 @@ impl<'a> Iterator for FragmentIter<'a> {
             return None;
         }
         let fragment = read_fragment(self.rest, self.at, self.left == 1)?;
-        let behind = fragment.offset + fragment.bytes.len() as u32;
-        self.rest = &self.rest[(behind - self.at) as usize..];
-        self.at = behind;
+
+        // Where the next fragment stands hangs on its size alone, so that little is waited for.
+        let width = (fragment.offset - self.at) as usize;
+        self.rest = &self.rest[width + fragment.bytes.len()..];
+        self.at = fragment.offset + fragment.bytes.len() as u32;
         self.left -= 1;
         Some(fragment)
     }

@@ -14,6 +14,10 @@ pub const MAX_SIZE_WIDTH: usize = 4;
 /// payload.
 pub const DROP_SIZE: u32 = 0x0FFF_FFFF;
 
+/// What the four bytes of a writer's size below 128 are as one number, without its seven low bits: each
+/// byte but the last one says that another follows.
+const SHORT_REST: u32 = 1 + (1 << 8) + (1 << 16);
+
 /// A part of a packet.
 #[derive(Clone, Copy, Debug, PartialEq, Eq)]
 pub struct Fragment<'a> {
@@ -25,17 +29,20 @@ pub struct Fragment<'a> {
 }
 
 /// The size in front of `bytes`, and how many bytes it has. A writer's size of a short fragment has a
-/// case of its own: where the next size stands then hangs on one byte alone, and the other three are
-/// only compared, so that a walk over many short fragments doesn't wait for each sum.
+/// case of its own, of one load and one comparison: where the next size stands hangs on the load
+/// alone, so that a walk over many short fragments waits for little else.
 #[tactic(auto, using(crate::proofs::SizeLemmas::size_short))]
 fn read_size(bytes: &[u8]) -> Option<(usize, usize)>
     ensures value { option_map size_value result ≡ size_of MAX_SIZE_WIDTH bytes.now }
     ensures within { IfSome result (λ size. (1 ≤ size.1) × (size.1 ≤ length bytes.now)) }
 {
-    match bytes {
-        [first, 128, 128, 0, ..] if *first >= 128 => Some((usize::from(*first - 128), 4)),
-        _ => read_any_size(bytes),
+    if let Some(four) = bytes.first_chunk::<4>() {
+        let word = u32::from_le_bytes(*four);
+        if word / 128 == SHORT_REST {
+            return Some(((word % 128) as usize, 4));
+        }
     }
+    read_any_size(bytes)
 }
 
 /// The same of every size.

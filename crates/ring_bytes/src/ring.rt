@@ -164,7 +164,8 @@ impl Ring {
         &self.bytes[from..from + len]
     }
 
-    /// The record is live no longer.
+    /// The record is live no longer. The header behind it isn't read: it is far ahead of what was
+    /// written last, so that memory would be waited for.
     pub fn drop_at(&mut self, place: u32)
         requires { IsSome (stored_at self.old place) }
         ensures { self.new ≡ dropped_at self.old place }
@@ -175,8 +176,15 @@ impl Ring {
             ..header
         };
         put_header(&mut self.bytes, place, dropped);
-        self.clear = skip_dead(&self.bytes, self.clear, self.reached);
-        self.front = skip_dead(&self.bytes, self.front, self.next);
+        let behind = place + size_of_record(header.len);
+        let older = self.reached.min(behind);
+        let newer = if place < self.next {
+            self.next.min(behind)
+        } else {
+            0
+        };
+        self.clear = skip_dead(&self.bytes, self.clear, self.reached, older);
+        self.front = skip_dead(&self.bytes, self.front, self.next, newer);
     }
 
     pub fn set_awaits(&mut self, place: u32, awaits: bool)

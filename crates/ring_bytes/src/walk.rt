@@ -50,16 +50,18 @@ pub fn first_behind(bytes: &[u8], at: u32, end: u32, limit: u32) -> u32
     at
 }
 
-/// The first live part of a row, or its end.
-pub fn skip_dead(bytes: &[u8], at: u32, end: u32) -> u32
+/// The first part of a row that is live, or that begins at a limit or behind it. No header from the
+/// limit on is read.
+pub fn skip_dead(bytes: &[u8], at: u32, end: u32, limit: u32) -> u32
     requires row { IsRow bytes.now at end }
     requires room { end ≤ length bytes.now }
     requires small { end ≤ MAX_RING_SIZE }
+    requires limit { limit ≤ end }
     ensures past { IsPast bytes.now at result end }
-    ensures live { result < end → spec.is_live (header_at bytes.now result) ≡ true }
+    ensures live { result < limit → spec.is_live (header_at bytes.now result) ≡ true }
 {
     let mut at = at;
-    while at < end {
+    while at < limit {
         let header = read_header(bytes, at);
         if is_live(header) {
             return at;

@@ -1,9 +1,10 @@
 -- A record is its head, the packet's bytes and its tail, and so is what a sink has taken that took these one behind another.
-use Rattle.std.proofs.Common.{◌≡◌, ℕ, Bool, List, [], ◌∷◌, ◌++◌, length, refl, sym, ap, ◌∙◌, subst, length-append, append_assoc}
+use Rattle.std.proofs.Common.{◌≡◌, ℕ, ◌<◌, Bool, false, List, [], ◌∷◌, ◌++◌, length, refl, sym, ap, ◌∙◌, subst, length-append, append_assoc}
 use Rattle.std.proofs.lemmas.List.Concat.{flat_map-append}
 use Rattle.byte_io.specs.Bytes.{Intake, after_told, TakesPart}
 use Rattle.byte_io.proofs.Told.{after_told_again, after_told_nothing, part_first, part_second}
 use Rattle.wire_varint.specs.Varint.{varint}
+use Rattle.wire_varint.proofs.Groups.{groups_last}
 use Rattle.trace_model.specs.Record.{content_of, mark_where, record_of}
 use Rattle.trace_file.specs.Parts.{record_head, record_tail, joined_pieces, after_pieces, RecordsAreCut}
 
@@ -81,3 +82,12 @@ records_are_cut = record {
       let mid : Intake = after_told before (record_head (length body) sequence marked) in
       part_of_tail before mid (after_pieces mid pieces) after body sequence marked refl (pieces_are mid pieces) part;
 }
+
+-- a number below 128 is one byte
+pub varint_short : (n : ℕ) → n < 128 → varint n ≡ n ∷ []
+unfolding varint
+varint_short n short = groups_last 9 n short
+
+pub tail_short : (sequence : ℕ) (marked : Bool) → sequence < 128 → marked ≡ false → record_tail sequence marked ≡ 0x50 ∷ sequence ∷ []
+tail_short sequence marked short plain =
+    ap (λ (m : Bool). 0x50 ∷ varint sequence ++ mark_where m) plain ∙ ap (λ (bytes : List ℕ). 0x50 ∷ bytes ++ []) (varint_short sequence short)

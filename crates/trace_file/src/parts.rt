@@ -28,7 +28,6 @@ pub struct RecordWriter {
     left: u64,
     sequence: u32,
     marked: bool,
-    tail: ArrayVec<u8, 14>,
 }
 
 impl Model for RecordWriter {
@@ -37,11 +36,6 @@ impl Model for RecordWriter {
     ghost Value = { Writing };
 
     ghost view = { λ writer. record { left = writer.left; sequence = writer.sequence; marked = writer.marked } };
-
-    ghost use Rattle.std.specs.Prelude.{◌≡◌};
-    ghost use Rattle.trace_file.specs.Parts.{record_tail};
-
-    ghost invariant = { λ writer. writer.tail.items ≡ record_tail writer.sequence writer.marked };
 }
 
 /// The record's tag, and the length of its content.
@@ -66,6 +60,30 @@ pub(crate) fn tail(sequence: u32, marked: bool) -> ArrayVec<u8, 14>
         let _ = tail.try_extend_from_slice(&DROPPED_MARK);
     }
     tail
+}
+
+/// Writes the head of a record. Most are of two bytes, which go to the sink at once.
+fn put_head<O: Sink>(out: &mut O, len: u64) -> Result<(), WriteFault>
+    ensures all { OnOk result (O.taken out.new ≡ after_told (O.taken out.old) (0x0A ∷ varint len)) }
+    ensures part { OnErr result (TakesPart (O.taken out.old) (O.taken out.new) (0x0A ∷ varint len)) }
+    ensures count { CountsFaults (O.faults out.old) (O.faults out.new) result }
+{
+    if len < 128 {
+        return put_all(out, &[PACKET_TAG, len as u8]);
+    }
+    put_all(out, &head(len))
+}
+
+/// Writes what stands behind a packet's bytes, which mostly are two bytes.
+fn put_tail<O: Sink>(out: &mut O, sequence: u32, marked: bool) -> Result<(), WriteFault>
+    ensures all { OnOk result (O.taken out.new ≡ after_told (O.taken out.old) (record_tail sequence marked)) }
+    ensures part { OnErr result (TakesPart (O.taken out.old) (O.taken out.new) (record_tail sequence marked)) }
+    ensures count { CountsFaults (O.faults out.old) (O.faults out.new) result }
+{
+    if sequence < 128 && !marked {
+        return put_all(out, &[SEQUENCE_TAG, sequence as u8]);
+    }
+    put_all(out, &tail(sequence, marked))
 }
 
 impl RecordWriter {
@@ -98,13 +116,12 @@ impl RecordWriter {
         ensures part { OnErr result (TakesPart (O.taken out.old) (O.taken out.new) (record_head len sequence marked)) }
         ensures count { CountsFaults (O.faults out.old) (O.faults out.new) result }
     {
-        let tail = tail(sequence, marked);
-        put_all(out, &head(len + tail.len() as u64))?;
+        let behind = tail(sequence, marked).len() as u64;
+        put_head(out, len + behind)?;
         Ok(RecordWriter {
             left: len,
             sequence,
             marked,
-            tail,
         })
     }
 
@@ -127,7 +144,7 @@ impl RecordWriter {
         ensures part { OnErr result (TakesPart (O.taken out.old) (O.taken out.new) (record_tail self.sequence self.marked)) }
         ensures count { CountsFaults (O.faults out.old) (O.faults out.new) result }
     {
-        put_all(out, &self.tail)
+        put_tail(out, self.sequence, self.marked)
     }
 }
 

@@ -6,4 +6,4 @@ abbrev pub invariant-loop-at : goal.invariant-loop-at
 invariant-loop-at l = IsPast l.bytes l.fn.at l.at l.end
 
 abbrev pub decreases-loop-at : goal.decreases-loop-at
-decreases-loop-at l = l.end - l.at
+decreases-loop-at l = l.limit - l.at

@@ -1,4 +1,4 @@
-use Rattle.std.proofs.Common.{◌≡◌, ◌==◌, ◌-◌, ◌∷◌, length, Some, ap, sym, ◌∙◌, arith}
+use Rattle.std.proofs.Common.{◌≡◌, ℕ, ◌==◌, ◌+◌, ◌-◌, ◌∷◌, length, drop, Some, ap, sym, ◌∙◌, arith}
 use Rattle.std.proofs.lemmas.List.{take_rest}
 use Rattle.trace_model.specs.Reading.{size_of, fragment_of, fragment_end}
 use Rattle.chunk_image.specs.Values.{fragment_value}
@@ -11,9 +11,12 @@ returns-clause-steps c =
     let fragment = fragment_value c.in_ok-fragment.fragment in
     let found : fragment_of (c.self.inside.left == 1) c.self.inside.at c.self.inside.rest.now (size_of 4 c.self.inside.rest.now) ≡ Some fragment =
     sym c.in_ok-fragment.ensures.value in
+    let taken : ℕ = fragment.offset - c.self.inside.at + length fragment.bytes in
+    let same : fragment_end fragment - c.self.inside.at ≡ taken = omega (arith, c.in_ok-fragment.ensures.within.0) in
     sym c.self.view_is ∙ next_some c.self.inside.left c.self.inside.at c.self.inside.rest.now fragment c.if-self-eq0.false found
+    ∙ ap (λ n. fragment ∷ readable_from (c.self.inside.left - 1) (fragment_end fragment) (drop n c.self.inside.rest.now)) same
     ∙ ap (λ rest. fragment ∷ readable_from (c.self.inside.left - 1) (fragment_end fragment) rest)
-    (sym (take_rest c.self.inside.rest.now (fragment_end fragment - c.self.inside.at)))
+    (sym (take_rest c.self.inside.rest.now taken))
 
 -- an item leaves one fewer
 pub returns-clause-goes : goal.returns-clause-goes

@@ -52,6 +52,18 @@ put_header-requires-clause-room c =
     let l = live_at c.self.inside c.args.self.now c.args.place c.self.view_is c.self.invariant c.requires in
     omega (arith, l.here.inside, size_least l.here.header.len, ap length c.deref_mut.ensures.value, c.self.invariant.whole)
 
+pub size_of_record-requires : goal.size_of_record-requires
+size_of_record-requires c =
+    let l = live_at c.self.inside c.args.self.now c.args.place c.self.view_is c.self.invariant c.requires in
+    let len_is = ap (λ (h : Header). h.len) (c.read_header-header.ensures.header ∙ ap (λ x. header_at x c.args.place) c.deref.ensures.value ∙ l.here.there) in
+    omega (arith, len_is, l.here.small)
+
+pub overflow_add-behind : goal.overflow_add-behind
+overflow_add-behind c =
+    let l = live_at c.self.inside c.args.self.now c.args.place c.self.view_is c.self.invariant c.requires in
+    let len_is = ap (λ (h : Header). h.len) (c.read_header-header.ensures.header ∙ ap (λ x. header_at x c.args.place) c.deref.ensures.value ∙ l.here.there) in
+    omega (arith, ap record_size len_is, c.size_of_record.ensures, l.here.inside, c.self.invariant.reached_in, c.self.invariant.small)
+
 pub skip_dead-self-inside-requires-clause-row : goal.skip_dead-self-inside-requires-clause-row
 skip_dead-self-inside-requires-clause-row c =
     let a = c.self.inside in
