@@ -4,8 +4,8 @@ use Rattle.trace_writer.specs.Placing.{BeginsHere}
 use Rattle.trace_writer.specs.Site.{site_of}
 use Rattle.trace_writer.proofs.KeptChunks.{shown_none_held}
 use Rattle.trace_writer.proofs.Starting.{HasFound, found_there, found_place, found_asked}
-use Rattle.trace_writer.proofs.begin.begin.Goals.{in-Idle, in-Between}
-use Rattle.trace_writer.proofs.begin.begin.Goals as goal
+use Rattle.trace_writer.proofs.begin.begin_elsewhere.Goals.{in-Idle, in-Between}
+use Rattle.trace_writer.proofs.begin.begin_elsewhere.Goals as goal
 
 pub held_or_new_place-place-requires-clause-ids : goal.held_or_new_place-place-requires-clause-ids
 held_or_new_place-place-requires-clause-ids g c =
