@@ -1,12 +1,11 @@
 //! What stands before a field's content: its tag, and its value or its length.
-ghost use Rattle.std.specs.Prelude.{◌≡◌, ◌≤◌, ◌++◌, length};
+ghost use Rattle.std.specs.Prelude.{◌≡◌, ◌+◌, ◌≤◌, ◌++◌, length};
 ghost use Rattle.wire_varint.specs.Varint.{tag, varint};
 ghost use Rattle.trace_model.specs.Encoding.{number_field, bytes_head, nested_tag};
 ghost use Rattle.proto_stream.specs.Head.{head_of};
 
 use arrayvec::ArrayVec;
 use trace_base::limits::MAX_FIELD;
-use wire_varint::{push_tag, push_varint};
 
 /// The bytes before a field's content, at most 15.
 #[derive(Drop)]
@@ -22,46 +21,76 @@ impl Head {
     }
 }
 
-/// The tag of a field with a value, and then the value in its shortest varint.
-fn tag_and_varint(field: u32, wire: u8, value: u64) -> ArrayVec<u8, 15>
+/// Appends the shortest varint of a number, byte by byte: a copy of so few bytes takes longer.
+#[inline(always)]
+fn push_number(out: &mut ArrayVec<u8, 15>, value: u64)
+    requires { length out.old.items + length (varint value) ≤ 15 }
+    ensures { out.new.items ≡ out.old.items ++ varint value }
+{
+    let mut rest = value;
+    while rest >= 128 {
+        out.push(128 + (rest % 128) as u8);
+        rest /= 128;
+    }
+    out.push(rest as u8);
+}
+
+/// Appends a field's tag.
+#[inline(always)]
+#[tactic(auto, unfolding(wire_varint::specs::Varint::tag))]
+fn push_tag(out: &mut ArrayVec<u8, 15>, field: u32, wire: u8)
     requires field { (1 ≤ field) × (field ≤ MAX_FIELD) }
     requires wire { wire ≤ 5 }
-    ensures { result.items ≡ tag field wire ++ varint value }
+    requires room { length out.old.items + length (tag field wire) ≤ 15 }
+    ensures { out.new.items ≡ out.old.items ++ tag field wire }
 {
-    let mut bytes = ArrayVec::new();
-    push_tag(&mut bytes, field, wire);
-    push_varint(&mut bytes, value);
-    bytes
+    push_number(out, 8 * u64::from(field) + u64::from(wire));
+}
+
+/// The tag of a field with a value, and then the value in its shortest varint.
+#[inline(always)]
+fn tag_and_varint(field: u32, wire: u8, value: u64) -> Head
+    requires field { (1 ≤ field) × (field ≤ MAX_FIELD) }
+    requires wire { wire ≤ 5 }
+    ensures { head_of result ≡ tag field wire ++ varint value }
+{
+    let mut head = Head {
+        bytes: ArrayVec::new(),
+    };
+    push_tag(&mut head.bytes, field, wire);
+    push_number(&mut head.bytes, value);
+    head
 }
 
 /// A number's field, whole.
+#[inline(always)]
 #[tactic(auto, unfolding(trace_model::specs::Encoding::number_field))]
 pub fn head_number(field: u32, value: u64) -> Head
     requires { (1 ≤ field) × (field ≤ MAX_FIELD) }
     ensures { head_of result ≡ number_field field value }
 {
-    Head {
-        bytes: tag_and_varint(field, 0, value),
-    }
+    tag_and_varint(field, 0, value)
 }
 
 /// What stands before the `len` bytes of a text.
+#[inline(always)]
 #[tactic(auto, unfolding(trace_model::specs::Encoding::bytes_head))]
 pub fn head_bytes(field: u32, len: u32) -> Head
     requires { (1 ≤ field) × (field ≤ MAX_FIELD) }
     ensures { head_of result ≡ bytes_head field len }
 {
-    Head {
-        bytes: tag_and_varint(field, 2, u64::from(len)),
-    }
+    tag_and_varint(field, 2, u64::from(len))
 }
 
 /// What stands before the length of a nested message.
+#[inline(always)]
 pub fn head_nested(field: u32) -> Head
     requires { (1 ≤ field) × (field ≤ MAX_FIELD) }
     ensures { head_of result ≡ nested_tag field }
 {
-    let mut bytes = ArrayVec::new();
-    push_tag(&mut bytes, field, 2);
-    Head { bytes }
+    let mut head = Head {
+        bytes: ArrayVec::new(),
+    };
+    push_tag(&mut head.bytes, field, 2);
+    head
 }

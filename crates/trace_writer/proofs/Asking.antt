@@ -2,7 +2,7 @@
 use Rattle.std.proofs.Common.{◌≡◌, ◌∙◌, ℕ, ◌+◌, ◌-◌, true, List, [], ◌∷◌, ◌++◌, length, Option, Some, None, IfNone, refl, sym, ap, subst, arith, length-append}
 use Rattle.chunk_plain.specs.declared.tokens.Held.{Held as HeldToken}
 use Rattle.chunk_plain.specs.Setup.{Setup}
-use Rattle.chunk_plain.specs.Views.{Ask, BegunChunk, Held, WriterView, ServiceView, fresh}
+use Rattle.chunk_plain.specs.Views.{Ask, BegunChunk, Held, WriterView, fresh}
 use Rattle.chunk_plain.specs.Drafts.{draft_at}
 use Rattle.chunk_plain.specs.Steps.{moved, with_writer_view}
 use Rattle.chunk_plain.specs.Meaning.{Meaning, IsWriterStep}

@@ -9,7 +9,7 @@ use Rattle.commit_body.specs.Pending.{Pending}
 use Rattle.chunk_plain.specs.declared.tokens.Held.{Held as HeldToken}
 use Rattle.chunk_plain.specs.Setup.{Setup}
 use Rattle.chunk_plain.specs.Views.{BegunChunk, WriterView}
-use Rattle.chunk_plain.specs.Steps.{redrafts, notes_call}
+use Rattle.chunk_plain.specs.Steps.{notes_call}
 use Rattle.cut_steps.specs.RawChains.{raw_chains}
 use Rattle.cut_steps.proofs.Beginning.{between_lost}
 use Rattle.cut_steps.proofs.StateLaws.{states_are_cuts}

@@ -14,7 +14,7 @@ use Rattle.trace_writer.specs.declared.route.Route.{Route}
 use Rattle.trace_writer.specs.Site.{Site, site_of}
 use Rattle.trace_writer.specs.Ids.{HasIds}
 use Rattle.trace_writer.specs.Flows.{PutsOn, StopsIn, Flows, SetsLength, WritesOn, CannotWrite, Writes, IsStopped}
-use Rattle.trace_writer.proofs.Putting.{puts_both, lost_behind, lost_within}
+use Rattle.trace_writer.proofs.Putting.{puts_both, lost_behind}
 
 -- Bytes
 

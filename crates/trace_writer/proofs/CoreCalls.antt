@@ -1,7 +1,7 @@
 -- What a call leaves of the packet that is begun, by the view of the writer's seat.
 use Rattle.std.proofs.Common.{◌≡◌, ◌∙◌, ℕ, ◌+◌, ◌<◌, Bool, true, false, not, true≢false, if◌then◌else◌, List, [], ◌∷◌, ◌++◌, length, refl, sym, ap, arith}
 use Rattle.std.proofs.lemmas.List.Sums.{fold-append}
-use Rattle.trace_model.specs.Calls.{Call, Begun, Ended, GivenUp, Finished, Flushed}
+use Rattle.trace_model.specs.Calls.{Call, Begun, Ended, GivenUp, Finished}
 use Rattle.trace_model.specs.Packets.{Packet, Account, account_of, noted, nothing_yet, on_newest, with_more, with_nested_ended, given_up_packet, finished_packet, written, closed_levels, open_places, is_writing}
 use Rattle.trace_base.specs.declared.policy.WriterPolicy.{WriterPolicy}
 use Rattle.trace_base.specs.declared.policy.WriterPolicy.TheVariants.{Drops, Stalls}

@@ -3,10 +3,7 @@ use Rattle.std.proofs.Common.{◌≡◌, ◌∙◌, ℕ, Bool, true, false, if�
 use Rattle.trace_base.specs.declared.policy.WriterPolicy.TheVariants.{Drops}
 use Rattle.trace_model.specs.Calls.{Call}
 use Rattle.trace_model.specs.Packets.{Packet, Account, packets_of, noted, on_newest, newest_is_lost, is_possible}
-use Rattle.chunk_plain.specs.Setup.{Setup}
-use Rattle.chunk_plain.specs.Views.{WriterView, ServiceView}
 use Rattle.chunk_plain.specs.Meaning.{Meaning, IsWriterStep}
-use Rattle.chunk_plain.specs.World.{World}
 use Rattle.chunk_plain.proofs.SeatSteps.{stays}
 use Rattle.trace_writer.specs.declared.fault.Begun.{Begun as BegunPacket}
 use Rattle.trace_writer.specs.declared.fault.CallFault.{CallFault}

@@ -3,10 +3,9 @@ use Rattle.std.proofs.Common.{◌≡◌, ◌∙◌, ℕ, ◌<◌, ◌||◌, Bool
 use Rattle.trace_model.specs.Calls.{Ended, Finished, Flushed}
 use Rattle.trace_model.specs.Packets.{Packet, Account, account_of, packets_of, on_newest, finished_packet, newest_is_lost, is_lost, is_writing}
 use Rattle.commit_body.specs.Pending.{Pending}
-use Rattle.chunk_plain.specs.Views.{WriterView, ServiceView}
+use Rattle.chunk_plain.specs.Views.{WriterView}
 use Rattle.chunk_plain.specs.Meaning.{Meaning}
 use Rattle.chunk_plain.specs.Setup.{Setup}
-use Rattle.chunk_plain.specs.World.{World}
 use Rattle.trace_writer.specs.declared.packet.OpenPacket.{OpenPacket}
 use Rattle.trace_writer.specs.declared.state.State.{State}
 use Rattle.trace_writer.specs.declared.state.State.TheVariants.{Idle, Between, Writing, Dropping, Stalled}

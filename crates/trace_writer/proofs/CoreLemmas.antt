@@ -23,7 +23,6 @@ use Rattle.trace_writer.specs.Agreement.{Agrees, StateAgrees, IsInPacketOf, is_b
 use Rattle.trace_writer.specs.Core.{in_packet, newest_depth, newest_len, open_depth, field_fault, nested_fault}
 use Rattle.chunk_plain.specs.Histories.{completed_images}
 use Rattle.trace_writer.specs.Filled.{ShowsPages}
-use Rattle.trace_writer.specs.Headers.{held_head}
 use Rattle.trace_writer.specs.Site.{Site, site_of}
 use Rattle.trace_writer.proofs.Accounts.{measured_depth}
 use Rattle.trace_writer.proofs.CutLaws.{images_held}

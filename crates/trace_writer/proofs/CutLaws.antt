@@ -24,7 +24,6 @@ use Rattle.trace_writer.specs.declared.packet.OpenPacket.{OpenPacket}
 use Rattle.trace_writer.specs.declared.route.Route.{Route}
 use Rattle.trace_writer.specs.declared.state.State.{State}
 use Rattle.trace_writer.specs.declared.state.State.TheVariants.{Idle, Between, Writing, Dropping, Stalled}
-use Rattle.trace_writer.specs.Headers.{held_head}
 use Rattle.trace_writer.specs.Site.{Site, site_of}
 use Rattle.trace_writer.specs.Filled.{ShowsPages, HasByte}
 use Rattle.trace_writer.specs.States.{InFragment, IsIdle, IsBehind, IsStuck}

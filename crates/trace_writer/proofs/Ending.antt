@@ -7,8 +7,8 @@ use Rattle.trace_model.specs.Packets.{Packet, Account, account_of, finished_pack
 use Rattle.commit_body.specs.Pending.{Pending}
 use Rattle.chunk_plain.specs.Setup.{Setup}
 use Rattle.chunk_plain.specs.Views.{Draft, Held, WriterView}
-use Rattle.chunk_plain.specs.Drafts.{IsHolding, head_at}
-use Rattle.chunk_plain.specs.Steps.{redrafts, completes, notes_call}
+use Rattle.chunk_plain.specs.Drafts.{head_at}
+use Rattle.chunk_plain.specs.Steps.{completes, notes_call}
 use Rattle.trace_writer.specs.declared.chunk.HeldChunk.{HeldChunk}
 use Rattle.trace_writer.specs.declared.packet.OpenPacket.{OpenPacket}
 use Rattle.trace_writer.specs.declared.route.Route.{Route}

@@ -1,5 +1,5 @@
 -- A packet is given up: its holes are closed with 0 one after another, and then its chunk is completed with the drop mark.
-use Rattle.std.proofs.Common.{◌≡◌, ◌≢◌, ◌∙◌, ℕ, ◌+◌, ◌-◌, ◌<◌, ◌≤◌, not, ◌||◌, Bool, true, false, Option, Some, List, [], ◌∷◌, ◌++◌, length, reverse, vec_len, refl, sym, ap, subst, arith, length-append, append-nil}
+use Rattle.std.proofs.Common.{◌≡◌, ◌≢◌, ◌∙◌, ℕ, ◌+◌, ◌-◌, ◌<◌, ◌≤◌, not, ◌||◌, Bool, true, false, Option, Some, List, [], ◌∷◌, ◌++◌, length, reverse, vec_len, refl, sym, ap, subst, arith, length-append}
 use Rattle.std.specs.Prelude.{IsTrue, is_some}
 use Rattle.std.proofs.lemmas.List.{reverse-append}
 use Rattle.std.proofs.lemmas.Bool.{false≢true, eq-eqb}
@@ -7,7 +7,7 @@ use Rattle.trace_base.specs.declared.limits.TheConstants.{MAX_OPEN_HOLES}
 use Rattle.wire_varint.specs.Varint.{redundant}
 use Rattle.trace_model.specs.Images.{Patch, with_bytes}
 use Rattle.trace_model.specs.Fragments.{drop_mark}
-use Rattle.trace_model.specs.Packets.{Packet, Text, flat, open_length, open_places, body_of, written, with_more, given_up_packet}
+use Rattle.trace_model.specs.Packets.{Packet, Text, flat, open_length, open_places, body_of, with_more, given_up_packet}
 use Rattle.trace_model.specs.Pages.{Page, laid}
 use Rattle.trace_model.specs.Sequences.{is_among}
 use Rattle.trace_model.specs.Row.{bytes_of, Piece, Chain}
@@ -22,8 +22,8 @@ use Rattle.commit_body.proofs.InnerFirst.{inner_first_closed}
 use Rattle.chunk_plain.specs.declared.tokens.Held.{Held as HeldToken}
 use Rattle.chunk_plain.specs.Setup.{spot}
 use Rattle.chunk_plain.specs.Views.{BegunChunk, Held, Completed, WriterView, Draft}
-use Rattle.chunk_plain.specs.Drafts.{head_at, IsHolding}
-use Rattle.chunk_plain.specs.Steps.{redrafts, completes}
+use Rattle.chunk_plain.specs.Drafts.{head_at}
+use Rattle.chunk_plain.specs.Steps.{completes}
 use Rattle.cut_steps.specs.RawChains.{raw_chains, earlier_pieces, current_piece, offset_behind}
 use Rattle.cut_steps.specs.Pending.{patches_so_far}
 use Rattle.cut_steps.specs.GivingUp.{GivesUp}

@@ -8,8 +8,8 @@ use Rattle.trace_model.specs.Cut.{IsWellFormedPage, is_fresh, is_end, newest_pie
 use Rattle.commit_body.specs.declared.hole.Hole.{Hole}
 use Rattle.commit_body.specs.Patches.{hole_chunks, with_lasts}
 use Rattle.commit_body.specs.Pending.{Pending}
-use Rattle.chunk_plain.specs.Views.{BegunChunk, Completed, Head, Content, WriterView}
-use Rattle.chunk_plain.specs.Steps.{redrafts, completes}
+use Rattle.chunk_plain.specs.Views.{BegunChunk, Completed, Content, WriterView}
+use Rattle.chunk_plain.specs.Steps.{completes}
 use Rattle.cut_steps.specs.RawChains.{raw_chains, page_with, offset_behind}
 use Rattle.cut_steps.specs.Between.{IsBetween}
 use Rattle.cut_steps.proofs.StepLemmas.{last_runs_on-one}
@@ -17,7 +17,7 @@ use Rattle.cut_steps.proofs.ChainLemmas.{raw_chains-one}
 use Rattle.cut_steps.proofs.Beginning.{between_changed}
 use Rattle.cut_steps.proofs.BetweenCuts.{between_completed}
 use Rattle.trace_writer.specs.declared.chunk.HeldChunk.{HeldChunk}
-use Rattle.trace_writer.specs.Headers.{flags_value, held_head, completed_chunk}
+use Rattle.trace_writer.specs.Headers.{flags_value, completed_chunk}
 use Rattle.trace_writer.specs.Site.{Site}
 use Rattle.trace_writer.specs.Filled.{ShowsPages}
 use Rattle.trace_writer.specs.States.{IsIdle, IsBehind, has_room}

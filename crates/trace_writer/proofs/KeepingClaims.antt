@@ -1,5 +1,5 @@
 -- What a writer keeps of its claims over a call.
-use Rattle.std.proofs.Common.{◌≡◌, ◌∙◌, ℕ, ◌+◌, ◌<◌, ◌≤◌, ◌⊎◌, inl, inr, Bool, true, None, List, [], ◌∷◌, ◌++◌, length, Option, sym, ap, subst, arith}
+use Rattle.std.proofs.Common.{◌≡◌, ◌∙◌, ℕ, ◌+◌, ◌<◌, ◌≤◌, ◌⊎◌, inl, inr, Bool, true, None, List, [], ◌∷◌, ◌++◌, length, sym, ap, subst, arith}
 use Rattle.std.proofs.lemmas.Bool.{true≢false}
 use native.Mathlib.Decide.{dec_le}
 use mathlib.Core.Logic.{dite}
@@ -7,12 +7,10 @@ use Rattle.trace_base.specs.declared.policy.WriterPolicy.{WriterPolicy}
 use Rattle.trace_base.specs.declared.policy.WriterPolicy.TheVariants.{Drops, Stalls}
 use Rattle.trace_model.specs.Calls.{Call}
 use Rattle.trace_model.specs.Packets.{packets_of}
-use Rattle.chunk_plain.specs.Views.{Ask, BegunChunk, Held, Completed, Draft, WriterView, ServiceView, fresh}
+use Rattle.chunk_plain.specs.Views.{Ask, BegunChunk, Held, Completed, Draft, WriterView, fresh}
 use Rattle.chunk_plain.specs.Meaning.{Meaning}
-use Rattle.chunk_plain.specs.Owned.{times}
 use Rattle.chunk_plain.specs.declared.setup.ChunkRange.{ChunkRange}
 use Rattle.chunk_plain.specs.Setup.{Setup, range_of, producer_of, IsChunkOf}
-use Rattle.chunk_plain.specs.World.{World}
 use Rattle.claim_arbiter.specs.Claiming.{ClaimsInTurn, lost_asks, range_in}
 use Rattle.trace_writer.specs.declared.route.Route.{Route}
 use Rattle.trace_writer.specs.Asked.{IsAsked}

@@ -249,6 +249,15 @@ puts_all site old new before after fragment next piece [] so_far none =
     }
 puts_all site old new before after fragment next piece (one ∷ rest) so_far none = absurd (omega (arith, none))
 
+-- all of it fits into the fragment
+pub puts_here : (site : Site) (view : WriterView) (pending : Pending) (fragment next : OpenFragment) (piece : List ℕ) (count : ℕ)
+    → fragment.at + length piece ≤ vec_len fragment.held.body.payload → count ≡ min (length piece) (vec_len fragment.held.body.payload - fragment.at)
+    → IsPutInto fragment next fragment.at (take count piece) → next.at ≡ fragment.at + count → PutsOn site view view pending pending fragment next piece
+puts_here site view pending fragment next piece count fits count_is put at_is =
+    puts_all site view view pending pending fragment next piece (drop count piece)
+    (puts_part site view view pending pending fragment fragment next piece piece count count_is put at_is (puts_none site view pending fragment piece))
+    (omega (arith, length-drop count piece, count_is, fits))
+
 -- there is an id for a next chunk
 pub ids_most : (site : Site) (old new : WriterView) (before after : Pending) (fragment next : OpenFragment) (piece rest : List ℕ)
     → PutsSoFar site old new before after fragment next piece rest → HasIds fragment (length piece) → 0 < length rest → HasIds next 1

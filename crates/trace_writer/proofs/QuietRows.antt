@@ -1,9 +1,6 @@
 -- Quiet steps of a writer in a row.
-use Rattle.std.proofs.Common.{◌≡◌, ◌∙◌, ℕ, Option, refl, sym, subst}
-use Rattle.chunk_plain.specs.Views.{WriterView, ServiceView}
+use Rattle.std.proofs.Common.{◌≡◌, ◌∙◌, refl, sym, subst}
 use Rattle.chunk_plain.specs.Meaning.{Meaning}
-use Rattle.chunk_plain.specs.Setup.{Setup}
-use Rattle.chunk_plain.specs.World.{World}
 use Rattle.chunk_plain.proofs.SeatSteps.{stays, steps_follow}
 use Rattle.trace_writer.specs.OwnSteps.{IsQuiet, IsSilent}
 use Rattle.trace_writer.proofs.KeptChunks.{keeps_same, keeps_both, frees_same, frees_both}

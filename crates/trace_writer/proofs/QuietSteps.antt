@@ -1,11 +1,10 @@
 -- The steps of a writer by which it asks for no chunk.
-use Rattle.std.proofs.Common.{◌≡◌, ℕ, List, Option, Some, sym, ap, subst, set}
+use Rattle.std.proofs.Common.{◌≡◌, ℕ, List, Some, sym, ap, subst, set}
 use Rattle.trace_model.specs.Calls.{Call}
-use Rattle.chunk_plain.specs.Views.{BegunChunk, Held, Draft, Content, WriterView, ServiceView}
+use Rattle.chunk_plain.specs.Views.{BegunChunk, Held, Draft, Content, WriterView}
 use Rattle.chunk_plain.specs.Drafts.{IsHolding, draft_at}
 use Rattle.chunk_plain.specs.Steps.{redrafts, completes, notes_call, moved, with_writer_view}
 use Rattle.chunk_plain.specs.Meaning.{Meaning, IsWriterStep}
-use Rattle.chunk_plain.specs.Setup.{Setup}
 use Rattle.chunk_plain.specs.World.{World, Writing, Ready}
 use Rattle.trace_writer.specs.OwnSteps.{KeepsChunks, FreesNone, IsQuiet}
 use Rattle.trace_writer.proofs.KeptChunks.{keeps_same, keeps_redrafted, keeps_set, frees_moved, frees_noted, writing_used, ready_used}

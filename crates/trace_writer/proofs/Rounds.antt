@@ -2,8 +2,6 @@
 use Rattle.std.proofs.Common.{◌≡◌, ℕ, ◌+◌, ◌-◌, Bool, true, false, not, length, ap, arith, is_some, Option, Some, None, IfSome, IfNone}
 use Rattle.trace_base.specs.declared.policy.WriterPolicy.TheVariants.{Drops}
 use Rattle.chunk_plain.specs.declared.tokens.Held.{Held as HeldToken}
-use Rattle.chunk_plain.specs.Setup.{Setup}
-use Rattle.chunk_plain.specs.Views.{WriterView, ServiceView}
 use Rattle.chunk_plain.specs.Drafts.{draft_at}
 use Rattle.chunk_plain.specs.Steps.{moved, with_writer_view}
 use Rattle.chunk_plain.specs.Meaning.{Meaning, IsWriterStep}

@@ -1,11 +1,11 @@
 -- The view of a writer whose chunk is held: its begun chunks as it is completed, and the pages that they show.
-use Rattle.std.proofs.Common.{◌≡◌, ◌∙◌, ℕ, suc, ◌+◌, Bool, List, [], ◌∷◌, ◌++◌, length, set, get_or, refl, sym, ap, subst, arith}
+use Rattle.std.proofs.Common.{◌≡◌, ◌∙◌, ℕ, suc, ◌+◌, List, [], ◌∷◌, ◌++◌, length, set, get_or, refl, sym, ap, subst, arith}
 use Rattle.std.proofs.Math.Seq.{get_or-append_seam, set-append_seam}
 use Rattle.trace_model.specs.Pages.{Page, laid, flags_of, image_of}
-use Rattle.chunk_plain.specs.Views.{At, BegunChunk, Held, Completed, Head, Draft, no_draft, Content, WriterView}
-use Rattle.chunk_plain.specs.Drafts.{draft_in, draft_at, IsHolding, MayFollow}
+use Rattle.chunk_plain.specs.Views.{At, BegunChunk, Held, Completed, Draft, no_draft, Content, WriterView}
+use Rattle.chunk_plain.specs.Drafts.{draft_in, draft_at, IsHolding}
 use Rattle.chunk_plain.specs.Steps.{redrafts, completes}
-use Rattle.trace_writer.specs.Headers.{completed_chunk, held_head}
+use Rattle.trace_writer.specs.Headers.{completed_chunk}
 use Rattle.trace_writer.specs.Site.{Site}
 use Rattle.trace_writer.specs.Filled.{ShowsPages}
 

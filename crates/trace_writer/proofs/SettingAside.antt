@@ -18,7 +18,7 @@ use Rattle.trace_writer.specs.declared.fragment.OpenFragment.{OpenFragment}
 use Rattle.trace_writer.specs.Site.{Site}
 use Rattle.trace_writer.specs.Fragment.{IsPutInto}
 use Rattle.trace_writer.specs.States.{InFragment}
-use Rattle.trace_writer.specs.Flows.{RunsOn, StopsHere, SetsAside, CannotSetAside}
+use Rattle.trace_writer.specs.Flows.{RunsOn, SetsAside}
 use Rattle.trace_writer.proofs.Holes.{outside_here}
 use Rattle.trace_writer.proofs.Payloads.{written_moved, written_offset}
 use Rattle.trace_writer.proofs.Putting.{written_more, held_same, drafted_same, ids_behind, ids_next}

@@ -1,5 +1,5 @@
 -- A writer that stalls: its chunk is completed with a packet that runs on, and no chunk is begun behind it.
-use Rattle.std.proofs.Common.{◌≡◌, ◌∙◌, ℕ, ◌+◌, ◌-◌, ◌<◌, ◌||◌, Bool, List, [], ◌∷◌, ◌++◌, length, reverse, vec_len, refl, sym, ap, subst, arith, append-nil, inl, inr, set}
+use Rattle.std.proofs.Common.{◌≡◌, ◌∙◌, ℕ, ◌+◌, ◌-◌, ◌<◌, ◌||◌, Bool, List, [], ◌∷◌, ◌++◌, length, reverse, vec_len, refl, sym, ap, subst, arith, append-nil, inl, inr}
 use Rattle.std.specs.Prelude.{◌⊎◌, IsTrue}
 use Rattle.std.proofs.lemmas.Bool.{eq-eqb, true≢false}
 use Rattle.std.proofs.lemmas.List.{length-set}
@@ -15,7 +15,7 @@ use Rattle.commit_body.specs.Patches.{hole_chunks}
 use Rattle.commit_body.specs.Pending.{Pending}
 use Rattle.chunk_plain.specs.Setup.{Setup}
 use Rattle.chunk_plain.specs.Views.{BegunChunk, Held, Completed, Content, WriterView, Draft}
-use Rattle.chunk_plain.specs.Steps.{redrafts, completes}
+use Rattle.chunk_plain.specs.Steps.{completes}
 use Rattle.cut_steps.specs.RawChains.{current_piece}
 use Rattle.cut_steps.specs.GoesOn.{GoesOn}
 use Rattle.cut_steps.specs.Writing.{IsWriting, with_open}
@@ -28,7 +28,6 @@ use Rattle.trace_writer.specs.declared.fragment.OpenFragment.{OpenFragment}
 use Rattle.trace_writer.specs.declared.route.Route.{Route}
 use Rattle.trace_writer.specs.Filled.{ShowsPages}
 use Rattle.trace_writer.specs.Flows.{StopsAs, StopsHere}
-use Rattle.trace_writer.specs.Headers.{held_head}
 use Rattle.trace_writer.specs.Site.{Site, site_of}
 use Rattle.trace_writer.specs.States.{InFragment, IsStuck}
 use Rattle.trace_writer.proofs.Holes.{among_reverse, lasts_reverse}

@@ -1,5 +1,5 @@
 -- A packet begins in a chunk: behind what the held one holds, or first in a new one.
-use Rattle.std.proofs.Common.{◌≡◌, ◌∙◌, ℕ, ◌+◌, ◌%◌, ◌<◌, ◌≤◌, Bool, true, false, not, ◌==◌, ◌&&◌, nat_le, nat_lt, List, [], ◌∷◌, ◌++◌, length, reverse, take, drop, vec_len, refl, sym, ap, subst, arith, true≢false, inr, Result, Option}
+use Rattle.std.proofs.Common.{◌≡◌, ◌∙◌, ℕ, ◌+◌, ◌%◌, ◌<◌, ◌≤◌, Bool, true, false, not, ◌==◌, ◌&&◌, nat_le, nat_lt, List, [], ◌∷◌, ◌++◌, length, reverse, take, drop, vec_len, refl, sym, ap, subst, arith, true≢false, inr, Result}
 use Rattle.std.proofs.lemmas.Bool.{ne_eqb}
 use Rattle.std.proofs.lemmas.Bool.Decides.{nat_tests}
 use Rattle.std.proofs.lemmas.List.{take-append-drop, length-take, length-append}
@@ -16,15 +16,14 @@ use Rattle.commit_body.specs.declared.hole.Hole.{Hole}
 use Rattle.commit_body.specs.Patches.{holes_outside}
 use Rattle.commit_body.specs.Pending.{Pending}
 use Rattle.chunk_plain.specs.Payload.{byte_in}
-use Rattle.chunk_plain.specs.Views.{BegunChunk, Held, Head, Draft, fresh, WriterView, ServiceView}
+use Rattle.chunk_plain.specs.Views.{BegunChunk, Held, Head, Draft, fresh, WriterView}
 use Rattle.chunk_plain.specs.Drafts.{head_at}
-use Rattle.chunk_plain.specs.Steps.{redrafts, completes}
+use Rattle.chunk_plain.specs.Steps.{completes}
 use Rattle.chunk_plain.specs.Meaning.{Meaning, IsWriterStep}
 use Rattle.chunk_plain.specs.Words.{IsBegun}
 use Rattle.chunk_plain.specs.declared.tokens.Held.{Held as HeldToken}
 use Rattle.chunk_plain.specs.declared.setup.ChunkRange.{ChunkRange}
 use Rattle.chunk_plain.specs.Setup.{Setup, spot}
-use Rattle.chunk_plain.specs.World.{World}
 use Rattle.cut_steps.specs.RawChains.{raw_chains, page_with, earlier_pieces, chains_before}
 use Rattle.cut_steps.specs.Writing.{IsWriting}
 use Rattle.cut_steps.proofs.Beginning.{writing_begun, writing_begun_new, begins_well-begun}
@@ -35,6 +34,7 @@ use Rattle.trace_writer.specs.declared.fault.CallFault.{CallFault}
 use Rattle.trace_writer.specs.declared.fragment.OpenFragment.{OpenFragment}
 use Rattle.trace_writer.specs.declared.route.Route.{Route}
 use Rattle.trace_writer.specs.declared.state.State.{State}
+use Rattle.trace_writer.specs.declared.state.State.TheVariants.{Idle, Between, Writing, Dropping, Stalled}
 use Rattle.trace_writer.specs.declared.state.Writer.{Writer}
 use Rattle.trace_writer.specs.Empty.{is_stalled}
 use Rattle.trace_writer.specs.Headers.{held_head}
@@ -46,7 +46,7 @@ use Rattle.trace_writer.specs.Claims.{Wins}
 use Rattle.trace_writer.specs.Asked.{IsAsked, begun_as, stops_with}
 use Rattle.trace_writer.specs.Helping.{IsWork}
 use Rattle.trace_writer.specs.OwnSteps.{IsQuiet}
-use Rattle.trace_writer.specs.Placing.{IsStarted, IsRoomy, IsPlace, BeginsAt, is_behind}
+use Rattle.trace_writer.specs.Placing.{IsStarted, IsRoomy, IsPlace, BeginsAt, is_behind, is_roomy}
 use Rattle.trace_writer.proofs.Idling.{completed_idle, behind_content}
 use Rattle.trace_writer.proofs.Payloads.{length-framed}
 use Rattle.trace_writer.proofs.Seats.{redrafted_here, shows_long}
@@ -223,6 +223,14 @@ behind_idle site account view new pending after chunk few pending_is is full beh
 pub room_of : (site : Site) (chunk : HeldChunk) (answer : Bool) → vec_len chunk.held.body.payload ≡ site.size
     → answer ≡ (nat_le (chunk.at + 12) (vec_len chunk.held.body.payload) && nat_lt chunk.count MAX_FRAGMENTS) → has_room site.size chunk ≡ answer
 room_of site chunk answer whole is = sym (is ∙ ap (λ (n : ℕ). nat_le (chunk.at + 12) n && nat_lt chunk.count MAX_FRAGMENTS) whole)
+
+-- a writer that holds a chunk with room hasn't stalled
+pub roomy_goes : (state : State) → is_roomy state ≡ true → is_stalled state ≡ false
+roomy_goes (Idle next_id) roomy = refl
+roomy_goes (Between chunk) roomy = refl
+roomy_goes (Writing fragment) roomy = refl
+roomy_goes (Dropping next_id) roomy = refl
+roomy_goes (Stalled next_id) roomy = absurd (true≢false (sym roomy))
 
 -- The set-up and the seat's place are the same throughout.
 

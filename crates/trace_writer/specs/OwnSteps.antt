@@ -1,7 +1,6 @@
 -- The steps of a writer's own: those by which it asks for no chunk, the claims until it gets one, and a full round of claims in vain.
 use Rattle.std.specs.Prelude.{◌≡◌, ℕ, ◌+◌, ⊤, Bool, true, false, List, [], ◌∷◌, ◌++◌, length, Option, Some}
-use Rattle.chunk_plain.specs.Setup.{Setup}
-use Rattle.chunk_plain.specs.Views.{BegunChunk, Held, Completed, WriterView, ServiceView}
+use Rattle.chunk_plain.specs.Views.{BegunChunk, Held, Completed}
 use Rattle.chunk_plain.specs.Meaning.{Meaning, IsWriterStep}
 use Rattle.chunk_plain.specs.World.{World, Unclaimed, status}
 use Rattle.claim_arbiter.specs.Claiming.{ClaimsInTurn, AllClaimed, NoneFree, lost_asks}

@@ -6,8 +6,7 @@ use Rattle.trace_model.specs.Calls as call
 use Rattle.trace_model.specs.Packets.{Packet, Account}
 use Rattle.commit_body.specs.Pending.{Pending}
 use Rattle.chunk_plain.specs.Views.{WriterView}
-use Rattle.chunk_plain.specs.Drafts.{IsHolding, MayFollow, head_at}
-use Rattle.chunk_plain.specs.Steps.{redrafts}
+use Rattle.chunk_plain.specs.Drafts.{MayFollow, head_at}
 use Rattle.trace_writer.specs.declared.begin.Place.{Place}
 use Rattle.trace_writer.specs.declared.begin.Place.TheVariants.{Behind, Nowhere}
 use Rattle.trace_writer.specs.declared.chunk.HeldChunk.{HeldChunk}
@@ -54,6 +53,14 @@ pub record IsRoomy (site : Site) (account : Account) (view : WriterView) (pendin
   pub begins : (packet : Packet) (counted new : WriterView) (fragment : OpenFragment) → IsBare account packet → IsStarted chunk fragment
       → CountsNext chunk view counted → new.begun ≡ counted.begun
       → InFragment site packet account.packets new pending fragment []
+
+-- a chunk is held in which a packet can begin
+abbrev pub is_roomy : State → Bool
+is_roomy (Idle next_id) = false
+is_roomy (Between chunk) = has_room (vec_len chunk.held.body.payload) chunk
+is_roomy (Writing fragment) = false
+is_roomy (Throwing next_id) = false
+is_roomy (Stalled next_id) = false
 
 -- a packet can begin without a further chunk, or the writer begins none
 abbrev pub BeginsHere : State → Type 0

@@ -14,7 +14,7 @@ ghost use Rattle.trace_model.specs.Calls as call;
 ghost use Rattle.trace_writer.specs.Site.{IsRoute, site_of};
 ghost use Rattle.trace_writer.specs.Agreement.{Agrees, AgreesBetween, is_begun};
 ghost use Rattle.trace_writer.specs.States.{IsIdle, IsBehind, has_room};
-ghost use Rattle.trace_writer.specs.Placing.{BeginsHere, IsPlace, IsRoomy, BeginsAt, is_behind};
+ghost use Rattle.trace_writer.specs.Placing.{BeginsHere, IsPlace, IsRoomy, BeginsAt, is_behind, is_roomy};
 
 use crate::chunk::HeldChunk;
 use crate::claim::claim_next;
@@ -102,6 +102,7 @@ fn held_or_new_place<W: Words, L: Ledger, H: HelperOn<W>>(
 }
 
 /// Begins a packet in a chunk that has room for it.
+#[inline(always)]
 fn begin_kept<W: Words>(writer: &mut Writer, table: &mut W, seat: &mut W::Writer, chunk: HeldChunk)
     requires seat { W.means.sits table.old seat.old }
     requires roomy { IsRoomy (site_of (W.means.setup table.old) (W.means.place seat.old) writer.old.route) (account_of (W.means.view table.old seat.old).calls) (W.means.view table.old seat.old) writer.old.pending chunk }
@@ -179,6 +180,78 @@ fn begin_at<W: Words>(
 
 /// Begins a packet.
 pub(crate) fn begin<W: Words, L: Ledger, H: HelperOn<W>>(
+    writer: &mut Writer,
+    table: &mut W,
+    seat: &mut W::Writer,
+    help: &mut H,
+    steps: &mut Steps<L>,
+) -> Result<Begun, CallFault>
+    requires seat { W.means.sits table.old seat.old }
+    requires needs { H.needs help.old table.old }
+    requires agrees { Agrees (W.means.setup table.old) (W.means.place seat.old) (W.means.view table.old seat.old) writer.old }
+    requires none_begun { is_begun writer.old.packet ≡ false }
+    requires ids { length (W.means.view table.old seat.old).begun + PACKET_IDS ≤ ID_LIMIT }
+    ensures agrees { Agrees (W.means.setup table.old) (W.means.place seat.old) (W.means.view table.new seat.new) writer.new }
+    ensures route { writer.new.route ≡ writer.old.route }
+    ensures stays { is_stalled_state writer.old.state ≡ true
+        → (result ≡ Err call_fault.Stalled) × (writer.new ≡ writer.old) × (table.new ≡ table.old) × (seat.new ≡ seat.old) × (help.new ≡ help.old) × (steps.new ≡ steps.old) }
+    ensures answers { is_stalled_state writer.old.state ≡ false
+        → MatchResult result (λ _. is_stalled_state writer.new.state ≡ false) (λ fault. (fault ≡ call_fault.Stalled) × (is_stalled_state writer.new.state ≡ true)) }
+    ensures done { is_stalled_state writer.old.state ≡ false
+        → IsAsked W.means H.needs H.helps
+        writer.old.route help.old table.old seat.old steps.old (stops_with result) (begun_as (stops_with result) writer.old.route.spec.policy)
+        (is_stalled_state writer.new.state) help.new table.new seat.new steps.new }
+    ensures asked { BeginsHere writer.old.state → (W.means.view table.new seat.new).asked ≡ (W.means.view table.old seat.old).asked }
+    ensures few_steps { writer.old.route.spec.policy ≡ Drops → steps.new ≤ steps.old + writer.old.route.arbiter.chunks + 1 }
+{
+    if has_room_here(&writer.state) {
+        begin_here(writer, table, seat);
+        return Ok(Begun::Kept);
+    }
+    begin_elsewhere(writer, table, seat, help, steps)
+}
+
+/// Whether a chunk is held in which a packet can begin.
+#[inline(always)]
+fn has_room_here(state: &State) -> bool
+    ensures { result ≡ is_roomy state.now }
+{
+    match state {
+        State::Between(chunk) => chunk.has_room(),
+        State::Idle { next_id: _ } => false,
+        State::Writing(_fragment) => false,
+        State::Dropping { next_id: _ } => false,
+        State::Stalled { next_id: _ } => false,
+    }
+}
+
+/// Begins a packet in the held chunk, which has room for it. The chunk goes straight from one state
+/// into the next: by way of a place it would be copied twice.
+#[inline(always)]
+fn begin_here<W: Words>(writer: &mut Writer, table: &mut W, seat: &mut W::Writer)
+    requires seat { W.means.sits table.old seat.old }
+    requires agrees { Agrees (W.means.setup table.old) (W.means.place seat.old) (W.means.view table.old seat.old) writer.old }
+    requires none_begun { is_begun writer.old.packet ≡ false }
+    requires ids { length (W.means.view table.old seat.old).begun + PACKET_IDS ≤ ID_LIMIT }
+    requires roomy { is_roomy writer.old.state ≡ true }
+    ensures agrees { Agrees (W.means.setup table.old) (W.means.place seat.old) (W.means.view table.new seat.new) writer.new }
+    ensures route { writer.new.route ≡ writer.old.route }
+    ensures calls { (W.means.view table.new seat.new).calls ≡ (W.means.view table.old seat.old).calls ++ call.Begun true ∷ [] }
+    ensures going { is_stalled_state writer.new.state ≡ false }
+    ensures quiet { IsQuiet W.means table.old seat.old table.new seat.new }
+{
+    match take_state(&mut writer.state) {
+        State::Between(chunk) => begin_kept(writer, table, seat, chunk),
+        State::Idle { next_id: _ } => unreachable!(),
+        State::Writing(_fragment) => unreachable!(),
+        State::Dropping { next_id: _ } => unreachable!(),
+        State::Stalled { next_id: _ } => unreachable!(),
+    }
+}
+
+/// Begins a packet, in a new chunk where there is no room in the held one.
+#[inline(never)]
+fn begin_elsewhere<W: Words, L: Ledger, H: HelperOn<W>>(
     writer: &mut Writer,
     table: &mut W,
     seat: &mut W::Writer,

@@ -25,7 +25,8 @@ use trace_base::policy::WriterPolicy;
 use trace_base::steps::Steps;
 
 /// Writes a field that the packet may have: what stands in front of its content, and its text so
-/// many times.
+/// many times. It is put into its callers, since a `call` that is passed on costs more than what is done.
+#[inline(always)]
 pub(crate) fn write_field<W: Words, L: Ledger, H: HelperOn<W>>(
     writer: &mut Writer,
     table: &mut W,
@@ -64,6 +65,7 @@ pub(crate) fn write_field<W: Words, L: Ledger, H: HelperOn<W>>(
 }
 
 /// Writes a field over as many chunks as it takes.
+#[inline(never)]
 fn write_field_on<W: Words, L: Ledger, H: HelperOn<W>>(
     writer: &mut Writer,
     table: &mut W,
@@ -122,6 +124,7 @@ fn write_field_on<W: Words, L: Ledger, H: HelperOn<W>>(
 }
 
 /// Begins a nested message that the packet may have, by its tag and a length that is set aside.
+#[inline(always)]
 pub(crate) fn write_nested<W: Words, L: Ledger, H: HelperOn<W>>(
     writer: &mut Writer,
     table: &mut W,
@@ -159,6 +162,7 @@ pub(crate) fn write_nested<W: Words, L: Ledger, H: HelperOn<W>>(
 }
 
 /// Begins a nested message over as many chunks as its tag and its length take.
+#[inline(never)]
 fn write_nested_on<W: Words, L: Ledger, H: HelperOn<W>>(
     writer: &mut Writer,
     table: &mut W,

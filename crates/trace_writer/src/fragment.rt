@@ -41,6 +41,13 @@ impl OpenFragment {
     ghost use Rattle.commit_body.specs.Pending.{AddsHole, ClosesHole};
     ghost use Rattle.trace_writer.specs.Fragment.{IsPutInto, OpensMessage, AnswersClose};
 
+    /// Whether so many bytes fit.
+    pub fn has_left(&self, count: usize) -> bool
+        ensures { result ≡ nat_le (self.now.at + count) (vec_len self.now.held.body.payload) }
+    {
+        count <= self.held.body.payload.len() - self.at as usize
+    }
+
     /// Writes the first bytes of the piece, as many as fit, and says how many.
     pub fn put(&mut self, piece: &[u8]) -> usize
         ensures count { result ≡ min (length piece.now) (vec_len self.old.held.body.payload - self.old.at) }

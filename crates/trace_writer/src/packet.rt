@@ -42,6 +42,7 @@ impl OpenPacket {
     }
 
     /// Whether a field of so many bytes may come next.
+    #[inline(always)]
     pub fn check_field(&self, field: u32, more: u64) -> Result<(), CallFault>
         ensures { MatchResult result (λ _. field_refusal (length self.now.starts.items) self.now.len field more ≡ None) (λ fault. field_refusal (length self.now.starts.items) self.now.len field more ≡ Some fault) }
     {
@@ -55,6 +56,7 @@ impl OpenPacket {
     }
 
     /// Whether a nested message may be begun next, whose tag has so many bytes.
+    #[inline(always)]
     pub fn check_nested(&self, field: u32, tag_len: u32) -> Result<(), CallFault>
         requires { tag_len ≤ 10 }
         ensures refusal { MatchResult result (λ _. nested_refusal (length self.now.starts.items) self.now.len field tag_len ≡ None) (λ fault. nested_refusal (length self.now.starts.items) self.now.len field tag_len ≡ Some fault) }

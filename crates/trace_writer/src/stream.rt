@@ -197,6 +197,11 @@ pub(crate) fn put_times<W: Words, L: Ledger, H: HelperOn<W>>(
 {
     let mut fragment = fragment;
     for _turn in 0..times {
+        // While it fits the fragment stays where it is: it is large, and is handed on and back else.
+        if fragment.has_left(piece.len()) {
+            fragment.put(piece);
+            continue;
+        }
         match put_piece(route, table, seat, help, pending, fragment, piece, steps) {
             Flow::Going(next) => fragment = next,
             Flow::Stopped { next_id } => return Flow::Stopped { next_id },

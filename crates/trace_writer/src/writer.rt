@@ -413,6 +413,7 @@ fn drop_state(state: State) {
 }
 
 /// Whether a field of so many bytes may come next in the packet that is begun.
+#[inline(always)]
 fn check_field(packet: &Option<OpenPacket>, field: u32, more: u64) -> Result<(), CallFault>
     requires { is_begun packet.now ≡ true }
     ensures refused { IfErr result (λ fault. field_refusal (open_message_count packet.now) (len_of packet.now) field more ≡ Some fault) }
@@ -423,6 +424,7 @@ fn check_field(packet: &Option<OpenPacket>, field: u32, more: u64) -> Result<(),
 }
 
 /// Whether a nested message may, whose tag has so many bytes.
+#[inline(always)]
 fn check_nested(packet: &Option<OpenPacket>, field: u32, tag_len: u32) -> Result<(), CallFault>
     requires begun { is_begun packet.now ≡ true }
     requires tag { tag_len ≤ 10 }

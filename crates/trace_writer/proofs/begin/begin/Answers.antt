@@ -1,65 +1,20 @@
-use Rattle.std.proofs.Common.{◌∙◌, refl, sym, ap, subst, arith, rules}
-use Rattle.trace_writer.proofs.Ending.{behind_of, behind_id, idle_of}
-use Rattle.trace_writer.specs.Placing.{BeginsHere}
-use Rattle.trace_writer.specs.Site.{site_of}
-use Rattle.trace_writer.proofs.KeptChunks.{shown_none_held}
-use Rattle.trace_writer.proofs.Starting.{HasFound, found_there, found_place, found_asked}
-use Rattle.trace_writer.proofs.begin.begin.Goals.{in-Idle, in-Between}
+use Rattle.std.proofs.Common.{◌∙◌, true, [], ◌∷◌, sym}
+use Rattle.std.proofs.lemmas.Bool.{true≢false}
+use Rattle.trace_model.specs.Calls as call
+use Rattle.trace_writer.specs.Empty.{is_stalled}
+use Rattle.trace_writer.proofs.Stopping.{refuses_none}
+use Rattle.trace_writer.proofs.Starting.{roomy_goes}
+use Rattle.trace_writer.proofs.Working.{asked_alone}
 use Rattle.trace_writer.proofs.begin.begin.Goals as goal
 
-pub held_or_new_place-place-requires-clause-ids : goal.held_or_new_place-place-requires-clause-ids
-held_or_new_place-place-requires-clause-ids g c =
-    let behind = behind_of (g.W.Words.means.setup c.args.table.now) (g.W.Words.means.place c.args.seat.now) (g.W.Words.means.view c.args.table.now c.args.seat.now) c.args.writer.now c.in-Between.chunk
-    (sym c.take_state.ensures.taken ∙ c.in-Between.is) c.requires.agrees in
-    let id = behind_id _ _ (g.W.Words.means.view c.args.table.now c.args.seat.now) _ c.in-Between.chunk behind in
-    omega (arith, id, c.requires.ids)
+pub returns-then-has_room_here-clause-stays : goal.returns-then-has_room_here-clause-stays
+returns-then-has_room_here-clause-stays g c = λ stalled.
+    absurd (true≢false (sym stalled ∙ roomy_goes c.args.writer.now.state (sym c.has_room_here.ensures ∙ c.if-has_room_here.true)))
 
-pub new_place-place-requires-clause-none_held : goal.new_place-place-requires-clause-none_held
-new_place-place-requires-clause-none_held g c =
-    let idle = idle_of (g.W.Words.means.setup c.args.table.now) (g.W.Words.means.place c.args.seat.now) (g.W.Words.means.view c.args.table.now c.args.seat.now) c.args.writer.now c.in-Idle.next_id
-    (sym c.take_state.ensures.taken ∙ c.in-Idle.is) c.requires.agrees in
-    shown_none_held (site_of (g.W.Words.means.setup c.args.table.now) (g.W.Words.means.place c.args.seat.now) c.args.writer.now.route) 0 (g.W.Words.means.view c.args.table.now c.args.seat.now).begun idle.pages idle.shown
-
-pub begin_at-requires-clause-place : goal.begin_at-requires-clause-place
-begin_at-requires-clause-place g c =
-    let found : HasFound g.W.Words.means g.H.HelperOn.needs g.H.HelperOn.helps
-    c.args.writer.now c.args.help.now c.args.table.now c.args.seat.now c.args.steps.now
-    c.match-take_state.writer c.match-take_state.help c.match-take_state.table c.match-take_state.seat c.match-take_state.steps c.match-take_state.place =
-    elim c.match-take_state.branch [
-      | in-Idle w ↦
-          let e = w.new_place-place.ensures in
-          found_there w.writer-is w.help-is w.table-is w.seat-is w.steps-is w.place-is (record { route_is = refl; calls = e.calls; at = e.place _ _ (idle_of _ _ _ _ _ (sym c.take_state.ensures.taken ∙ w.in-Idle.is) c.requires.agrees); work = e.work })
-      | in-Between w ↦
-          let e = w.held_or_new_place-place.ensures in
-          found_there w.writer-is w.help-is w.table-is w.seat-is w.steps-is w.place-is (record { route_is = refl; calls = e.calls; at = e.place _ (behind_of _ _ _ _ _ (sym c.take_state.ensures.taken ∙ w.in-Between.is) c.requires.agrees); work = e.work })
-    ] in
-    found_place found
-
-pub returns : goal.returns
-returns g c =
-    let found : HasFound g.W.Words.means g.H.HelperOn.needs g.H.HelperOn.helps
-    c.args.writer.now c.args.help.now c.args.table.now c.args.seat.now c.args.steps.now
-    c.match-take_state.writer c.match-take_state.help c.match-take_state.table c.match-take_state.seat c.match-take_state.steps c.match-take_state.place =
-    elim c.match-take_state.branch [
-      | in-Idle w ↦
-          let e = w.new_place-place.ensures in
-          found_there w.writer-is w.help-is w.table-is w.seat-is w.steps-is w.place-is (record { route_is = refl; calls = e.calls; at = e.place _ _ (idle_of _ _ _ _ _ (sym c.take_state.ensures.taken ∙ w.in-Idle.is) c.requires.agrees); work = e.work })
-      | in-Between w ↦
-          let e = w.held_or_new_place-place.ensures in
-          found_there w.writer-is w.help-is w.table-is w.seat-is w.steps-is w.place-is (record { route_is = refl; calls = e.calls; at = e.place _ (behind_of _ _ _ _ _ (sym c.take_state.ensures.taken ∙ w.in-Between.is) c.requires.agrees); work = e.work })
-    ] in
-    record {
-      agrees = search rules;
-      route = search rules;
-      stays = search rules;
-      answers = λ goes. c.begin_at.ensures.begins.answers;
-      done = λ goes. found_asked c.begin_at.new.table c.begin_at.new.seat c.begin_at.new.writer.state c.begin_at.result g.met.H.HelperOn.needs_stay found
-          c.begin_at.ensures.begins c.begin_at.ensures.quiet;
-      asked = λ here. c.begin_at.ensures.quiet.asked ∙ elim c.match-take_state.branch [
-        | in-Idle w ↦ absurd (subst BeginsHere (sym c.take_state.ensures.taken ∙ w.in-Idle.is) here)
-        | in-Between w ↦
-            ap (λ table. (g.W.Words.means.view table c.match-take_state.seat).asked) w.table-is ∙ ap (λ seat. (g.W.Words.means.view w.held_or_new_place-place.new.table seat).asked) w.seat-is
-            ∙ w.held_or_new_place-place.ensures.asked (subst BeginsHere (sym c.take_state.ensures.taken ∙ w.in-Between.is) here)
-      ];
-      few_steps = search rules;
-    }
+pub returns-then-has_room_here-clause-done : goal.returns-then-has_room_here-clause-done
+returns-then-has_room_here-clause-done g c = λ _.
+    let route = c.args.writer.now.route in
+    asked_alone g.W.Words.means g.H.HelperOn.needs g.H.HelperOn.helps
+    route c.args.help.now c.args.table.now c.args.seat.now c.args.steps.now (call.Begun true ∷ []) (is_stalled c.begin_here.new.writer.state)
+    c.begin_here.new.table c.begin_here.new.seat c.requires.seat g.met.H.HelperOn.needs_stay c.requires.needs
+    c.begin_here.ensures.quiet c.begin_here.ensures.calls (c.begin_here.ensures.going ∙ sym (refuses_none route.spec.policy))

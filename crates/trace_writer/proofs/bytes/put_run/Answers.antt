@@ -1,4 +1,4 @@
-use Rattle.std.proofs.Common.{◌≡◌, ℕ, ◌+◌, ◌*◌, List, [], ◌∷◌, ◌++◌, take, length-set, ap, sym, ◌∙◌, arith}
+use Rattle.std.proofs.Common.{◌≡◌, ℕ, ◌+◌, List, [], ◌∷◌, ◌++◌, take, length-set, ap, sym, ◌∙◌, arith}
 use Rattle.std.specs.List.{repeat}
 use Rattle.trace_model.specs.Images.{with_bytes}
 use Rattle.trace_model.proofs.EncodingLemmas.{length-repeat}

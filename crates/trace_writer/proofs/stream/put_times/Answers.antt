@@ -1,9 +1,10 @@
-use Rattle.std.proofs.Common.{false, ◌≡◌, ◌∙◌, ℕ, true, ap, subst, sym, arith}
+use Rattle.std.proofs.Common.{false, ◌≡◌, ◌∙◌, ℕ, ◌+◌, true, length, vec_len, ap, subst, sym, arith}
+use Rattle.std.proofs.lemmas.Bool.{leb-true}
 use Rattle.std.specs.List.{repeat}
 use Rattle.chunk_plain.specs.Setup.{Setup}
 use Rattle.trace_writer.specs.Site.{Site, site_of}
 use Rattle.trace_writer.specs.Flows.{IsInPacket, PutsOn, StopsIn}
-use Rattle.trace_writer.proofs.Putting.{inside_behind, puts_nothing, times_next, times_lost, times_ids}
+use Rattle.trace_writer.proofs.Putting.{inside_behind, puts_nothing, puts_here, times_next, times_lost, times_ids}
 use Rattle.trace_writer.proofs.Working.{work_none, work_behind}
 use Rattle.trace_writer.proofs.stream.put_times.Goals as goal
 
@@ -46,6 +47,18 @@ returns-in-Stopped-clause-flow g c =
           (subst (λ (s : Site). StopsIn s mid new c.loop-turn.pending c.put_piece.new.pending c.loop-turn.fragment c.args.piece.now) site_is lost.0),
       lost.1,
     )
+
+pub loop-turn-preserved-then-has_left : goal.loop-turn-preserved-then-has_left
+loop-turn-preserved-then-has_left g c =
+    let site = site_of (g.W.Words.means.setup c.args.table.now) (g.W.Words.means.place c.args.seat.now) c.args.route.now in
+    let mid = g.W.Words.means.view c.loop-turn.table c.loop-turn.seat in
+    let fits = leb-true (c.loop-turn.fragment.at + length c.args.piece.now) (vec_len c.loop-turn.fragment.held.body.payload) (sym c.has_left.ensures ∙ c.if-has_left.true) in
+    record {
+      work = c.loop-turn.invariant.work;
+      puts = times_next site (g.W.Words.means.view c.args.table.now c.args.seat.now) mid mid c.args.pending.now c.loop-turn.pending c.loop-turn.pending
+          c.args.fragment c.loop-turn.fragment c.put.new.self c.loop-turn._turn c.args.piece.now c.loop-turn.invariant.puts
+          (puts_here site mid c.loop-turn.pending c.loop-turn.fragment c.put.new.self c.args.piece.now c.put.result fits c.put.ensures.count c.put.ensures.bytes c.put.ensures.at);
+    }
 
 pub loop-turn-preserved : goal.loop-turn-preserved
 loop-turn-preserved g c =

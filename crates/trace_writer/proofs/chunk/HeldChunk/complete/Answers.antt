@@ -6,7 +6,6 @@ use Rattle.trace_writer.specs.Headers.{flags_value}
 use Rattle.chunk_plain.specs.declared.tokens.Held.{Held}
 use Rattle.chunk_plain.specs.Payload.{sealed_to, HasFragments}
 use Rattle.chunk_plain.specs.Setup.{Setup, spot}
-use Rattle.chunk_plain.specs.Views.{Head}
 use Rattle.chunk_plain.specs.Drafts.{published, ends_by, head_at}
 use Rattle.chunk_plain.specs.Steps.{completes}
 use Rattle.chunk_plain.specs.Words.{PublishesBytes}

@@ -1,4 +1,4 @@
-use Rattle.std.proofs.Common.{◌≡◌, ◌∙◌, ◌+◌, ◌≤◌, ℕ, sym, ap, subst, arith, true, false}
+use Rattle.std.proofs.Common.{◌+◌, ◌≤◌, ℕ, sym, ap, subst, arith}
 use Rattle.chunk_plain.specs.declared.tokens.Held.{Held}
 use Rattle.chunk_plain.specs.Payload.{sealed_to, HasFragments}
 use Rattle.chunk_plain.specs.Setup.{Setup, spot}
