@@ -22,7 +22,7 @@ use Rattle.trace_writer.specs.Core.{CoreAgrees, WriterAgrees, is_stalled, refusa
 use Rattle.trace_writer.specs.Helping.{LeavesWriters, Works, Done, refuses}
 use Rattle.trace_writer.specs.Outcomes.{held_images, images_so_far, patches_so_far}
 use Rattle.trace_writer.specs.OwnSteps.{IsQuiet, IsSilent, GetsChunk, IsOutNow}
-use Rattle.trace_writer.proofs.CutLaws.{agreeing_is_cut}
+use Rattle.trace_writer.proofs.accounts.CutLaws.{agreeing_is_cut}
 use Rattle.replay_host.specs.Asking.{IsReadyFor, IsCalled, MayStall, IsStalledCall, noted_as}
 use Rattle.replay_host.proofs.ReadyLemmas.{between_is}
 use Rattle.replay_host.proofs.WroteLemmas.{begun_many}

@@ -21,7 +21,7 @@ use Rattle.trace_writer.specs.declared.ids.TheConstants.{PACKET_IDS}
 use Rattle.trace_writer.specs.declared.fault.CallFault.{CallFault}
 use Rattle.trace_writer.specs.Asked.{written_as, begun_as}
 use Rattle.trace_writer.specs.Core.{in_packet, newest_depth, newest_len, open_depth, field_fault, nested_fault}
-use Rattle.trace_writer.proofs.Possible.{open_many}
+use Rattle.trace_writer.proofs.accounts.Possible.{open_many}
 use Rattle.trace_writer.specs.Refusals.{field_refusal, nested_refusal}
 use Rattle.replay_host.specs.Asking.{IsReadyFor}
 

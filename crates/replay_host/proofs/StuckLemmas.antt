@@ -23,7 +23,7 @@ use Rattle.trace_writer.specs.Empty.{is_stalled}
 use Rattle.trace_writer.specs.Filled.{ShowsPages}
 use Rattle.trace_writer.specs.OwnSteps.{KeepsChunks, NoneHeld}
 use Rattle.trace_writer.specs.Site.{Site, site_of}
-use Rattle.trace_writer.proofs.KeptChunks.{shown_none_held}
+use Rattle.trace_writer.proofs.holding.KeptChunks.{shown_none_held}
 use Rattle.trace_model.specs.Pages.{Page}
 use Rattle.service_core.specs.Told.{NoneLeft}
 use Rattle.replay_model.specs.Does.{LeavesRest, HasNoFreeChunk}

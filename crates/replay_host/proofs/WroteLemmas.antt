@@ -13,9 +13,9 @@ use Rattle.trace_writer.specs.Agreement.{Agrees}
 use Rattle.trace_writer.specs.Core.{WriterAgrees}
 use Rattle.trace_writer.specs.Empty.{is_stalled}
 use Rattle.trace_writer.specs.Outcomes.{held_images, held_patches}
-use Rattle.trace_writer.proofs.CoreLemmas.{between_counts, writing_counts, idle_counts, dropping_counts, stalled_counts}
-use Rattle.trace_writer.proofs.CutLaws.{agreeing_is_cut}
-use Rattle.trace_writer.proofs.HeldLaws.{newest_is_held, held_is_published}
+use Rattle.trace_writer.proofs.seat_calls.CoreLemmas.{between_counts, writing_counts, idle_counts, dropping_counts, stalled_counts}
+use Rattle.trace_writer.proofs.accounts.CutLaws.{agreeing_is_cut}
+use Rattle.trace_writer.proofs.holding.HeldLaws.{newest_is_held, held_is_published}
 use Rattle.replay_model.specs.Does.{Wrote}
 
 -- what was begun was completed, or is held

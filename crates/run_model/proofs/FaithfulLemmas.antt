@@ -20,7 +20,7 @@ use Rattle.scenario_text.specs.Scenario.{Parts}
 use Rattle.scenario_text.specs.Accepted.{calls_asked}
 use Rattle.trace_writer.specs.declared.state.Writer.{Writer}
 use Rattle.trace_writer.specs.Outcomes.{held_images, held_patches}
-use Rattle.trace_writer.proofs.CutLaws.{agreeing_is_cut}
+use Rattle.trace_writer.proofs.accounts.CutLaws.{agreeing_is_cut}
 use Rattle.service_core.specs.OrderLaws.{HasImages}
 use Rattle.replay_model.specs.Played.{buffer_specs, buffers_of, emitted_from, emitted_in, records_in}
 use Rattle.run_model.specs.Laws.{EveryRunIsFaithful}

@@ -27,9 +27,9 @@ use Rattle.trace_writer.specs.Laws.{IsHeldImage}
 use Rattle.trace_writer.specs.OwnSteps.{NoneHeld}
 use Rattle.trace_writer.specs.Outcomes.{held_images, held_patches}
 use Rattle.trace_writer.specs.Site.{Site, site_of, IsRoute}
-use Rattle.trace_writer.proofs.CutLaws.{agreeing_is_cut}
-use Rattle.trace_writer.proofs.HeldLaws.{held_is_published}
-use Rattle.trace_writer.proofs.KeptChunks.{shown_none_held}
+use Rattle.trace_writer.proofs.accounts.CutLaws.{agreeing_is_cut}
+use Rattle.trace_writer.proofs.holding.HeldLaws.{held_is_published}
+use Rattle.trace_writer.proofs.holding.KeptChunks.{shown_none_held}
 use Rattle.service_core.specs.OrderLaws.{HasImages}
 use Rattle.schedule_laws.specs.Resting.{IsBetweenCalls}
 

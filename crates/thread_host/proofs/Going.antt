@@ -23,7 +23,7 @@ use Rattle.trace_writer.specs.declared.writer.WriterCore.{WriterCore}
 use Rattle.trace_writer.specs.Asked.{begun_as, written_as}
 use Rattle.trace_writer.specs.Core.{CoreAgrees, route_of}
 use Rattle.trace_writer.specs.Helping.{LeavesWriters, Works, Done, Silent, Gets, Helped, Refused, Lost}
-use Rattle.trace_writer.proofs.Possible.{begin_loses, field_loses, more_keeps, nested_keeps, ended_loses, finished_loses, flushed_loses}
+use Rattle.trace_writer.proofs.accounts.Possible.{begin_loses, field_loses, more_keeps, nested_keeps, ended_loses, finished_loses, flushed_loses}
 use Rattle.service_core.specs.Agreement.{spec_at}
 use Rattle.replay_host.specs.Asking.{IsReadyFor, IsCalled, IsStalledCall, noted_as}
 use Rattle.replay_host.proofs.AskedLemmas.{route_is}

@@ -20,7 +20,7 @@ use Rattle.trace_writer.specs.Agreement.{Agrees}
 use Rattle.trace_writer.specs.Core.{WriterAgrees, in_packet, holds_chunk, route_of}
 use Rattle.trace_writer.specs.Empty.{is_empty}
 use Rattle.trace_writer.specs.Outcomes.{held_images}
-use Rattle.trace_writer.proofs.Possible.{flushed_loses}
+use Rattle.trace_writer.proofs.accounts.Possible.{flushed_loses}
 use Rattle.scenario_text.specs.declared.scenario.NumberedLine.{NumberedLine}
 use Rattle.scenario_text.specs.Accepted.{calls_asked}
 use Rattle.service_core.specs.Agreement.{spec_at}

@@ -2,9 +2,9 @@ use Rattle.std.proofs.Common.{◌∙◌, true, [], ◌∷◌, sym}
 use Rattle.std.proofs.lemmas.Bool.{true≢false}
 use Rattle.trace_model.specs.Calls as call
 use Rattle.trace_writer.specs.Empty.{is_stalled}
-use Rattle.trace_writer.proofs.Stopping.{refuses_none}
-use Rattle.trace_writer.proofs.Starting.{roomy_goes}
-use Rattle.trace_writer.proofs.Working.{asked_alone}
+use Rattle.trace_writer.proofs.stops.Stopping.{refuses_none}
+use Rattle.trace_writer.proofs.packets.Starting.{roomy_goes}
+use Rattle.trace_writer.proofs.claims.Working.{asked_alone}
 use Rattle.trace_writer.proofs.begin.begin.Goals as goal
 
 pub returns-then-has_room_here-clause-stays : goal.returns-then-has_room_here-clause-stays

@@ -4,8 +4,8 @@ use Rattle.trace_writer.specs.declared.begin.Place.{Place}
 use Rattle.trace_writer.specs.declared.state.State.{State}
 use Rattle.trace_writer.specs.Site.{site_of}
 use Rattle.trace_writer.specs.Placing.{IsPlace}
-use Rattle.trace_writer.proofs.Beginnings.{stall_nowhere}
-use Rattle.trace_writer.proofs.QuietRows.{quiet_none}
+use Rattle.trace_writer.proofs.packets.Beginnings.{stall_nowhere}
+use Rattle.trace_writer.proofs.claims.QuietRows.{quiet_none}
 use Rattle.trace_writer.proofs.begin.begin_at.Goals as goal
 
 pub returns-in-Stalls-clause-agrees : goal.returns-in-Stalls-clause-agrees

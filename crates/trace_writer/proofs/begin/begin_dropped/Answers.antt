@@ -1,8 +1,8 @@
 use Rattle.std.proofs.Common.{◌∙◌, ap, Some, min, ◌+◌, ℕ}
 use Rattle.trace_writer.specs.declared.state.State.{State}
 use Rattle.trace_writer.specs.declared.state.State.TheVariants.{Dropping}
-use Rattle.trace_writer.proofs.Beginnings.{begin_nowhere}
-use Rattle.trace_writer.proofs.QuietSteps.{quiet_noted}
+use Rattle.trace_writer.proofs.packets.Beginnings.{begin_nowhere}
+use Rattle.trace_writer.proofs.claims.QuietSteps.{quiet_noted}
 use Rattle.trace_writer.proofs.begin.begin_dropped.Goals as goal
 
 pub returns-clause-agrees : goal.returns-clause-agrees

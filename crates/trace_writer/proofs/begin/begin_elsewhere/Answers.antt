@@ -1,9 +1,9 @@
 use Rattle.std.proofs.Common.{◌∙◌, refl, sym, ap, subst, arith, rules}
-use Rattle.trace_writer.proofs.Ending.{behind_of, behind_id, idle_of}
+use Rattle.trace_writer.proofs.packets.Ending.{behind_of, behind_id, idle_of}
 use Rattle.trace_writer.specs.Placing.{BeginsHere}
 use Rattle.trace_writer.specs.Site.{site_of}
-use Rattle.trace_writer.proofs.KeptChunks.{shown_none_held}
-use Rattle.trace_writer.proofs.Starting.{HasFound, found_there, found_place, found_asked}
+use Rattle.trace_writer.proofs.holding.KeptChunks.{shown_none_held}
+use Rattle.trace_writer.proofs.packets.Starting.{HasFound, found_there, found_place, found_asked}
 use Rattle.trace_writer.proofs.begin.begin_elsewhere.Goals.{in-Idle, in-Between}
 use Rattle.trace_writer.proofs.begin.begin_elsewhere.Goals as goal
 

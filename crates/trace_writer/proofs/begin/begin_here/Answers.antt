@@ -3,8 +3,8 @@ use Rattle.std.specs.Prelude.{vec_len}
 use Rattle.trace_writer.specs.Placing.{is_roomy}
 use Rattle.trace_writer.specs.Site.{site_of}
 use Rattle.trace_writer.specs.States.{has_room}
-use Rattle.trace_writer.proofs.Ending.{behind_of, behind_id}
-use Rattle.trace_writer.proofs.Starting.{behind_roomy, room_of}
+use Rattle.trace_writer.proofs.packets.Ending.{behind_of, behind_id}
+use Rattle.trace_writer.proofs.packets.Starting.{behind_roomy, room_of}
 use Rattle.trace_writer.proofs.begin.begin_here.Goals as goal
 
 pub begin_kept-requires-clause-roomy : goal.begin_kept-requires-clause-roomy

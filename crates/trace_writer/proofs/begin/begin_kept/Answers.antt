@@ -2,9 +2,9 @@ use Rattle.std.proofs.Common.{◌∙◌, ap, Some, ℕ}
 use Rattle.trace_writer.specs.declared.state.State.{State}
 use Rattle.trace_writer.specs.declared.state.State.TheVariants.{Writing}
 use Rattle.trace_writer.specs.Placing.{IsStarted}
-use Rattle.trace_writer.proofs.Beginnings.{begin_behind, IsFronted, fronted_put, fronted_not}
-use Rattle.trace_writer.proofs.QuietRows.{quiet_both}
-use Rattle.trace_writer.proofs.QuietSteps.{quiet_noted}
+use Rattle.trace_writer.proofs.packets.Beginnings.{begin_behind, IsFronted, fronted_put, fronted_not}
+use Rattle.trace_writer.proofs.claims.QuietRows.{quiet_both}
+use Rattle.trace_writer.proofs.claims.QuietSteps.{quiet_noted}
 use Rattle.trace_writer.proofs.begin.begin_kept.Goals.{then-writer, else-writer}
 use Rattle.trace_writer.proofs.begin.begin_kept.Goals as goal
 

@@ -1,11 +1,11 @@
 use Rattle.std.proofs.Common.{◌∙◌, sym, ap}
 use Rattle.chunk_plain.specs.Views.{WriterView}
 use Rattle.trace_writer.specs.Site.{site_of}
-use Rattle.trace_writer.proofs.Ending.{behind_fits, behind_head}
-use Rattle.trace_writer.proofs.Idling.{begun_one_more}
-use Rattle.trace_writer.proofs.KeptChunks.{shown_none_held}
-use Rattle.trace_writer.proofs.Starting.{behind_roomy, behind_idle, room_of, idle_there, place_here}
-use Rattle.trace_writer.proofs.Working.{work_none, work_before}
+use Rattle.trace_writer.proofs.packets.Ending.{behind_fits, behind_head}
+use Rattle.trace_writer.proofs.stops.Idling.{begun_one_more}
+use Rattle.trace_writer.proofs.holding.KeptChunks.{shown_none_held}
+use Rattle.trace_writer.proofs.packets.Starting.{behind_roomy, behind_idle, room_of, idle_there, place_here}
+use Rattle.trace_writer.proofs.claims.Working.{work_none, work_before}
 use Rattle.trace_writer.proofs.begin.held_or_new_place.Goals as goal
 
 pub complete-requires-clause-fit : goal.complete-requires-clause-fit

@@ -1,6 +1,6 @@
 use Rattle.std.proofs.Common.{◌∙◌, sym, ap, length}
 use Rattle.trace_writer.specs.Site.{site_of}
-use Rattle.trace_writer.proofs.Starting.{new_roomy, none_idle}
+use Rattle.trace_writer.proofs.packets.Starting.{new_roomy, none_idle}
 use Rattle.trace_writer.proofs.begin.new_place.Goals as goal
 
 pub returns-in-Some-clause-place : goal.returns-in-Some-clause-place

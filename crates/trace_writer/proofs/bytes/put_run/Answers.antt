@@ -2,8 +2,8 @@ use Rattle.std.proofs.Common.{◌≡◌, ℕ, ◌+◌, List, [], ◌∷◌, ◌+
 use Rattle.std.specs.List.{repeat}
 use Rattle.trace_model.specs.Images.{with_bytes}
 use Rattle.trace_model.proofs.EncodingLemmas.{length-repeat}
-use Rattle.trace_writer.proofs.OneByOne.{front_next, rest_next, all_put}
-use Rattle.trace_writer.proofs.Putting.{repeat-next}
+use Rattle.trace_writer.proofs.packets.OneByOne.{front_next, rest_next, all_put}
+use Rattle.trace_writer.proofs.packets.Putting.{repeat-next}
 use Rattle.trace_writer.proofs.bytes.put_run.Goals as goal
 
 pub loop-turn-preserved : goal.loop-turn-preserved

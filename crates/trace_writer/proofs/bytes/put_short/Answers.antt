@@ -1,6 +1,6 @@
 use Rattle.std.proofs.Common.{ℕ, ◌+◌, List, ◌++◌, take, get_or, length-set, ap, sym, ◌∙◌, arith}
 use Rattle.std.proofs.lemmas.List.{take_more}
-use Rattle.trace_writer.proofs.OneByOne.{front_next, rest_next}
+use Rattle.trace_writer.proofs.packets.OneByOne.{front_next, rest_next}
 use Rattle.trace_writer.proofs.bytes.put_short.Goals as goal
 
 pub loop-i-preserved : goal.loop-i-preserved

@@ -4,9 +4,9 @@ use Rattle.chunk_plain.specs.Views.{BegunChunk, WriterView}
 use Rattle.claim_arbiter.specs.Claiming.{ClaimsInTurn}
 use Rattle.trace_writer.specs.Claims.{FindsNone}
 use Rattle.trace_writer.specs.OwnSteps.{NoneHeld, IsOutNow}
-use Rattle.trace_writer.proofs.Asking.{none_yet, none_again, wins_in_turn, won_counts, lost_counts, gets_chunk, out_now}
-use Rattle.trace_writer.proofs.KeptChunks.{none_counted}
-use Rattle.trace_writer.proofs.Working.{work_none, work_gets, work_behind, work_helped, work_refused}
+use Rattle.trace_writer.proofs.claims.Asking.{none_yet, none_again, wins_in_turn, won_counts, lost_counts, gets_chunk, out_now}
+use Rattle.trace_writer.proofs.holding.KeptChunks.{none_counted}
+use Rattle.trace_writer.proofs.claims.Working.{work_none, work_gets, work_behind, work_helped, work_refused}
 use Rattle.trace_writer.proofs.claim.claim_asking.Goals as goal
 
 pub claims-init : goal.claims-init

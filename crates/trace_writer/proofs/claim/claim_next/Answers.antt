@@ -1,7 +1,7 @@
 use Rattle.std.proofs.Common.{arith}
-use Rattle.trace_writer.proofs.KeptChunks.{none_counted}
-use Rattle.trace_writer.proofs.Asking.{finds_none}
-use Rattle.trace_writer.proofs.Rounds.{round_work}
+use Rattle.trace_writer.proofs.holding.KeptChunks.{none_counted}
+use Rattle.trace_writer.proofs.claims.Asking.{finds_none}
+use Rattle.trace_writer.proofs.claims.Rounds.{round_work}
 use Rattle.trace_writer.proofs.claim.claim_next.Goals as goal
 
 pub returns-in-Drops-clause-none : goal.returns-in-Drops-clause-none

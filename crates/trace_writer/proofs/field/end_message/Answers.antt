@@ -4,10 +4,10 @@ use Rattle.trace_writer.specs.declared.packet.OpenPacket.{OpenPacket}
 use Rattle.trace_writer.specs.declared.state.Writer.{Writer}
 use Rattle.trace_writer.specs.Site.{site_of}
 use Rattle.trace_writer.specs.Agreement.{Agrees, open_message_count}
-use Rattle.trace_writer.proofs.Closing.{Pops, pops_few, start_within, hole_within, agrees_ended, agrees_ended_dropping}
-use Rattle.trace_writer.proofs.Agreeing.{writing_agrees}
-use Rattle.trace_writer.proofs.QuietRows.{quiet_none}
-use Rattle.trace_writer.proofs.QuietSteps.{quiet_noted}
+use Rattle.trace_writer.proofs.packets.Closing.{Pops, pops_few, start_within, hole_within, agrees_ended, agrees_ended_dropping}
+use Rattle.trace_writer.proofs.accounts.Agreeing.{writing_agrees}
+use Rattle.trace_writer.proofs.claims.QuietRows.{quiet_none}
+use Rattle.trace_writer.proofs.claims.QuietSteps.{quiet_noted}
 use Rattle.trace_writer.proofs.field.end_message.Goals as goal
 use Rattle.trace_writer.proofs.field.end_message.Goals.{in-Writing, in-Dropping}
 

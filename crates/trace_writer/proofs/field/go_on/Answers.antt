@@ -1,5 +1,5 @@
-use Rattle.trace_writer.proofs.QuietRows.{quiet_both}
-use Rattle.trace_writer.proofs.QuietSteps.{quiet_noted}
+use Rattle.trace_writer.proofs.claims.QuietRows.{quiet_both}
+use Rattle.trace_writer.proofs.claims.QuietSteps.{quiet_noted}
 use Rattle.trace_writer.proofs.field.go_on.Goals as goal
 
 pub returns-in-Going-clause-quiet : goal.returns-in-Going-clause-quiet

@@ -3,14 +3,14 @@ use Rattle.std.specs.List.{repeat}
 use Rattle.chunk_plain.specs.Views.{WriterView}
 use Rattle.chunk_plain.specs.Words.{call_of}
 use Rattle.trace_writer.specs.Agreement.{len_of}
-use Rattle.trace_writer.proofs.Calling.{field_long}
+use Rattle.trace_writer.proofs.accounts.Calling.{field_long}
 use Rattle.std.proofs.lemmas.Bool.{true≢false}
 use Rattle.trace_writer.specs.declared.state.Writer.{Writer}
 use Rattle.trace_writer.specs.Empty.{is_empty, is_stalled}
-use Rattle.trace_writer.proofs.QuietSteps.{quiet_noted}
-use Rattle.trace_writer.proofs.Stopping.{refuses_none}
-use Rattle.trace_writer.proofs.Working.{asked_alone}
-use Rattle.trace_writer.proofs.InPlace.{agrees_put, needs_empty}
+use Rattle.trace_writer.proofs.claims.QuietSteps.{quiet_noted}
+use Rattle.trace_writer.proofs.stops.Stopping.{refuses_none}
+use Rattle.trace_writer.proofs.claims.Working.{asked_alone}
+use Rattle.trace_writer.proofs.packets.InPlace.{agrees_put, needs_empty}
 use Rattle.trace_writer.proofs.field.write_field.Goals as goal
 
 pub returns-then-put_field_here-clause-agrees : goal.returns-then-put_field_here-clause-agrees

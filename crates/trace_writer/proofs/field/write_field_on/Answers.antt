@@ -5,16 +5,16 @@ use Rattle.chunk_plain.specs.Views.{WriterView}
 use Rattle.chunk_plain.specs.Words.{call_of}
 use Rattle.trace_writer.specs.declared.packet.OpenPacket.{OpenPacket}
 use Rattle.trace_writer.specs.Agreement.{len_of}
-use Rattle.trace_writer.proofs.Calling.{field_long}
+use Rattle.trace_writer.proofs.accounts.Calling.{field_long}
 use Rattle.trace_writer.specs.Empty.{is_stalled}
 use Rattle.trace_writer.specs.Flows.{is_stopped}
-use Rattle.trace_writer.proofs.Agreeing.{agrees_behind, agrees_dropping, notes_behind, writing_not_lost, grows_more}
+use Rattle.trace_writer.proofs.accounts.Agreeing.{agrees_behind, agrees_dropping, notes_behind, writing_not_lost, grows_more}
 use Rattle.std.proofs.lemmas.Bool.{true≢false}
-use Rattle.trace_writer.proofs.QuietSteps.{quiet_noted}
-use Rattle.trace_writer.proofs.Stopping.{refuses_none}
-use Rattle.trace_writer.proofs.Working.{asked_of, asked_alone}
+use Rattle.trace_writer.proofs.claims.QuietSteps.{quiet_noted}
+use Rattle.trace_writer.proofs.stops.Stopping.{refuses_none}
+use Rattle.trace_writer.proofs.claims.Working.{asked_of, asked_alone}
 use Rattle.trace_writer.specs.Asked.{written_as}
-use Rattle.trace_writer.proofs.Measuring.{measured_more}
+use Rattle.trace_writer.proofs.accounts.Measuring.{measured_more}
 use Rattle.trace_writer.proofs.field.write_field_on.Goals as goal
 
 pub returns-in-Writing-clause-agrees : goal.returns-in-Writing-clause-agrees

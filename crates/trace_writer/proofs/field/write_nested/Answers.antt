@@ -4,10 +4,10 @@ use Rattle.trace_model.specs.Calls as call
 use Rattle.trace_writer.specs.declared.state.Writer.{Writer}
 use Rattle.trace_writer.specs.Empty.{is_empty, is_stalled}
 use Rattle.chunk_plain.specs.Views.{WriterView}
-use Rattle.trace_writer.proofs.QuietSteps.{quiet_noted}
-use Rattle.trace_writer.proofs.Stopping.{refuses_none}
-use Rattle.trace_writer.proofs.Working.{asked_alone}
-use Rattle.trace_writer.proofs.InPlace.{few_holes, agrees_opened, needs_empty}
+use Rattle.trace_writer.proofs.claims.QuietSteps.{quiet_noted}
+use Rattle.trace_writer.proofs.stops.Stopping.{refuses_none}
+use Rattle.trace_writer.proofs.claims.Working.{asked_alone}
+use Rattle.trace_writer.proofs.packets.InPlace.{few_holes, agrees_opened, needs_empty}
 use Rattle.trace_writer.proofs.field.write_nested.Goals as goal
 
 pub put_nested_here-requires-clause-few : goal.put_nested_here-requires-clause-few

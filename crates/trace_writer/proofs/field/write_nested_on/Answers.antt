@@ -7,14 +7,14 @@ use Rattle.trace_writer.specs.declared.packet.OpenPacket.{OpenPacket}
 use Rattle.trace_writer.specs.Agreement.{len_of, open_message_count}
 use Rattle.trace_writer.specs.Empty.{is_stalled}
 use Rattle.trace_writer.specs.Flows.{is_stopped}
-use Rattle.trace_writer.proofs.Agreeing.{agrees_behind, agrees_dropping, notes_behind, writing_not_lost, as_many_holes, grows_nested}
+use Rattle.trace_writer.proofs.accounts.Agreeing.{agrees_behind, agrees_dropping, notes_behind, writing_not_lost, as_many_holes, grows_nested}
 use Rattle.std.proofs.lemmas.Bool.{true≢false}
-use Rattle.trace_writer.proofs.QuietSteps.{quiet_noted}
-use Rattle.trace_writer.proofs.Stopping.{refuses_none}
-use Rattle.trace_writer.proofs.Working.{asked_of, asked_alone}
+use Rattle.trace_writer.proofs.claims.QuietSteps.{quiet_noted}
+use Rattle.trace_writer.proofs.stops.Stopping.{refuses_none}
+use Rattle.trace_writer.proofs.claims.Working.{asked_of, asked_alone}
 use Rattle.chunk_plain.specs.Views.{WriterView}
 use Rattle.trace_writer.specs.Asked.{written_as}
-use Rattle.trace_writer.proofs.Measuring.{measured_nested}
+use Rattle.trace_writer.proofs.accounts.Measuring.{measured_nested}
 use Rattle.trace_writer.proofs.field.write_nested_on.Goals as goal
 
 noted_tag : (field : ℕ) (tag : List ℕ) → tag ≡ nested_tag field → (account : Account)

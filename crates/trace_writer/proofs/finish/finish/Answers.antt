@@ -2,10 +2,10 @@ use Rattle.std.proofs.Common.{◌∙◌, false, true, None, sym, ap}
 use Rattle.chunk_plain.specs.declared.tokens.Held.{Held}
 use Rattle.trace_writer.specs.declared.state.State.{State}
 use Rattle.trace_writer.specs.declared.state.Writer.{Writer}
-use Rattle.trace_writer.proofs.Finishing.{finish_writing}
-use Rattle.trace_writer.proofs.Ending.{finish_lost}
-use Rattle.trace_writer.proofs.QuietRows.{quiet_none}
-use Rattle.trace_writer.proofs.QuietSteps.{quiet_noted}
+use Rattle.trace_writer.proofs.packets.Finishing.{finish_writing}
+use Rattle.trace_writer.proofs.packets.Ending.{finish_lost}
+use Rattle.trace_writer.proofs.claims.QuietRows.{quiet_none}
+use Rattle.trace_writer.proofs.claims.QuietSteps.{quiet_noted}
 use Rattle.trace_writer.proofs.finish.finish.Goals.{in-Writing, in-Dropping}
 use Rattle.trace_writer.proofs.finish.finish.Goals as goal
 

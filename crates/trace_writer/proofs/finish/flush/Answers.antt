@@ -2,9 +2,9 @@ use Rattle.std.proofs.Common.{◌∙◌, sym, ap, refl}
 use Rattle.trace_writer.specs.declared.state.State.{State}
 use Rattle.trace_model.specs.Calls.{Flushed}
 use Rattle.chunk_plain.specs.Steps.{notes_call}
-use Rattle.trace_writer.proofs.Ending.{flush_held, flush_idle, behind_of, behind_fits, behind_head}
-use Rattle.trace_writer.proofs.QuietRows.{quiet_none, quiet_both, quiet_there}
-use Rattle.trace_writer.proofs.QuietSteps.{quiet_noted}
+use Rattle.trace_writer.proofs.packets.Ending.{flush_held, flush_idle, behind_of, behind_fits, behind_head}
+use Rattle.trace_writer.proofs.claims.QuietRows.{quiet_none, quiet_both, quiet_there}
+use Rattle.trace_writer.proofs.claims.QuietSteps.{quiet_noted}
 use Rattle.trace_writer.proofs.finish.flush.Goals.{in-Between, in-Idle}
 use Rattle.trace_writer.proofs.finish.flush.Goals as goal
 

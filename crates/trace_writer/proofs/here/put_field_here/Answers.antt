@@ -1,5 +1,5 @@
 use Rattle.std.proofs.Common.{◌∙◌, ℕ, ◌+◌, ◌*◌, length, refl, sym, ap, arith}
-use Rattle.trace_writer.proofs.Calling.{field_long}
+use Rattle.trace_writer.proofs.accounts.Calling.{field_long}
 use Rattle.trace_writer.proofs.here.put_field_here.Goals as goal
 
 pub returns-clause-puts : goal.returns-clause-puts

@@ -1,4 +1,4 @@
-use Rattle.trace_writer.proofs.CutLaws as cut_laws
+use Rattle.trace_writer.proofs.accounts.CutLaws as cut_laws
 use Rattle.trace_writer.proofs.laws.agreeing_is_cut.Goals as goal
 
 pub returns : goal.returns

@@ -1,7 +1,7 @@
 use Rattle.std.proofs.Common.{ap, arith}
 use Rattle.commit_body.specs.Patches.{holes_outside}
 use Rattle.trace_writer.specs.Site.{site_of}
-use Rattle.trace_writer.proofs.GivenUp.{closes_none, closes_further, closes_within, ends_given_up, loses_rest, dropped_fits, dropped_head}
+use Rattle.trace_writer.proofs.packets.GivenUp.{closes_none, closes_further, closes_within, ends_given_up, loses_rest, dropped_fits, dropped_head}
 use Rattle.trace_writer.proofs.stream.give_up.Goals as goal
 
 pub holes-init : goal.holes-init

@@ -1,6 +1,6 @@
 use Rattle.std.proofs.Common.{length}
 use Rattle.trace_writer.specs.Site.{site_of}
-use Rattle.trace_writer.proofs.GivenUp.{ClosesIn}
+use Rattle.trace_writer.proofs.packets.GivenUp.{ClosesIn}
 use Rattle.trace_writer.proofs.stream.give_up.Given as goal
 
 abbrev pub invariant-holes : goal.invariant-holes

@@ -3,9 +3,9 @@ use Rattle.std.specs.List.{repeat}
 use Rattle.chunk_plain.specs.Setup.{Setup}
 use Rattle.trace_writer.specs.Site.{Site, site_of}
 use Rattle.trace_writer.specs.Flows.{IsInPacket, Flows, is_stopped}
-use Rattle.trace_writer.proofs.Putting.{inside_behind}
-use Rattle.trace_writer.proofs.Calling.{writes_behind, field_long}
-use Rattle.trace_writer.proofs.Working.{work_behind}
+use Rattle.trace_writer.proofs.packets.Putting.{inside_behind}
+use Rattle.trace_writer.proofs.accounts.Calling.{writes_behind, field_long}
+use Rattle.trace_writer.proofs.claims.Working.{work_behind}
 use Rattle.trace_writer.proofs.stream.put_field.Goals as goal
 
 pub put_times-requires-clause-inside : goal.put_times-requires-clause-inside

@@ -5,8 +5,8 @@ use Rattle.commit_body.specs.Pending.{Pending}
 use Rattle.trace_writer.specs.declared.fragment.OpenFragment.{OpenFragment}
 use Rattle.trace_writer.specs.Site.{site_of}
 use Rattle.trace_writer.specs.Flows.{RunsOn}
-use Rattle.trace_writer.proofs.SettingAside.{sets_here, sets_behind}
-use Rattle.trace_writer.proofs.Working.{work_none}
+use Rattle.trace_writer.proofs.packets.SettingAside.{sets_here, sets_behind}
+use Rattle.trace_writer.proofs.claims.Working.{work_none}
 use Rattle.trace_writer.proofs.stream.put_length.Goals as goal
 
 pub returns-then-put_hole-clause-flow : goal.returns-then-put_hole-clause-flow

@@ -2,9 +2,9 @@ use Rattle.std.proofs.Common.{◌≡◌, ◌∙◌, ℕ, ap, subst, sym}
 use Rattle.chunk_plain.specs.Setup.{Setup}
 use Rattle.trace_writer.specs.Site.{Site, site_of}
 use Rattle.trace_writer.specs.Flows.{IsInPacket, SetsLength, is_stopped}
-use Rattle.trace_writer.proofs.Putting.{inside_behind}
-use Rattle.trace_writer.proofs.Calling.{writes_nested, nested_lost}
-use Rattle.trace_writer.proofs.Working.{work_behind}
+use Rattle.trace_writer.proofs.packets.Putting.{inside_behind}
+use Rattle.trace_writer.proofs.accounts.Calling.{writes_nested, nested_lost}
+use Rattle.trace_writer.proofs.claims.Working.{work_behind}
 use Rattle.trace_writer.proofs.stream.put_nested.Goals as goal
 
 pub put_length-requires-clause-inside : goal.put_length-requires-clause-inside

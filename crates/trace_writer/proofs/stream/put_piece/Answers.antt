@@ -2,8 +2,8 @@ use Rattle.std.proofs.Common.{false, ◌≡◌, ◌∙◌, ℕ, true, List, take
 use Rattle.chunk_plain.specs.Setup.{Setup}
 use Rattle.trace_writer.specs.Site.{Site, site_of}
 use Rattle.trace_writer.specs.Flows.{IsInPacket, RunsOn, StopsHere}
-use Rattle.trace_writer.proofs.Putting.{PutsSoFar, puts_none, puts_part, puts_run, puts_lost, puts_all, inside_so_far, full_when_left, left_is, left_none, left_some, ids_most}
-use Rattle.trace_writer.proofs.Working.{work_none, work_behind}
+use Rattle.trace_writer.proofs.packets.Putting.{PutsSoFar, puts_none, puts_part, puts_run, puts_lost, puts_all, inside_so_far, full_when_left, left_is, left_none, left_some, ids_most}
+use Rattle.trace_writer.proofs.claims.Working.{work_none, work_behind}
 use Rattle.trace_writer.proofs.stream.put_piece.Goals as goal
 
 pub chunks-init : goal.chunks-init

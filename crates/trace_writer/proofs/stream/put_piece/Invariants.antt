@@ -1,7 +1,7 @@
 use Rattle.std.proofs.Common.{◌+◌, ◌-◌, ◌*◌, false, length, vec_len}
 use Rattle.trace_writer.specs.Site.{site_of}
 use Rattle.trace_writer.specs.Helping.{IsWork}
-use Rattle.trace_writer.proofs.Putting.{PutsSoFar}
+use Rattle.trace_writer.proofs.packets.Putting.{PutsSoFar}
 use Rattle.trace_writer.proofs.stream.put_piece.Given as goal
 
 abbrev pub invariant-chunks : goal.invariant-chunks

@@ -4,8 +4,8 @@ use Rattle.std.specs.List.{repeat}
 use Rattle.chunk_plain.specs.Setup.{Setup}
 use Rattle.trace_writer.specs.Site.{Site, site_of}
 use Rattle.trace_writer.specs.Flows.{IsInPacket, PutsOn, StopsIn}
-use Rattle.trace_writer.proofs.Putting.{inside_behind, puts_nothing, puts_here, times_next, times_lost, times_ids}
-use Rattle.trace_writer.proofs.Working.{work_none, work_behind}
+use Rattle.trace_writer.proofs.packets.Putting.{inside_behind, puts_nothing, puts_here, times_next, times_lost, times_ids}
+use Rattle.trace_writer.proofs.claims.Working.{work_none, work_behind}
 use Rattle.trace_writer.proofs.stream.put_times.Goals as goal
 
 pub loop-turn-init : goal.loop-turn-init

@@ -1,5 +1,5 @@
 use Rattle.trace_writer.specs.Flows.{is_stopped}
-use Rattle.trace_writer.proofs.Rounds.{round_is_work}
+use Rattle.trace_writer.proofs.claims.Rounds.{round_is_work}
 use Rattle.trace_writer.proofs.stream.run_on.Goals as goal
 
 pub returns-in-Drops-clause-work : goal.returns-in-Drops-clause-work

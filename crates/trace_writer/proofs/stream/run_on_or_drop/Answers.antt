@@ -4,10 +4,10 @@ use Rattle.chunk_plain.specs.Views.{WriterView}
 use Rattle.trace_writer.specs.Site.{site_of}
 use Rattle.trace_writer.specs.Drafted.{IsFit}
 use Rattle.trace_writer.specs.Headers.{held_head}
-use Rattle.trace_writer.proofs.Asking.{none_yet, wins_in_turn, won_counts, lost_counts, gets_chunk, out_after}
-use Rattle.trace_writer.proofs.KeptChunks.{keeps_long}
-use Rattle.trace_writer.proofs.QuietRows.{silent_both}
-use Rattle.trace_writer.proofs.RunOn.{few_inside, next_id, next_id_after, ends_as, held_behind, ended_fits, ended_head, next_first, run_fits, run_follows, goes_on_in, runs_on, cannot_run_on, stopped_holds_none}
+use Rattle.trace_writer.proofs.claims.Asking.{none_yet, wins_in_turn, won_counts, lost_counts, gets_chunk, out_after}
+use Rattle.trace_writer.proofs.holding.KeptChunks.{keeps_long}
+use Rattle.trace_writer.proofs.claims.QuietRows.{silent_both}
+use Rattle.trace_writer.proofs.packets.RunOn.{few_inside, next_id, next_id_after, ends_as, held_behind, ended_fits, ended_head, next_first, run_fits, run_follows, goes_on_in, runs_on, cannot_run_on, stopped_holds_none}
 use Rattle.trace_writer.proofs.stream.run_on_or_drop.Goals as goal
 
 pub claim_over-requires-clause-few : goal.claim_over-requires-clause-few

@@ -4,9 +4,9 @@ use Rattle.chunk_plain.specs.Views.{WriterView}
 use Rattle.trace_writer.specs.Site.{site_of}
 use Rattle.trace_writer.specs.Drafted.{IsFit}
 use Rattle.trace_writer.specs.Headers.{held_head}
-use Rattle.trace_writer.proofs.RunOn.{Starts, next_id, ends_as, held_first, ended_fits, ended_head, next_last, run_fits, run_follows, goes_on_in, runs_on, stopped_holds_none}
-use Rattle.trace_writer.proofs.Stalling.{ends_stuck, stops_stuck, begun_many}
-use Rattle.trace_writer.proofs.Working.{work_before, work_then}
+use Rattle.trace_writer.proofs.packets.RunOn.{Starts, next_id, ends_as, held_first, ended_fits, ended_head, next_last, run_fits, run_follows, goes_on_in, runs_on, stopped_holds_none}
+use Rattle.trace_writer.proofs.stops.Stalling.{ends_stuck, stops_stuck, begun_many}
+use Rattle.trace_writer.proofs.claims.Working.{work_before, work_then}
 use Rattle.trace_writer.proofs.stream.run_on_or_stall.Goals as goal
 
 pub complete-requires-clause-fit : goal.complete-requires-clause-fit

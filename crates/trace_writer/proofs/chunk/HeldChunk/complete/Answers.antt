@@ -10,9 +10,9 @@ use Rattle.chunk_plain.specs.Drafts.{published, ends_by, head_at}
 use Rattle.chunk_plain.specs.Steps.{completes}
 use Rattle.chunk_plain.specs.Words.{PublishesBytes}
 use Rattle.chunk_plain.proofs.Holding.{redrafts_holds}
-use Rattle.trace_writer.proofs.Publishing.{keeps_sealed, reads_so, holds_still, completes_all, published_all, content_made, heads_as}
-use Rattle.trace_writer.proofs.QuietRows.{quiet_both}
-use Rattle.trace_writer.proofs.QuietSteps.{quiet_redrafted, quiet_completed}
+use Rattle.trace_writer.proofs.holding.Publishing.{keeps_sealed, reads_so, holds_still, completes_all, published_all, content_made, heads_as}
+use Rattle.trace_writer.proofs.claims.QuietRows.{quiet_both}
+use Rattle.trace_writer.proofs.claims.QuietSteps.{quiet_redrafted, quiet_completed}
 use Rattle.trace_writer.proofs.chunk.HeldChunk.complete.Goals as goal
 
 pub publish-requires-clause-held : goal.publish-requires-clause-held

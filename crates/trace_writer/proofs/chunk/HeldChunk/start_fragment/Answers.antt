@@ -5,9 +5,9 @@ use Rattle.chunk_plain.specs.Setup.{Setup, spot}
 use Rattle.chunk_plain.specs.Views.{Head}
 use Rattle.chunk_plain.specs.Drafts.{MayFollow, head_at, published, ends_by}
 use Rattle.trace_writer.specs.Headers.{held_head}
-use Rattle.trace_writer.proofs.Publishing.{keeps_sealed, reads_so, head_stays, holds_still, counts_next}
-use Rattle.trace_writer.proofs.QuietRows.{quiet_both}
-use Rattle.trace_writer.proofs.QuietSteps.{quiet_redrafted}
+use Rattle.trace_writer.proofs.holding.Publishing.{keeps_sealed, reads_so, head_stays, holds_still, counts_next}
+use Rattle.trace_writer.proofs.claims.QuietRows.{quiet_both}
+use Rattle.trace_writer.proofs.claims.QuietSteps.{quiet_redrafted}
 use Rattle.trace_writer.proofs.chunk.HeldChunk.start_fragment.Goals as goal
 
 pub publish-requires-clause-held : goal.publish-requires-clause-held

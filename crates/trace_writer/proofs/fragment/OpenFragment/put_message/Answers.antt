@@ -1,6 +1,6 @@
 use Rattle.std.proofs.Common.{◌+◌, ◌≤◌, length, arith}
 use Rattle.std.specs.Prelude.{vec_len}
-use Rattle.trace_writer.proofs.InPlace.{put_all}
+use Rattle.trace_writer.proofs.packets.InPlace.{put_all}
 use Rattle.trace_writer.proofs.fragment.OpenFragment.put_message.Goals as goal
 
 pub returns-clause-opens : goal.returns-clause-opens

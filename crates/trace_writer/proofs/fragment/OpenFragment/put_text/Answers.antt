@@ -1,6 +1,6 @@
 use Rattle.std.proofs.Common.{◌+◌, ◌*◌, ◌≤◌, length, arith}
 use Rattle.std.specs.Prelude.{vec_len}
-use Rattle.trace_writer.proofs.InPlace.{put_all, put_again, turn_next, turn_fits}
+use Rattle.trace_writer.proofs.packets.InPlace.{put_all, put_again, turn_next, turn_fits}
 use Rattle.trace_writer.proofs.fragment.OpenFragment.put_text.Goals as goal
 
 pub loop-turn-preserved : goal.loop-turn-preserved

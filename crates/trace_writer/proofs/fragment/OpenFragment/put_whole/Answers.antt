@@ -2,7 +2,7 @@ use Rattle.std.proofs.Common.{◌+◌, ◌*◌, ◌≤◌, length, arith}
 use Rattle.std.specs.List.{repeat}
 use Rattle.std.specs.Prelude.{vec_len}
 use Rattle.trace_model.proofs.EncodingLemmas.{length-repeat}
-use Rattle.trace_writer.proofs.InPlace.{put_all, put_both}
+use Rattle.trace_writer.proofs.packets.InPlace.{put_all, put_both}
 use Rattle.trace_writer.proofs.fragment.OpenFragment.put_whole.Goals as goal
 
 pub returns-clause-bytes : goal.returns-clause-bytes

@@ -1,7 +1,7 @@
 use Rattle.std.proofs.Common.{◌∙◌, ap}
 use Rattle.trace_writer.specs.declared.writer.WriterCore.{WriterCore}
 use Rattle.trace_writer.specs.Asked.{stops_with}
-use Rattle.trace_writer.proofs.CoreDone.{left_begun, begun_inside}
+use Rattle.trace_writer.proofs.seat_calls.CoreDone.{left_begun, begun_inside}
 use Rattle.trace_writer.proofs.writer.WriterCore.begin.Goals as goal
 
 pub returns-clause-agrees : goal.returns-clause-agrees

@@ -6,9 +6,9 @@ use Rattle.trace_writer.specs.declared.writer.WriterCore.{WriterCore}
 use Rattle.trace_writer.specs.Agreement.{NeedsNoChunk, open_message_count, len_of}
 use Rattle.trace_writer.specs.Core.{nested_fault}
 use Rattle.trace_writer.specs.Refusals.{nested_refusal}
-use Rattle.trace_writer.proofs.CoreDone.{left_written, refused_so, never_none, refused_stalled, none_stalled}
-use Rattle.trace_writer.proofs.CoreLemmas.{nested_fault_is}
-use Rattle.trace_writer.proofs.Possible.{nested_keeps}
+use Rattle.trace_writer.proofs.seat_calls.CoreDone.{left_written, refused_so, never_none, refused_stalled, none_stalled}
+use Rattle.trace_writer.proofs.seat_calls.CoreLemmas.{nested_fault_is}
+use Rattle.trace_writer.proofs.accounts.Possible.{nested_keeps}
 use Rattle.trace_writer.proofs.writer.WriterCore.begin_nested.Goals as goal
 
 pub returns-in_err-check_nested-clause-refused : goal.returns-in_err-check_nested-clause-refused

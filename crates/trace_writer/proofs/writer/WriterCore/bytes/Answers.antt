@@ -7,10 +7,10 @@ use Rattle.trace_writer.specs.declared.writer.WriterCore.{WriterCore}
 use Rattle.trace_writer.specs.Agreement.{NeedsNoChunk, open_message_count, len_of}
 use Rattle.trace_writer.specs.Core.{field_fault, bytes_size}
 use Rattle.trace_writer.specs.Refusals.{field_refusal}
-use Rattle.trace_writer.proofs.CoreCalls.{more_keeps}
-use Rattle.trace_writer.proofs.CoreDone.{left_written, deep_written, refused_so, never_none, refused_stalled, none_stalled}
-use Rattle.trace_writer.proofs.CoreLemmas.{field_fault_is, bytes_fault, accepted_head, bytes_call}
-use Rattle.trace_writer.proofs.Possible.{more_keeps as more_fate}
+use Rattle.trace_writer.proofs.seat_calls.CoreCalls.{more_keeps}
+use Rattle.trace_writer.proofs.seat_calls.CoreDone.{left_written, deep_written, refused_so, never_none, refused_stalled, none_stalled}
+use Rattle.trace_writer.proofs.seat_calls.CoreLemmas.{field_fault_is, bytes_fault, accepted_head, bytes_call}
+use Rattle.trace_writer.proofs.accounts.Possible.{more_keeps as more_fate}
 use Rattle.trace_writer.proofs.writer.WriterCore.bytes.Goals as goal
 
 pub returns-in_err-check_field-clause-refused : goal.returns-in_err-check_field-clause-refused

@@ -1,4 +1,4 @@
-use Rattle.trace_writer.proofs.CoreLemmas.{between_counts, writing_counts, idle_counts, dropping_counts, stalled_counts}
+use Rattle.trace_writer.proofs.seat_calls.CoreLemmas.{between_counts, writing_counts, idle_counts, dropping_counts, stalled_counts}
 use Rattle.trace_writer.proofs.writer.WriterCore.completed.Goals as goal
 
 pub returns-in-Between : goal.returns-in-Between

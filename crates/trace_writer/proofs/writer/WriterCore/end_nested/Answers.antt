@@ -2,10 +2,10 @@ use Rattle.std.proofs.Common.{◌∙◌, ap}
 use Rattle.chunk_plain.specs.Views.{WriterView}
 use Rattle.trace_writer.specs.Core.{in_packet}
 use Rattle.trace_writer.specs.Empty.{is_stalled}
-use Rattle.trace_writer.proofs.CoreCalls.{ended_in, deep_writing}
+use Rattle.trace_writer.proofs.seat_calls.CoreCalls.{ended_in, deep_writing}
 use Rattle.trace_writer.specs.declared.writer.WriterCore.{WriterCore}
-use Rattle.trace_writer.proofs.CoreHolding.{core_ended, core_still}
-use Rattle.trace_writer.proofs.Stopping.{either_way}
+use Rattle.trace_writer.proofs.seat_calls.CoreHolding.{core_ended, core_still}
+use Rattle.trace_writer.proofs.stops.Stopping.{either_way}
 use Rattle.trace_writer.proofs.writer.WriterCore.end_nested.Goals as goal
 
 pub returns-clause-in_packet : goal.returns-clause-in_packet

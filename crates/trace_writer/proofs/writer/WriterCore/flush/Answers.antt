@@ -1,8 +1,8 @@
 use Rattle.std.proofs.Common.{◌∙◌, ap}
 use Rattle.trace_writer.specs.Empty.{is_stalled}
 use Rattle.trace_writer.specs.declared.writer.WriterCore.{WriterCore}
-use Rattle.trace_writer.proofs.CoreHolding.{core_flushed, core_still}
-use Rattle.trace_writer.proofs.Stopping.{either_way}
+use Rattle.trace_writer.proofs.seat_calls.CoreHolding.{core_flushed, core_still}
+use Rattle.trace_writer.proofs.stops.Stopping.{either_way}
 use Rattle.trace_writer.proofs.writer.WriterCore.flush.Goals as goal
 
 pub returns-clause-agrees : goal.returns-clause-agrees

@@ -1,5 +1,5 @@
 use Rattle.std.proofs.Common.{arith}
-use Rattle.trace_writer.proofs.CoreLemmas.{between_counts, writing_counts, idle_counts, dropping_counts, stalled_counts}
+use Rattle.trace_writer.proofs.seat_calls.CoreLemmas.{between_counts, writing_counts, idle_counts, dropping_counts, stalled_counts}
 use Rattle.trace_writer.proofs.writer.WriterCore.ids_left.Goals.{in-Between, in-Writing, in-Idle, in-Dropping, in-Stalled}
 use Rattle.trace_writer.proofs.writer.WriterCore.ids_left.Goals as goal
 

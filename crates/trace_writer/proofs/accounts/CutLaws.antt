@@ -1,0 +1,220 @@
+-- The chunks of a writer that agrees with its view are a cut of its packets.
+use Rattle.std.proofs.Common.{◌≡◌, ◌∙◌, ℕ, suc, ◌+◌, Bool, true, false, not, ◌&&◌, Option, Some, None, List, [], ◌∷◌, ◌++◌, length, map, reverse, refl, sym, ap, subst, arith, append-nil, length-append}
+use Rattle.std.proofs.lemmas.Bool.{and_right, false≢true}
+use Rattle.std.proofs.lemmas.List.{map-append}
+use Rattle.trace_model.specs.Images.{Image, Patch}
+use Rattle.trace_model.specs.Packets.{Packet, account_of, is_lost}
+use Rattle.trace_model.specs.Pages.{Page, laid, image_of, images_from}
+use Rattle.trace_model.specs.Row.{Chain}
+use Rattle.trace_model.specs.Cut.{IsWellFormedPage, CutsInto, newest_goes_on}
+use Rattle.commit_body.specs.declared.hole.Hole.{Hole}
+use Rattle.commit_body.specs.Patches.{hole_chunks, with_lasts}
+use Rattle.commit_body.specs.Pending.{Pending}
+use Rattle.chunk_plain.specs.Setup.{Setup}
+use Rattle.chunk_plain.specs.Views.{BegunChunk, Held, Completed, Content, WriterView, Draft}
+use Rattle.cut_steps.specs.RawChains.{raw_chains, page_with, offset_behind}
+use Rattle.cut_steps.specs.Between.{IsBetween}
+use Rattle.cut_steps.proofs.RawCutLemmas.{raw_cut_is_cut}
+use Rattle.cut_steps.proofs.ChainLemmas.{raw_chains-one}
+use Rattle.cut_steps.proofs.BetweenCuts.{between_cut, between_held_cut}
+use Rattle.cut_steps.proofs.Sealing.{writing_cut}
+use Rattle.trace_writer.specs.declared.chunk.HeldChunk.{HeldChunk}
+use Rattle.trace_writer.specs.declared.fragment.OpenFragment.{OpenFragment}
+use Rattle.trace_writer.specs.declared.packet.OpenPacket.{OpenPacket}
+use Rattle.trace_writer.specs.declared.route.Route.{Route}
+use Rattle.trace_writer.specs.declared.state.State.{State}
+use Rattle.trace_writer.specs.declared.state.State.TheVariants.{Idle, Between, Writing, Dropping, Stalled}
+use Rattle.trace_writer.specs.Site.{Site, site_of}
+use Rattle.trace_writer.specs.Filled.{ShowsPages, HasByte}
+use Rattle.trace_writer.specs.States.{InFragment, IsIdle, IsBehind, IsStuck}
+use Rattle.trace_writer.specs.Agreement.{StateAgrees, IsInPacketOf, is_begun, is_inside}
+use Rattle.trace_writer.specs.Laws.{AgreeingIsCut}
+use Rattle.chunk_plain.specs.Histories.{completed_images, completed_patches}
+use Rattle.trace_writer.specs.Outcomes.{held_image, fragment_payload, held_images, held_patches, HasCut}
+use Rattle.trace_writer.proofs.packets.Finishing.{laid_all}
+use Rattle.trace_writer.proofs.holding.Holes.{lasts_reverse}
+use Rattle.trace_writer.proofs.stops.Idling.{ended_page}
+use Rattle.trace_writer.proofs.holding.Payloads.{written_ended, full_run, continues_with_byte}
+use Rattle.trace_writer.proofs.holding.Seats.{content_is}
+
+abbrev patches_in : List Page → List (List Patch)
+patches_in pages = map (λ (page : Page). page.patches) pages
+
+-- Completed chunks
+
+shown_images : (site : Site) (id : ℕ) (begun : List BegunChunk) (pages : List Page) → ShowsPages site id begun pages
+    → completed_images begun ≡ images_from (site.place + 2) id pages
+shown_images site id [] [] shown = refl
+shown_images site id [] (page ∷ pages) shown = absurd shown
+shown_images site id (Held chunk head ∷ begun) pages shown = absurd shown
+shown_images site id (Completed chunk content ∷ begun) [] shown = absurd shown
+shown_images site id (Completed chunk content ∷ begun) (page ∷ pages) shown =
+    ap (λ (c : Content). c.image ∷ completed_images begun) shown.0
+    ∙ ap (λ (images : List Image). image_of (site.place + 2) id page ∷ images) (shown_images site (suc id) begun pages shown.1)
+
+shown_patches : (site : Site) (id : ℕ) (begun : List BegunChunk) (pages : List Page) → ShowsPages site id begun pages
+    → completed_patches begun ≡ patches_in pages
+shown_patches site id [] [] shown = refl
+shown_patches site id [] (page ∷ pages) shown = absurd shown
+shown_patches site id (Held chunk head ∷ begun) pages shown = absurd shown
+shown_patches site id (Completed chunk content ∷ begun) [] shown = absurd shown
+shown_patches site id (Completed chunk content ∷ begun) (page ∷ pages) shown =
+    ap (λ (c : Content). c.patches ∷ completed_patches begun) shown.0
+    ∙ ap (λ (lists : List (List Patch)). page.patches ∷ lists) (shown_patches site (suc id) begun pages shown.1)
+
+-- a held chunk behind them is none of them
+pub images_held : (completed : List BegunChunk) (chunk : ℕ) (head : Draft) → completed_images (completed ++ Held chunk head ∷ []) ≡ completed_images completed
+images_held [] chunk head = refl
+images_held (Held c h ∷ begun) chunk head = images_held begun chunk head
+images_held (Completed c content ∷ begun) chunk head = ap (λ (images : List Image). content.image ∷ images) (images_held begun chunk head)
+
+patches_held : (completed : List BegunChunk) (chunk : ℕ) (head : Draft) → completed_patches (completed ++ Held chunk head ∷ []) ≡ completed_patches completed
+patches_held [] chunk head = refl
+patches_held (Held c h ∷ begun) chunk head = patches_held begun chunk head
+patches_held (Completed c content ∷ begun) chunk head = ap (λ (lists : List (List Patch)). content.patches ∷ lists) (patches_held begun chunk head)
+
+images_one : (sequence id : ℕ) (pages : List Page) (page : Page)
+    → images_from sequence id (pages ++ page ∷ []) ≡ images_from sequence id pages ++ image_of sequence (id + length pages) page ∷ []
+images_one sequence id [] page = ap (λ (i : ℕ). image_of sequence i page ∷ []) (omega arith)
+images_one sequence id (one ∷ pages) page =
+    ap (λ (images : List Image). image_of sequence id one ∷ images)
+    (images_one sequence (suc id) pages page
+    ∙ ap (λ (i : ℕ). images_from sequence (suc id) pages ++ image_of sequence i page ∷ []) (omega arith))
+
+-- No chunk is held
+
+idle_cut : (site : Site) (view : WriterView) (pending : Pending) → newest_goes_on (account_of view.calls).packets ≡ false → IsIdle site (account_of view.calls) view pending
+    → HasCut site.size (site.place + 2) view.calls (completed_images view.begun ++ []) (completed_patches view.begun ++ []) []
+idle_cut site view pending ended idle = record {
+  cut = record {
+    pages = idle.pages;
+    images_are = append-nil (completed_images view.begun) ∙ shown_images site 0 view.begun idle.pages idle.shown;
+    patches_are = append-nil (completed_patches view.begun) ∙ shown_patches site 0 view.begun idle.pages idle.shown;
+    cut = raw_cut_is_cut site.size (account_of view.calls).packets idle.pages
+        (between_cut site.size (account_of view.calls).packets idle.pages 4 idle.between idle.ended);
+  };
+  ends = λ none. idle.ended ∙ sym ended;
+}
+
+stuck_cut : (site : Site) (view : WriterView) → IsStuck site (account_of view.calls).packets view
+    → HasCut site.size (site.place + 2) view.calls (completed_images view.begun ++ []) (completed_patches view.begun ++ []) []
+stuck_cut site view stuck = record {
+  cut = record {
+    pages = stuck.pages;
+    images_are = append-nil (completed_images view.begun) ∙ shown_images site 0 view.begun stuck.pages stuck.shown;
+    patches_are = append-nil (completed_patches view.begun) ∙ shown_patches site 0 view.begun stuck.pages stuck.shown;
+    cut = stuck.cut;
+  };
+  ends = λ none. stuck.runs;
+}
+
+-- A chunk is held: it is the last page
+
+held_cut : (site : Site) (view : WriterView) (completed : List BegunChunk) (pages : List Page) (page : Page) (chunk id : ℕ) (head : Draft) (image : Image)
+    → view.begun ≡ completed ++ Held chunk head ∷ [] → ShowsPages site 0 completed pages → id ≡ length pages → image ≡ image_of (site.place + 2) id page
+    → CutsInto site.size (account_of view.calls).packets (pages ++ page ∷ [])
+    → HasCut site.size (site.place + 2) view.calls (completed_images view.begun ++ image ∷ []) (completed_patches view.begun ++ page.patches ∷ []) (image ∷ [])
+held_cut site view completed pages page chunk id head image begun shown id_is image_is cut = record {
+  cut = record {
+    pages = pages ++ page ∷ [];
+    images_are = ap (λ (xs : List BegunChunk). completed_images xs ++ image ∷ []) begun
+        ∙ ap (λ (images : List Image). images ++ image ∷ []) (images_held completed chunk head ∙ shown_images site 0 completed pages shown)
+        ∙ ap (λ (i : Image). images_from (site.place + 2) 0 pages ++ i ∷ []) (image_is ∙ ap (λ (i : ℕ). image_of (site.place + 2) i page) (omega (arith, id_is)))
+        ∙ sym (images_one (site.place + 2) 0 pages page);
+    patches_are = ap (λ (xs : List BegunChunk). completed_patches xs ++ page.patches ∷ []) begun
+        ∙ ap (λ (lists : List (List Patch)). lists ++ page.patches ∷ []) (patches_held completed chunk head ∙ shown_patches site 0 completed pages shown)
+        ∙ sym (map-append (λ (p : Page). p.patches) pages (page ∷ []));
+    cut = cut;
+  };
+  ends = λ none. absurd (cc);
+}
+
+-- its image, by what the page has
+held_image_is : (site : Site) (id count : ℕ) (payload : List ℕ) (continues : Bool) (fragments : List (List ℕ)) (rest : List ℕ) (patches : List Patch)
+    → count ≡ length fragments → payload ≡ laid false fragments rest
+    → held_image site.place id count continues payload ≡ image_of (site.place + 2) id (ended_page continues fragments rest patches)
+held_image_is site id count payload continues fragments rest patches count_is payload_is =
+    ap (λ (c : Content). c.image) (content_is site id count payload (ended_page continues fragments rest patches) count_is payload_is)
+
+between_is_cut : (site : Site) (view : WriterView) (pending : Pending) (chunk : HeldChunk) → IsBehind site (account_of view.calls) view pending chunk
+    → HasCut site.size (site.place + 2) view.calls
+    (completed_images view.begun ++ held_image site.place chunk.held.id chunk.count chunk.continues chunk.held.body.payload.items ∷ [])
+    (completed_patches view.begun ++ with_lasts (hole_chunks pending.holes) pending.unsent ∷ [])
+    (held_image site.place chunk.held.id chunk.count chunk.continues chunk.held.body.payload.items ∷ [])
+between_is_cut site view pending chunk behind =
+    let fragments : List (List ℕ) = behind.first ∷ behind.others in
+    let patches : List Patch = with_lasts (hole_chunks pending.holes) pending.unsent in
+    let page : Page = ended_page chunk.continues fragments behind.filled.rest patches in
+    let packets : List Packet = (account_of view.calls).packets in
+    let payload_is : chunk.held.body.payload.items ≡ laid false fragments behind.filled.rest =
+    behind.filled.payload_is ∙ sym (laid_all fragments behind.filled.rest) in
+    let same_chains : raw_chains (behind.pages ++ page_with chunk.continues fragments ∷ []) ≡ raw_chains (behind.pages ++ page ∷ []) =
+    raw_chains-one behind.pages (page_with chunk.continues fragments) page refl refl refl refl in
+    let brings : page.patches ≡ with_lasts [] pending.unsent = ap (λ (holes : List Hole). with_lasts (hole_chunks holes) pending.unsent) behind.holes in
+    let full : IsWellFormedPage site.size page = record {
+      some = omega arith;
+      most = omega (arith, behind.filled.count_is, chunk.few);
+      whole = ap length (sym payload_is) ∙ sym chunk.held.body.payload.ok.0 ∙ behind.whole;
+      dropped = λ marked. absurd (cc);
+    } in
+    held_cut site view behind.completed behind.pages page chunk.held.chunk chunk.held.id behind.draft
+    (held_image site.place chunk.held.id chunk.count chunk.continues chunk.held.body.payload.items) behind.begun behind.shown behind.id
+    (held_image_is site chunk.held.id chunk.count chunk.held.body.payload.items chunk.continues fragments behind.filled.rest patches behind.filled.count_is payload_is)
+    (raw_cut_is_cut site.size packets (behind.pages ++ page ∷ [])
+    (between_held_cut site.size packets behind.pages page pending.unsent (offset_behind 4 fragments)
+    (subst (λ (chains : List Chain). IsBetween site.size packets behind.pages chains pending.unsent (offset_behind 4 fragments)) same_chains behind.between)
+    behind.continues_is refl refl brings full))
+
+writing_is_cut : (site : Site) (view : WriterView) (pending : Pending) (fragment : OpenFragment) (packet : Packet) (older : List Packet)
+    → (account_of view.calls).packets ≡ packet ∷ older → InFragment site packet older view pending fragment [] → HasByte fragment
+    → HasCut site.size (site.place + 2) view.calls
+    (completed_images view.begun ++ held_image site.place fragment.held.id fragment.count fragment.continues (fragment_payload fragment) ∷ [])
+    (completed_patches view.begun ++ with_lasts (hole_chunks pending.holes) pending.unsent ∷ [])
+    (held_image site.place fragment.held.id fragment.count fragment.continues (fragment_payload fragment) ∷ [])
+writing_is_cut site view pending fragment packet older packets inside byte =
+    let fragments : List (List ℕ) = inside.done ++ inside.now ∷ [] in
+    let patches : List Patch = with_lasts (hole_chunks pending.holes) pending.unsent in
+    let page : Page = ended_page fragment.continues fragments inside.written.rest patches in
+    let payload : List ℕ = fragment.held.body.payload.items in
+    let payload_is : fragment_payload fragment ≡ laid false fragments inside.written.rest =
+    written_ended payload fragment.start fragment.at fragment.count inside.done inside.now inside.written in
+    let count_is : fragment.count ≡ length fragments = inside.written.count_is ∙ sym (length-append inside.done (inside.now ∷ [])) in
+    let run = full_run payload fragment.start fragment.at fragment.count site.size inside.done inside.now fragment.continues false patches inside.written
+    (sym fragment.held.body.payload.ok.0 ∙ inside.whole) fragment.few in
+    let full : IsWellFormedPage site.size page = record { some = run.some; most = run.most; whole = run.whole; dropped = λ marked. absurd (cc) } in
+    held_cut site view inside.completed inside.pages page fragment.held.chunk fragment.held.id inside.draft
+    (held_image site.place fragment.held.id fragment.count fragment.continues (fragment_payload fragment)) inside.begun inside.shown inside.id
+    (held_image_is site fragment.held.id fragment.count (fragment_payload fragment) fragment.continues fragments inside.written.rest patches count_is payload_is)
+    (subst (λ (ps : List Packet). CutsInto site.size ps (inside.pages ++ page ∷ [])) (sym packets)
+    (raw_cut_is_cut site.size (packet ∷ older) (inside.pages ++ page ∷ [])
+    (writing_cut site.size packet packet older inside.pages page inside.done inside.now pending.unsent (reverse pending.holes) inside.writing
+    refl refl refl refl (continues_with_byte fragment payload inside.done inside.now inside.written byte)
+    (sym (lasts_reverse pending.holes pending.unsent)) full refl refl refl inside.writing.given_up)))
+
+-- Each state
+
+-- a writer that holds no chunk between two packets has none that goes on
+none_goes_on : (packets : List Packet) (packet : Option OpenPacket) → IsInPacketOf packets packet → is_begun packet ≡ false → newest_goes_on packets ≡ false
+none_goes_on [] packet inside none = refl
+none_goes_on (newest ∷ older) None inside none = and_right (not (is_lost newest)) (not newest.finished) inside
+none_goes_on (newest ∷ older) (Some open_one) inside none = absurd (false≢true (sym none))
+
+lost_goes_on : (packets : List Packet) (packet : Packet) (older : List Packet) → packets ≡ packet ∷ older → is_lost packet ≡ true → newest_goes_on packets ≡ false
+lost_goes_on packets packet older are lost = ap newest_goes_on are ∙ ap (λ (b : Bool). not b && not packet.finished) lost
+
+state_is_cut : (setup : Setup) (place : ℕ) (route : Route) (view : WriterView) (pending : Pending) (packet : Option OpenPacket) (state : State)
+    → IsInPacketOf (account_of view.calls).packets packet → is_inside packet state ≡ is_begun packet
+    → StateAgrees (site_of setup place route) (account_of view.calls) view pending state
+    → HasCut route.payload_size (place + 2) view.calls (completed_images view.begun ++ held_images place state) (completed_patches view.begun ++ held_patches pending state) (held_images place state)
+state_is_cut setup place route view pending packet (Idle next_id) inside same w =
+    idle_cut (site_of setup place route) view pending (none_goes_on (account_of view.calls).packets packet inside (sym same)) w.1
+state_is_cut setup place route view pending packet (Between chunk) inside same w = between_is_cut (site_of setup place route) view pending chunk w
+state_is_cut setup place route view pending packet (Writing fragment) inside same w =
+    writing_is_cut (site_of setup place route) view pending fragment w.packet w.older w.packets w.inside w.byte
+state_is_cut setup place route view pending packet (Dropping next_id) inside same w =
+    idle_cut (site_of setup place route) view pending (lost_goes_on (account_of view.calls).packets w.1.packet w.1.older w.1.packets w.1.lost) w.1.idle
+state_is_cut setup place route view pending packet (Stalled next_id) inside same w = stuck_cut (site_of setup place route) view w.1
+
+pub agreeing_is_cut : AgreeingIsCut
+agreeing_is_cut setup place view writer agrees =
+    state_is_cut setup place writer.route view writer.pending writer.packet writer.state agrees.writes.packet agrees.writes.inside agrees.writes.state

@@ -1,0 +1,9 @@
+-- How a writer asks for a chunk: its claims, its rounds of them, and its steps in between.
+pub mod Asking
+pub mod DropLaws
+pub mod FewSteps
+pub mod KeepingClaims
+pub mod QuietRows
+pub mod QuietSteps
+pub mod Rounds
+pub mod Working
