@@ -68,9 +68,10 @@ impl Reader {
         if says_nothing(line) {
             return Ok(());
         }
-        match form(line) {
+        let (form, fields) = form(line);
+        match form {
             None => Err(LineFault::Refused(Reason::BadLine)),
-            Some(form) => self.play(parser, number, line, form),
+            Some(form) => self.play(parser, number, line, fields, form),
         }
     }
 
