@@ -1,13 +1,14 @@
 -- How the first piece of a text is found.
-use Rattle.std.proofs.Common.{◌≡◌, ℕ, suc, ◌+◌, ◌-◌, ◌<◌, ◌≤◌, length, Bool, true, false, not, cond, nat_eq, nat_lt, Some, None, List, [], ◌∷◌, take, drop, get_or, refl, sym, ap, subst, arith, ◌∙◌, Option, ◌==◌}
-use Rattle.std.specs.List.{position, position_or_len, slice_split, onto_first}
-use Rattle.std.proofs.lemmas.List.{take_rest, drop_all, length-drop}
+use Rattle.std.proofs.Common.{◌≡◌, ℕ, suc, ◌+◌, ◌-◌, ◌<◌, ◌≤◌, length, Bool, true, false, not, cond, nat_eq, nat_lt, Some, None, List, [], ◌∷◌, take, drop, get_or, refl, sym, ap, subst, arith, ◌∙◌, Option, Bor, ◌==◌}
+use Rattle.std.specs.List.{after_first, position, position_or_len, slice_split, onto_first}
+use Rattle.std.specs.Option.{option_copied, unwrap_or}
+use Rattle.std.proofs.lemmas.List.{take_rest, length-drop}
 use Rattle.std.proofs.lemmas.List.Splits.{slice_split_first}
 use Rattle.std.proofs.lemmas.Grind.{common_steps}
 use Rattle.std.proofs.lemmas.Bool.{cond-true, cond-false, false_from_ne_true, lt-ltb, le-ltb}
 use Rattle.std.proofs.lemmas.List.Sums.{position_or_len_is}
 use Rattle.memchr.specs.Find.{IsFirstByte, is_byte}
-use Rattle.scenario_text.specs.Pieces.{pieces, pieces_behind, behind_space}
+use Rattle.scenario_text.specs.Pieces.{pieces, pieces_behind, behind_space, fields_part}
 
 one_more : (p : ℕ → Bool) (b : ℕ) (bytes : List ℕ) (answer : Bool) → p b ≡ answer
     → (length bytes ≤ position_or_len p bytes → slice_split p bytes ≡ bytes ∷ [])
@@ -88,25 +89,27 @@ pub has_piece : (separator : ℕ) (bytes : List ℕ) → HasPiece (pieces separa
 has_piece separator [] = record { first = []; others = []; are = refl }
 has_piece separator (b ∷ bytes) = by_test (nat_eq b separator) b (pieces separator bytes)
 
--- what stands behind the first space
-pub behind_none : (line : List ℕ) → position (λ b. nat_eq b 32) line ≡ None → [] ≡ behind_space line
-unfolding behind_space
-behind_none line none =
-    let p : ℕ → Bool = λ b. nat_eq b 32 in
-    let far : length line ≤ position_or_len p line = no_place_by _ (length line) (position_or_len p line) refl none in
-    sym (drop_all (position_or_len p line + 1) line (omega arith))
-
-pub behind_some : (line : List ℕ) (at : ℕ) → position (λ b. nat_eq b 32) line ≡ Some at
-    → take (length line - (at + 1)) (drop (at + 1) line) ≡ behind_space line
-unfolding behind_space
-behind_some line at found =
-    let p : ℕ → Bool = λ b. nat_eq b 32 in
-    let there = place_by _ at (length line) (position_or_len p line) refl found in
-    rw (take_rest line (at + 1)) (subst (λ (n : ℕ). drop (at + 1) line ≡ drop (n + 1) line) (sym there.0) refl)
-
 behind_inside : (line : List ℕ) → length (behind_space line) ≤ length line
 unfolding behind_space
 behind_inside line = omega (arith, length-drop {A = ℕ})
 
-pub fields_inside : (line : List ℕ) → length (behind_space (behind_space line)) ≤ length line
+pub fields_inside : (line : List ℕ) → length (fields_part line) ≤ length line
+unfolding fields_part
 fields_inside line = omega (arith, behind_inside line, behind_inside (behind_space line))
+
+-- ---- what stands behind the second space, where there are two, one or none
+
+pub no_second : (line : List ℕ) (more : Option (Bor (List ℕ))) → unwrap_or (option_copied more) [] ≡ after_first (λ b. nat_eq b 32) line
+    → ((x : Bor (List ℕ)) → more ≡ Some x → ⊥) → [] ≡ fields_part line
+unfolding behind_space fields_part
+no_second line None behind none = ap (after_first (λ b. nat_eq b 32)) behind
+no_second line (Some x) behind none = absurd (none x refl)
+
+pub behind_second : (line : List ℕ) (more again : Option (Bor (List ℕ))) (behind : Bor (List ℕ)) → more ≡ Some behind
+    → unwrap_or (option_copied more) [] ≡ after_first (λ b. nat_eq b 32) line
+    → unwrap_or (option_copied again) [] ≡ after_first (λ b. nat_eq b 32) behind.now
+    → unwrap_or (option_copied again) [] ≡ fields_part line
+unfolding behind_space fields_part
+behind_second line more again behind is one two =
+    two ∙ ap (after_first (λ b. nat_eq b 32))
+    (subst (λ (found : Option (Bor (List ℕ))). unwrap_or (option_copied found) [] ≡ after_first (λ b. nat_eq b 32) line) is one)

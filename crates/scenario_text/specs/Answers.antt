@@ -2,7 +2,6 @@
 use Rattle.std.specs.Prelude.{◌≡◌, ℕ, ◌+◌, ◌^◌, ◌<◌, List, Option, Some, None, Result, Ok, Err}
 use Rattle.field_tree.specs.declared.fault.FieldFault.{FieldFault}
 use Rattle.field_tree.specs.declared.fault.FieldFault.TheVariants as faults
-use Rattle.field_tree.specs.declared.parse.Found.{Found}
 use Rattle.field_tree.specs.Nodes.{Shown}
 use Rattle.scenario_text.specs.declared.reason.Reason.{Reason}
 use Rattle.scenario_text.specs.declared.reason.Reason.TheVariants as reasons
@@ -21,12 +20,6 @@ fault_reason before faults.PacketTooLong = reasons.PacketTooLong
 unfoldable pub reason_given : ℕ → Result (List Shown) FieldFault → Option Reason
 reason_given before (Ok nodes) = None
 reason_given before (Err fault) = Some (fault_reason before fault)
-
--- an answer has the nodes, and a refusal the reason that their fault is
-abbrev pub GivesNodes : ℕ → Result Found LineFault → Result (List Shown) FieldFault → Type 0
-GivesNodes before (Ok found) given = given ≡ Ok found.fields
-GivesNodes before (Err OutOfMemory) given = Unit {0}
-GivesNodes before (Err (Refused reason)) given = reason_given before given ≡ Some reason
 
 -- an Ok leads to this state, and a refusal has the reason
 abbrev pub LeadsTo : State → Result (Unit {0}) LineFault → Result State Reason → Type 0

@@ -7,15 +7,14 @@ ghost use Rattle.scenario_text.specs.Pieces.{fields_part};
 ghost use Rattle.scenario_text.specs.Ranges.{is_within, value};
 ghost use Rattle.scenario_text.specs.declared.form.WriterStep.TheVariants.{Add, Nest, Packet};
 ghost use Rattle.scenario_text.specs.Reasons.{before_fields, given_by, nested, step_len};
-ghost use Rattle.scenario_text.specs.Answers.{fault_reason, GivesNodes, FaultFits};
+ghost use Rattle.scenario_text.specs.Answers.{fault_reason, FaultFits};
 ghost use Rattle.scenario_text.specs.Additions.{GivesAddition};
 
 use crate::form::WriterStep;
 use crate::line_fault::LineFault;
 use crate::numeral::Numeral;
-use crate::pieces::fields_part;
 use crate::reason::Reason;
-use field_tree::{FieldError, FieldFault, FieldParser, Fields, Found};
+use field_tree::{FieldError, FieldFault, FieldParser, Fields};
 use trace_base::limits::{MAX_FIELD, MAX_INPUT, MAX_NESTING, MAX_PACKET_LEN};
 use trace_base::reserved::is_reserved;
 use wire_varint::put_tag;
@@ -33,28 +32,6 @@ fn reason(before: u32, fault: FieldFault) -> Reason
         FieldFault::Reserved { field } => Reason::ReservedField { field },
         FieldFault::TooDeep => Reason::TooDeep,
         FieldFault::PacketTooLong => Reason::PacketTooLong,
-    }
-}
-
-#[tactic(auto, using(crate::proofs::FieldLemmas::fault_fits, crate::proofs::FieldLemmas::reason_from))]
-/// The nodes of a line's FIELDS, where so many messages are open.
-fn read_fields<'c>(
-    parser: &'c mut FieldParser,
-    line: &[u8],
-    depth: u8,
-) -> Result<Found<'c>, LineFault>
-    requires line { length line.now ≤ MAX_INPUT }
-    requires depth { depth ≤ MAX_NESTING }
-    ensures nodes { GivesNodes (before_fields line.now) result (outcome depth (fields_part line.now)) }
-    ensures len { IfOk result (λ found. found.encoded ≡ nodes_len found.fields) }
-    ensures most { IfOk result (λ found. found.encoded ≤ MAX_PACKET_LEN) }
-{
-    let fields = fields_part(line);
-    let before = (line.len() - fields.len()) as u32;
-    match parser.parse(fields, depth) {
-        Ok(found) => Ok(found),
-        Err(FieldError::OutOfMemory) => Err(LineFault::OutOfMemory),
-        Err(FieldError::Fault(fault)) => Err(LineFault::Refused(reason(before, fault))),
     }
 }
 
@@ -93,45 +70,52 @@ fn nested(before: u32, depth: u8, field: Numeral) -> Result<Addition<'static>, L
     })
 }
 
-/// What the FIELDS of a line give its packet.
-#[tactic(auto, unfolding(crate::specs::Reasons::step_len))]
+/// What FIELDS that begin behind so many bytes of their line give its packet, where so many messages
+/// are open.
+#[inline(always)]
+#[tactic(auto, using(crate::proofs::FieldLemmas::fault_fits, crate::proofs::FieldLemmas::reason_from), unfolding(crate::specs::Reasons::step_len))]
 fn given_fields<'c>(
     parser: &'c mut FieldParser,
-    line: &[u8],
+    before: u32,
+    fields: &[u8],
     depth: u8,
 ) -> Result<Addition<'c>, LineFault>
-    requires line { length line.now ≤ MAX_INPUT }
+    requires line { before + length fields.now ≤ MAX_INPUT }
     requires depth { depth ≤ MAX_NESTING }
-    ensures packet { GivesAddition (before_fields line.now) (Packet true) result (outcome depth (fields_part line.now)) }
-    ensures add { GivesAddition (before_fields line.now) Add result (outcome depth (fields_part line.now)) }
+    ensures packet { GivesAddition before (Packet true) result (outcome depth fields.now) }
+    ensures add { GivesAddition before Add result (outcome depth fields.now) }
 {
-    let Found { fields, encoded } = read_fields(parser, line, depth)?;
-    Ok(Addition {
-        fields,
-        len: encoded,
-    })
+    match parser.parse(fields, depth) {
+        Ok(found) => Ok(Addition {
+            fields: found.fields,
+            len: found.encoded,
+        }),
+        Err(FieldError::OutOfMemory) => Err(LineFault::OutOfMemory),
+        Err(FieldError::Fault(fault)) => Err(LineFault::Refused(reason(before, fault))),
+    }
 }
 
-/// What a line gives its packet, where so many messages are open.
-#[tactic(auto, unfolding(crate::specs::Reasons::given_by, crate::specs::Reasons::step_len))]
+/// What a line with these FIELDS gives its packet, where so many messages are open.
+#[inline(always)]
+#[tactic(auto, using(crate::proofs::PieceLemmas::fields_inside), unfolding(crate::specs::Reasons::given_by, crate::specs::Reasons::step_len))]
 pub fn read_addition<'c>(
     parser: &'c mut FieldParser,
     line: &[u8],
+    fields: &[u8],
     depth: u8,
     step: WriterStep,
 ) -> Result<Addition<'c>, LineFault>
     requires line { length line.now ≤ MAX_INPUT }
+    requires fields { fields.now ≡ fields_part line.now }
     requires depth { depth ≤ MAX_NESTING }
     ensures { GivesAddition (before_fields line.now) step result (given_by depth line.now step) }
 {
+    let before = (line.len() - fields.len()) as u32;
     match step {
         WriterStep::Packet { has_fields: true } | WriterStep::Add => {
-            return given_fields(parser, line, depth);
+            return given_fields(parser, before, fields, depth);
         }
-        WriterStep::Nest { field } => {
-            let before = (line.len() - fields_part(line).len()) as u32;
-            return nested(before, depth, field);
-        }
+        WriterStep::Nest { field } => return nested(before, depth, field),
         _ => {}
     }
     Ok(Addition {

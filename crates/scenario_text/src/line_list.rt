@@ -173,12 +173,12 @@ impl LineList {
         ensures kept { OnErr result (self.new ≡ self.old) }
     {
         let Parted { what, own } = part_line(&what);
-        let len = self.code.len();
-        self.code.extend_from_slice(own)?;
-        match self.heads.push(KeptLine { line, what }) {
+        let len = self.heads.len();
+        self.heads.push(KeptLine { line, what })?;
+        match self.code.extend_from_slice(own) {
             Ok(()) => Ok(()),
             Err(_) => {
-                self.code.truncate(len);
+                self.heads.truncate(len);
                 Err(AllocError)
             }
         }

@@ -68,9 +68,10 @@ impl Reader {
         if says_nothing(line) {
             return Ok(());
         }
-        match form(line) {
+        let (form, fields) = form(line);
+        match form {
             None => Err(LineFault::Refused(Reason::BadLine)),
-            Some(form) => self.play(parser, number, line, form),
+            Some(form) => self.play(parser, number, line, fields, form),
         }
     }
 
@@ -115,10 +116,11 @@ impl Reader {
 }
 
 /// The scenario that a text says; or its first faulty line, and the first reason that holds there.
-#[tactic(auto, using(crate::proofs::ReadLemmas::scenario_starts, crate::proofs::ReadLemmas::scenario_goes, crate::proofs::ReadLemmas::scenario_stops, crate::proofs::ReadLemmas::scenario_unfinished, crate::proofs::ReadLemmas::scenario_ends))]
-fn read_lines(alloc: Global, text: &[u8]) -> Result<Scenario, ScenarioFault>
+#[tactic(auto, using(crate::proofs::ReadLemmas::scenario_starts, crate::proofs::ReadLemmas::scenario_goes, crate::proofs::ReadLemmas::scenario_stops, crate::proofs::ReadLemmas::scenario_unfinished, crate::proofs::ReadLemmas::scenario_ends, crate::proofs::ReadLemmas::is_scenario))]
+pub fn read_scenario(alloc: Global, text: &[u8]) -> Result<Scenario, ScenarioFault>
     requires { length text.now ≤ MAX_INPUT }
-    ensures { GivesScenario result (scenario_of text.now) }
+    ensures exact { GivesScenario result (scenario_of text.now) }
+    ensures scenario { IfOk result IsScenario }
 {
     let mut reader = Reader::new(alloc);
     let mut parser = FieldParser::new(alloc);
@@ -148,14 +150,4 @@ fn read_lines(alloc: Global, text: &[u8]) -> Result<Scenario, ScenarioFault>
         number += 1;
         rest = behind;
     }
-}
-
-/// The scenario that a text says; or its first faulty line, and the first reason that holds there.
-#[tactic(auto, using(crate::proofs::ReadLemmas::is_scenario))]
-pub fn read_scenario(alloc: Global, text: &[u8]) -> Result<Scenario, ScenarioFault>
-    requires { length text.now ≤ MAX_INPUT }
-    ensures exact { GivesScenario result (scenario_of text.now) }
-    ensures scenario { IfOk result IsScenario }
-{
-    read_lines(alloc, text)
 }

@@ -9,9 +9,10 @@ use crate::numeral::Numeral;
 use crate::open_packet::OpenPacket;
 use crate::reader::Reader;
 use crate::reason::Reason;
+use crate::refusals::{len_of, nesting_of};
 use crate::scenario::{BufferLine, LineKind, ProducerLine};
 use field_tree::FieldParser;
-use trace_base::limits::{MAX_INPUT, MAX_PACKET_LEN, MAX_SCENARIO_PACKET_BYTES};
+use trace_base::limits::{MAX_INPUT, MAX_NESTING, MAX_PACKET_LEN, MAX_SCENARIO_PACKET_BYTES};
 use trace_base::policy::{FullPolicy, WriterPolicy, WriterSpec};
 
 impl Reader {
@@ -23,6 +24,7 @@ impl Reader {
     ghost use Rattle.scenario_text.specs.State.{nesting_of, len_of, packet_of};
     ghost use Rattle.scenario_text.specs.Reasons.{first, front_reasons};
     ghost use Rattle.scenario_text.specs.Effects.{limit_of, moved, packet_after, producer_kind, served, with_closed, with_line, with_packet, written, FieldFits};
+    ghost use Rattle.scenario_text.specs.Pieces.{fields_part};
     ghost use Rattle.scenario_text.specs.Ranges.{value};
     ghost use Rattle.scenario_text.specs.Grammar.{after_form};
     ghost use Rattle.scenario_text.specs.Answers.{LeadsTo};
@@ -108,18 +110,21 @@ impl Reader {
         line: u32,
         writer: Numeral,
         step: WriterStep,
+        packet: Option<OpenPacket>,
         addition: Addition<'_>,
     ) -> Result<(), LineFault>
         requires front { first (front_reasons (state_of self.old) (OfWriter writer step)) ≡ None }
         requires field { FieldFits step }
-        requires shallow { is_shallow (packet_after line (packet_of (state_of self.old) writer) step addition.len) ≡ true }
-        requires len { len_of (packet_of (state_of self.old) writer) + addition.len ≤ MAX_PACKET_LEN }
+        requires packet { packet ≡ packet_of (state_of self.old) writer }
+        requires depth { nesting_of packet ≤ MAX_NESTING }
+        requires shallow { is_shallow (packet_after line packet step addition.len) ≡ true }
+        requires len { len_of packet + addition.len ≤ MAX_PACKET_LEN }
         requires bytes { self.old.bytes + addition.len ≤ MAX_SCENARIO_PACKET_BYTES }
         ensures ok { OnOk result (state_of self.new ≡ written (state_of self.old) line writer step addition.entry.fields addition.entry.len) }
         ensures memory { IsOkUnless result OutOfMemory }
     {
         let Addition { fields, len } = addition;
-        let packet = packet_after(line, self.packet(writer), step, len);
+        let packet = packet_after(line, packet, step, len);
         let what = writer_kind(small(writer) as u16, step, fields);
         self.add_line(line, what)?;
         self.set_packet(writer, packet);
@@ -134,23 +139,24 @@ impl Reader {
         parser: &mut FieldParser,
         number: u32,
         line: &[u8],
+        fields: &[u8],
         writer: Numeral,
         step: WriterStep,
     ) -> Result<(), LineFault>
         requires line { length line.now ≤ MAX_INPUT }
+        requires fields { fields.now ≡ fields_part line.now }
         requires front { first (front_reasons (state_of self.old) (OfWriter writer step)) ≡ None }
         ensures { LeadsTo (state_of self.new) result (after_form (state_of self.old) number line.now (Some (OfWriter writer step))) }
     {
-        let addition = read_addition(parser, line, self.depth(writer), step)?;
-        if u64::from(self.packet_len(writer)) + u64::from(addition.len)
-            > u64::from(MAX_PACKET_LEN)
-        {
+        let packet = self.packet(writer);
+        let addition = read_addition(parser, line, fields, nesting_of(packet), step)?;
+        if u64::from(len_of(packet)) + u64::from(addition.len) > u64::from(MAX_PACKET_LEN) {
             return Err(LineFault::Refused(Reason::PacketTooLong));
         }
         if u64::from(self.bytes) + u64::from(addition.len) > u64::from(MAX_SCENARIO_PACKET_BYTES) {
             return Err(LineFault::Refused(Reason::TooManyBytes));
         }
-        self.add_written(number, writer, step, addition)
+        self.add_written(number, writer, step, packet, addition)
     }
 
     #[tactic(auto, unfolding(crate::specs::Effects::with_closed))]
@@ -193,9 +199,11 @@ impl Reader {
         parser: &mut FieldParser,
         number: u32,
         line: &[u8],
+        fields: &[u8],
         form: Form,
     ) -> Result<(), LineFault>
-        requires { length line.now ≤ MAX_INPUT }
+        requires line { length line.now ≤ MAX_INPUT }
+        requires fields { fields.now ≡ fields_part line.now }
         ensures { LeadsTo (state_of self.new) result (after_form (state_of self.old) number line.now (Some form)) }
     {
         if let Some(reason) = self.front_reason(form) {
@@ -213,7 +221,9 @@ impl Reader {
                 buffer,
                 policy,
             } => self.add_writer(producer, buffer, policy),
-            Form::OfWriter { writer, step } => self.write(parser, number, line, writer, step),
+            Form::OfWriter { writer, step } => {
+                self.write(parser, number, line, fields, writer, step)
+            }
             Form::OfProducer { producer, step } => self.serve(number, producer, step),
             Form::Read { buffer, limit } => self.read(number, buffer, limit),
             Form::Request => self.add_line(number, LineKind::Request),

@@ -1,6 +1,6 @@
 //! Reading the form of a line.
 ghost use Rattle.std.specs.Prelude.{◌≡◌};
-ghost use Rattle.scenario_text.specs.Pieces.{pieces};
+ghost use Rattle.scenario_text.specs.Pieces.{fields_part, pieces};
 ghost use Rattle.scenario_text.specs.Forms.{buffer_form, form_of, four_words, long_form, more_words, one_word, policy_form, producer_form, service_form, short_form, three_words, two_words, writer_form};
 
 use crate::form::{Form, ProducerStep, WriterStep};
@@ -176,18 +176,20 @@ fn long_form(word: &[u8], second: &[u8], behind: &[u8]) -> Option<Form>
     })
 }
 
-/// The form of a line, if it has one.
+/// The form of a line, if it has one, and what stands behind its second word: its FIELDS, or its
+/// FIELD.
 #[tactic(auto, using(crate::proofs::PieceLemmas::pieces_behind_some, crate::proofs::FormLemmas::first_word, crate::proofs::FormLemmas::second_word, crate::proofs::FormLemmas::several_words))]
-pub fn form(line: &[u8]) -> Option<Form>
-    ensures { result ≡ form_of line.now }
+pub fn form(line: &[u8]) -> (Option<Form>, &[u8])
+    ensures form { result.0 ≡ form_of line.now }
+    ensures fields { result.1.now ≡ fields_part line.now }
 {
     let (word, more) = next_piece(line, b' ');
     let Some(behind) = more else {
-        return one_word(word);
+        return (one_word(word), &[]);
     };
     let (second, more) = next_piece(behind, b' ');
     match more {
-        None => two_words(word, second),
-        Some(behind_second) => long_form(word, second, behind_second),
+        None => (two_words(word, second), &[]),
+        Some(fields) => (long_form(word, second, fields), fields),
     }
 }

@@ -4,6 +4,7 @@ ghost use Rattle.std.specs.Option.{ForSome};
 ghost use Rattle.page_geometry.specs.Sizes.{payload_size, record_size};
 ghost use Rattle.scenario_text.specs.Ranges.{fits, is_within, is_page_size, is_chunk_count};
 ghost use Rattle.scenario_text.specs.Sound.{is_cut};
+ghost use Rattle.scenario_text.specs.State.{nesting_of, len_of};
 ghost use Rattle.scenario_text.specs.Reasons.{is_limit, is_out_of_range, is_producer_in_range, is_set_up, wants_none, is_larger};
 
 use crate::form::{Form, WriterStep};
@@ -147,12 +148,34 @@ fn is_larger(producer: Option<ProducerLine>, buffer: Option<BufferLine>) -> bool
     u64::from(buffer.kb) * u64::from(BYTES_PER_KB) < u64::from(record_size(producer))
 }
 
+/// How many nested messages are open in a packet.
+#[tactic(auto, unfolding(crate::specs::State::nesting_of))]
+pub fn nesting_of(packet: Option<OpenPacket>) -> u8
+    ensures { result ≡ nesting_of packet }
+{
+    match packet {
+        None => 0,
+        Some(packet) => packet.depth,
+    }
+}
+
+/// How long it is so far.
+#[tactic(auto, unfolding(crate::specs::State::len_of))]
+pub fn len_of(packet: Option<OpenPacket>) -> u32
+    ensures { result ≡ len_of packet }
+{
+    match packet {
+        None => 0,
+        Some(packet) => packet.len,
+    }
+}
+
 impl Reader {
     ghost use Rattle.std.specs.Prelude.{◌≡◌, ◌<◌, ◌≤◌, IfSome, true};
     ghost use Rattle.std.specs.Option.{ForSome};
     ghost use Rattle.scenario_text.specs.Items.{item};
     ghost use Rattle.scenario_text.specs.Sound.{is_cut};
-    ghost use Rattle.scenario_text.specs.State.{is_closed, packet_of, nesting_of, len_of};
+    ghost use Rattle.scenario_text.specs.State.{is_closed, packet_of, nesting_of};
     ghost use Rattle.scenario_text.specs.View.{state_of};
     ghost use Rattle.scenario_text.specs.Reasons.{first, front_reasons, has_closed_producer, has_larger_chunks, is_closed_for, is_late, is_too_many, lacks_buffer, lacks_nesting, lacks_packet, lacks_producer, lacks_writer, leaves_nesting, meets_packet};
 
@@ -209,29 +232,6 @@ impl Reader {
         ensures shallow { nesting_of result ≤ MAX_NESTING }
     {
         item(&self.packets, writer).unwrap_or(None)
-    }
-
-    /// How many nested messages are open in it.
-    #[tactic(auto, unfolding(crate::specs::State::nesting_of))]
-    pub fn depth(&self, writer: Numeral) -> u8
-        ensures value { result ≡ nesting_of (packet_of (state_of self.now) writer) }
-        ensures shallow { result ≤ MAX_NESTING }
-    {
-        match self.packet(writer) {
-            None => 0,
-            Some(packet) => packet.depth,
-        }
-    }
-
-    /// How long it is so far.
-    #[tactic(auto, unfolding(crate::specs::State::len_of))]
-    pub fn packet_len(&self, writer: Numeral) -> u32
-        ensures { result ≡ len_of (packet_of (state_of self.now) writer) }
-    {
-        match self.packet(writer) {
-            None => 0,
-            Some(packet) => packet.len,
-        }
     }
 
     #[tactic(auto, unfolding(crate::specs::Reasons::lacks_producer))]
@@ -331,7 +331,7 @@ impl Reader {
             Form::OfWriter {
                 writer,
                 step: WriterStep::Unnest,
-            } => self.depth(writer) == 0,
+            } => nesting_of(self.packet(writer)) == 0,
             _ => false,
         }
     }
@@ -344,7 +344,7 @@ impl Reader {
             Form::OfWriter {
                 writer,
                 step: WriterStep::End,
-            } => 0 < self.depth(writer),
+            } => 0 < nesting_of(self.packet(writer)),
             _ => false,
         }
     }

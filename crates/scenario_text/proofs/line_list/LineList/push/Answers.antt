@@ -1,4 +1,4 @@
-use Rattle.std.proofs.Common.{◌≡◌, ◌∙◌, ◌++◌, ◌∷◌, [], ℕ, List, ap, subst, sym}
+use Rattle.std.proofs.Common.{◌∙◌, ◌++◌, ◌∷◌, [], ℕ, List, ap, subst, sym}
 use Rattle.scenario_text.specs.declared.line_list.KeptLine.{KeptLine}
 use Rattle.scenario_text.specs.declared.scenario.LineKind.{LineKind}
 use Rattle.scenario_text.specs.declared.scenario.NumberedLine.{NumberedLine}
@@ -13,8 +13,8 @@ invariant_of-self-in-Ok c =
     let head : KeptLine = record { line = c.args.line; what = c.part_line-what.result.what } in
     let own : List ℕ = c.part_line-what.result.own.now in
     let laid = laid_more heads code head own c.self.invariant c.part_line-what.ensures.len c.part_line-what.ensures.own in
-    subst (λ (bytes : List ℕ). AreLaid c.push.new.self.items bytes) (sym c.in_ok-extend_from_slice.ensures.items)
-    (subst (λ (hs : List KeptLine). AreLaid hs (code ++ own)) (sym c.in-Ok.ensures.items) laid)
+    subst (λ (bytes : List ℕ). AreLaid c.push.new.self.items bytes) (sym c.in-Ok.ensures.items)
+    (subst (λ (hs : List KeptLine). AreLaid hs (code ++ own)) (sym c.in_ok-push.ensures.items) laid)
 
 pub returns-in-Ok-clause-pushed : goal.returns-in-Ok-clause-pushed
 returns-in-Ok-clause-pushed c =
@@ -23,8 +23,8 @@ returns-in-Ok-clause-pushed c =
     let head : KeptLine = record { line = c.args.line; what = c.part_line-what.result.what } in
     let own : List ℕ = c.part_line-what.result.own.now in
     let before : List NumberedLine = lines_of heads code in
-    ap (lines_of c.push.new.self.items) c.in_ok-extend_from_slice.ensures.items
-    ∙ ap (λ (hs : List KeptLine). lines_of hs (code ++ own)) c.in-Ok.ensures.items
+    ap (lines_of c.push.new.self.items) c.in-Ok.ensures.items
+    ∙ ap (λ (hs : List KeptLine). lines_of hs (code ++ own)) c.in_ok-push.ensures.items
     ∙ lines_more heads code head own c.self.invariant c.part_line-what.ensures.len
     ∙ ap (λ (kind : LineKind). before ++ (record { line = c.args.line; what = kind }) ∷ []) c.part_line-what.ensures.kind
     ∙ ap (λ (ls : List NumberedLine). ls ++ (record { line = c.args.line; what = c.args.what }) ∷ []) c.self.view_is

@@ -3,7 +3,7 @@ use Rattle.scenario_text.specs.Pieces.{pieces}
 use Rattle.scenario_text.specs.Grammar.{after_lines}
 use Rattle.scenario_text.specs.Scenario.{said, scenario_of}
 use Rattle.scenario_text.specs.View.{state_of}
-use Rattle.scenario_text.proofs.lines.read_lines.Given as goal
+use Rattle.scenario_text.proofs.lines.read_scenario.Given as goal
 
 abbrev pub invariant-lines : goal.invariant-lines
 invariant-lines l =
