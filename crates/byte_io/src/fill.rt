@@ -7,7 +7,7 @@ use std::alloc::Global;
 use thiserror::Error;
 
 // How many bytes are asked for at once.
-const PIECE: usize = 4096;
+const PIECE: usize = 65_536;
 
 /// Why not all could be read.
 #[derive(Clone, Copy, Debug, PartialEq, Eq, Error)]
