@@ -50,6 +50,25 @@ up_to_part old new bytes rest done = record { part = done.part; rest = rest; cut
 pub up_to_end : (old new : Intake) (bytes : List ℕ) → TakesUpTo old new bytes [] → new ≡ after_told old bytes
 up_to_end old new bytes done = grind (arith, common_steps, done.cut, done.taken)
 
+-- a slice `&bytes[count..]` stands behind the first bytes
+behind_first : (bytes : List ℕ) (count : ℕ) → take count bytes ++ take (length bytes - count) (drop count bytes) ≡ bytes
+behind_first bytes count = ap (λ behind. take count bytes ++ behind) (take_rest bytes count) ∙ take-append-drop count bytes
+
+-- a write of all bytes
+pub all_at_once : (old new : Intake) (bytes : List ℕ) (count : ℕ) → new ≡ after_told old (take count bytes) → count ≡ length bytes → new ≡ after_told old bytes
+all_at_once old new bytes count write whole = grind (arith, common_steps, write, whole)
+
+-- a write, and then all of the rest
+pub all_behind : (old mid new : Intake) (bytes : List ℕ) (count : ℕ) → mid ≡ after_told old (take count bytes)
+    → new ≡ after_told mid (take (length bytes - count) (drop count bytes)) → new ≡ after_told old bytes
+all_behind old mid new bytes count first second =
+    second ∙ ap (λ intake. after_told intake (take (length bytes - count) (drop count bytes))) first
+    ∙ after_told_again old (take count bytes) (take (length bytes - count) (drop count bytes)) ∙ ap (λ all. after_told old all) (behind_first bytes count)
+
+-- a write that fails takes nothing
+pub part_none : (old new : Intake) (bytes : List ℕ) → new ≡ old → TakesPart old new bytes
+part_none old new bytes same = record { part = []; rest = bytes; cut = refl; taken = same ∙ sym (after_told_nothing old) }
+
 -- part of the first of two pieces
 pub part_first : (old new : Intake) (first second : List ℕ) → TakesPart old new first → TakesPart old new (first ++ second)
 part_first old new first second done = record {
@@ -67,6 +86,13 @@ part_second old mid new first second whole done = record {
   cut = ap (λ bytes. first ++ bytes) done.cut ∙ sym (append_assoc first done.part done.rest);
   taken = done.taken ∙ ap (λ intake. after_told intake done.part) whole ∙ after_told_again old first done.part;
 }
+
+-- a write, and then part of the rest
+pub part_behind : (old mid new : Intake) (bytes : List ℕ) (count : ℕ) → mid ≡ after_told old (take count bytes)
+    → TakesPart mid new (take (length bytes - count) (drop count bytes)) → TakesPart old new bytes
+part_behind old mid new bytes count first done =
+    let P : List ℕ → Type 0 = λ all. TakesPart old new all in
+    subst P (behind_first bytes count) (part_second old mid new (take count bytes) (take (length bytes - count) (drop count bytes)) first done)
 
 -- the bytes of all reads so far
 pub gives_at_most : (most : ℕ) (bytes : List ℕ) (old new : Option (List ℕ)) → old ≡ before_told bytes new → length bytes ≤ most → GivesAtMost most old new

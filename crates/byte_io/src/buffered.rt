@@ -84,7 +84,7 @@ pub struct BufferedSink<'a, O: Sink> {
 }
 
 impl<'a, O: Sink> BufferedSink<'a, O> {
-    ghost use Rattle.byte_io.specs.Buffered.{buffered_inner, buffered_pending, buffered_loan};
+    ghost use Rattle.byte_io.specs.Buffered.{buffered_inner, buffered_pending, buffered_loan, buffered_intake};
 
     /// A sink over `inner`. What waits in `pending` already goes before all that is written.
     pub fn new(inner: &'a mut O, pending: &'a mut PendingBytes) -> BufferedSink<'a, O>
@@ -101,6 +101,28 @@ impl<'a, O: Sink> BufferedSink<'a, O> {
             start,
         }
     }
+
+    // Takes the piece after it passed on what waits. It stays a call, so that a piece that finds room
+    // needs none.
+    #[inline(never)]
+    #[tactic(auto, using(crate::proofs::Lent::after_told_lent, crate::proofs::Told::after_told_again, crate::proofs::Told::after_told_nothing, crate::proofs::Lent::up_to_joined, crate::proofs::Lent::grown_up_to, crate::proofs::Lent::grown_after))]
+    fn write_behind(&mut self, piece: &[u8]) -> Result<usize, Failed>
+        ensures within { IfOk result (λ count. count ≤ length piece.now) }
+        ensures some { 0 < length piece.now → IfOk result (λ count. 0 < count) }
+        ensures bytes { IfOk result (λ count. buffered_intake self.new ≡ after_told (buffered_intake self.old) (take count piece.now)) }
+        ensures err { OnErr result (buffered_intake self.new ≡ buffered_intake self.old) }
+        ensures count { CountsFaults (O.faults (buffered_inner self.old).now) (O.faults (buffered_inner self.new).now) result }
+    {
+        match self.pending.pass_on(self.inner) {
+            Ok(()) => {}
+            Err(WriteFault) => return Err(Failed),
+        }
+        if piece.len() > ROOM {
+            return self.inner.write(piece);
+        }
+        self.pending.keep(piece);
+        Ok(piece.len())
+    }
 }
 
 impl<O: Sink> Sink for BufferedSink<'_, O> {
@@ -113,18 +135,13 @@ impl<O: Sink> Sink for BufferedSink<'_, O> {
     ghost count_fits = { λ sink. O.count_fits (buffered_inner sink).now };
 
     #[tactic(auto, using(crate::proofs::Lent::after_told_lent, crate::proofs::Told::after_told_again, crate::proofs::Told::after_told_nothing, crate::proofs::Lent::up_to_joined, crate::proofs::Lent::grown_up_to, crate::proofs::Lent::grown_after))]
+    #[inline(always)]
     fn write(&mut self, piece: &[u8]) -> Result<usize, Failed> {
-        if piece.len() > self.pending.room_left() {
-            match self.pending.pass_on(self.inner) {
-                Ok(()) => {}
-                Err(WriteFault) => return Err(Failed),
-            }
+        if piece.len() <= self.pending.room_left() {
+            self.pending.keep(piece);
+            return Ok(piece.len());
         }
-        if piece.len() > ROOM {
-            return self.inner.write(piece);
-        }
-        self.pending.keep(piece);
-        Ok(piece.len())
+        self.write_behind(piece)
     }
 }
 

@@ -1,6 +1,6 @@
 use Rattle.std.proofs.Common.{◌≡◌, length}
 use Rattle.byte_io.specs.Bytes.{TakesUpTo}
-use Rattle.byte_io.proofs.put.put_all.Given as goal
+use Rattle.byte_io.proofs.put.put_rest.Given as goal
 
 abbrev pub invariant-loop-rest : goal.invariant-loop-rest
 invariant-loop-rest g l =
