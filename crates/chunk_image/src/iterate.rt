@@ -60,6 +60,7 @@ impl<'a> Iterator for FragmentIter<'a> {
     ghost remaining = { item_count (λ fragments. fragments) };
 
     #[tactic(auto, using(crate::proofs::NextLemmas::next_steps))]
+    #[inline(always)]
     fn next(&mut self) -> Option<Fragment<'a>> {
         if self.left == 0 {
             return None;
