@@ -1,7 +1,6 @@
 -- Searches end at the key's entry, and where there is none, at the slot that a new one goes to.
-use Rattle.std.proofs.Common.{◌≡◌, ◌≢◌, ℕ, ◌+◌, ◌*◌, ◌/◌, ◌%◌, ◌^◌, ◌<◌, ◌≤◌, ◌==◌, ⊎_elim, Bool, true, false, cond, List, length, Option, Some, None, refl, sym, ap, ◌∙◌, subst, true≢false, arith}
+use Rattle.std.proofs.Common.{◌≡◌, ◌≢◌, ℕ, ◌+◌, ◌*◌, ◌<◌, ◌≤◌, ◌==◌, ◌||◌, ◌⊎◌, ⊎_elim, not, Bool, true, false, cond, List, length, Option, Some, None, inl, inr, refl, sym, ap, ◌∙◌, subst, true≢false, arith}
 use Rattle.std.proofs.lemmas.Bool.{cases_eq, cases_lt, cases_Bool}
-use Rattle.std.proofs.lemmas.Nat.{div_below}
 use Rattle.std.specs.Option.{option_map}
 use Rattle.std.specs.FinMap.{get}
 use Rattle.chunk_index.specs.declared.slot.Entry.{Entry}
@@ -75,6 +74,19 @@ a_place key (Some entry) place some =
     let P : Bool → Type 0 = λ b. cond b (Some entry.place) None ≡ Some place → b ≡ true in
     let all : (b : Bool) → P b = λ b. elim b as P [ true ↦ λ e. refl | false ↦ λ e. absurd (cc) ] in
     all (key == entry_key entry) some
+
+ends_there : (key : ℕ) (there : Option Entry) → (not (is_used there) || has_key key there) ≡ true → (is_used there ≡ false) ⊎ (has_key key there ≡ true)
+ends_there key None is = inl refl
+ends_there key (Some entry) is = inr is
+
+-- a search ends at its home where that is free or has the key
+pub ends_at_home : (capacity : ℕ) (slots : List (Option Entry)) (key at : ℕ) → at ≡ home capacity key
+    → (not (is_used (slot slots at)) || has_key key (slot slots at)) ≡ true → EndsAt slots key (home capacity key) at
+ends_at_home capacity slots key at is ends = record {
+  order = omega (arith, is);
+  passes = λ other above below. absurd (omega (arith, is));
+  ends = inr (ends_there key (slot slots at) ends);
+}
 
 pub absent_key : (capacity : ℕ) (slots : List (Option Entry)) (key at : ℕ) → IsTable capacity slots → EndsAt slots key (home capacity key) at → get (map_of slots) key ≡ None → has_key key (slot slots at) ≡ false
 absent_key capacity slots key at table search none =

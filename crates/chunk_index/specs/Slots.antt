@@ -1,15 +1,15 @@
 -- The slots of an index, and the map that they are.
-use Rattle.std.specs.Prelude.{ℕ, ◌+◌, ◌*◌, ◌/◌, ◌%◌, ◌^◌, ◌==◌, min, Bool, true, false, List, [], ◌∷◌, slice_index_or, Option, Some, None, if◌then◌else◌}
+use Rattle.std.specs.Prelude.{ℕ, ◌+◌, ◌-◌, ◌*◌, ◌/◌, ◌%◌, ◌^◌, ◌==◌, min, Bool, true, false, List, [], ◌∷◌, slice_index_or, Option, Some, None, if◌then◌else◌}
 use Rattle.std.specs.Option.{option_map}
 use Rattle.std.specs.Ordering.{nat_cmp}
 use Rattle.std.specs.FinMap.{FinMap, from_entries}
 use Rattle.chunk_index.specs.declared.slot.Entry.{Entry}
 use Rattle.chunk_index.specs.Value.{key_of}
 
--- the slot from which a key is looked for, one of 2 * capacity + 1. Eight keys in a row have their homes in a row. The first of
--- these is a share of the slots as large as the number of the eight, mixed by a factor, is of 2 ^ 64.
+-- the slot from which a key is looked for, one of 2 * capacity + 1. Eight keys in a row have their homes in a row, the last
+-- key the first one. The first of these is a share of the slots as large as the number of the eight, mixed by a factor, is of 2 ^ 64.
 unfoldable pub home : ℕ → ℕ → ℕ
-home capacity key = min (key / 8 * 0x9e3779b97f4a7c15 % 2 ^ 64 * (2 * capacity + 1) / 2 ^ 64 + key % 8) (2 * capacity)
+home capacity key = min (key / 8 * 0x9e3779b97f4a7c15 % 2 ^ 64 * (2 * capacity + 1) / 2 ^ 64 + (7 - key % 8)) (2 * capacity)
 
 -- the key of an entry
 abbrev pub entry_key : Entry → ℕ

@@ -4,7 +4,7 @@ ghost use Rattle.std.specs.FinMap as map;
 ghost use Rattle.chunk_index.specs.Value.{key_of, place_of, empty_index, with_place, without_place, IsFirstFrom, HasNoneFrom};
 
 use crate::least::nearer;
-use crate::slot::{Entry, close_hole, find_slot, key_number, place_for};
+use crate::slot::{Entry, close_hole, ends_search, find_slot, home_of, key_number, place_for};
 use std::alloc::{AllocError, Global};
 use std::marker::Model;
 use trace_base::limits::IDS_AHEAD;
@@ -42,6 +42,20 @@ impl Index {
 
     /// The place of a chunk's record.
     pub fn find(&self, sequence: u32, chunk_id: u32) -> Option<u32>
+        ensures { result ≡ place_of self.now sequence chunk_id }
+    {
+        let key = key_number(sequence, chunk_id);
+        let home = home_of(key, self.capacity);
+        let slot = self.slots[home];
+        if ends_search(slot, key) {
+            return place_for(slot, key);
+        }
+        self.find_behind(sequence, chunk_id)
+    }
+
+    /// The same where another entry is at its home, which is seldom.
+    #[inline(never)]
+    fn find_behind(&self, sequence: u32, chunk_id: u32) -> Option<u32>
         ensures { result ≡ place_of self.now sequence chunk_id }
     {
         let key = key_number(sequence, chunk_id);

@@ -21,9 +21,11 @@ pub fn key_number(sequence: u32, chunk_id: u32) -> u64
 }
 
 /// The slot from which a key is looked for. Eight keys in a row have their homes in a row, since
-/// chunks come and go in rising order: so most searches look where the one before looked. The first
-/// of them is a share of the homes as large as their mixed number is of all words; the factor is 2^64
-/// divided by the golden ratio, which spreads numbers in a row evenly.
+/// chunks come and go in rising order: so most searches look where the one before looked. The last
+/// key has the first of these homes: so the oldest of them mostly has a free slot behind it, and the
+/// hole that it leaves is closed at once. The first home is a share of the homes as large as the
+/// mixed number of the keys is of all words; the factor is 2^64 divided by the golden ratio, which
+/// spreads numbers in a row evenly.
 #[tactic(auto, unfolding(crate::specs::Slots::home))]
 pub fn home_of(key: u64, capacity: u32) -> usize
     ensures value { result ≡ home capacity key }
@@ -32,11 +34,11 @@ pub fn home_of(key: u64, capacity: u32) -> usize
     let mixed = (key / 8).wrapping_mul(0x9e37_79b9_7f4a_7c15);
     let last = 2 * u64::from(capacity);
     let share = ((u128::from(mixed) * u128::from(last + 1)) >> 64) as u64;
-    (share + key % 8).min(last) as usize
+    (share + (7 - key % 8)).min(last) as usize
 }
 
 /// Whether a search for the key ends at the slot: it is free, or has the key.
-fn ends_search(slot: Option<Entry>, key: u64) -> bool
+pub fn ends_search(slot: Option<Entry>, key: u64) -> bool
     ensures { result ≡ (not (is_used slot) || has_key key slot) }
 {
     match slot {
