@@ -260,7 +260,7 @@ impl TraceBuffer {
     }
 
     /// What the record of a chunk has, with its payload as it stands in the ring.
-    #[inline]
+    #[inline(always)]
     pub fn image_of(&self, sequence: u32, chunk_id: u64) -> Option<(RecordKey, &[u8])>
         ensures some { IfSome result (λ image. IsImageOf image.0 image.1.now (live_at self.now sequence chunk_id)) }
         ensures none { IfNone result (live_at self.now sequence chunk_id ≡ None) }

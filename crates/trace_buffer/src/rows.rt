@@ -38,8 +38,25 @@ pub fn least_size(sequences: &[SequenceSpec], most: u32) -> u32
     least
 }
 
-/// Where the sequence with this number stands.
+/// Where the sequence with this number stands. Where their numbers follow on one another, that hangs on
+/// the first one's alone.
 pub fn find_row(rows: &[SequenceRow], number: u32) -> usize
+    requires { is_known rows.now number ≡ true }
+    ensures within { result < length rows.now }
+    ensures number { (slice_index_or rows.now result (fresh 0 0)).number ≡ number }
+{
+    if let Some(first) = rows.first() {
+        let near = number.wrapping_sub(first.number()) as usize;
+        if near < rows.len() && rows[near].number() == number {
+            return near;
+        }
+    }
+    find_among(rows, number)
+}
+
+/// The same by a look at one after another.
+#[inline(never)]
+fn find_among(rows: &[SequenceRow], number: u32) -> usize
     requires { is_known rows.now number ≡ true }
     ensures within { result < length rows.now }
     ensures number { (slice_index_or rows.now result (fresh 0 0)).number ≡ number }
