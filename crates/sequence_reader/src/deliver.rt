@@ -2,8 +2,8 @@
 ghost use Rattle.std.specs.Prelude.{◌≡◌, ◌≤◌, ◌^◌, OnOk, OnErr};
 ghost use Rattle.byte_io.specs.Bytes.{after_told, CountsFaults, TakesPart};
 ghost use Rattle.trace_model.specs.Record.{record_of};
-ghost use Rattle.sequence_reader.specs.Spots.{AreBounds, rows_of, cursor_of};
-ghost use Rattle.sequence_reader.specs.Steps.{IsPieceAt};
+ghost use Rattle.sequence_reader.specs.Spots.{AreBounds, IsSpot, rows_of, cursor_of};
+ghost use Rattle.sequence_reader.specs.Steps.{IsPieceAt, Shows};
 ghost use Rattle.sequence_reader.specs.Turns.{first_bytes, IsWholeAt};
 
 use crate::spot::{Bounds, Spot};
@@ -63,9 +63,19 @@ fn put_pieces<O: Sink>(
         if !piece.runs_on {
             return Ok(());
         }
-        let Step::Fragment { piece: next } = look_at(buffer, bounds, piece.behind) else {
+        let Step::Fragment { piece: next } = look_behind(buffer, bounds, piece.behind) else {
             unreachable!()
         };
         piece = next;
     }
+}
+
+/// What stands behind a fragment whose packet runs on. It stays a call, since few packets do.
+#[inline(never)]
+fn look_behind(buffer: &TraceBuffer, bounds: Bounds, spot: Spot) -> Step<'_>
+    requires bounds { AreBounds buffer.now bounds }
+    requires spot { IsSpot buffer.now bounds spot }
+    ensures shows { Shows buffer.now bounds spot result }
+{
+    look_at(buffer, bounds, spot)
 }

@@ -1,5 +1,5 @@
 //! The next link of a row: a packet, what there is of one, a gap, or the end of the read.
-ghost use Rattle.std.specs.Prelude.{◌≡◌, ◌<◌, true, false, if◌then◌else◌};
+ghost use Rattle.std.specs.Prelude.{◌≡◌, ◌<◌, ◌&&◌, not, true, false, if◌then◌else◌};
 ghost use Rattle.trace_model.specs.Buffers.{Buffer};
 ghost use Rattle.sequence_reader.specs.Spots.{AreBounds, IsSpot, reach_of};
 ghost use Rattle.sequence_reader.specs.Steps.{IsPieceAt};
@@ -84,11 +84,23 @@ fn follow(buffer: &TraceBuffer, bounds: Bounds, spot: Spot, first: Piece<'_>) ->
     ensures at { result.at ≡ spot }
     ensures ended { result.goes_on ≡ false }
 {
-    let chain = begun(spot, first);
-    if chain.goes_on {
-        return follow_on(buffer, bounds, chain);
+    if both(first.runs_on, !first.dropped) {
+        return follow_begun(buffer, bounds, spot, first);
     }
-    chain
+    begun(spot, first)
+}
+
+/// The same of a fragment that isn't the last one. It is a function of its own so that what goes through
+/// memory for the call is put there only where the call is made.
+#[inline(always)]
+fn follow_begun(buffer: &TraceBuffer, bounds: Bounds, spot: Spot, first: Piece<'_>) -> Chain
+    requires bounds { AreBounds buffer.now bounds }
+    requires first { IsPieceAt buffer.now bounds spot first }
+    ensures chain { IsWalked buffer.now bounds result }
+    ensures at { result.at ≡ spot }
+    ensures ended { result.goes_on ≡ false }
+{
+    follow_on(buffer, bounds, begun(spot, first))
 }
 
 /// The same behind what was met of it. It stays a call: few packets run on, and the chain of one that
@@ -112,6 +124,7 @@ fn follow_on(buffer: &TraceBuffer, bounds: Bounds, chain: Chain) -> Chain
 fn begun(spot: Spot, first: Piece<'_>) -> Chain
     ensures chain { (buffer : Buffer) (bounds : Bounds) → IsPieceAt buffer bounds spot first.entry → IsWalked buffer bounds result }
     ensures at { result.at ≡ spot }
+    ensures on { result.goes_on ≡ (first.entry.runs_on && not first.entry.dropped) }
 {
     Chain {
         at: spot,
