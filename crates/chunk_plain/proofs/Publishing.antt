@@ -1,6 +1,7 @@
 -- Payload words that are stored one behind another.
-use Rattle.std.proofs.Common.{◌≡◌, ℕ, ◌+◌, ◌*◌, ◌/◌, ◌%◌, ◌<◌, ◌≤◌, inl, inr, List, length, set, sym, refl, ap, ◌∙◌, arith, ⊎_elim, length-set}
-use Rattle.std.proofs.lemmas.List.{get_or-set_same}
+use Rattle.std.proofs.Common.{◌≡◌, ℕ, ◌+◌, ◌-◌, ◌*◌, ◌/◌, ◌%◌, ◌<◌, ◌≤◌, inl, inr, List, ◌++◌, length, get_or, take, drop, set, sym, refl, ap, ap₂, subst, ◌∙◌, arith, ⊎_elim, length-set, length-append}
+use Rattle.std.proofs.lemmas.Bool.{cases_lt}
+use Rattle.std.proofs.lemmas.List.{get_or-set_same, get_or-take, get_or-drop, get_or_append_left, get_or-append_right, length-take-le, length-drop, drop-drop, take_rest}
 use native.Mathlib.Decide.{ℕ_discrete}
 use mathlib.Core.Logic.{dite}
 use Rattle.chunk_plain.specs.Payload.{byte_of, byte_at, byte_in, sealed_to, StoredUpTo}
@@ -34,6 +35,59 @@ stored_next copy first index word old new inside order packed so_far =
           (λ is. inr (here j is in_copy))
           (λ differs. ⊎_elim (λ as_before. inl (byte_left new index word j differs ∙ as_before)) (λ of_copy. inr (byte_left new index word j differs ∙ of_copy)) (so_far.others j in_copy));
     }
+
+-- words that were stored in a part of all, with bytes that begin at a place of the copy
+pub stored_inside : (copy : List ℕ) (first whole : ℕ) (old new : List ℕ) → first ≤ whole → whole ≤ length old → 8 * whole ≤ length copy
+    → StoredUpTo (drop (8 * first) copy) 0 (whole - first) (take (whole - first) (drop first old)) new
+    → StoredUpTo copy first whole old (take first old ++ (new ++ drop whole old))
+stored_inside copy first whole old new order within room so_far =
+    let part : length new ≡ whole - first = so_far.count ∙ length-take-le (whole - first) (drop first old) (let behind = length-drop first old in omega arith) in
+    let front : length (take first old) ≡ first = length-take-le first old (omega arith) in
+    let all : List ℕ = take first old ++ (new ++ drop whole old) in
+    let before : (k : ℕ) → k < first → get_or all k 0 ≡ get_or old k 0 = λ k below.
+    get_or_append_left (take first old) (new ++ drop whole old) 0 k (omega arith) ∙ get_or-take first old k 0 below in
+    let inside : (k : ℕ) → first ≤ k → k < whole → get_or all k 0 ≡ get_or new (k - first) 0 = λ k above below.
+    get_or-append_right (take first old) (new ++ drop whole old) first k 0 front above
+    ∙ get_or_append_left new (drop whole old) 0 (k - first) (omega arith) in
+    let behind : (k : ℕ) → whole ≤ k → get_or all k 0 ≡ get_or old k 0 = λ k above.
+    get_or-append_right (take first old) (new ++ drop whole old) first k 0 front (omega arith)
+    ∙ get_or-append_right new (drop whole old) (whole - first) (k - first) 0 part (omega arith)
+    ∙ get_or-drop whole old (k - first - (whole - first)) 0
+    ∙ ap (λ i. get_or old i 0) (let back : whole + (k - first - (whole - first)) ≡ k = omega arith in back) in
+    let done : (j : ℕ) → 8 * first ≤ j → j < 8 * whole → j < length copy → byte_at all j ≡ byte_in copy j = λ j least below in_copy.
+    let place : j / 8 - first ≡ (j - 8 * first) / 8 = omega arith in
+    let bit : j % 8 ≡ (j - 8 * first) % 8 = omega arith in
+    ap (λ w. byte_of w (j % 8)) (inside (j / 8) (omega arith) (omega arith))
+    ∙ ap₂ (λ k m. byte_of (get_or new k 0) m) place bit
+    ∙ so_far.done (j - 8 * first) (omega arith) (omega arith) (let long = length-drop (8 * first) copy in omega arith)
+    ∙ get_or-drop (8 * first) copy (j - 8 * first) 0
+    ∙ ap (λ i. byte_in copy i) (let back : 8 * first + (j - 8 * first) ≡ j = omega arith in back) in
+    record {
+      count = let behind_long = length-drop whole old in let two = length-append new (drop whole old) in
+          let three = length-append (take first old) (new ++ drop whole old) in omega arith;
+      done = done;
+      others = λ j in_copy. ⊎_elim
+          (λ (low : j / 8 < first). inl (ap (λ w. byte_of w (j % 8)) (before (j / 8) low)))
+          (λ (above : first ≤ j / 8). ⊎_elim
+          (λ (below : j / 8 < whole). inr (done j (omega arith) (omega arith) in_copy))
+          (λ (high : whole ≤ j / 8). inl (ap (λ w. byte_of w (j % 8)) (behind (j / 8) high)))
+          (cases_lt (j / 8) whole))
+          (cases_lt (j / 8) first);
+    }
+
+-- the same of slices, as code has them
+pub stored_part : (copy : List ℕ) (first whole : ℕ) (old new : List ℕ) → first ≤ whole → whole ≤ length old → 8 * whole ≤ length copy
+    → StoredUpTo (take (length copy - 8 * first) (drop (8 * first) copy)) 0 (length (take (whole - first) (drop first old))) (take (whole - first) (drop first old)) new
+    → StoredUpTo copy first whole old (take first old ++ (new ++ drop (whole - first) (drop first old)))
+stored_part copy first whole old new order within room so_far =
+    let part : List ℕ = take (whole - first) (drop first old) in
+    let long : length part ≡ whole - first = length-take-le (whole - first) (drop first old) (let behind = length-drop first old in omega arith) in
+    let rest : drop whole old ≡ drop (whole - first) (drop first old) =
+    ap (λ n. drop n old) (let back : whole ≡ first + (whole - first) = omega arith in back) ∙ sym (drop-drop (whole - first) first old) in
+    subst (λ behind. StoredUpTo copy first whole old (take first old ++ (new ++ behind))) rest
+    (stored_inside copy first whole old new order within room
+    (subst (λ n. StoredUpTo (drop (8 * first) copy) 0 n part new) long
+    (subst (λ bytes. StoredUpTo bytes 0 (length part) part new) (take_rest copy (8 * first)) so_far)))
 
 -- the words keep the bytes of the finished fragments, whichever of them were stored
 pub sealed_stays : (view : WriterView) (id first index : ℕ) (copy words : List ℕ) → KeepsSealed view id copy → StoredUpTo copy first index (draft_at view id).words words

@@ -28,8 +28,8 @@ pub fn pack_words(words: &mut [u64], first: usize, end: usize, from: &[u8])
     ensures { StoredUpTo from.now first end words.old words.new }
 {
     let whole = end.min(from.len() / 8).max(first);
-    for index in first..whole {
-        words[index] = eight_at(from, 8 * index);
+    if first < whole {
+        pack_all(&mut words[first..whole], &from[8 * first..]);
     }
     // The last word may have fewer bytes than eight.
     if whole < end {
@@ -37,15 +37,31 @@ pub fn pack_words(words: &mut [u64], first: usize, end: usize, from: &[u8])
     }
 }
 
-/// The word with the eight bytes from a place on.
-fn eight_at(from: &[u8], at: usize) -> u64
-    requires { at + 8 ≤ length from.now }
-    ensures { (m : ℕ) → m < 8 → byte_of result m ≡ byte_in from.now (at + m) }
+/// Stores all these words, each whole. Over a part of the words and what is left of the bytes, a step
+/// has little to test.
+#[inline(always)]
+fn pack_all(words: &mut [u64], from: &[u8])
+    requires { 8 * length words.old ≤ length from.now }
+    ensures { StoredUpTo from.now 0 (length words.old) words.old words.new }
 {
-    let Some(eight) = from[at..].first_chunk::<8>() else {
+    let mut rest = from;
+    for index in 0..words.len() {
+        let (word, behind) = split_word(rest);
+        words[index] = word;
+        rest = behind;
+    }
+}
+
+/// The word with the first eight bytes, and the bytes behind them.
+fn split_word(bytes: &[u8]) -> (u64, &[u8])
+    requires { 8 ≤ length bytes.now }
+    ensures word { (m : ℕ) → m < 8 → byte_of result.0 m ≡ byte_in bytes.now m }
+    ensures behind { result.1.now ≡ drop 8 bytes.now }
+{
+    let Some((eight, behind)) = bytes.split_first_chunk::<8>() else {
         unreachable!()
     };
-    u64::from_le_bytes(*eight)
+    (u64::from_le_bytes(*eight), behind)
 }
 
 /// The place behind the last word that has a byte of this range; where it has none, its first word's.
