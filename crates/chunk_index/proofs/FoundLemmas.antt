@@ -1,5 +1,5 @@
 -- What the map of the slots has at a key.
-use Rattle.std.proofs.Common.{◌≡◌, ℕ, zero, suc, ◌<◌, ◌==◌, Bool, true, false, cond, if◌then◌else◌, List, [], ◌∷◌, length, set, nat_cmp, Option, Some, None, refl, sym, ap, ◌∙◌, subst, true≢false, arith, eqb-true}
+use Rattle.std.proofs.Common.{◌≡◌, ℕ, zero, suc, ◌<◌, ◌==◌, Bool, true, false, cond, if◌then◌else◌, List, [], ◌∷◌, ◌++◌, length, set, nat_cmp, Option, Some, None, refl, sym, ap, ◌∙◌, subst, true≢false, arith, eqb-true}
 use Rattle.std.specs.FinMap.{FinMap, find, get, insert, remove, get-from_entries, get-insert, get-remove, same_map, nat_cmp-IsAntisymmetric}
 use Rattle.std.specs.Cmp.{nat_cmp_total, unsigned_tied}
 use Rattle.chunk_index.specs.declared.slot.Entry.{Entry}
@@ -82,6 +82,23 @@ found_set (Some first ∷ slots) (suc at) entry key inside free none =
     ap (λ o. cond (key == entry_key first) (Some first.place) o) (found_set slots at entry key (omega arith) free rest)
     ∙ turned (key == entry_key first) (key == entry_key entry) (Some first.place) (Some entry.place) (found key slots)
     (apart_keys (entry_key entry) (entry_key first) key apart)
+
+-- One slot more behind all
+
+pub found_entry_more : (slots : List (Option Entry)) (entry : Entry) (key : ℕ) → found (entry_key entry) slots ≡ None → found key (slots ++ Some entry ∷ []) ≡ cond (key == entry_key entry) (Some entry.place) (found key slots)
+found_entry_more [] entry key none = refl
+found_entry_more (None ∷ slots) entry key none = found_entry_more slots entry key none
+found_entry_more (Some first ∷ slots) entry key none =
+    let apart = not_here (entry_key entry) first.place (entry_key entry == entry_key first) (found (entry_key entry) slots) none in
+    let rest = not_behind first.place (entry_key entry == entry_key first) (found (entry_key entry) slots) none in
+    ap (λ o. cond (key == entry_key first) (Some first.place) o) (found_entry_more slots entry key rest)
+    ∙ turned (key == entry_key first) (key == entry_key entry) (Some first.place) (Some entry.place) (found key slots)
+    (apart_keys (entry_key entry) (entry_key first) key apart)
+
+pub found_nothing_more : (slots : List (Option Entry)) (key : ℕ) → found key (slots ++ None ∷ []) ≡ found key slots
+found_nothing_more [] key = refl
+found_nothing_more (None ∷ slots) key = found_nothing_more slots key
+found_nothing_more (Some first ∷ slots) key = ap (λ o. cond (key == entry_key first) (Some first.place) o) (found_nothing_more slots key)
 
 none_again : (key : ℕ) (place : ℕ) (b : Bool) (rest : Option ℕ) → (b ≡ true → rest ≡ None) → rest ≡ cond b None (cond b (Some place) rest)
 none_again key place true rest none = none refl

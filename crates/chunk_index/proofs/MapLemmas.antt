@@ -128,11 +128,11 @@ table_empty capacity count =
 
 -- What a search finds, said of an index
 
-pub found_by : (index : IndexValue) (capacity : ℕ) (slots seen : List (Option Entry)) (sequence chunk_id key at : ℕ) → record { capacity = capacity; places = map_of slots } ≡ index → seen ≡ slots → key ≡ key_of sequence chunk_id → IsTable capacity slots → EndsAt seen key (home capacity key) at → place_of index sequence chunk_id ≡ place_in key (slot slots at)
-found_by index capacity slots seen sequence chunk_id key at view same is table search =
+pub found_by : (index : IndexValue) (capacity room : ℕ) (slots seen : List (Option Entry)) (sequence chunk_id key at : ℕ) → record { capacity = capacity; places = map_of slots } ≡ index → seen ≡ slots → key ≡ key_of sequence chunk_id → IsTable room slots → EndsAt seen key (home room key) at → place_of index sequence chunk_id ≡ place_in key (slot slots at)
+found_by index capacity room slots seen sequence chunk_id key at view same is table search =
     sym (ap (λ (i : IndexValue). place_of i sequence chunk_id) view)
     ∙ ap (get (map_of slots)) (sym is)
-    ∙ ends_found capacity slots key at table (subst (λ s. EndsAt s key (home capacity key) at) same search)
+    ∙ ends_found room slots key at table (subst (λ s. EndsAt s key (home room key) at) same search)
 
 -- Which entry is there
 

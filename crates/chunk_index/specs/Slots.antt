@@ -2,7 +2,7 @@
 use Rattle.std.specs.Prelude.{ℕ, ◌+◌, ◌-◌, ◌*◌, ◌/◌, ◌%◌, ◌^◌, ◌==◌, min, Bool, true, false, List, [], ◌∷◌, slice_index_or, Option, Some, None, if◌then◌else◌}
 use Rattle.std.specs.Option.{option_map}
 use Rattle.std.specs.Ordering.{nat_cmp}
-use Rattle.std.specs.FinMap.{FinMap, from_entries}
+use Rattle.std.specs.FinMap.{FinMap, from_entries, insert}
 use Rattle.chunk_index.specs.declared.slot.Entry.{Entry}
 use Rattle.chunk_index.specs.Value.{key_of}
 
@@ -42,3 +42,8 @@ entries_of (Some entry ∷ slots) = (entry_key entry, entry.place) ∷ entries_o
 -- the finite map that the slots are
 abbrev pub map_of : List (Option Entry) → FinMap nat_cmp ℕ
 map_of slots = from_entries (entries_of slots)
+
+-- the finite map with the entry of one slot more, where it has one
+abbrev pub with_slot : Option Entry → FinMap nat_cmp ℕ → FinMap nat_cmp ℕ
+with_slot None places = places
+with_slot (Some entry) places = insert places (entry_key entry) entry.place

@@ -4,6 +4,7 @@ ghost use Rattle.std.specs.FinMap as map;
 ghost use Rattle.chunk_index.specs.Value.{key_of, place_of, empty_index, with_place, without_place, IsFirstFrom, HasNoneFrom};
 
 use crate::least::nearer;
+use crate::room::{FIRST_ROOM, put, with_room};
 use crate::slot::{Entry, close_hole, ends_search, find_slot, home_of, key_number, place_for};
 use std::alloc::{AllocError, Global};
 use std::marker::Model;
@@ -13,8 +14,15 @@ use trace_base::limits::IDS_AHEAD;
 #[derive(Drop)]
 pub struct Index {
     capacity: u32,
-    /// Three slots for each entry that there can be, and one more.
+    /// How many entries the slots have room for.
+    room: u32,
+    /// How many there are.
+    used: u32,
+    /// Three slots for each entry that they have room for, and one more.
     slots: Vec<Option<Entry>>,
+    /// Memory for slots with room for as many entries as the capacity, where those have less. It isn't
+    /// touched before.
+    wide: Vec<Option<Entry>>,
 }
 
 impl Model for Index {
@@ -36,8 +44,16 @@ impl Index {
     pub fn make(alloc: Global, capacity: u32) -> Result<Index, AllocError>
         ensures { IfOk result (λ index. index ≡ empty_index capacity) }
     {
-        let slots = vec![in alloc; None; 3 * capacity as usize + 1]?;
-        Ok(Index { capacity, slots })
+        let room = capacity.min(FIRST_ROOM);
+        let slots = vec![in alloc; None; 3 * room as usize + 1]?;
+        let wide = Vec::with_capacity(alloc, 3 * capacity as usize + 1)?;
+        Ok(Index {
+            capacity,
+            room,
+            used: 0,
+            slots,
+            wide,
+        })
     }
 
     /// The place of a chunk's record.
@@ -45,7 +61,7 @@ impl Index {
         ensures { result ≡ place_of self.now sequence chunk_id }
     {
         let key = key_number(sequence, chunk_id);
-        let home = home_of(key, self.capacity);
+        let home = home_of(key, self.room);
         let slot = self.slots[home];
         if ends_search(slot, key) {
             return place_for(slot, key);
@@ -59,7 +75,7 @@ impl Index {
         ensures { result ≡ place_of self.now sequence chunk_id }
     {
         let key = key_number(sequence, chunk_id);
-        let at = find_slot(&self.slots, self.capacity, key);
+        let at = find_slot(&self.slots, self.room, key);
         if at == self.slots.len() {
             return None;
         }
@@ -71,21 +87,30 @@ impl Index {
         requires absent { place_of self.old sequence chunk_id ≡ None }
         ensures { self.new ≡ with_place self.old sequence chunk_id place }
     {
-        let at = find_slot(&self.slots, self.capacity, key_number(sequence, chunk_id));
-        self.slots[at] = Some(Entry {
+        self.room = with_room(
+            &mut self.slots,
+            &mut self.wide,
+            self.room,
+            self.used,
+            self.capacity,
+        );
+        let entry = Entry {
             sequence,
             chunk_id,
             place,
-        });
+        };
+        put(&mut self.slots, entry, self.room);
+        self.used += 1;
     }
 
     pub fn remove(&mut self, sequence: u32, chunk_id: u32)
         requires { IsSome (place_of self.old sequence chunk_id) }
         ensures { self.new ≡ without_place self.old sequence chunk_id }
     {
-        let at = find_slot(&self.slots, self.capacity, key_number(sequence, chunk_id));
+        let at = find_slot(&self.slots, self.room, key_number(sequence, chunk_id));
         self.slots[at] = None;
-        close_hole(&mut self.slots, self.capacity, at);
+        close_hole(&mut self.slots, self.room, at);
+        self.used -= 1;
     }
 
     /// The least chunk id of a sequence at or above this one, with its place. Ids near ahead are tried

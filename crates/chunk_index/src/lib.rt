@@ -7,6 +7,7 @@
 
 mod index;
 mod least;
+mod room;
 mod slot;
 #[cfg(test)]
 mod tests;

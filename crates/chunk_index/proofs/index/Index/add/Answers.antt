@@ -1,47 +1,45 @@
-use Rattle.std.proofs.Common.{ℕ, Some, ap, ◌∙◌, arith}
-use Rattle.std.specs.FinMap.{FinMap}
+use Rattle.std.proofs.Common.{◌≡◌, ℕ, ◌+◌, List, Option, None, length, sym, ap, subst, ◌∙◌, arith}
+use Rattle.std.proofs.lemmas.List.{with_items_is}
+use Rattle.std.specs.FinMap.{FinMap, get, len}
 use Rattle.std.specs.Ordering.{nat_cmp}
+use Rattle.std.specs.Vec.{with_items}
 use Rattle.chunk_index.specs.declared.slot.Entry.{Entry}
-use Rattle.chunk_index.specs.Slots.{entry_key}
-use Rattle.chunk_index.specs.Value.{IndexValue, with_place}
-use Rattle.chunk_index.proofs.SlotLemmas.{length_slots}
-use Rattle.chunk_index.proofs.SearchLemmas.{keyless}
-use Rattle.chunk_index.proofs.HoleLemmas.{table_with}
-use Rattle.chunk_index.proofs.MapLemmas.{map_with, count_with}
-use Rattle.chunk_index.proofs.StepLemmas.{IsFree, free_of}
+use Rattle.chunk_index.specs.Slots.{entries_of, map_of}
+use Rattle.chunk_index.specs.Table.{IsTable}
+use Rattle.chunk_index.specs.Value.{IndexValue, key_of, place_of}
+use Rattle.chunk_index.proofs.MapLemmas.{len_with}
 use Rattle.chunk_index.proofs.index.Index.add.Goals as goal
-
-pub index_mut-requires : goal.index_mut-requires
-index_mut-requires c =
-    let a = c.self.inside in
-    let e : Entry = record { sequence = c.args.sequence; chunk_id = c.args.chunk_id; place = c.args.place } in
-    let f : IsFree a e c.find_slot-at.result =
-    free_of a c.args.self.now _ e c.key_number.result c.find_slot-at.result c.self.view_is c.self.invariant c.deref.ensures.value
-    c.key_number.ensures c.requires.room c.requires.absent c.find_slot-at.ensures.ends in
-    omega (arith, f.inside, a.slots.ok.0)
 
 pub invariant_of-self : goal.invariant_of-self
 invariant_of-self c =
     let a = c.self.inside in
-    let e : Entry = record { sequence = c.args.sequence; chunk_id = c.args.chunk_id; place = c.args.place } in
-    let at : ℕ = c.find_slot-at.result in
-    let f : IsFree a e at =
-    free_of a c.args.self.now _ e c.key_number.result at c.self.view_is c.self.invariant c.deref.ensures.value
-    c.key_number.ensures c.requires.room c.requires.absent c.find_slot-at.ensures.ends in
+    let room = c.with_room-self-inside.ensures in
+    let vec = c.with_room-self-inside.new.slots in
+    let before : List (Option Entry) = c.deref_mut.result.now in
+    let new : List (Option Entry) = c.put.new.slots in
+    let key : ℕ = key_of c.args.sequence c.args.chunk_id in
+    let long : length new ≡ length vec.items = c.put.auto.slots ∙ ap length c.deref_mut.ensures.value in
+    let items : (with_items vec new).items ≡ new = with_items_is vec new (omega (arith, long, vec.ok.0)) in
+    let same : map_of before ≡ map_of a.slots.items = ap map_of c.deref_mut.ensures.value ∙ room.map in
+    let none : get (map_of before) key ≡ None =
+    ap (λ (m : FinMap nat_cmp ℕ). get m key) same ∙ ap (λ (i : IndexValue). place_of i c.args.sequence c.args.chunk_id) c.self.view_is ∙ c.requires.absent in
+    let here : length (entries_of (with_items vec new).items) ≡ length (entries_of new) = ap (λ s. length (entries_of s)) items in
+    let kept : length (entries_of before) ≡ length (entries_of a.slots.items) = ap (λ s. length (entries_of s)) c.deref_mut.ensures.value ∙ room.entries in
+    let more = c.put.ensures.entries in
+    let used = c.self.invariant.used in
     record {
-      room = length_slots a.slots.items at (Some e) ∙ c.self.invariant.room;
-      table = table_with a.capacity a.slots.items at e c.self.invariant.table f.search f.inside
-          (keyless a.capacity a.slots.items (entry_key e) at c.self.invariant.table f.search f.absent);
-      count = count_with a.slots.items at e f.inside f.free f.none c.self.invariant.count;
+      room = record {
+        size = ap length items ∙ c.put.ensures.size;
+        table = subst (IsTable c.with_room-self-inside.result) (sym items) c.put.ensures.table;
+        within = room.room.within;
+        untouched = room.room.untouched;
+        wide_fits = room.room.wide_fits;
+      };
+      used = omega arith;
+      count =
+          ap (λ s. len (map_of s)) items
+          ∙ ap (λ (m : FinMap nat_cmp ℕ). len m) c.put.ensures.map
+          ∙ len_with (map_of before) key c.args.place none
+          ∙ ap (λ n. n + 1) (ap (λ (m : FinMap nat_cmp ℕ). len m) same ∙ c.self.invariant.count ∙ sym kept)
+          ∙ sym (here ∙ more);
     }
-
-pub returns : goal.returns
-returns c =
-    let a = c.self.inside in
-    let e : Entry = record { sequence = c.args.sequence; chunk_id = c.args.chunk_id; place = c.args.place } in
-    let at : ℕ = c.find_slot-at.result in
-    let f : IsFree a e at =
-    free_of a c.args.self.now _ e c.key_number.result at c.self.view_is c.self.invariant c.deref.ensures.value
-    c.key_number.ensures c.requires.room c.requires.absent c.find_slot-at.ensures.ends in
-    ap (λ (m : FinMap nat_cmp ℕ). record { capacity = a.capacity; places = m }) (map_with a.slots.items at e f.inside f.free f.none)
-    ∙ ap (λ (i : IndexValue). with_place i c.args.sequence c.args.chunk_id c.args.place) c.self.view_is

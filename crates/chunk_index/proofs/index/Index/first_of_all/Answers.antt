@@ -18,7 +18,7 @@ returns-clause-found c =
     let sequence : ℕ = c.args.sequence in
     let best : ℕ × ℕ = (c.in-Some.key, c.in-Some.place) in
     subst (λ n. IsFirstFrom c.args.self.now sequence c.args.chunk_id (c.in-Some.key - n) c.in-Some.place) (sym c.key_number.ensures)
-    (first_is c.args.self.now slots sequence c.args.chunk_id best (ap (λ (i : IndexValue). i.places) c.self.view_is) c.self.invariant.table.once
+    (first_is c.args.self.now slots sequence c.args.chunk_id best (ap (λ (i : IndexValue). i.places) c.self.view_is) c.self.invariant.room.table.once
     (least_of_all _ slots c.loop-slot.slot-index c.key_number-low.result c.key_number-high.result (key_of sequence c.args.chunk_id)
     (key_of sequence (2 ^ 32 - 1)) c.loop-slot.best (Some best) c.deref-slot-items.ensures.value (omega arith) c.key_number-low.ensures
     c.key_number-high.ensures c.in-Some.is c.loop-slot.invariant))

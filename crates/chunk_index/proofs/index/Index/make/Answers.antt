@@ -1,4 +1,4 @@
-use Rattle.std.proofs.Common.{◌≡◌, ℕ, ◌+◌, ◌*◌, None, length, replicate, sym, ap, ◌∙◌, subst, rules}
+use Rattle.std.proofs.Common.{◌≡◌, ℕ, ◌+◌, ◌*◌, None, length, replicate, sym, ap, ◌∙◌, subst, arith, rules}
 use Rattle.std.proofs.lemmas.List.{length-replicate}
 use Rattle.std.specs.FinMap.{FinMap, len, len-empty}
 use Rattle.std.specs.Ordering.{nat_cmp}
@@ -10,20 +10,29 @@ use Rattle.chunk_index.proofs.index.Index.make.Goals as goal
 
 pub invariant_of-result : goal.invariant_of-result
 invariant_of-result c =
-    let items : c.in_ok-slots.slots.items ≡ replicate (3 * c.args.capacity + 1) None =
+    let room = c.min-room.result in
+    let items : c.in_ok-slots.slots.items ≡ replicate (3 * room + 1) None =
     c.in_ok-slots.ensures.items_if_clones_equal (λ y h. search rules) in
+    let none : length (entries_of c.in_ok-slots.slots.items) ≡ 0 = ap (λ s. length (entries_of s)) items ∙ ap length (entries_replicate (3 * room + 1)) in
     record {
-      room = ap length items ∙ length-replicate _ None;
-      table = subst (IsTable c.args.capacity) (sym items) (table_empty c.args.capacity (3 * c.args.capacity + 1));
+      room = record {
+        size = ap length items ∙ length-replicate _ None;
+        table = subst (IsTable room) (sym items) (table_empty room (3 * room + 1));
+        within = let least = c.min-room.ensures in omega arith;
+        untouched = λ less. c.in_ok-wide.ensures.items;
+        wide_fits = λ less. c.in_ok-wide.ensures.capacity;
+      };
+      used = sym none;
       count =
           ap (λ s. len (map_of s)) items
-          ∙ ap (λ (m : FinMap nat_cmp ℕ). len m) (map_empty (3 * c.args.capacity + 1))
+          ∙ ap (λ (m : FinMap nat_cmp ℕ). len m) (map_empty (3 * room + 1))
           ∙ len-empty nat_cmp ℕ
-          ∙ sym (ap (λ s. length (entries_of s)) items ∙ ap length (entries_replicate (3 * c.args.capacity + 1)));
+          ∙ sym none;
     }
 
 pub returns : goal.returns
 returns c =
-    let items : c.in_ok-slots.slots.items ≡ replicate (3 * c.args.capacity + 1) None =
+    let room = c.min-room.result in
+    let items : c.in_ok-slots.slots.items ≡ replicate (3 * room + 1) None =
     c.in_ok-slots.ensures.items_if_clones_equal (λ y h. search rules) in
-    ap (λ (m : FinMap nat_cmp ℕ). record { capacity = c.args.capacity; places = m }) (ap map_of items ∙ map_empty (3 * c.args.capacity + 1))
+    ap (λ (m : FinMap nat_cmp ℕ). record { capacity = c.args.capacity; places = m }) (ap map_of items ∙ map_empty (3 * room + 1))
