@@ -6,8 +6,8 @@ ghost use Rattle.tracesmb_top.specs.Checked.{GivesRefusal, IsCheckRefusal, IsVer
 use crate::say::trace_fault_line;
 use arrayvec::ArrayVec;
 use gap_check::{CheckFault, Verdict};
+use memchr::memmem;
 use scenario_check::check_run;
-use scenario_text::pieces::next_piece;
 use scenario_text::{ScenarioFault, read_scenario, refusal_line};
 use std::alloc::Global;
 use trace_base::limits::MAX_INPUT;
@@ -20,24 +20,18 @@ pub enum CheckingFault {
     Refused { refusal: ArrayVec<u8, 64> },
 }
 
-/// Where the first line `==` begins. One without its line feed divides nothing.
-#[tactic(auto, using(crate::proofs::CheckLemmas::divider_starts, crate::proofs::CheckLemmas::divider_goes, crate::proofs::CheckLemmas::divider_found, crate::proofs::CheckLemmas::divider_none, crate::proofs::CheckLemmas::line_long, crate::proofs::CheckLemmas::divider_inside))]
+/// Where the first line `==` begins. One without its line feed divides nothing. All but the first line
+/// have a line feed before them, so that one search in wide steps finds it, and no line is cut out.
 fn find_divider(input: &[u8]) -> Option<usize>
     ensures place { result ≡ divider_of input.now }
     ensures inside { IfSome result (λ at. at + 3 ≤ length input.now) }
 {
-    let mut at = 0usize;
-    let mut rest = input;
-    'lines: loop {
-        let (line, more) = next_piece(rest, b'\n');
-        let Some(behind) = more else {
-            return None;
-        };
-        if line == b"==".as_slice() {
-            return Some(at);
-        }
-        at += line.len() + 1;
-        rest = behind;
+    if input.starts_with(b"==\n") {
+        return Some(0);
+    }
+    match memmem::find(input, b"\n==\n") {
+        None => None,
+        Some(at) => Some(at + 1),
     }
 }
 
