@@ -1,11 +1,11 @@
 -- A record is its head, the packet's bytes and its tail, and so is what a sink has taken that took these one behind another.
-use Rattle.std.proofs.Common.{◌≡◌, ℕ, ◌<◌, Bool, false, List, [], ◌∷◌, ◌++◌, length, refl, sym, ap, ◌∙◌, subst, length-append, append_assoc}
+use Rattle.std.proofs.Common.{◌≡◌, ℕ, ◌<◌, Bool, false, true, List, [], ◌∷◌, ◌++◌, length, refl, sym, ap, ◌∙◌, subst, length-append, append_assoc}
 use Rattle.std.proofs.lemmas.List.Concat.{flat_map-append}
 use Rattle.byte_io.specs.Bytes.{Intake, after_told, TakesPart}
 use Rattle.byte_io.proofs.Told.{after_told_again, after_told_nothing, part_first, part_second}
 use Rattle.wire_varint.specs.Varint.{varint}
 use Rattle.wire_varint.proofs.Groups.{groups_last}
-use Rattle.trace_model.specs.Record.{content_of, mark_where, record_of}
+use Rattle.trace_model.specs.Record.{content_of, dropped_mark, mark_where, record_of}
 use Rattle.trace_file.specs.Parts.{record_head, record_tail, joined_pieces, after_pieces, RecordsAreCut}
 
 pub record_is : (body : List ℕ) (sequence : ℕ) (marked : Bool)
@@ -87,6 +87,10 @@ records_are_cut = record {
 pub varint_short : (n : ℕ) → n < 128 → varint n ≡ n ∷ []
 unfolding varint
 varint_short n short = groups_last 9 n short
+
+pub tail_long : (sequence : ℕ) (marked : Bool) → sequence < 128 → marked ≡ true → record_tail sequence marked ≡ 0x50 ∷ sequence ∷ dropped_mark
+tail_long sequence marked short with_mark =
+    ap (λ (m : Bool). 0x50 ∷ varint sequence ++ mark_where m) with_mark ∙ ap (λ (bytes : List ℕ). 0x50 ∷ bytes ++ dropped_mark) (varint_short sequence short)
 
 pub tail_short : (sequence : ℕ) (marked : Bool) → sequence < 128 → marked ≡ false → record_tail sequence marked ≡ 0x50 ∷ sequence ∷ []
 tail_short sequence marked short plain =

@@ -6,9 +6,10 @@ ghost use Rattle.trace_file.specs.Fields.{Spells};
 ghost use Rattle.trace_file.specs.Apart.{SaysNone, SaysOnly, SaysPacket};
 ghost use Rattle.trace_file.specs.Traces.{record_field};
 
-use crate::parts::{DROPPED_MARK, head, tail};
+use crate::parts::{DROPPED_MARK, PACKET_TAG, SEQUENCE_TAG, head, tail};
 
 /// The bytes before these last ones.
+#[inline(always)]
 fn strip_end<'a>(bytes: &'a [u8], end: &[u8]) -> Option<&'a [u8]>
     ensures { MatchOption result ((rest : List ℕ) → bytes.now ≢ rest ++ end.now) (λ rest. bytes.now ≡ rest.now ++ end.now) }
 {
@@ -16,35 +17,67 @@ fn strip_end<'a>(bytes: &'a [u8], end: &[u8]) -> Option<&'a [u8]>
 }
 
 /// The bytes behind these first ones.
+#[inline(always)]
 fn strip_front<'a>(bytes: &'a [u8], front: &[u8]) -> Option<&'a [u8]>
     ensures { MatchOption result ((rest : List ℕ) → bytes.now ≢ front.now ++ rest) (λ rest. bytes.now ≡ front.now ++ rest.now) }
 {
     bytes.strip_prefix(front)
 }
 
+/// The bytes behind the shortest tag and length of a record whose content has so many bytes.
+#[inline(always)]
+fn behind_head(bytes: &[u8], len: u64) -> Option<&[u8]>
+    ensures { MatchOption result ((rest : List ℕ) → bytes.now ≢ (0x0A ∷ varint len) ++ rest)
+        (λ rest. bytes.now ≡ (0x0A ∷ varint len) ++ rest.now) }
+{
+    if len < 128 {
+        return strip_front(bytes, &[PACKET_TAG, len as u8]);
+    }
+    strip_front(bytes, &head(len))
+}
+
 /// Whether a record's tag and length are as short as they can be.
+#[inline(always)]
 fn has_short_head(bytes: &[u8], content: &[u8]) -> bool
     requires { Spells (record_field content.now) bytes.now }
     ensures yes { result ≡ true → bytes.now ≡ (0x0A ∷ varint (length content.now)) ++ content.now }
     ensures no { result ≡ false → bytes.now ≢ (0x0A ∷ varint (length content.now)) ++ content.now }
 {
-    let head = head(content.len() as u64);
-    match strip_front(bytes, &head) {
+    match behind_head(bytes, content.len() as u64) {
         Some(rest) => rest.len() == content.len(),
         None => false,
     }
 }
 
+/// What stands before the sequence of a record's content, with a mark behind it or none. Most sequences
+/// have one byte, and then the tail is of a length that is known beforehand.
+#[inline(always)]
+fn before_tail(content: &[u8], sequence: u32, marked: bool) -> Option<&[u8]>
+    ensures { MatchOption result ((body : List ℕ) → content.now ≢ body ++ ((0x50 ∷ varint sequence) ++ mark_where marked))
+        (λ body. content.now ≡ body.now ++ ((0x50 ∷ varint sequence) ++ mark_where marked)) }
+{
+    if sequence >= 128 {
+        return strip_end(content, &tail(sequence, marked));
+    }
+    let number = sequence as u8;
+    if marked {
+        let [first, second, third] = DROPPED_MARK;
+        return strip_end(content, &[SEQUENCE_TAG, number, first, second, third]);
+    }
+    strip_end(content, &[SEQUENCE_TAG, number])
+}
+
 /// What stands before the sequence and the mark of a record's content, and whether there is a mark.
+#[inline(always)]
 fn without_tail(content: &[u8], sequence: u32) -> Option<(&[u8], bool)>
     ensures { MatchOption result
         ((body : List ℕ) (behind : Bool) → content.now ≢ body ++ ((0x50 ∷ varint sequence) ++ mark_where behind))
         (λ found. content.now ≡ found.0.now ++ ((0x50 ∷ varint sequence) ++ mark_where found.1)) }
 {
-    if let Some(body) = strip_end(content, &tail(sequence, true)) {
+    if let Some(body) = before_tail(content, sequence, true) {
         return Some((body, true));
     }
-    match strip_end(content, &tail(sequence, false)) {
+    match before_tail(content, sequence, false) {
         Some(body) => Some((body, false)),
         None => None,
     }

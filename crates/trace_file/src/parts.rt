@@ -11,9 +11,9 @@ use std::marker::Model;
 use wire_varint::push_varint;
 
 /// The tag of field 1 of a trace, a packet, and the tag of field 10 of a packet, its sequence.
-const PACKET_TAG: u8 = 0x0A;
+pub(crate) const PACKET_TAG: u8 = 0x0A;
 
-const SEQUENCE_TAG: u8 = 0x50;
+pub(crate) const SEQUENCE_TAG: u8 = 0x50;
 
 /// Field 42 of a packet with the value 1: the packet before it is missing.
 pub(crate) const DROPPED_MARK: [u8; 3] = [0xD0, 0x02, 0x01];
