@@ -37,9 +37,9 @@ pub(crate) enum FieldFault {
     CutShort,
 }
 
-/// The varint in front, and how many bytes it has.
-#[inline(always)]
-fn read_varint(bytes: &[u8]) -> Result<(u64, usize), FieldFault>
+/// The varint of any length in front, and how many bytes it has.
+#[inline(never)]
+fn read_any(bytes: &[u8]) -> Result<(u64, usize), FieldFault>
     ensures varint { IfOk result (λ found. IsVarint (take found.1 bytes.now) found.0) }
     ensures within { IfOk result (λ found. found.1 ≤ length bytes.now) }
     ensures some { IfOk result (λ found. 1 ≤ found.1) }
@@ -49,6 +49,47 @@ fn read_varint(bytes: &[u8]) -> Result<(u64, usize), FieldFault>
         Ok(found) => Ok(found),
         Err(VarintFault::Short) => Err(FieldFault::CutShort),
         Err(VarintFault::Over64) => Err(FieldFault::Malformed),
+    }
+}
+
+/// The varint in front, and how many bytes it has. One of three bytes or four is read without a loop:
+/// writers that set a length aside take four.
+#[inline(never)]
+fn read_long(bytes: &[u8]) -> Result<(u64, usize), FieldFault>
+    ensures varint { IfOk result (λ found. IsVarint (take found.1 bytes.now) found.0) }
+    ensures within { IfOk result (λ found. found.1 ≤ length bytes.now) }
+    ensures some { IfOk result (λ found. 1 ≤ found.1) }
+    ensures lacks { IfErr result (λ fault. LacksTag fault bytes.now) }
+{
+    match bytes {
+        [first, second, last, ..] if *first >= 128 && *second >= 128 && *last < 128 => {
+            let low = u64::from(*first % 128) + 128 * u64::from(*second % 128);
+            Ok((low + 16_384 * u64::from(*last), 3))
+        }
+        [first, second, third, last, ..]
+            if *first >= 128 && *second >= 128 && *third >= 128 && *last < 128 => {
+            let low = u64::from(*first % 128) + 128 * u64::from(*second % 128);
+            let high = u64::from(*third % 128) + 128 * u64::from(*last);
+            Ok((low + 16_384 * high, 4))
+        }
+        _ => read_any(bytes),
+    }
+}
+
+/// The varint in front, and how many bytes it has. Most have one byte or two.
+#[inline(always)]
+fn read_varint(bytes: &[u8]) -> Result<(u64, usize), FieldFault>
+    ensures varint { IfOk result (λ found. IsVarint (take found.1 bytes.now) found.0) }
+    ensures within { IfOk result (λ found. found.1 ≤ length bytes.now) }
+    ensures some { IfOk result (λ found. 1 ≤ found.1) }
+    ensures lacks { IfErr result (λ fault. LacksTag fault bytes.now) }
+{
+    match bytes {
+        [only, ..] if *only < 128 => Ok((u64::from(*only), 1)),
+        [first, last, ..] if *last < 128 => {
+            Ok((u64::from(*first % 128) + 128 * u64::from(*last), 2))
+        }
+        _ => read_long(bytes),
     }
 }
 
