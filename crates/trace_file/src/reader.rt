@@ -17,22 +17,39 @@ const SEQUENCE_FIELD: u64 = 10;
 
 const DROPPED_FIELD: u64 = 42;
 
-/// A field's number, where it is the one that is wanted and says a number; and else the one before.
-#[inline(always)]
-fn number_at(wanted: u64, before: u64, number: u64, value: Value<'_>) -> u64
-    ensures { result ≡ number_at wanted before number (value_of value.entry) }
-{
-    match value {
-        Value::Number(found) => { if number == wanted { found } else { before } }
-        _ => before,
-    }
-}
-
 /// What two of a packet's fields say.
 #[derive(Clone, Copy)]
 struct Numbers {
     sequence: u64,
     mark: u64,
+}
+
+impl Numbers {
+    ghost use Rattle.std.specs.Prelude.{◌≡◌};
+    ghost use Rattle.trace_file.specs.Fields.{number_at};
+    ghost use Rattle.trace_file.specs.Values.{value_of};
+
+    /// What they say with one field more.
+    #[inline(always)]
+    fn with_field(self, number: u64, value: Value<'_>) -> Numbers
+        ensures sequence { result.sequence ≡ number_at 10 self.sequence number (value_of value.entry) }
+        ensures mark { result.mark ≡ number_at 42 self.mark number (value_of value.entry) }
+    {
+        let Value::Number(found) = value else {
+            return self;
+        };
+        match number {
+            SEQUENCE_FIELD => Numbers {
+                sequence: found,
+                mark: self.mark,
+            },
+            DROPPED_FIELD => Numbers {
+                sequence: self.sequence,
+                mark: found,
+            },
+            _ => self,
+        }
+    }
 }
 
 /// Where a packet's content can't be read on.
@@ -57,15 +74,7 @@ fn read_numbers(content: &[u8]) -> Result<Numbers, Stop>
     'fields: while at < content.len() {
         match field_at(content, at) {
             Ok(field) => {
-                numbers = Numbers {
-                    sequence: number_at(
-                        SEQUENCE_FIELD,
-                        numbers.sequence,
-                        field.number,
-                        field.value,
-                    ),
-                    mark: number_at(DROPPED_FIELD, numbers.mark, field.number, field.value),
-                };
+                numbers = numbers.with_field(field.number, field.value);
                 at += field.len;
             }
             Err(reason) => return Err(Stop { reason, at }),
