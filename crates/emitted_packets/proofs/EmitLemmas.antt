@@ -1,6 +1,8 @@
 -- How an emitter goes from call to call.
-use Rattle.std.proofs.Common.{◌≡◌, ℕ, ◌+◌, ◌-◌, ◌≤◌, Bool, true, false, cond, List, [], ◌∷◌, ◌++◌, length, map, reverse, take, drop, Option, None, refl, sym, ap, ◌∙◌, subst, arith, append_assoc, length-append}
+use Rattle.std.proofs.Common.{◌≡◌, ℕ, zero, suc, ◌+◌, ◌-◌, ◌≤◌, Bool, true, false, cond, List, [], ◌∷◌, ◌++◌, length, map, reverse, take, drop, Option, None, refl, sym, ap, ◌∙◌, subst, arith, append_assoc, length-append}
 use Rattle.std.specs.Prelude.{filter, not, ◌||◌, ◌&&◌, is_some}
+use Rattle.std.specs.List.{repeat}
+use Rattle.std.proofs.Math.ListN.{replicate}
 use Rattle.std.proofs.lemmas.Bool.{false≢true}
 use Rattle.std.proofs.lemmas.List.{append-nil, map-append, reverse-append, reverse-reverse, length-drop, drop_all, take_all, take_at, drop_at, take-append-le, drop-append-le}
 use Rattle.std.proofs.lemmas.List.Elements.{filter-append}
@@ -21,6 +23,19 @@ Emitted packets = map packet_encoding (filter (λ (packet : Packet). packet.fini
 
 pub emitting_none : IsEmitting nothing_yet [] [] []
 emitting_none = record { done = []; current = []; cut = refl; last = refl; rising = tt; finished = refl; kept = tt; goes_on = (refl, refl) }
+
+-- ---- runs of one byte
+
+repeat_one : (times byte : ℕ) → replicate times byte ≡ repeat times (byte ∷ [])
+repeat_one zero byte = refl
+repeat_one (suc times) byte = ap (λ (xs : List ℕ). byte ∷ xs) (repeat_one times byte)
+
+-- bytes that are filled up to a greater length with one byte
+pub filled_up : (bytes : List ℕ) (len more times byte : ℕ) → length bytes ≤ len → more ≡ times
+    → take len bytes ++ replicate more byte ≡ bytes ++ repeat times (byte ∷ [])
+filled_up bytes len more times byte longer same =
+    ap (λ (xs : List ℕ). xs ++ replicate more byte) (take_all len bytes longer)
+    ∙ ap (λ (xs : List ℕ). bytes ++ xs) (repeat_one more byte ∙ ap (λ (n : ℕ). repeat n (byte ∷ [])) same)
 
 -- ---- the finished packets
 

@@ -32,9 +32,8 @@ fn set_four(bytes: &mut [u8], at: usize, four: [u8; 4])
 fn push_run(bytes: &mut Vec<u8>, byte: u8, times: u32) -> Result<(), AllocError>
     ensures { OnOk result (bytes.new.items ≡ bytes.old.items ++ repeat times (byte ∷ [])) }
 {
-    for _turn in 0..times {
-        bytes.push(byte)?;
-    }
+    let len = bytes.len() + times as usize;
+    bytes.resize(len, byte)?;
     Ok(())
 }
 
