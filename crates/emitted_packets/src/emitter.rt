@@ -1,16 +1,16 @@
 //! One writer's packets, call by call.
-ghost use Rattle.std.specs.Prelude.{◌≡◌, ◌≤◌, ◌<◌, ◌+◌, ◌*◌, ◌^◌, ◌++◌, [], ◌∷◌, List, length, true, false, IfOk, OnOk};
+ghost use Rattle.std.specs.Prelude.{◌≡◌, ◌≤◌, ◌<◌, ◌+◌, ◌*◌, ◌%◌, ◌^◌, ◌++◌, [], ◌∷◌, List, length, true, false, IfOk, OnOk};
 ghost use Rattle.std.specs.List.{repeat};
-ghost use Rattle.trace_model.specs.Encoding.{bytes_field, nested_tag};
+ghost use Rattle.wire_varint.specs.Varint.{tag, varint};
+ghost use Rattle.trace_model.specs.Encoding.{bytes_field, bytes_head, nested_tag, number_field};
 ghost use Rattle.trace_model.specs.Packets.{open_length};
 ghost use Rattle.trace_model.specs.Images.{with_bytes};
 
 use arrayvec::ArrayVec;
 use packet_runs::Packets;
-use proto_stream::{head_bytes, head_nested, head_number};
 use std::alloc::{AllocError, Global};
 use trace_base::limits::{MAX_FIELD, MAX_OPEN_HOLES, MAX_PACKET_LEN};
-use wire_varint::put_redundant;
+use wire_varint::{put_redundant, put_varint};
 
 /// The packets that a writer has finished, and what it has written of the one that it writes.
 #[derive(Drop)]
@@ -26,6 +26,86 @@ fn set_four(bytes: &mut [u8], at: usize, four: [u8; 4])
     ensures { bytes.new ≡ with_bytes bytes.old at four }
 {
     bytes[at..at + 4].copy_from_slice(&four);
+}
+
+/// Appends a number of any length.
+#[inline(never)]
+fn push_long(bytes: &mut Vec<u8>, number: u64) -> Result<(), AllocError>
+    ensures { OnOk result (bytes.new.items ≡ bytes.old.items ++ varint number) }
+{
+    let mut spelled = [0; 10];
+    let len = put_varint(number, &mut spelled);
+    bytes.extend_from_slice(&spelled[..len])
+}
+
+/// Seven bits of a number, in a byte that others follow.
+#[inline(always)]
+fn group(number: u64) -> u8
+    ensures { result ≡ 128 + number % 128 }
+{
+    128 + (number % 128) as u8
+}
+
+/// Appends a number. Most have at most four bytes, and these are laid down at once.
+#[tactic(auto, unfolding(wire_varint::specs::Varint::varint, wire_varint::specs::Varint::groups))]
+#[inline(always)]
+fn push_number(bytes: &mut Vec<u8>, number: u64) -> Result<(), AllocError>
+    ensures { OnOk result (bytes.new.items ≡ bytes.old.items ++ varint number) }
+{
+    if number < 128 {
+        return bytes.extend_from_slice(&[number as u8]);
+    }
+    let second = number / 128;
+    if second < 128 {
+        return bytes.extend_from_slice(&[group(number), second as u8]);
+    }
+    let third = second / 128;
+    if third < 128 {
+        return bytes.extend_from_slice(&[group(number), group(second), third as u8]);
+    }
+    let last = third / 128;
+    if last < 128 {
+        return bytes.extend_from_slice(&[group(number), group(second), group(third), last as u8]);
+    }
+    push_long(bytes, number)
+}
+
+/// Appends a field's tag.
+#[inline(always)]
+#[tactic(auto, unfolding(wire_varint::specs::Varint::tag))]
+fn push_tag(bytes: &mut Vec<u8>, field: u32, wire: u8) -> Result<(), AllocError>
+    requires { wire ≤ 5 }
+    ensures { OnOk result (bytes.new.items ≡ bytes.old.items ++ tag field wire) }
+{
+    push_number(bytes, 8 * u64::from(field) + u64::from(wire))
+}
+
+/// Appends a field's tag, and then a number.
+#[inline(always)]
+fn push_head(bytes: &mut Vec<u8>, field: u32, wire: u8, number: u64) -> Result<(), AllocError>
+    requires { wire ≤ 5 }
+    ensures { OnOk result (bytes.new.items ≡ bytes.old.items ++ (tag field wire ++ varint number)) }
+{
+    push_tag(bytes, field, wire)?;
+    push_number(bytes, number)
+}
+
+/// Appends a number's field, whole.
+#[inline(always)]
+#[tactic(auto, unfolding(trace_model::specs::Encoding::number_field))]
+fn push_number_field(bytes: &mut Vec<u8>, field: u32, value: u64) -> Result<(), AllocError>
+    ensures { OnOk result (bytes.new.items ≡ bytes.old.items ++ number_field field value) }
+{
+    push_head(bytes, field, 0, value)
+}
+
+/// Appends what stands before a text.
+#[inline(always)]
+#[tactic(auto, unfolding(trace_model::specs::Encoding::bytes_head))]
+fn push_bytes_head(bytes: &mut Vec<u8>, field: u32, len: u32) -> Result<(), AllocError>
+    ensures { OnOk result (bytes.new.items ≡ bytes.old.items ++ bytes_head field len) }
+{
+    push_head(bytes, field, 2, u64::from(len))
 }
 
 /// Appends a byte so many times.
@@ -57,8 +137,19 @@ fn push_field(bytes: &mut Vec<u8>, field: u32, text: &[u8], times: u32) -> Resul
     ensures { OnOk result (bytes.new.items ≡ bytes.old.items ++ bytes_field field text.now times) }
 {
     let len = (times as usize * text.len()) as u32;
-    bytes.extend_from_slice(head_bytes(field, len).as_slice())?;
+    push_bytes_head(bytes, field, len)?;
     push_times(bytes, text, times)
+}
+
+/// Appends the tag of a nested message.
+#[inline(always)]
+#[tactic(auto, unfolding(trace_model::specs::Encoding::nested_tag), using(wire_varint::proofs::Lengths::varint_lengths))]
+fn push_nested_tag(bytes: &mut Vec<u8>, field: u32) -> Result<(), AllocError>
+    requires { (1 ≤ field) × (field ≤ MAX_FIELD) }
+    ensures bytes { OnOk result (bytes.new.items ≡ bytes.old.items ++ nested_tag field) }
+    ensures few { OnOk result (length bytes.new.items ≤ length bytes.old.items + 5) }
+{
+    push_tag(bytes, field, 2)
 }
 
 /// Appends the tag of a nested message and its open length, and answers the length's place.
@@ -68,7 +159,7 @@ fn push_nested(bytes: &mut Vec<u8>, field: u32) -> Result<u32, AllocError>
     ensures bytes { OnOk result (bytes.new.items ≡ bytes.old.items ++ (nested_tag field ++ open_length)) }
     ensures place { IfOk result (λ place. place ≡ length bytes.old.items + length (nested_tag field)) }
 {
-    bytes.extend_from_slice(head_nested(field).as_slice())?;
+    push_nested_tag(bytes, field)?;
     let place = bytes.len() as u32;
     bytes.extend_from_slice(&[0x80, 0x80, 0x80, 0x00])?;
     Ok(place)
@@ -105,8 +196,7 @@ impl Emitter {
         ensures long { OnOk result (length self.new.bytes.items ≡ length self.old.bytes.items + length (number_field field value)) }
         ensures ends { OnOk result (self.new.ends.items ≡ self.old.ends.items) }
     {
-        self.bytes
-            .extend_from_slice(head_number(field, value).as_slice())
+        push_number_field(&mut self.bytes, field, value)
     }
 
     /// A text is written, so many times over.

@@ -8,6 +8,6 @@ pub returns : goal.returns
 unfolding bytes_field
 returns c =
     on_ok_weaker c.push_times.result
-    (λ all. all ∙ ap (λ (xs : List ℕ). xs ++ repeat c.args.times c.args.text.now) (c.in_ok-extend_from_slice.ensures.items ∙ ap (λ (xs : List ℕ). c.args.bytes.now.items ++ xs) (c.as_slice.ensures ∙ c.head_bytes.ensures))
+    (λ all. all ∙ ap (λ (xs : List ℕ). xs ++ repeat c.args.times c.args.text.now) c.in_ok-push_bytes_head.ensures
     ∙ append_assoc c.args.bytes.now.items _ (repeat c.args.times c.args.text.now))
     c.push_times.ensures
