@@ -188,6 +188,7 @@ impl Emitter {
 
     /// A number is written.
     #[tactic(auto, using(crate::proofs::EmitLemmas::number_on))]
+    #[inline(always)]
     pub fn number(&mut self, field: u32, value: u64) -> Result<(), AllocError>
         requires field { (1 ≤ field) × (field ≤ MAX_FIELD) }
         ensures emitting { OnOk result ((account : Account)
@@ -201,6 +202,7 @@ impl Emitter {
 
     /// A text is written, so many times over.
     #[tactic(auto, using(crate::proofs::EmitLemmas::bytes_on))]
+    #[inline(always)]
     pub fn bytes(&mut self, field: u32, text: &[u8], times: u32) -> Result<(), AllocError>
         requires field { (1 ≤ field) × (field ≤ MAX_FIELD) }
         requires most { times * length text.now ≤ MAX_PACKET_LEN }
@@ -216,6 +218,7 @@ impl Emitter {
 
     /// A nested message begins: its length is left open.
     #[tactic(auto, using(crate::proofs::EmitLemmas::nested_on))]
+    #[inline(always)]
     pub fn nested(&mut self, field: u32) -> Result<(), AllocError>
         requires field { (1 ≤ field) × (field ≤ MAX_FIELD) }
         requires short { length self.old.bytes.items ≤ 2 ^ 28 }

@@ -13,6 +13,7 @@ use scenario_text::LineKind;
 use std::alloc::AllocError;
 
 /// Writes a node of a packet's FIELDS.
+#[inline(always)]
 fn emit_node(emitter: &mut Emitter, node: FieldNode, text: &[u8]) -> Result<(), AllocError>
     requires { MayTake (node_call (node, text.now) ∷ []) (node_len (node, text.now)) emitter.old }
     ensures { OnOk result (Takes (node_call (node, text.now) ∷ []) (node_len (node, text.now)) 0 emitter.old emitter.new) }
