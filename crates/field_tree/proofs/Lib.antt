@@ -3,6 +3,7 @@ pub mod AnswerLemmas
 pub mod Completes
 pub mod Cuts
 pub mod EncodedLemmas
+pub mod EndLemmas
 pub mod Faults
 pub mod FirstLemmas
 pub mod FitLemmas

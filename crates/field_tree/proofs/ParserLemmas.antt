@@ -1,5 +1,5 @@
 -- What the parser keeps, and which node and which action may come where it stands.
-use Rattle.std.proofs.Common.{◌≡◌, ℕ, ◌^◌, ◌<◌, Bool, Some, List, [], ◌∷◌, ◌++◌, length, ap, refl, subst, sym, ◌∙◌}
+use Rattle.std.proofs.Common.{◌≡◌, ℕ, ◌^◌, ◌<◌, ◌≤◌, Bool, List, [], ◌∷◌, ◌++◌, length, ap, subst, sym, ◌∙◌}
 use Rattle.field_tree.specs.declared.node.FieldNode.{FieldNode}
 use Rattle.field_tree.specs.declared.node.FieldNode.TheVariants.{Number, Bytes, Begin, End}
 use Rattle.field_tree.specs.declared.mode.Mode.{Mode}
@@ -11,41 +11,11 @@ use Rattle.field_tree.specs.Nodes.{Shown}
 use Rattle.field_tree.specs.Judged.{level}
 use Rattle.field_tree.specs.Surveys.{IsSurvey, level_behind}
 use Rattle.field_tree.specs.Views.{KeepsNodes}
-use Rattle.field_tree.specs.Machine.{act, pending, IsValid, IsBetween, MayHave, HalfFits}
+use Rattle.field_tree.specs.Machine.{act, IsValid, IsBetween, MayHave, HalfFits}
 use Rattle.field_tree.specs.Written.{written_node, shown_in, HasItsNumbers, IsWritable, AreWritten}
 use Rattle.field_tree.proofs.Steps.{Back, act_back}
-use Rattle.field_tree.proofs.SurveyLemmas.{level_more}
+use Rattle.field_tree.proofs.SurveyLemmas.{deep_enough, level_more}
 use Rattle.field_tree.proofs.WrittenLemmas.{node_added, none_written}
-
--- ---- the node that may end where the reading stands
-
-bytes_may : (node : FieldNode) (t : List ℕ) (n times : ℕ) → Some (Bytes n times) ≡ Some node → MayHave node t
-bytes_may (Number f v) t n times is = absurd (cc)
-bytes_may (Bytes f k) t n times is = tt
-bytes_may (Begin f) t n times is = absurd (cc)
-bytes_may End t n times is = absurd (cc)
-
-pub pending_may : (m : Mode) (t : List ℕ) (node : FieldNode) → IsValid m t → pending m ≡ Some node → MayHave node t
-pending_may (Start opened) t node valid is = absurd (cc)
-pending_may (Field n) t node valid is = absurd (cc)
-pending_may (Value n) t node valid is = absurd (cc)
-pending_may (Zero n) t (Number f v) valid is = valid.1
-pending_may (Zero n) t (Bytes f k) valid is = tt
-pending_may (Zero n) t (Begin f) valid is = valid.1
-pending_may (Zero n) t End valid is = valid.1
-pending_may (Digits n value) t (Number f v) valid is = valid.3
-pending_may (Digits n value) t (Bytes f k) valid is = tt
-pending_may (Digits n value) t (Begin f) valid is = valid.3
-pending_may (Digits n value) t End valid is = valid.3
-pending_may (Text n) t node valid is = absurd (cc)
-pending_may (Quoted n) t node valid is = bytes_may node t n 1 is
-pending_may (Star n) t node valid is = absurd (cc)
-pending_may (Times n times) t node valid is = bytes_may node t n times is
-pending_may (Tick n) t node valid is = absurd (cc)
-pending_may (Pairs n) t node valid is = absurd (cc)
-pending_may (Half n high) t node valid is = absurd (cc)
-pending_may (Packed n) t node valid is = bytes_may node t n 1 is
-pending_may After t node valid is = absurd (cc)
 
 -- ---- the action at a byte
 
@@ -100,12 +70,15 @@ nothing_kept found none = record {
 
 pub more_kept : (code t : List ℕ) (node : FieldNode) (depth : ℕ) (found new : Survey) → KeepsNodes code depth found
     → HasItsNumbers node → MayHave node t → length t < 2 ^ 64
-    → ((nodes : List Shown) (text : List ℕ) → length text ≡ length t → level_behind 0 nodes ≡ depth → IsSurvey found nodes → IsSurvey new (nodes ++ (node, text) ∷ []))
+    → ((nodes : List Shown) → level_behind 0 nodes ≡ depth → IsSurvey found nodes → IsSurvey new (nodes ++ (node, t) ∷ []))
     → KeepsNodes (code ++ written_node (node, t)) (level depth node) new
 more_kept code t node depth found new kept numbers may few surveyed =
     let shown = node_shown code t node kept.written numbers may few in
     record {
       written = node_kept code t node kept.written numbers may few;
       open_messages = ap (level_behind 0) shown ∙ level_more 0 (shown_in code) (node, t) ∙ ap (λ (n : ℕ). level n node) kept.open_messages;
-      surveyed = subst (IsSurvey new) (sym shown) (surveyed (shown_in code) t refl kept.open_messages kept.surveyed);
+      surveyed = subst (IsSurvey new) (sym shown) (surveyed (shown_in code) kept.open_messages kept.surveyed);
     }
+
+pub depth_surveyed : (code : List ℕ) (depth : ℕ) (found : Survey) → KeepsNodes code depth found → depth ≤ found.deepest
+depth_surveyed code depth found kept = rw (sym kept.open_messages, kept.surveyed.deep) (deep_enough (shown_in code))

@@ -1,5 +1,5 @@
 -- What is found by going once over a list of nodes. The laws say that it is what the tree of the nodes says of itself.
-use Rattle.std.specs.Prelude.{◌≡◌, ℕ, zero, suc, ◌+◌, ◌-◌, ◌*◌, ◌<◌, ◌≤◌, max, sum_by, map, List, [], ◌∷◌, length, Option, Some, None, Result, Ok, Err}
+use Rattle.std.specs.Prelude.{◌≡◌, ℕ, zero, suc, ◌+◌, ◌-◌, ◌*◌, ◌≤◌, max, sum_by, map, List, [], ◌∷◌, length, Option, Some, None, Result, Ok, Err}
 use Rattle.trace_base.specs.declared.limits.TheConstants.{MAX_PACKET_LEN}
 use Rattle.trace_model.specs.Encoding.{number_field, bytes_head, nested_tag}
 use Rattle.field_tree.specs.declared.node.FieldNode.{FieldNode}
@@ -24,11 +24,6 @@ node_len n = node_len_at n.0 (length n.1)
 -- how many bytes of encoding the nodes have
 abbrev pub nodes_len : List Shown → ℕ
 nodes_len nodes = sum_by node_len nodes
-
--- a length, and none where it is more than a packet may have
-abbrev pub Measures : ℕ → Option ℕ → Type 0
-Measures len (Some n) = (n ≡ len) × (n ≤ MAX_PACKET_LEN)
-Measures len None = MAX_PACKET_LEN < len
 
 -- ---- nested messages
 

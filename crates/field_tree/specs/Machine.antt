@@ -104,6 +104,14 @@ applied Close r = Some (record (with_node End r) { depth = r.depth - 1; mode = A
 abbrev pub before_byte : ℕ → TextReading → TextReading
 before_byte byte r = if byte == 32 || byte == 125 then settled r else r
 
+-- a field ends before this byte, and the byte is taken then
+abbrev pub ends_here : ℕ → ℕ → Bool
+ends_here depth byte = byte == 32 || nat_lt 0 depth && byte == 125
+
+-- another text is being read
+abbrev pub with_text : List ℕ → TextReading → TextReading
+with_text text r = record r { text = text }
+
 -- the reading after a byte, without what the byte ends
 abbrev pub moved : ℕ → TextReading → Option TextReading
 moved byte r = applied (act r.mode (nat_lt 0 r.depth) byte) r

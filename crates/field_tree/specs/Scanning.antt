@@ -3,7 +3,7 @@ use Rattle.std.specs.Prelude.{◌≡◌, ℕ, ◌+◌, ◌*◌, ◌<◌, ◌≤�
 use Rattle.field_tree.specs.declared.mode.Mode.{Mode}
 use Rattle.field_tree.specs.declared.scan.Scanned.{Scanned}
 use Rattle.field_tree.specs.Nodes.{Shown}
-use Rattle.field_tree.specs.Machine.{TextReading, hex_value, next, run, IsValid}
+use Rattle.field_tree.specs.Machine.{TextReading, hex_value, next, run}
 
 -- where a reading stands, with these nodes, so many open messages and this text
 abbrev pub reading_with : List Shown → ℕ → List ℕ → Mode → TextReading
@@ -34,8 +34,3 @@ IsPair bytes byte behind = record {
 abbrev pub ScansFrom : Mode → List ℕ → Scanned → Type 0
 ScansFrom mode bytes scanned = (nodes : List Shown) (depth : ℕ)
     → RunsOver (reading_with nodes depth [] mode) bytes (reading_with nodes depth scanned.text.now scanned.mode) scanned.behind.now
-
--- the same wherever the reading stands
-abbrev pub ScansOn : Mode → List ℕ → Scanned → Type 0
-ScansOn mode bytes scanned = (nodes : List Shown) (depth : ℕ) (text : List ℕ) → IsValid mode text
-    → RunsOver (reading_with nodes depth text mode) bytes (reading_with nodes depth (text ++ scanned.text.now) scanned.mode) scanned.behind.now

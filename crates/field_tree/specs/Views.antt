@@ -27,12 +27,12 @@ text_read p = p.text.items
 abbrev pub reading : Parser → Mode → TextReading
 reading p mode = record { nodes = nodes_read p; depth = p.depth; text = text_read p; mode = mode }
 
--- one node more, whose text is the one that was being read
-abbrev pub AddsNode : FieldNode → Parser → Parser → Type 0
-AddsNode node old new =
-    (nodes_read new ≡ nodes_read old ++ (node, text_read old) ∷ []) × (text_read new ≡ []) × (new.depth ≡ level old.depth node)
+-- one node more with its text, and no text is being read
+abbrev pub AddsNode : FieldNode → List ℕ → Parser → Parser → Type 0
+AddsNode node text old new =
+    (nodes_read new ≡ nodes_read old ++ (node, text) ∷ []) × (text_read new ≡ []) × (new.depth ≡ level old.depth node)
 
--- one byte more of that text
+-- one byte more of the text that is being read
 abbrev pub AddsByte : ℕ → Parser → Parser → Type 0
 AddsByte byte old new =
     (nodes_read new ≡ nodes_read old) × (text_read new ≡ text_read old ++ byte ∷ []) × (new.depth ≡ old.depth)

@@ -1,11 +1,10 @@
 //! What the reading does at a byte, by where it stands.
 ghost use Rattle.std.specs.Prelude.{◌≡◌, ℕ, ◌==◌, ◌&&◌, if◌then◌else◌, ◌≤◌, ◌<◌, IfSome, length};
 ghost use Rattle.field_tree.specs.Machine as machine;
-ghost use Rattle.field_tree.specs.Machine.{HalfFits, pending};
+ghost use Rattle.field_tree.specs.Machine.{HalfFits};
 ghost use Rattle.field_tree.specs.Grammar as grammar;
 
 use crate::mode::{Action, Mode};
-use crate::node::FieldNode;
 use trace_base::limits::{MAX_FIELD, MAX_PACKET_LEN};
 
 #[inline(always)]
@@ -40,6 +39,9 @@ pub(crate) fn grown(most: u64, value: u64, byte: u8) -> Option<u64>
         return None;
     }
     let digit = u64::from(byte - b'0');
+    if value < most / 10 {
+        return Some(value * 10 + digit);
+    }
     if value > most / 10 || digit > most - value * 10 {
         return None;
     }
@@ -245,22 +247,6 @@ fn behind_field(inner: bool, byte: u8) -> Action
         Action::Close
     } else {
         Action::Refuse
-    }
-}
-
-/// The node that may end where the reading stands.
-#[inline(always)]
-pub(crate) fn pending_node(mode: Mode) -> Option<FieldNode>
-    ensures { result ≡ pending mode }
-{
-    match mode {
-        Mode::Zero { field } => Some(FieldNode::Number { field, value: 0 }),
-        Mode::Digits { field, value } => Some(FieldNode::Number { field, value }),
-        Mode::Quoted { field } | Mode::Packed { field } => {
-            Some(FieldNode::Bytes { field, times: 1 })
-        }
-        Mode::Times { field, times } => Some(FieldNode::Bytes { field, times }),
-        _ => None,
     }
 }
 

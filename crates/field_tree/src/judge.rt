@@ -7,7 +7,7 @@ ghost use Rattle.field_tree.specs.Surveys.{IsSurvey};
 
 use crate::fault::FieldFault;
 use crate::survey::Survey;
-use trace_base::limits::MAX_NESTING;
+use trace_base::limits::{MAX_NESTING, MAX_PACKET_LEN};
 
 /// The first reserved field, where no message is around the nodes.
 fn reserved_fault(found: Option<u32>, depth: u8) -> Option<FieldFault>
@@ -35,5 +35,8 @@ pub(crate) fn judge(found: Survey, depth: u8) -> Result<u32, FieldFault>
     if found.deepest > usize::from(MAX_NESTING - depth) {
         return Err(FieldFault::TooDeep);
     }
-    found.len.ok_or(FieldFault::PacketTooLong)
+    if found.len > u64::from(MAX_PACKET_LEN) {
+        return Err(FieldFault::PacketTooLong);
+    }
+    Ok(found.len as u32)
 }

@@ -17,6 +17,7 @@ mod parser;
 mod scan;
 mod survey;
 mod tree;
+mod whole;
 mod written;
 
 pub use fault::{FieldError, FieldFault};

@@ -1,18 +1,18 @@
-//! Reading a text without recursion, byte by byte, or several bytes at once where a field begins.
+//! Reading a text without recursion: what is read whole at once, and all else byte by byte.
 ghost use Rattle.std.specs.Prelude.{◌≡◌, ℕ, ◌+◌, ◌-◌, ◌<◌, ◌≤◌, ◌==◌, ◌||◌, length, List, [], drop, IfOk, IfSome, OnOk, Some, None, false};
-ghost use Rattle.field_tree.specs.Machine.{IsValid, IsBetween, MayHave, settled, before_byte, applied, next, finish, nodes_or_column, beginning};
+ghost use Rattle.field_tree.specs.Machine.{IsValid, IsBetween, settled, before_byte, applied, next, finish, nodes_or_column, beginning};
 ghost use Rattle.field_tree.specs.declared.mode.Mode.TheVariants.{Pairs};
 ghost use Rattle.field_tree.specs.Scanning.{RunsOver};
 ghost use Rattle.field_tree.specs.Views.{reading, text_read, AddsNode, AddsByte, AddsText, Takes, Keeps, Ends, GivesNodes, nodes_read};
 ghost use Rattle.field_tree.specs.Surveys.{IsSurvey};
 
-use crate::act::{act, may_end, pending_node, taken_back};
+use crate::act::{act, may_end, taken_back};
 use crate::fault::{FieldError, FieldFault};
 use crate::mode::{Action, Mode};
 use crate::node::FieldNode;
-use crate::scan::{first_byte, first_pair, scan};
-use crate::survey::{Survey, level};
-use crate::written::push_node;
+use crate::scan::{first_byte, first_pair};
+use crate::survey::{Survey, begin_len, number_len, text_len};
+use crate::written::{push_begin, push_end, push_number, push_text};
 use std::alloc::{AllocError, Global};
 use trace_base::limits::MAX_INPUT;
 
@@ -21,6 +21,9 @@ use trace_base::limits::MAX_INPUT;
 const FIRST_CODE: usize = 256;
 
 const FIRST_BYTES: usize = 64;
+
+/// Room for a node's numbers is taken before they are written.
+const NUMBERS_ROOM: usize = 32;
 
 /// What was read so far of a text: the nodes as they are written, how many messages are open behind
 /// them, what is found of them, and the text that is being read.
@@ -69,7 +72,7 @@ impl Parser {
         ensures { self.new.code.items ≡ self.old.code.items }
     {
         if self.code.capacity() == 0 {
-            self.code.reserve_exact(len.min(FIRST_CODE))?;
+            self.code.reserve_exact(len.min(FIRST_CODE) + NUMBERS_ROOM)?;
         }
         Ok(())
     }
@@ -86,20 +89,87 @@ impl Parser {
         self.text.clear();
     }
 
-    /// Adds a node whose text is the one that was being read.
-    #[tactic(auto, using(crate::proofs::ParserLemmas::more_kept, crate::proofs::ParserLemmas::node_shown))]
+    /// Adds a number.
+    #[tactic(auto, unfolding(crate::specs::Judged::level), using(crate::proofs::ParserLemmas::node_shown))]
     #[inline(never)]
-    fn push_node(&mut self, node: FieldNode) -> Result<(), AllocError>
+    pub fn push_number(&mut self, field: u32, value: u64) -> Result<(), AllocError>
         requires kept { Keeps self.old }
-        requires text { MayHave node (text_read self.old) }
+        requires between { text_read self.old ≡ [] }
         requires depth { self.old.depth < usize.MAX }
-        ensures pushed { OnOk result (AddsNode node self.old self.new) }
+        ensures pushed { OnOk result (AddsNode (FieldNode.Number field value) [] self.old self.new) }
         ensures kept { OnOk result (Keeps self.new) }
     {
-        push_node(&mut self.code, node, &self.text)?;
-        self.found = self.found.with_node(self.depth, node, self.text.len());
-        self.depth = level(self.depth, node);
+        let len = push_number(&mut self.code, field, value)?;
+        let node = FieldNode::Number { field, value };
+        self.found
+            .add_node(self.depth, node, number_len(field, len));
+        Ok(())
+    }
+
+    /// Adds a text that was read whole.
+    #[tactic(auto, unfolding(crate::specs::Judged::level), using(crate::proofs::ParserLemmas::node_shown))]
+    #[inline(never)]
+    pub fn push_text(&mut self, field: u32, times: u32, text: &[u8]) -> Result<(), AllocError>
+        requires kept { Keeps self.old }
+        requires between { text_read self.old ≡ [] }
+        requires depth { self.old.depth < usize.MAX }
+        ensures pushed { OnOk result (AddsNode (FieldNode.Bytes field times) text.now self.old self.new) }
+        ensures kept { OnOk result (Keeps self.new) }
+    {
+        push_text(&mut self.code, field, times, text)?;
+        let node = FieldNode::Bytes { field, times };
+        self.found
+            .add_node(self.depth, node, text_len(field, times, text.len()));
+        Ok(())
+    }
+
+    /// Adds the text that was being read.
+    #[tactic(auto, unfolding(crate::specs::Judged::level), using(crate::proofs::ParserLemmas::node_shown))]
+    #[inline(never)]
+    fn push_kept(&mut self, field: u32, times: u32) -> Result<(), AllocError>
+        requires kept { Keeps self.old }
+        requires depth { self.old.depth < usize.MAX }
+        ensures pushed { OnOk result (AddsNode (FieldNode.Bytes field times) (text_read self.old) self.old self.new) }
+        ensures kept { OnOk result (Keeps self.new) }
+    {
+        push_text(&mut self.code, field, times, &self.text)?;
+        let node = FieldNode::Bytes { field, times };
+        self.found
+            .add_node(self.depth, node, text_len(field, times, self.text.len()));
         self.text.clear();
+        Ok(())
+    }
+
+    /// Begins a nested message.
+    #[tactic(auto, unfolding(crate::specs::Judged::level), using(crate::proofs::ParserLemmas::node_shown))]
+    #[inline(never)]
+    pub fn push_begin(&mut self, field: u32) -> Result<(), AllocError>
+        requires kept { Keeps self.old }
+        requires between { text_read self.old ≡ [] }
+        requires depth { self.old.depth < usize.MAX }
+        ensures pushed { OnOk result (AddsNode (FieldNode.Begin field) [] self.old self.new) }
+        ensures kept { OnOk result (Keeps self.new) }
+    {
+        push_begin(&mut self.code, field)?;
+        let node = FieldNode::Begin { field };
+        self.found.add_node(self.depth, node, begin_len(field));
+        self.depth += 1;
+        Ok(())
+    }
+
+    /// Ends one.
+    #[tactic(auto, unfolding(crate::specs::Judged::level), using(crate::proofs::ParserLemmas::node_shown))]
+    #[inline(never)]
+    pub fn push_end(&mut self) -> Result<(), AllocError>
+        requires kept { Keeps self.old }
+        requires between { text_read self.old ≡ [] }
+        requires depth { self.old.depth < usize.MAX }
+        ensures pushed { OnOk result (AddsNode FieldNode.End [] self.old self.new) }
+        ensures kept { OnOk result (Keeps self.new) }
+    {
+        push_end(&mut self.code)?;
+        self.found.add_node(self.depth, FieldNode::End, 0);
+        self.depth = self.depth.saturating_sub(1);
         Ok(())
     }
 
@@ -117,7 +187,7 @@ impl Parser {
 
     /// Adds some bytes to it.
     #[inline(always)]
-    fn push_text(&mut self, text: &[u8]) -> Result<(), AllocError>
+    pub fn push_bytes(&mut self, text: &[u8]) -> Result<(), AllocError>
         requires { Keeps self.old }
         ensures pushed { OnOk result (AddsText text.now self.old self.new) }
         ensures kept { OnOk result (Keeps self.new) }
@@ -130,7 +200,7 @@ impl Parser {
     }
 
     /// Reads on over pairs of hexadecimal digits, and answers the bytes behind them.
-    fn scan_pairs<'t>(&mut self, bytes: &'t [u8]) -> Result<&'t [u8], AllocError>
+    pub fn scan_pairs<'t>(&mut self, bytes: &'t [u8]) -> Result<&'t [u8], AllocError>
         requires { Keeps self.old }
         ensures over { (field : ℕ) → IfOk result (λ behind. RunsOver (reading self.old (Pairs field)) bytes.now (reading self.new (Pairs field)) behind.now) }
         ensures kept { OnOk result (Keeps self.new) }
@@ -143,25 +213,8 @@ impl Parser {
         Ok(rest)
     }
 
-    /// Reads on over the bytes in front that are read at once, and answers those behind them.
-    #[inline(always)]
-    fn scan<'t>(&mut self, mode: &mut Mode, bytes: &'t [u8]) -> Result<&'t [u8], AllocError>
-        requires kept { Keeps self.old }
-        requires valid { IsValid mode.old (text_read self.old) }
-        ensures over { IfOk result (λ behind. RunsOver (reading self.old mode.old) bytes.now (reading self.new mode.new) behind.now) }
-        ensures kept { OnOk result (Keeps self.new) }
-    {
-        if let Mode::Pairs { field: _ } = *mode {
-            return self.scan_pairs(bytes);
-        }
-        let scanned = scan(*mode, bytes);
-        self.push_text(scanned.text)?;
-        *mode = scanned.mode;
-        Ok(scanned.behind)
-    }
-
     /// Ends the field that may end here, if one may.
-    #[tactic(auto, unfolding(crate::specs::Machine::settled), using(crate::proofs::ParserLemmas::pending_may, crate::proofs::SurveyLemmas::pending_flat))]
+    #[tactic(auto, unfolding(crate::specs::Machine::settled, crate::specs::Judged::level))]
     #[inline(always)]
     fn settle(&mut self, mode: &mut Mode) -> Result<(), AllocError>
         requires kept { Keeps self.old }
@@ -171,13 +224,15 @@ impl Parser {
         ensures settled { OnOk result (reading self.new mode.new ≡ settled (reading self.old mode.old)) }
         ensures kept { OnOk result (Keeps self.new) }
     {
-        match pending_node(*mode) {
-            Some(node) => {
-                self.push_node(node)?;
-                *mode = Mode::After;
-            }
-            None => {}
+        match *mode {
+            Mode::Zero { field } => self.push_number(field, 0)?,
+            Mode::Digits { field, value } => self.push_number(field, value)?,
+            Mode::Quoted { field } => self.push_kept(field, 1)?,
+            Mode::Packed { field } => self.push_kept(field, 1)?,
+            Mode::Times { field, times } => self.push_kept(field, times)?,
+            _ => return Ok(()),
         }
+        *mode = Mode::After;
         Ok(())
     }
 
@@ -199,11 +254,11 @@ impl Parser {
                 *mode = next;
             }
             Action::Open(field) => {
-                self.push_node(FieldNode::Begin { field })?;
+                self.push_begin(field)?;
                 *mode = Mode::Start { opened: true };
             }
             Action::Close => {
-                self.push_node(FieldNode::End)?;
+                self.push_end()?;
                 *mode = Mode::After;
             }
         }
@@ -227,7 +282,7 @@ impl Parser {
 
     /// Reads one byte, and answers whether the text so far begins some fields.
     #[tactic(auto, unfolding(crate::specs::Machine::next, crate::specs::Machine::settled), using(crate::proofs::ParserLemmas::acts_between, crate::proofs::ParserLemmas::half_fits))]
-    #[inline(always)]
+    #[inline(never)]
     fn step(&mut self, mode: &mut Mode, byte: u8) -> Result<bool, AllocError>
         requires kept { Keeps self.old }
         requires depth { self.old.depth < usize.MAX }
@@ -241,6 +296,7 @@ impl Parser {
 
     /// Ends the last field, and answers whether the text may end here.
     #[tactic(auto, unfolding(crate::specs::Machine::finish))]
+    #[inline(never)]
     fn end(&mut self, mode: &mut Mode) -> Result<bool, AllocError>
         requires kept { Keeps self.old }
         requires valid { IsValid mode.old (text_read self.old) }
@@ -263,6 +319,7 @@ fn bad_field(column: usize) -> FieldError
 }
 
 /// Reads the nodes of a text, or the column of its fault.
+#[inline(never)]
 pub(crate) fn read(parser: &mut Parser, text: &[u8]) -> Result<(), FieldError>
     requires { length text.now ≤ MAX_INPUT }
     ensures nodes { GivesNodes result parser.new.code.items (nodes_or_column text.now) }
@@ -272,24 +329,30 @@ pub(crate) fn read(parser: &mut Parser, text: &[u8]) -> Result<(), FieldError>
     let mut mode = Mode::Start { opened: false };
     let mut rest = text;
     'bytes: loop {
-        let Ok(left) = parser.scan(&mut mode, rest) else {
+        let Ok((to, left)) = parser.read_on(mode, rest) else {
             return Err(FieldError::OutOfMemory);
         };
+        mode = to;
+        if left.len() < rest.len() {
+            rest = left;
+            continue 'bytes;
+        }
+        let mut now = mode;
         let Some((byte, behind)) = first_byte(left) else {
-            return match parser.end(&mut mode) {
+            return match parser.end(&mut now) {
                 Ok(true) => Ok(()),
                 Ok(false) => Err(bad_field(text.len() + 1)),
                 Err(_) => Err(FieldError::OutOfMemory),
             };
         };
-        let before = mode;
-        match parser.step(&mut mode, byte) {
+        match parser.step(&mut now, byte) {
             Ok(true) => rest = behind,
             Ok(false) => {
-                let column = text.len() - behind.len() - taken_back(before, byte);
+                let column = text.len() - behind.len() - taken_back(mode, byte);
                 return Err(bad_field(column));
             }
             Err(_) => return Err(FieldError::OutOfMemory),
         }
+        mode = now;
     }
 }

@@ -7,7 +7,7 @@ ghost use Rattle.field_tree.specs.Grammar.{IsTextByte};
 ghost use Rattle.field_tree.specs.Machine.{TextReading};
 ghost use Rattle.field_tree.specs.Machine as machine;
 ghost use Rattle.field_tree.specs.declared.mode.Mode.TheVariants.{Start, Value, Text, Quoted};
-ghost use Rattle.field_tree.specs.Scanning.{reading_with, RunsOver, IsPair, TakesDigits, ScansFrom, ScansOn};
+ghost use Rattle.field_tree.specs.Scanning.{reading_with, RunsOver, IsPair, TakesDigits, ScansFrom};
 
 use crate::act::{grown, hex_value, is_first_digit, is_text_byte};
 use crate::mode::Mode;
@@ -189,17 +189,15 @@ fn scan_field(first: u8, rest: &[u8]) -> Scanned<'_>
     }
 }
 
-/// Reads on over the bytes in front, where a field begins with them.
+/// Reads on where a field may begin.
 #[inline(always)]
-pub(crate) fn scan(mode: Mode, bytes: &[u8]) -> Scanned<'_>
-    ensures { ScansOn mode bytes.now result }
+pub(crate) fn scan(opened: bool, bytes: &[u8]) -> Scanned<'_>
+    ensures { ScansFrom (Start opened) bytes.now result }
 {
-    match (mode, first_byte(bytes)) {
-        (Mode::Start { opened: _ }, Some((first, rest))) if is_first_digit(first) => {
-            scan_field(first, rest)
-        }
+    match first_byte(bytes) {
+        Some((first, rest)) if is_first_digit(first) => scan_field(first, rest),
         _ => Scanned {
-            mode,
+            mode: Mode::Start { opened },
             text: &[],
             behind: bytes,
         },

@@ -1,12 +1,12 @@
 //! What is found of a list of nodes while it grows: its first reserved field, its depth and its length.
-ghost use Rattle.std.specs.Prelude.{◌≡◌, ℕ, ◌+◌, ◌*◌, ◌<◌, ◌≤◌, length, Option};
+ghost use Rattle.std.specs.Prelude.{◌≡◌, ℕ, ◌+◌, ◌*◌, ◌<◌, ◌≤◌, length, max, Option, None};
 ghost use Rattle.std.specs.Option.{option_or};
 ghost use Rattle.field_tree.specs.Judged as judged;
-ghost use Rattle.field_tree.specs.Judged.{Measures, node_len_at, reserved_at};
+ghost use Rattle.field_tree.specs.Judged.{node_len_at, reserved_at};
+ghost use Rattle.field_tree.specs.Surveys.{IsCounted};
 ghost use Rattle.wire_varint.specs.Varint.{varint, tag};
 
 use crate::node::FieldNode;
-use trace_base::limits::MAX_PACKET_LEN;
 use trace_base::reserved::is_reserved;
 use wire_varint::put_varint;
 
@@ -36,54 +36,39 @@ fn tag_len(field: u32, wire: u8) -> u64
     varint_len(8 * u64::from(field) + u64::from(wire))
 }
 
-fn within(len: u64) -> Option<u32>
-    ensures { Measures len result }
-{
-    if len > u64::from(MAX_PACKET_LEN) {
-        None
-    } else {
-        Some(len as u32)
-    }
-}
-
-/// How many bytes a node takes in the encoding, where its text has this length.
-#[tactic(auto, unfolding(crate::specs::Judged::node_len_at, trace_model::specs::Encoding::number_field, trace_model::specs::Encoding::bytes_head), using(crate::proofs::JudgedLemmas::length_number_field, crate::proofs::JudgedLemmas::length_bytes_head))]
-fn node_len(node: FieldNode, len: usize) -> Option<u32>
-    ensures { Measures (node_len_at node len) result }
-{
-    match node {
-        FieldNode::Number { field, value } => within(tag_len(field, 0) + varint_len(value)),
-        FieldNode::Bytes { field, times } => {
-            let whole = (len as u64).saturating_mul(u64::from(times));
-            if whole > u64::from(MAX_PACKET_LEN) {
-                return None;
-            }
-            within(tag_len(field, 2) + varint_len(whole) + whole)
-        }
-        FieldNode::Begin { field } => within(tag_len(field, 2) + 4),
-        FieldNode::End => Some(0),
-    }
-}
-
-/// How many messages are open behind a node.
-#[tactic(auto, unfolding(crate::specs::Judged::level))]
+/// The length of a number's encoding, where its value has so many bytes.
+#[tactic(auto, unfolding(crate::specs::Judged::node_len_at, trace_model::specs::Encoding::number_field), using(crate::proofs::JudgedLemmas::length_number_field))]
 #[inline(always)]
-pub(crate) fn level(now: usize, node: FieldNode) -> usize
-    requires { now < usize.MAX }
-    ensures level { result ≡ judged.level now node }
-    ensures one_more { result ≤ now + 1 }
+pub(crate) fn number_len(field: u32, value_len: usize) -> u64
+    requires { value_len ≤ 10 }
+    ensures { (value len : ℕ) → value_len ≡ length (varint value) → IsCounted result (node_len_at (FieldNode.Number field value) len) }
 {
-    match node {
-        FieldNode::Begin { field: _ } => now + 1,
-        FieldNode::End => now.saturating_sub(1),
-        _ => now,
-    }
+    tag_len(field, 0) + value_len as u64
 }
 
-/// A node's field, where it is the service's own and no message is open.
+/// The length of a text's encoding, by the length of the text.
+#[inline(always)]
+pub(crate) fn text_len(field: u32, times: u32, len: usize) -> u64
+    ensures { IsCounted result (node_len_at (FieldNode.Bytes field times) len) }
+{
+    let whole = u64::from(times).saturating_mul(len as u64);
+    (tag_len(field, 2) + varint_len(whole)).saturating_add(whole)
+}
+
+/// The length of what stands in front of a nested message.
+#[tactic(auto, unfolding(crate::specs::Judged::node_len_at))]
+#[inline(always)]
+pub(crate) fn begin_len(field: u32) -> u64
+    ensures { (len : ℕ) → IsCounted result (node_len_at (FieldNode.Begin field) len) }
+{
+    tag_len(field, 2) + 4
+}
+
+/// A node's field, where it is the service's own.
 #[tactic(auto, unfolding(crate::specs::Judged::reserved_at))]
-fn reserved_node(now: usize, node: FieldNode) -> Option<u32>
-    ensures { (later : Option ℕ) → reserved_at now node later ≡ option_or result later }
+#[inline(always)]
+fn reserved_field(node: FieldNode) -> Option<u32>
+    ensures { (later : Option ℕ) → reserved_at 0 node later ≡ option_or result later }
 {
     let field = match node {
         FieldNode::Number { field, value: _ } => field,
@@ -91,18 +76,35 @@ fn reserved_node(now: usize, node: FieldNode) -> Option<u32>
         FieldNode::Begin { field } => field,
         FieldNode::End => return None,
     };
-    if now == 0 && is_reserved(field) {
+    if is_reserved(field) {
         Some(field)
     } else {
         None
     }
 }
 
-/// The length with so many bytes more, where both are known and a packet may have the sum.
-fn added(sum: Option<u32>, more: Option<u32>) -> Option<u32>
-    ensures { (before next : ℕ) → Measures before sum → Measures next more → Measures (before + next) result }
+/// Keeps a node's field, where it is the first of the service's own at the top level.
+#[tactic(auto, unfolding(crate::specs::Judged::reserved_at))]
+#[inline(always)]
+fn note_reserved(found: &mut Option<u32>, now: usize, node: FieldNode)
+    ensures { found.new ≡ option_or found.old (reserved_at now node None) }
 {
-    within(u64::from(sum?) + u64::from(more?))
+    if now == 0 && found.is_none() {
+        *found = reserved_field(node);
+    }
+}
+
+/// Keeps how many messages are open behind a node, where there were never as many.
+#[tactic(auto, unfolding(crate::specs::Judged::level))]
+#[inline(always)]
+fn note_level(deepest: &mut usize, now: usize, node: FieldNode)
+    requires within { now ≤ deepest.old }
+    requires more { now < usize.MAX }
+    ensures { deepest.new ≡ max deepest.old (judged.level now node) }
+{
+    if let FieldNode::Begin { field: _ } = node {
+        *deepest = (*deepest).max(now + 1);
+    }
 }
 
 /// What is found of nodes.
@@ -112,14 +114,15 @@ pub(crate) struct Survey {
     pub reserved: Option<u32>,
     /// The most messages that were open at once.
     pub deepest: usize,
-    /// The length of the encoding, where a packet may have it.
-    pub len: Option<u32>,
+    /// The length of the encoding, or the greatest number where that is more.
+    pub len: u64,
 }
 
 impl Survey {
-    ghost use Rattle.std.specs.Prelude.{◌≡◌, ℕ, ◌<◌, List, [], ◌∷◌, ◌++◌, length};
+    ghost use Rattle.std.specs.Prelude.{◌≡◌, ℕ, ◌<◌, ◌≤◌, List, [], ◌∷◌, ◌++◌};
+    ghost use Rattle.field_tree.specs.Judged.{node_len};
     ghost use Rattle.field_tree.specs.Nodes.{Shown};
-    ghost use Rattle.field_tree.specs.Surveys.{IsSurvey, level_behind};
+    ghost use Rattle.field_tree.specs.Surveys.{IsCounted, IsSurvey, level_behind};
 
     /// Of no nodes.
     pub fn new() -> Survey
@@ -128,21 +131,20 @@ impl Survey {
         Survey {
             reserved: None,
             deepest: 0,
-            len: Some(0),
+            len: 0,
         }
     }
 
-    /// With one node more, where so many messages are open and its text has this length.
+    /// With one node more, where so many messages are open and its encoding has this length.
     #[inline(always)]
-    pub fn with_node(self, now: usize, node: FieldNode, len: usize) -> Survey
-        requires { now < usize.MAX }
-        ensures { (nodes : List Shown) (text : List ℕ) → length text ≡ len → level_behind 0 nodes ≡ now → IsSurvey self nodes
-            → IsSurvey result (nodes ++ (node, text) ∷ []) }
+    pub fn add_node(&mut self, now: usize, node: FieldNode, len: u64)
+        requires within { now ≤ self.old.deepest }
+        requires more { now < usize.MAX }
+        ensures { (nodes : List Shown) (text : List ℕ) → IsCounted len (node_len (node, text)) → level_behind 0 nodes ≡ now
+            → IsSurvey self.old nodes → IsSurvey self.new (nodes ++ (node, text) ∷ []) }
     {
-        Survey {
-            reserved: self.reserved.or(reserved_node(now, node)),
-            deepest: self.deepest.max(level(now, node)),
-            len: added(self.len, node_len(node, len)),
-        }
+        note_reserved(&mut self.reserved, now, node);
+        note_level(&mut self.deepest, now, node);
+        self.len = self.len.saturating_add(len);
     }
 }

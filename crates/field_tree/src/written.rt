@@ -1,82 +1,119 @@
 //! Nodes with their texts as bytes, one behind another: a node's field and kind in one number, and then
 //! its value, or how often its text stands, the text's length and the text. So a node mostly takes few
 //! bytes, and many nodes take memory once.
-ghost use Rattle.std.specs.Prelude.{◌≡◌, ℕ, ◌^◌, ◌<◌, List, ◌++◌, OnOk};
+ghost use Rattle.std.specs.Prelude.{◌≡◌, ℕ, ◌+◌, ◌^◌, ◌<◌, ◌≤◌, List, [], ◌++◌, length, vec_len, vec_capacity, IfOk, OnOk};
 ghost use Rattle.wire_varint.specs.Varint.{varint};
 ghost use Rattle.field_tree.specs.Nodes.{Shown};
-ghost use Rattle.field_tree.specs.Written as written;
-ghost use Rattle.field_tree.specs.Written.{written_node, HasItsNumbers, IsWritable, IsFirst};
+ghost use Rattle.field_tree.specs.Written.{written_node, IsWritable, IsFirst};
 
 use crate::node::FieldNode;
 use std::alloc::AllocError;
 use wire_varint::{get_varint, put_varint};
 
-/// A node's field and its kind in one number.
-fn tag_of(node: FieldNode) -> u64
-    ensures { result ≡ written.tag_of node }
-{
-    match node {
-        FieldNode::Number { field, value: _ } => 4 * u64::from(field),
-        FieldNode::Bytes { field, times: _ } => 4 * u64::from(field) + 1,
-        FieldNode::Begin { field } => 4 * u64::from(field) + 2,
-        FieldNode::End => 3,
-    }
-}
+/// The most bytes of one number.
+const NUMBER_LEN: usize = 10;
 
-/// Appends a number of any length.
+/// Appends a number of more than two bytes, for which there is room.
+#[tactic(auto, unfolding(wire_varint::specs::Varint::varint, wire_varint::specs::Varint::groups))]
 #[inline(never)]
-fn push_long(code: &mut Vec<u8>, number: u64) -> Result<(), AllocError>
-    ensures { OnOk result (code.new.items ≡ code.old.items ++ varint number) }
+fn put_long(code: &mut Vec<u8>, number: u64)
+    requires long { 16384 ≤ number }
+    requires room { vec_len code.old + NUMBER_LEN ≤ vec_capacity code.old }
+    ensures put { code.new.items ≡ code.old.items ++ varint number }
+    ensures few { vec_len code.new ≤ vec_len code.old + NUMBER_LEN }
+    ensures room { vec_capacity code.old ≤ vec_capacity code.new }
 {
-    let mut bytes = [0; 10];
+    if number < 2_097_152 {
+        code.push_reserved(128 + (number % 128) as u8);
+        code.push_reserved(128 + (number / 128 % 128) as u8);
+        code.push_reserved((number / 128 / 128) as u8);
+        return;
+    }
+    if number < 268_435_456 {
+        code.push_reserved(128 + (number % 128) as u8);
+        code.push_reserved(128 + (number / 128 % 128) as u8);
+        code.push_reserved(128 + (number / 128 / 128 % 128) as u8);
+        code.push_reserved((number / 128 / 128 / 128) as u8);
+        return;
+    }
+    let mut bytes = [0; NUMBER_LEN];
     let len = put_varint(number, &mut bytes);
-    code.extend_from_slice(&bytes[..len])
+    let _ = code.extend_from_slice(&bytes[..len]);
 }
 
-/// Appends a number. Most have one byte, or two.
+/// Appends a number, for which there is room. Most have one byte, or two.
 #[tactic(auto, unfolding(wire_varint::specs::Varint::varint, wire_varint::specs::Varint::groups))]
 #[inline(always)]
-fn push_number(code: &mut Vec<u8>, number: u64) -> Result<(), AllocError>
-    ensures { OnOk result (code.new.items ≡ code.old.items ++ varint number) }
+fn put_number(code: &mut Vec<u8>, number: u64)
+    requires room { vec_len code.old + NUMBER_LEN ≤ vec_capacity code.old }
+    ensures put { code.new.items ≡ code.old.items ++ varint number }
+    ensures few { vec_len code.new ≤ vec_len code.old + NUMBER_LEN }
+    ensures room { vec_capacity code.old ≤ vec_capacity code.new }
 {
     if number < 128 {
-        code.push(number as u8)?;
-        return Ok(());
+        code.push_reserved(number as u8);
+        return;
     }
     if number < 16_384 {
-        code.push(128 + (number % 128) as u8)?;
-        code.push((number / 128) as u8)?;
-        return Ok(());
+        code.push_reserved(128 + (number % 128) as u8);
+        code.push_reserved((number / 128) as u8);
+        return;
     }
-    push_long(code, number)
+    put_long(code, number);
 }
 
-/// Appends what stands behind a node's tag.
-#[inline(always)]
-fn push_value(code: &mut Vec<u8>, node: FieldNode, text: &[u8]) -> Result<(), AllocError>
-    ensures pushed { OnOk result (code.new.items ≡ code.old.items ++ written.written_value node text.now) }
-    ensures numbers { HasItsNumbers node }
-{
-    match node {
-        FieldNode::Number { field: _, value } => push_number(code, value),
-        FieldNode::Bytes { field: _, times } => {
-            push_number(code, u64::from(times))?;
-            push_number(code, text.len() as u64)?;
-            code.extend_from_slice(text)
-        }
-        _ => Ok(()),
-    }
-}
-
-/// Appends a node with its text.
+/// Appends a number's node, and answers how many bytes its value has.
 #[tactic(auto, unfolding(crate::specs::Written::written_node))]
 #[inline(always)]
-pub(crate) fn push_node(code: &mut Vec<u8>, node: FieldNode, text: &[u8]) -> Result<(), AllocError>
-    ensures pushed { OnOk result (code.new.items ≡ code.old.items ++ written_node (node, text.now)) }
-    ensures numbers { OnOk result (HasItsNumbers node) }
+pub(crate) fn push_number(code: &mut Vec<u8>, field: u32, value: u64) -> Result<usize, AllocError>
+    ensures pushed { OnOk result (code.new.items ≡ code.old.items ++ written_node (FieldNode.Number field value, [])) }
+    ensures len { IfOk result (λ len. len ≡ length (varint value)) }
+    ensures few { IfOk result (λ len. len ≤ NUMBER_LEN) }
 {
-    push_number(code, tag_of(node))?;
-    push_value(code, node, text)
+    code.reserve(2 * NUMBER_LEN)?;
+    put_number(code, 4 * u64::from(field));
+    let before = code.len();
+    put_number(code, value);
+    Ok(code.len() - before)
+}
+
+/// Appends the node of a text that stands so many times over.
+#[tactic(auto, unfolding(crate::specs::Written::written_node))]
+#[inline(always)]
+pub(crate) fn push_text(
+    code: &mut Vec<u8>,
+    field: u32,
+    times: u32,
+    text: &[u8],
+) -> Result<(), AllocError>
+    ensures { OnOk result (code.new.items ≡ code.old.items ++ written_node (FieldNode.Bytes field times, text.now)) }
+{
+    code.reserve(3 * NUMBER_LEN)?;
+    put_number(code, 4 * u64::from(field) + 1);
+    put_number(code, u64::from(times));
+    put_number(code, text.len() as u64);
+    code.extend_from_slice(text)
+}
+
+/// Appends the node with which a nested message begins.
+#[tactic(auto, unfolding(crate::specs::Written::written_node))]
+#[inline(always)]
+pub(crate) fn push_begin(code: &mut Vec<u8>, field: u32) -> Result<(), AllocError>
+    ensures { OnOk result (code.new.items ≡ code.old.items ++ written_node (FieldNode.Begin field, [])) }
+{
+    code.reserve(NUMBER_LEN)?;
+    put_number(code, 4 * u64::from(field) + 2);
+    Ok(())
+}
+
+/// Appends the node with which one ends.
+#[tactic(auto, unfolding(crate::specs::Written::written_node, wire_varint::specs::Varint::varint, wire_varint::specs::Varint::groups))]
+#[inline(always)]
+pub(crate) fn push_end(code: &mut Vec<u8>) -> Result<(), AllocError>
+    ensures { OnOk result (code.new.items ≡ code.old.items ++ written_node (FieldNode.End, [])) }
+{
+    code.push(3)?;
+    Ok(())
 }
 
 /// A node with its text, and what stands behind both.

@@ -13,17 +13,25 @@ bytes-init c = (
   c.start.ensures.kept,
 )
 
-pub scan-requires-clause-valid : goal.scan-requires-clause-valid
-scan-requires-clause-valid c = valid_before _ _ (reading c.bytes.parser c.bytes.mode) c.bytes.invariant.0
+pub read_on-requires-clause-valid : goal.read_on-requires-clause-valid
+read_on-requires-clause-valid c = valid_before _ _ (reading c.bytes.parser c.bytes.mode) c.bytes.invariant.0
+
+pub read_on-requires-clause-depth : goal.read_on-requires-clause-depth
+read_on-requires-clause-depth c =
+    let deep = depth_before _ _ (reading c.bytes.parser c.bytes.mode) c.bytes.invariant.0 in
+    omega arith
+
+pub bytes-preserved-then-left-rest : goal.bytes-preserved-then-left-rest
+bytes-preserved-then-left-rest c = (over_both _ _ _ _ _ _ c.bytes.invariant.0 c.in-Ok.ensures.over, c.in-Ok.ensures.kept)
 
 pub end-requires-clause-depth : goal.end-requires-clause-depth
 end-requires-clause-depth c =
-    let deep = depth_before _ _ (reading c.scan.new.self c.scan.new.mode) (over_both _ _ _ _ _ _ c.bytes.invariant.0 c.in-Ok.ensures.over) in
+    let deep = depth_before _ _ (reading c.read_on.new.self c.in-Ok.to) (over_both _ _ _ _ _ _ c.bytes.invariant.0 c.in-Ok.ensures.over) in
     omega arith
 
 pub end-requires-clause-valid : goal.end-requires-clause-valid
 end-requires-clause-valid c =
-    valid_before _ _ (reading c.scan.new.self c.scan.new.mode) (over_both _ _ _ _ _ _ c.bytes.invariant.0 c.in-Ok.ensures.over)
+    valid_before _ _ (reading c.read_on.new.self c.in-Ok.to) (over_both _ _ _ _ _ _ c.bytes.invariant.0 c.in-Ok.ensures.over)
 
 pub returns-in-Ok-true : goal.returns-in-Ok-true
 returns-in-Ok-true c =
@@ -44,12 +52,12 @@ returns-in-Ok-false c =
 
 pub step-requires-clause-depth : goal.step-requires-clause-depth
 step-requires-clause-depth c =
-    let deep = depth_before _ _ (reading c.scan.new.self c.scan.new.mode) (over_both _ _ _ _ _ _ c.bytes.invariant.0 c.in-Ok.ensures.over) in
+    let deep = depth_before _ _ (reading c.read_on.new.self c.in-Ok.to) (over_both _ _ _ _ _ _ c.bytes.invariant.0 c.in-Ok.ensures.over) in
     omega arith
 
 pub step-requires-clause-valid : goal.step-requires-clause-valid
 step-requires-clause-valid c =
-    valid_before _ _ (reading c.scan.new.self c.scan.new.mode) (over_both _ _ _ _ _ _ c.bytes.invariant.0 c.in-Ok.ensures.over)
+    valid_before _ _ (reading c.read_on.new.self c.in-Ok.to) (over_both _ _ _ _ _ _ c.bytes.invariant.0 c.in-Ok.ensures.over)
 
 pub bytes-preserved : goal.bytes-preserved
 bytes-preserved c =

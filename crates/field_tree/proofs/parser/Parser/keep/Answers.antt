@@ -1,0 +1,10 @@
+use Rattle.field_tree.specs.Machine.{with_text}
+use Rattle.field_tree.specs.Views.{reading}
+use Rattle.field_tree.proofs.ScanLemmas.{stays_here}
+use Rattle.field_tree.proofs.parser.Parser.keep.Goals as goal
+
+pub returns-clause-over : goal.returns-clause-over
+returns-clause-over c =
+    let old = c.args.self.now in
+    let pushed = c.in_ok-push_bytes.ensures.pushed in
+    rw (pushed.0, pushed.1, pushed.2, c.requires.between) (stays_here (with_text c.args.scanned.text.now (reading old c.args.scanned.mode)) c.args.scanned.behind.now)
