@@ -160,6 +160,24 @@ impl Parser {
         }
     }
 
+    /// Reads on over pairs of hexadecimal digits, where the reading stands among them. It is apart so
+    /// that what most bytes are read by tells few modes from one another.
+    #[inline(never)]
+    fn read_pairs<'t>(
+        &mut self,
+        mode: Mode,
+        bytes: &'t [u8],
+    ) -> Result<(Mode, &'t [u8]), AllocError>
+        requires { Keeps self.old }
+        ensures over { IfOk result (λ to. RunsOver (reading self.old mode) bytes.now (reading self.new to.0) to.1.now) }
+        ensures kept { OnOk result (Keeps self.new) }
+    {
+        match mode {
+            Mode::Pairs { field: _ } => Ok((mode, self.scan_pairs(bytes)?)),
+            _ => Ok((mode, bytes)),
+        }
+    }
+
     /// Reads on over the bytes in front that are read at once, and answers where the reading stands
     /// then and the bytes behind them.
     #[inline(always)]
@@ -177,8 +195,7 @@ impl Parser {
         match mode {
             Mode::Start { opened } => self.read_field(opened, bytes),
             Mode::After => self.read_behind(bytes),
-            Mode::Pairs { field: _ } => Ok((mode, self.scan_pairs(bytes)?)),
-            _ => Ok((mode, bytes)),
+            _ => self.read_pairs(mode, bytes),
         }
     }
 }
