@@ -155,6 +155,7 @@ pub(crate) fn ask_flushed<W: Words, H: HelperOn<W>>(
 }
 
 /// The writer is asked for a call. One that a writer notes by itself isn't asked for.
+#[inline(always)]
 pub fn ask_one<W: Words, H: HelperOn<W>, L: Ledger>(
     core: &mut WriterCore<W::Writer>,
     table: &mut W,

@@ -44,6 +44,7 @@ impl<W: Words> Host<W, W::Writer, W::Service> {
     ghost use Rattle.replay_host.specs.Stopping.{Stalls};
 
     /// The writer at this place is asked for a call.
+    #[inline(always)]
     pub fn ask<L: Ledger>(
         &mut self,
         steps: &mut Steps<L>,
