@@ -15,6 +15,7 @@ use thread_writer::{Asks, Helper, TraceWriter};
 use trace_base::steps::Steps;
 
 /// The writer is asked for a call, which it does: a helper that never refuses lets no writer stall.
+#[inline(always)]
 pub(crate) fn ask<H: Helper, L: Ledger>(
     table: &HostTable,
     help: &mut Asks<H>,
