@@ -3,7 +3,7 @@ use Rattle.std.proofs.Common.{◌≡◌, ℕ, ◌+◌, ◌-◌, ◌*◌, ◌<◌
 use Rattle.std.proofs.lemmas.Bool.{cond_both, cond-false, and_parts, leb-true, ne_eqb}
 use Rattle.std.specs.List.{AllByRecursion}
 use Rattle.trace_base.specs.declared.limits.TheConstants.{MAX_FIELD, MAX_PACKET_LEN}
-use Rattle.field_tree.specs.declared.mode.Mode.TheVariants.{Start, Field, Value, Digits, Text, Quoted, Star, Times, Pairs, Half, Packed}
+use Rattle.field_tree.specs.declared.mode.Mode.TheVariants.{Start, Field, Value, Digits, Text, Quoted, Star, Times, Tick, Pairs, Half, Packed}
 use Rattle.field_tree.specs.declared.mode.Action.{Action}
 use Rattle.field_tree.specs.declared.mode.Action.TheVariants.{Go, Keep}
 use Rattle.field_tree.specs.Nodes.{Shown}
@@ -90,6 +90,18 @@ at_colon ns d n = refl
 pub at_quote : (ns : List Shown) (d n : ℕ) → next (reading_with ns d [] (Value n)) 34 ≡ Some (reading_with ns d [] (Text n))
 unfolding next act applied
 at_quote ns d n = refl
+
+pub at_x : (ns : List Shown) (d n : ℕ) → next (reading_with ns d [] (Value n)) 120 ≡ Some (reading_with ns d [] (Tick n))
+unfolding next act applied
+at_x ns d n = refl
+
+pub at_tick : (ns : List Shown) (d n : ℕ) → next (reading_with ns d [] (Tick n)) 39 ≡ Some (reading_with ns d [] (Pairs n))
+unfolding next act applied
+at_tick ns d n = refl
+
+pub at_second_tick : (ns : List Shown) (d n : ℕ) (t : List ℕ) → next (reading_with ns d t (Pairs n)) 39 ≡ Some (reading_with ns d t (Packed n))
+unfolding next act applied
+at_second_tick ns d n t = refl
 
 pub at_second_quote : (ns : List Shown) (d n : ℕ) (t : List ℕ) → next (reading_with ns d t (Text n)) 34 ≡ Some (reading_with ns d t (Quoted n))
 unfolding next act applied

@@ -48,20 +48,20 @@ pub(crate) fn grown(most: u64, value: u64, byte: u8) -> Option<u64>
     Some(value * 10 + digit)
 }
 
-/// The value of a lower-case hexadecimal digit.
+/// The value of a lower-case hexadecimal digit. Which digits and which letters stand in a text can't be
+/// foreseen, so there is one branch, for what is neither.
 #[tactic(auto, unfolding(crate::specs::Machine::hex_value))]
 #[inline(always)]
 pub(crate) fn hex_value(byte: u8) -> Option<u8>
     ensures value { result ≡ machine.hex_value byte }
     ensures within { IfSome result (λ digit. digit < 16) }
 {
-    if is_digit(byte) {
-        Some(byte - b'0')
-    } else if b'a' <= byte && byte <= b'f' {
-        Some(byte - b'a' + 10)
+    let value = if is_digit(byte) {
+        byte - b'0'
     } else {
-        None
-    }
+        byte.wrapping_sub(b'a').saturating_add(10)
+    };
+    if value < 16 { Some(value) } else { None }
 }
 
 /// What is done at a byte, inside a nested message or not.

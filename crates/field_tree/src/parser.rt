@@ -126,7 +126,7 @@ impl Parser {
     /// Adds the text that was being read.
     #[tactic(auto, unfolding(crate::specs::Judged::level), using(crate::proofs::ParserLemmas::node_shown))]
     #[inline(never)]
-    fn push_kept(&mut self, field: u32, times: u32) -> Result<(), AllocError>
+    pub fn push_kept(&mut self, field: u32, times: u32) -> Result<(), AllocError>
         requires kept { Keeps self.old }
         requires depth { self.old.depth < usize.MAX }
         ensures pushed { OnOk result (AddsNode (FieldNode.Bytes field times) (text_read self.old) self.old self.new) }
@@ -203,6 +203,7 @@ impl Parser {
     pub fn scan_pairs<'t>(&mut self, bytes: &'t [u8]) -> Result<&'t [u8], AllocError>
         requires { Keeps self.old }
         ensures over { (field : ℕ) → IfOk result (λ behind. RunsOver (reading self.old (Pairs field)) bytes.now (reading self.new (Pairs field)) behind.now) }
+        ensures depth { OnOk result (self.new.depth ≡ self.old.depth) }
         ensures kept { OnOk result (Keeps self.new) }
     {
         let mut rest = bytes;

@@ -6,7 +6,7 @@ ghost use Rattle.field_tree.specs.Nodes.{Shown};
 ghost use Rattle.field_tree.specs.Grammar.{IsTextByte};
 ghost use Rattle.field_tree.specs.Machine.{TextReading};
 ghost use Rattle.field_tree.specs.Machine as machine;
-ghost use Rattle.field_tree.specs.declared.mode.Mode.TheVariants.{Start, Value, Text, Quoted};
+ghost use Rattle.field_tree.specs.declared.mode.Mode.TheVariants.{Start, Value, Text, Quoted, Tick};
 ghost use Rattle.field_tree.specs.Scanning.{reading_with, RunsOver, IsPair, TakesDigits, ScansFrom};
 
 use crate::act::{grown, hex_value, is_first_digit, is_text_byte};
@@ -145,6 +145,25 @@ fn scan_text(field: u32, bytes: &[u8]) -> Scanned<'_>
     }
 }
 
+/// Reads on behind the `x` of a text that is written in pairs of hexadecimal digits.
+#[inline(always)]
+fn scan_packed(field: u32, bytes: &[u8]) -> Scanned<'_>
+    ensures { ScansFrom (Tick field) bytes.now result }
+{
+    match first_byte(bytes) {
+        Some((b'\'', behind)) => Scanned {
+            mode: Mode::Pairs { field },
+            text: &[],
+            behind,
+        },
+        _ => Scanned {
+            mode: Mode::Tick { field },
+            text: &[],
+            behind: bytes,
+        },
+    }
+}
+
 /// Reads on behind a field's colon.
 #[inline(always)]
 fn scan_value(field: u32, bytes: &[u8]) -> Scanned<'_>
@@ -152,6 +171,7 @@ fn scan_value(field: u32, bytes: &[u8]) -> Scanned<'_>
 {
     match first_byte(bytes) {
         Some((b'"', rest)) => scan_text(field, rest),
+        Some((b'x', rest)) => scan_packed(field, rest),
         Some((first, rest)) if is_first_digit(first) => {
             let digits = take_digits(u64::MAX, (first - b'0') as u64, rest);
             Scanned {

@@ -2,7 +2,7 @@
 ghost use Rattle.std.specs.Prelude.{◌≡◌, ◌<◌, [], IfOk, OnOk, Some, true};
 ghost use Rattle.field_tree.specs.Machine.{IsValid, pending, ends_here, with_text, next};
 ghost use Rattle.field_tree.specs.declared.node.FieldNode.TheVariants.{Bytes};
-ghost use Rattle.field_tree.specs.declared.mode.Mode.TheVariants.{Start, Field, Digits, After};
+ghost use Rattle.field_tree.specs.declared.mode.Mode.TheVariants.{Start, Field, Digits, Pairs, Packed, After};
 ghost use Rattle.field_tree.specs.Scanning.{RunsOver};
 ghost use Rattle.field_tree.specs.Views.{reading, text_read, Keeps};
 
@@ -125,6 +125,47 @@ impl Parser {
         }
     }
 
+    /// Reads on behind the tick that ends a text of pairs.
+    #[tactic(auto, unfolding(crate::specs::Judged::level))]
+    #[inline(always)]
+    fn read_packed<'t>(
+        &mut self,
+        field: u32,
+        bytes: &'t [u8],
+    ) -> Result<(Mode, &'t [u8]), AllocError>
+        requires kept { Keeps self.old }
+        requires depth { self.old.depth < usize.MAX }
+        ensures over { IfOk result (λ to. RunsOver (reading self.old (Packed field)) bytes.now (reading self.new to.0) to.1.now) }
+        ensures kept { OnOk result (Keeps self.new) }
+    {
+        match first_byte(bytes) {
+            Some((byte, behind)) if self.ends_here(byte) => {
+                self.push_kept(field, 1)?;
+                Ok((self.end_field(byte)?, behind))
+            }
+            _ => Ok((Mode::Packed { field }, bytes)),
+        }
+    }
+
+    /// Reads on over pairs of hexadecimal digits.
+    #[inline(always)]
+    fn read_pairs<'t>(
+        &mut self,
+        field: u32,
+        bytes: &'t [u8],
+    ) -> Result<(Mode, &'t [u8]), AllocError>
+        requires kept { Keeps self.old }
+        requires depth { self.old.depth < usize.MAX }
+        ensures over { IfOk result (λ to. RunsOver (reading self.old (Pairs field)) bytes.now (reading self.new to.0) to.1.now) }
+        ensures kept { OnOk result (Keeps self.new) }
+    {
+        let left = self.scan_pairs(bytes)?;
+        match first_byte(left) {
+            Some((b'\'', behind)) => self.read_packed(field, behind),
+            _ => Ok((Mode::Pairs { field }, left)),
+        }
+    }
+
     /// Keeps the text that was read so far.
     #[inline(always)]
     fn keep<'t>(&mut self, scanned: Scanned<'t>) -> Result<(Mode, &'t [u8]), AllocError>
@@ -160,20 +201,21 @@ impl Parser {
         }
     }
 
-    /// Reads on over pairs of hexadecimal digits, where the reading stands among them. It is apart so
-    /// that what most bytes are read by tells few modes from one another.
+    /// Reads on where no field begins and none has ended. It is apart so that what most bytes are read by
+    /// tells few modes from one another.
     #[inline(never)]
-    fn read_pairs<'t>(
+    fn read_apart<'t>(
         &mut self,
         mode: Mode,
         bytes: &'t [u8],
     ) -> Result<(Mode, &'t [u8]), AllocError>
-        requires { Keeps self.old }
+        requires kept { Keeps self.old }
+        requires depth { self.old.depth < usize.MAX }
         ensures over { IfOk result (λ to. RunsOver (reading self.old mode) bytes.now (reading self.new to.0) to.1.now) }
         ensures kept { OnOk result (Keeps self.new) }
     {
         match mode {
-            Mode::Pairs { field: _ } => Ok((mode, self.scan_pairs(bytes)?)),
+            Mode::Pairs { field } => self.read_pairs(field, bytes),
             _ => Ok((mode, bytes)),
         }
     }
@@ -195,7 +237,7 @@ impl Parser {
         match mode {
             Mode::Start { opened } => self.read_field(opened, bytes),
             Mode::After => self.read_behind(bytes),
-            _ => self.read_pairs(mode, bytes),
+            _ => self.read_apart(mode, bytes),
         }
     }
 }

@@ -1,7 +1,7 @@
 use Rattle.std.proofs.Common.{ℕ, ◌-◌, [], ◌∷◌, sym, ap, ◌∙◌}
-use Rattle.field_tree.specs.declared.mode.Mode.TheVariants.{Value, Digits, Text}
+use Rattle.field_tree.specs.declared.mode.Mode.TheVariants.{Value, Digits, Text, Tick}
 use Rattle.field_tree.specs.Scanning.{reading_with}
-use Rattle.field_tree.proofs.ScanLemmas.{stays_here, over_front, first_of_value, value_takes, at_quote}
+use Rattle.field_tree.proofs.ScanLemmas.{stays_here, over_front, first_of_value, value_takes, at_quote, at_x}
 use Rattle.field_tree.proofs.scan.scan_value.Goals as goal
 
 pub returns-in-Some-eq34-default : goal.returns-in-Some-eq34-default
@@ -11,6 +11,14 @@ returns-in-Some-eq34-default c nodes depth =
     over_front 34 (reading_with nodes depth [] (Value field)) (reading_with nodes depth [] (Text field)) (reading_with nodes depth c.scan_text.result.text.now c.scan_text.result.mode)
     c.args.bytes.now quote.rest.now c.scan_text.result.behind.now (quote.ensures ∙ ap (λ (b : ℕ). b ∷ quote.rest.now) quote.field-0-0-test)
     (at_quote nodes depth field) (c.scan_text.ensures nodes depth)
+
+pub returns-in-Some-eq120-default : goal.returns-in-Some-eq120-default
+returns-in-Some-eq120-default c nodes depth =
+    let field = c.args.field in
+    let x = c.in-Some-eq120-default in
+    over_front 120 (reading_with nodes depth [] (Value field)) (reading_with nodes depth [] (Tick field)) (reading_with nodes depth c.scan_packed.result.text.now c.scan_packed.result.mode)
+    c.args.bytes.now x.rest.now c.scan_packed.result.behind.now (x.ensures ∙ ap (λ (b : ℕ). b ∷ x.rest.now) x.field-0-0-test)
+    (at_x nodes depth field) (c.scan_packed.ensures nodes depth)
 
 pub returns-in-Some : goal.returns-in-Some
 returns-in-Some c nodes depth =
