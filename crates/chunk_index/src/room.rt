@@ -9,7 +9,7 @@ ghost use Rattle.chunk_index.specs.Room.{HasRoom};
 use crate::slot::{Entry, find_slot, key_number};
 
 /// How many entries the slots have room for at first: an index that stays small touches little memory.
-pub const FIRST_ROOM: u32 = 16_384;
+pub const FIRST_ROOM: u32 = 32_768;
 
 /// Sees to it that there is room for one more entry, and answers for how many there is.
 #[inline]
