@@ -20,4 +20,5 @@ pub mod ReachLemmas
 pub mod PossibleLemmas
 pub mod ShortLemmas
 pub mod ChunksAskedLemmas
+pub mod PacketLemmas
 mod KeptLemmas

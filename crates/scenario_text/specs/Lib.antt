@@ -19,3 +19,4 @@ pub mod Texts
 pub mod Trees
 pub mod View
 pub mod KeptLines
+pub mod PacketLines

@@ -74,7 +74,7 @@ fn nested(before: u32, depth: u8, field: Numeral) -> Result<Addition<'static>, L
 /// are open.
 #[inline(always)]
 #[tactic(auto, using(crate::proofs::FieldLemmas::fault_fits, crate::proofs::FieldLemmas::reason_from), unfolding(crate::specs::Reasons::step_len))]
-fn given_fields<'c>(
+pub fn given_fields<'c>(
     parser: &'c mut FieldParser,
     before: u32,
     fields: &[u8],
@@ -84,6 +84,7 @@ fn given_fields<'c>(
     requires depth { depth ≤ MAX_NESTING }
     ensures packet { GivesAddition before (Packet true) result (outcome depth fields.now) }
     ensures add { GivesAddition before Add result (outcome depth fields.now) }
+    ensures most { IfOk result (λ given. given.len ≤ MAX_PACKET_LEN) }
 {
     match parser.parse(fields, depth) {
         Ok(found) => Ok(Addition {

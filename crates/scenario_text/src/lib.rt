@@ -16,6 +16,7 @@ pub mod lines;
 mod number;
 pub mod numeral;
 mod open_packet;
+mod packet_line;
 pub mod pieces;
 mod playing;
 mod printing;

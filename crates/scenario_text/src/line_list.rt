@@ -3,6 +3,7 @@
 ghost use Rattle.std.specs.Prelude.{◌≡◌, ◌==◌, ◌∷◌, ◌++◌, [], length, IfSome, IfNone, OnOk, OnErr};
 ghost use Rattle.scenario_text.specs.KeptLines as kept;
 ghost use Rattle.scenario_text.specs.KeptLines.{kind_of, HasOwn};
+ghost use Rattle.scenario_text.specs.declared.scenario.LineKind.TheVariants as kinds;
 
 use crate::scenario::{LineKind, NumberedLine};
 use field_tree::Fields;
@@ -167,14 +168,16 @@ impl LineList {
         self.heads.is_empty()
     }
 
-    /// Adds a line behind the others. Where memory runs out, there is none more.
-    pub fn push(&mut self, line: u32, what: LineKind<'_>) -> Result<(), AllocError>
-        ensures pushed { OnOk result (self.new ≡ self.old ++ (record { line = line; what = what.entry }) ∷ []) }
+    /// Adds a line behind the others, with the bytes that are its own.
+    #[inline(always)]
+    fn push_head(&mut self, head: KeptLine, own: &[u8]) -> Result<(), AllocError>
+        requires own { HasOwn head.what own.now }
+        requires len { kept.own_len head.what ≡ length own.now }
+        ensures pushed { OnOk result (self.new ≡ self.old ++ (record { line = head.line; what = kind_of head.what own.now }) ∷ []) }
         ensures kept { OnErr result (self.new ≡ self.old) }
     {
-        let Parted { what, own } = part_line(&what);
         let len = self.heads.len();
-        self.heads.push(KeptLine { line, what })?;
+        self.heads.push(head)?;
         match self.code.extend_from_slice(own) {
             Ok(()) => Ok(()),
             Err(_) => {
@@ -182,6 +185,34 @@ impl LineList {
                 Err(AllocError)
             }
         }
+    }
+
+    /// Adds a line behind the others. Where memory runs out, there is none more.
+    pub fn push(&mut self, line: u32, what: LineKind<'_>) -> Result<(), AllocError>
+        ensures pushed { OnOk result (self.new ≡ self.old ++ (record { line = line; what = what.entry }) ∷ []) }
+        ensures kept { OnErr result (self.new ≡ self.old) }
+    {
+        let Parted { what, own } = part_line(&what);
+        self.push_head(KeptLine { line, what }, own)
+    }
+
+    /// The same for the line of a whole packet, as most lines are.
+    #[inline(always)]
+    pub(crate) fn push_packet(
+        &mut self,
+        line: u32,
+        writer: u16,
+        fields: Fields<'_>,
+    ) -> Result<(), AllocError>
+        ensures pushed { OnOk result (self.new ≡ self.old ++ (record { line = line; what = kinds.Packet writer fields.entry }) ∷ []) }
+        ensures kept { OnErr result (self.new ≡ self.old) }
+    {
+        let own = fields.code();
+        let what = KeptKind::Packet {
+            writer,
+            len: own.len(),
+        };
+        self.push_head(KeptLine { line, what }, own)
     }
 
     /// The lines, one after another.

@@ -6,6 +6,7 @@ ghost use Rattle.scenario_text.specs.Grammar.{earlier, says_nothing};
 use crate::line_fault::LineFault;
 use crate::numeral::Numeral;
 use crate::open_packet::OpenPacket;
+use crate::packet_line::packet_line;
 use crate::pieces::next_piece;
 use crate::reader::Reader;
 use crate::reading::form;
@@ -55,8 +56,27 @@ impl Reader {
     ghost use Rattle.scenario_text.specs.View.{state_of};
 
     /// A line that has its line feed.
-    #[tactic(auto, unfolding(crate::specs::Grammar::after_line, crate::specs::Grammar::after_form))]
+    #[inline(always)]
+    #[tactic(auto, using(crate::proofs::PacketLemmas::packet_form))]
     fn read_line(
+        &mut self,
+        parser: &mut FieldParser,
+        number: u32,
+        line: &[u8],
+    ) -> Result<(), LineFault>
+        requires { length line.now ≤ MAX_INPUT }
+        ensures { LeadsTo (state_of self.new) result (after_line (state_of self.old) number line.now) }
+    {
+        if let Some(found) = packet_line(line) {
+            return self.play_packet(parser, number, line, found);
+        }
+        self.read_other(parser, number, line)
+    }
+
+    /// A line of any form.
+    #[inline(never)]
+    #[tactic(auto, unfolding(crate::specs::Grammar::after_line, crate::specs::Grammar::after_form))]
+    fn read_other(
         &mut self,
         parser: &mut FieldParser,
         number: u32,

@@ -193,6 +193,7 @@ impl Reader {
     }
 
     /// A line of this form.
+    #[inline(never)]
     #[tactic(auto, using(crate::proofs::PlayLemmas::refused_in_front, crate::proofs::PlayLemmas::taken_buffer, crate::proofs::PlayLemmas::taken_producer, crate::proofs::PlayLemmas::taken_writer, crate::proofs::PlayLemmas::taken_step, crate::proofs::PlayLemmas::taken_read, crate::proofs::PlayLemmas::taken_request))]
     pub fn play(
         &mut self,

@@ -212,7 +212,7 @@ impl Reader {
         item(&self.scenario.buffers, number)
     }
 
-    fn writer(&self, number: Numeral) -> Option<WriterSpec>
+    pub fn writer(&self, number: Numeral) -> Option<WriterSpec>
         ensures { result ≡ item self.now.scenario.writers.items number }
     {
         item(&self.scenario.writers, number)
