@@ -1,7 +1,7 @@
 -- The calls that a scenario's lines ask of its writers, and that a writer accepts each of them where it stands: its fields,
 -- depths and lengths are those of what the writer has been asked to write so far. Which calls a writer accepts is this
 -- profile's: protobuf's field numbers, none of the service's own fields at the top level, and the limits of a packet.
-use Rattle.std.specs.Prelude.{◌≡◌, ℕ, ◌+◌, ◌*◌, ◌<◌, ◌≤◌, ◌==◌, Bool, true, false, List, [], ◌∷◌, ◌++◌, length, map, Some, slice_get, ⊤, if◌then◌else◌}
+use Rattle.std.specs.Prelude.{◌≡◌, ℕ, ◌+◌, ◌*◌, ◌<◌, ◌≤◌, ◌==◌, All, Bool, true, false, List, [], ◌∷◌, ◌++◌, length, map, Some, slice_get, ⊤, if◌then◌else◌}
 use Rattle.std.specs.List.{flat_map, list_any}
 use Rattle.trace_base.specs.declared.limits.TheConstants.{MAX_NESTING, MAX_PACKET_LEN}
 use Rattle.trace_base.specs.declared.policy.WriterSpec.{WriterSpec}
@@ -26,6 +26,23 @@ node_call (node.Number field value, text) = call.Number field value
 node_call (node.Bytes field times, text) = call.Bytes field text times
 node_call (node.Begin field, text) = call.Nested field
 node_call (node.End, text) = call.Ended
+
+-- the line is one of the writer with this number
+abbrev pub is_of : ℕ → LineKind → Bool
+is_of number (line.Packet writer fields) = number == writer
+is_of number (line.Begin writer) = number == writer
+is_of number (line.Add writer fields) = number == writer
+is_of number (line.Nest writer field) = number == writer
+is_of number (line.Unnest writer) = number == writer
+is_of number (line.End writer) = number == writer
+is_of number (line.Flush writer) = number == writer
+is_of number other = false
+
+-- the lines behind some that aren't the writer's
+pub record PassesOver (number : ℕ) (lines behind : List NumberedLine) : Type 0 where
+  pub passed : List NumberedLine
+  pub all : passed ++ behind ≡ lines
+  pub others : All (λ line. is_of number line.what ≡ false) passed
 
 -- the calls, where the line is one of the writer with this number
 abbrev pub if_own : ℕ → ℕ → List Call → List Call

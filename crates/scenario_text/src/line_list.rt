@@ -1,9 +1,11 @@
 //! The lines of a scenario, of which a large one has millions: the nodes of all stand behind one
 //! another in one list of bytes, so that memory isn't taken anew for each line.
-ghost use Rattle.std.specs.Prelude.{◌≡◌, ◌==◌, ◌∷◌, ◌++◌, [], length, IfSome, IfNone, OnOk, OnErr};
+ghost use Rattle.std.specs.Prelude.{◌≡◌, ℕ, ◌==◌, true, false, List, ◌∷◌, ◌++◌, [], length, IfSome, IfNone, OnOk, OnErr};
 ghost use Rattle.scenario_text.specs.KeptLines as kept;
 ghost use Rattle.scenario_text.specs.KeptLines.{kind_of, HasOwn};
 ghost use Rattle.scenario_text.specs.declared.scenario.LineKind.TheVariants as kinds;
+ghost use Rattle.scenario_text.specs.Accepted.{is_of, PassesOver};
+ghost use Rattle.scenario_text.specs.declared.scenario.NumberedLine.{NumberedLine};
 
 use crate::scenario::{LineKind, NumberedLine};
 use field_tree::Fields;
@@ -41,6 +43,22 @@ fn own_len(what: KeptKind) -> usize
         KeptKind::Packet { writer: _, len } => len,
         KeptKind::Add { writer: _, len } => len,
         _ => 0,
+    }
+}
+
+/// Whether the line is one of the writer with this number.
+fn is_of(number: u16, what: KeptKind) -> bool
+    ensures { (own : List ℕ) → result ≡ is_of number (kind_of what own) }
+{
+    match what {
+        KeptKind::Packet { writer, len: _ }
+        | KeptKind::Begin { writer }
+        | KeptKind::Add { writer, len: _ }
+        | KeptKind::Nest { writer, field: _ }
+        | KeptKind::Unnest { writer }
+        | KeptKind::End { writer }
+        | KeptKind::Flush { writer } => number == writer,
+        _ => false,
     }
 }
 
@@ -261,5 +279,35 @@ impl<'c> LineWalk<'c> {
             line: head.line,
             what: join_line(head.what, own),
         })
+    }
+
+    /// Passes over the next line where there is one, and it isn't one of the writer with this number. Little
+    /// is done for it: where each writer has a thread, all lines are walked once for each.
+    #[inline(always)]
+    fn pass_other(&mut self, number: u16) -> bool
+        ensures passed { result ≡ true → (line : NumberedLine) × (self.old ≡ line ∷ self.new) × (is_of number line.what ≡ false) }
+        ensures stays { result ≡ false → self.new ≡ self.old }
+        ensures own { result ≡ false → (line : NumberedLine) (behind : List NumberedLine) → self.old ≡ line ∷ behind
+            → is_of number line.what ≡ true }
+    {
+        let [head, heads @ ..] = self.heads else {
+            return false;
+        };
+        if is_of(number, head.what) {
+            return false;
+        }
+        let (_own, code) = self.code.split_at(own_len(head.what));
+        self.heads = heads;
+        self.code = code;
+        true
+    }
+
+    /// The next line of the writer with this number. The lines in front of it are passed over.
+    pub fn next_of(&mut self, number: u16) -> Option<NumberedLine<'c>>
+        ensures found { IfSome result (λ line. (is_of number line.what ≡ true) × PassesOver number self.old (line ∷ self.new)) }
+        ensures none { IfNone result (PassesOver number self.old [] × (self.new ≡ [])) }
+    {
+        while self.pass_other(number) {}
+        self.next()
     }
 }

@@ -1,5 +1,7 @@
 -- What a writer's lines ask of it, one by one.
-use Rattle.std.proofs.Common.{◌≡◌, ℕ, ◌==◌, Bool, true, false, List, [], ◌∷◌, ◌++◌, refl, sym, ap, subst, append_assoc}
+use Rattle.std.proofs.Common.{◌≡◌, ℕ, ◌==◌, Bool, true, false, List, [], ◌∷◌, ◌++◌, All, refl, sym, ap, subst, append-nil, append_assoc, ◌∙◌}
+use Rattle.std.proofs.lemmas.Grind.{flat_map-append}
+use Rattle.std.proofs.lemmas.List.Elements.{All-head, All-tail}
 use Rattle.std.specs.Prelude.{if◌then◌else◌}
 use Rattle.atomic_table.specs.Seated.{TableId}
 use Rattle.trace_model.specs.Calls.{Call}
@@ -7,12 +9,12 @@ use Rattle.chunk_words.specs.declared.host.HostTable.{HostTable}
 use Rattle.scenario_text.specs.declared.scenario.LineKind.{LineKind}
 use Rattle.scenario_text.specs.declared.scenario.LineKind.TheVariants as line
 use Rattle.scenario_text.specs.declared.scenario.NumberedLine.{NumberedLine}
-use Rattle.scenario_text.specs.Accepted.{line_calls, calls_asked}
+use Rattle.scenario_text.specs.Accepted.{is_of, line_calls, calls_asked, PassesOver}
 use Rattle.replay_host.proofs.LineLemmas.{calls_more}
 use Rattle.thread_writer.specs.declared.helper.Asks.{Asks}
 use Rattle.thread_writer.specs.declared.writer.TraceWriter.{TraceWriter}
-use Rattle.thread_host.specs.Playing.{is_of, calls_in, IsGoing, WasAsked}
-use Rattle.thread_host.proofs.Going.{asked_none, asked_both}
+use Rattle.thread_host.specs.Playing.{calls_in, IsGoing, WasAsked}
+use Rattle.thread_host.proofs.Going.{asked_both}
 
 -- what a line asks, where the line is known
 pub line_asked : {H : Type 0} (helps : H → ℕ → Bool → H → Type 0) (of_table : H → TableId → Type 0) (table : HostTable) (help : Asks H) (writer : TraceWriter)
@@ -60,18 +62,51 @@ other_calls number (line.Close producer) is = refl
 other_calls number (line.Read buffer limit) is = refl
 other_calls number line.Request is = refl
 
+-- ---- lines that are passed over
+
+abbrev another : ℕ → NumberedLine → Type 0
+another number line = is_of number line.what ≡ false
+
+others_ask_none : (number : ℕ) (lines : List NumberedLine) → All (another number) lines → calls_asked number lines ≡ []
+others_ask_none number [] others = refl
+others_ask_none number (line ∷ lines) others =
+    ap (λ (calls : List Call). calls ++ calls_asked number lines) (other_calls number line.what (All-head (another number) line lines others))
+    ∙ others_ask_none number lines (All-tail (another number) line lines others)
+
+-- what comes behind them asks for all that is still to come
+pub asked_behind : (number : ℕ) (lines behind : List NumberedLine) → PassesOver number lines behind → calls_asked number lines ≡ calls_asked number behind
+asked_behind number lines behind passes =
+    ap (calls_asked number) (sym passes.all)
+    ∙ flat_map-append (λ (one : NumberedLine). line_calls number one.what) passes.passed behind
+    ∙ ap (λ (calls : List Call). calls ++ calls_asked number behind) (others_ask_none number passes.passed passes.others)
+
+-- and they ask for nothing more than what stands before them
+pub asked_before : (number : ℕ) (before lines behind : List NumberedLine) (passes : PassesOver number lines behind)
+    → calls_asked number (before ++ passes.passed) ≡ calls_asked number before
+asked_before number before lines behind passes =
+    flat_map-append (λ (one : NumberedLine). line_calls number one.what) before passes.passed
+    ∙ ap (λ (calls : List Call). calls_asked number before ++ calls) (others_ask_none number passes.passed passes.others)
+    ∙ append-nil (calls_asked number before)
+
+-- all lines are those before them, they, and those behind
+pub passed_all : (before lines behind all : List NumberedLine) (number : ℕ) (passes : PassesOver number lines behind)
+    → before ++ lines ≡ all → (before ++ passes.passed) ++ behind ≡ all
+passed_all before lines behind all number passes is =
+    append_assoc before passes.passed behind ∙ ap (λ (ls : List NumberedLine). before ++ ls) passes.all ∙ is
+
 -- ---- the line that comes next
 
 module _ {H : Type 0} (helps : H → ℕ → Bool → H → Type 0) (of_table : H → TableId → Type 0) (table : HostTable) (number : ℕ) (line : NumberedLine) (others : List NumberedLine)
     (help : Asks H) (writer : TraceWriter)
   where
-    pub line_next : (walk : List NumberedLine) → walk ≡ line ∷ others → (place : ℕ) (asked coming : List Call)
+    pub line_next : (walk : List NumberedLine) → PassesOver number walk (line ∷ others) → (place : ℕ) (asked coming : List Call)
         → IsGoing helps of_table table place asked (calls_asked number walk ++ coming) help writer
         → IsGoing helps of_table table place asked (line_calls number line.what ++ (calls_asked number others ++ coming)) help writer
-    line_next walk is place asked coming going =
+    line_next walk passes place asked coming going =
         subst (λ (calls : List Call). IsGoing helps of_table table place asked calls help writer)
         (append_assoc (line_calls number line.what) (calls_asked number others) coming)
-        (subst (λ (lines : List NumberedLine). IsGoing helps of_table table place asked (calls_asked number lines ++ coming) help writer) is going)
+        (subst (λ (calls : List Call). IsGoing helps of_table table place asked (calls ++ coming) help writer)
+        (asked_behind number walk (line ∷ others) passes) going)
 
     -- it is the writer's own
     pub own_next : is_of number line.what ≡ true → (place : ℕ) (asked coming : List Call)
@@ -83,12 +118,6 @@ module _ {H : Type 0} (helps : H → ℕ → Bool → H → Type 0) (of_table : 
     pub own_played : (left : Asks H) (after : TraceWriter) → is_of number line.what ≡ true
         → WasAsked helps of_table table (calls_in line.what) help writer left after → WasAsked helps of_table table (line_calls number line.what) help writer left after
     own_played left after is = subst (λ (calls : List Call). WasAsked helps of_table table calls help writer left after) (sym (own_calls number line.what is))
-
-    -- it is another writer's, or the service's
-    pub other_played : is_of number line.what ≡ false → WasAsked helps of_table table (line_calls number line.what) help writer help writer
-    other_played is =
-        subst (λ (calls : List Call). WasAsked helps of_table table calls help writer help writer) (sym (other_calls number line.what is))
-        (asked_none helps of_table table help writer)
 
     -- the lines up to it were played
     pub played_more : (before : List NumberedLine) (first : Asks H) (at_first : TraceWriter) (left : Asks H) (after : TraceWriter)

@@ -1,5 +1,5 @@
 -- A writer of threads while it plays its lines: what it was asked for, and what is still to come.
-use Rattle.std.specs.Prelude.{◌≡◌, ℕ, ◌==◌, Bool, true, false, List, [], ◌∷◌, ◌++◌, map}
+use Rattle.std.specs.Prelude.{◌≡◌, ℕ, Bool, true, false, List, [], ◌∷◌, ◌++◌, map}
 use Rattle.atomic_table.specs.Seated.{TableId}
 use Rattle.trace_base.specs.declared.policy.WriterPolicy.{WriterPolicy}
 use Rattle.trace_base.specs.declared.policy.WriterPolicy.TheVariants.{Stalls}
@@ -23,17 +23,6 @@ use Rattle.thread_writer.specs.Lent.{identity_of}
 use Rattle.thread_writer.specs.Writing.{core_of, view_in, Writes}
 
 -- ---- lines
-
--- the line is one of the writer with this number
-abbrev pub is_of : ℕ → LineKind → Bool
-is_of number (line.Packet writer fields) = number == writer
-is_of number (line.Begin writer) = number == writer
-is_of number (line.Add writer fields) = number == writer
-is_of number (line.Nest writer field) = number == writer
-is_of number (line.Unnest writer) = number == writer
-is_of number (line.End writer) = number == writer
-is_of number (line.Flush writer) = number == writer
-is_of number other = false
 
 -- the calls that a line asks of the writer that it names
 abbrev pub calls_in : LineKind → List Call

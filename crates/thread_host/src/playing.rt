@@ -3,7 +3,7 @@ ghost use Rattle.std.specs.Prelude.{◌≡◌, ℕ, suc, ◌<◌, [], ◌∷◌,
 ghost use Rattle.trace_model.specs.Calls.{Flushed};
 ghost use Rattle.scenario_text.specs.Accepted.{calls_asked};
 ghost use Rattle.thread_host.specs.Hosts.{HasPlayed};
-ghost use Rattle.thread_host.specs.Playing.{is_of, calls_in, IsGoing, MayBeAsked, WasAsked};
+ghost use Rattle.thread_host.specs.Playing.{calls_in, IsGoing, MayBeAsked, WasAsked};
 
 use crate::asking::{ask, ask_fields, ask_packet};
 use byte_io::traits::Gate;
@@ -13,22 +13,6 @@ use scenario_text::{LineKind, LineList};
 use std::sync::ledger::{Blank, Ledger};
 use thread_writer::{Asks, Helper, TraceWriter};
 use trace_base::steps::Steps;
-
-/// Whether the line is one of the writer with this number.
-fn is_line_of(number: u16, line: &LineKind<'_>) -> bool
-    ensures { result ≡ is_of number line.now }
-{
-    match line {
-        LineKind::Packet { writer, fields: _ }
-        | LineKind::Begin { writer }
-        | LineKind::Add { writer, fields: _ }
-        | LineKind::Nest { writer, field: _ }
-        | LineKind::Unnest { writer }
-        | LineKind::End { writer }
-        | LineKind::Flush { writer } => number == *writer,
-        _ => false,
-    }
-}
 
 /// Plays a line of this writer.
 fn play_line<H: Helper, L: Ledger>(
@@ -78,12 +62,10 @@ fn play_lines<G: Gate, H: Helper, L: Ledger>(
     // There are never so many lines that the turn stands still.
     let mut turn: u64 = 1;
     let mut walk = lines.walk();
-    'lines: while let Some(line) = walk.next() {
-        if is_line_of(number, &line.what) {
-            gate.pass(number, turn);
-            turn = turn.saturating_add(1);
-            play_line(table, help, steps, writer, &line.what);
-        }
+    'lines: while let Some(line) = walk.next_of(number) {
+        gate.pass(number, turn);
+        turn = turn.saturating_add(1);
+        play_line(table, help, steps, writer, &line.what);
     }
     turn
 }
