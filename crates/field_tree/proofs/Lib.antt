@@ -7,6 +7,7 @@ pub mod EndLemmas
 pub mod Faults
 pub mod FirstLemmas
 pub mod FitLemmas
+pub mod HexLemmas
 pub mod JudgedLemmas
 pub mod LoopLemmas
 pub mod Messages

@@ -30,6 +30,15 @@ unfoldable pub hex_value : ℕ → Option ℕ
 hex_value byte =
     if is_digit byte then Some (byte - 48) else if nat_le 97 byte && nat_le byte 102 then Some (byte - 87) else None
 
+-- a value below 16, or more than any pair of digits says where there is none
+abbrev pub or_more : Option ℕ → ℕ
+or_more None = 256
+or_more (Some value) = value
+
+-- the value of a lower-case hexadecimal digit, and more than any pair of digits says for another byte
+abbrev pub digit_or_more : ℕ → ℕ
+digit_or_more byte = or_more (hex_value byte)
+
 -- the action with a number, where there is one; else the text is refused
 abbrev pub go_on : Option ℕ → (ℕ → Action) → Action
 go_on None action = Refuse

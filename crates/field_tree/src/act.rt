@@ -48,20 +48,43 @@ pub(crate) fn grown(most: u64, value: u64, byte: u8) -> Option<u64>
     Some(value * 10 + digit)
 }
 
-/// The value of a lower-case hexadecimal digit. Which digits and which letters stand in a text can't be
-/// foreseen, so there is one branch, for what is neither.
-#[tactic(auto, unfolding(crate::specs::Machine::hex_value))]
+/// The value of each byte as a lower-case hexadecimal digit. Which digits and which letters stand in a
+/// text can't be foreseen, so no branch tells them apart. Any other byte has 256, which is more than any
+/// pair of digits says.
+const HEX_VALUES: [u16; 256] = [
+    256, 256, 256, 256, 256, 256, 256, 256, 256, 256, 256, 256, 256, 256, 256, 256, 256, 256, 256,
+    256, 256, 256, 256, 256, 256, 256, 256, 256, 256, 256, 256, 256, 256, 256, 256, 256, 256, 256,
+    256, 256, 256, 256, 256, 256, 256, 256, 256, 256, 0, 1, 2, 3, 4, 5, 6, 7, 8, 9, 256, 256, 256,
+    256, 256, 256, 256, 256, 256, 256, 256, 256, 256, 256, 256, 256, 256, 256, 256, 256, 256, 256,
+    256, 256, 256, 256, 256, 256, 256, 256, 256, 256, 256, 256, 256, 256, 256, 256, 256, 10, 11,
+    12, 13, 14, 15, 256, 256, 256, 256, 256, 256, 256, 256, 256, 256, 256, 256, 256, 256, 256, 256,
+    256, 256, 256, 256, 256, 256, 256, 256, 256, 256, 256, 256, 256, 256, 256, 256, 256, 256, 256,
+    256, 256, 256, 256, 256, 256, 256, 256, 256, 256, 256, 256, 256, 256, 256, 256, 256, 256, 256,
+    256, 256, 256, 256, 256, 256, 256, 256, 256, 256, 256, 256, 256, 256, 256, 256, 256, 256, 256,
+    256, 256, 256, 256, 256, 256, 256, 256, 256, 256, 256, 256, 256, 256, 256, 256, 256, 256, 256,
+    256, 256, 256, 256, 256, 256, 256, 256, 256, 256, 256, 256, 256, 256, 256, 256, 256, 256, 256,
+    256, 256, 256, 256, 256, 256, 256, 256, 256, 256, 256, 256, 256, 256, 256, 256, 256, 256, 256,
+    256, 256, 256, 256, 256, 256, 256, 256, 256, 256, 256, 256, 256, 256, 256, 256, 256, 256, 256,
+    256, 256, 256, 256,
+];
+
+/// The value of a lower-case hexadecimal digit, and more than any pair of digits says for another byte.
+#[inline(always)]
+pub(crate) fn digit_or_more(byte: u8) -> u16
+    ensures value { result ≡ machine.digit_or_more byte }
+    ensures within { result ≤ 256 }
+{
+    HEX_VALUES[byte as usize]
+}
+
+/// The value of a lower-case hexadecimal digit.
 #[inline(always)]
 pub(crate) fn hex_value(byte: u8) -> Option<u8>
     ensures value { result ≡ machine.hex_value byte }
     ensures within { IfSome result (λ digit. digit < 16) }
 {
-    let value = if is_digit(byte) {
-        byte - b'0'
-    } else {
-        byte.wrapping_sub(b'a').saturating_add(10)
-    };
-    if value < 16 { Some(value) } else { None }
+    let value = digit_or_more(byte);
+    if value < 16 { Some(value as u8) } else { None }
 }
 
 /// What is done at a byte, inside a nested message or not.

@@ -14,6 +14,7 @@ use crate::scan::{first_byte, first_pair};
 use crate::survey::{Survey, begin_len, number_len, text_len};
 use crate::written::{push_begin, push_end, push_number, push_text};
 use std::alloc::{AllocError, Global};
+use std::mem;
 use trace_base::limits::MAX_INPUT;
 
 /// Room for what most packets are written in is taken at once, and so is room for a text with its
@@ -199,18 +200,22 @@ impl Parser {
         self.text.extend_from_slice(text)
     }
 
-    /// Reads on over pairs of hexadecimal digits, and answers the bytes behind them.
+    /// Reads on over pairs of hexadecimal digits, and answers the bytes behind them. Room is taken once
+    /// for all pairs that may stand there.
     pub fn scan_pairs<'t>(&mut self, bytes: &'t [u8]) -> Result<&'t [u8], AllocError>
         requires { Keeps self.old }
         ensures over { (field : ℕ) → IfOk result (λ behind. RunsOver (reading self.old (Pairs field)) bytes.now (reading self.new (Pairs field)) behind.now) }
         ensures depth { OnOk result (self.new.depth ≡ self.old.depth) }
         ensures kept { OnOk result (Keeps self.new) }
     {
+        let mut text = mem::try_take(&mut self.text)?;
+        text.reserve(bytes.len() / 2)?;
         let mut rest = bytes;
         'pairs: while let Some((byte, behind)) = first_pair(rest) {
-            self.push_byte(byte)?;
+            text.push_reserved(byte);
             rest = behind;
         }
+        self.text = text;
         Ok(rest)
     }
 

@@ -9,7 +9,7 @@ ghost use Rattle.field_tree.specs.Machine as machine;
 ghost use Rattle.field_tree.specs.declared.mode.Mode.TheVariants.{Start, Value, Text, Quoted, Tick};
 ghost use Rattle.field_tree.specs.Scanning.{reading_with, RunsOver, IsPair, TakesDigits, ScansFrom};
 
-use crate::act::{grown, hex_value, is_first_digit, is_text_byte};
+use crate::act::{digit_or_more, grown, is_first_digit, is_text_byte};
 use crate::mode::Mode;
 use trace_base::limits::{MAX_FIELD, MAX_PACKET_LEN};
 
@@ -66,16 +66,23 @@ fn take_digits(most: u64, start: u64, bytes: &[u8]) -> Digits<'_>
     }
 }
 
-/// The byte that the two hexadecimal digits in front say, and what stands behind them.
+/// The byte that the two hexadecimal digits in front say, and what stands behind them. One branch tells
+/// whether both are digits.
 #[inline(always)]
 pub(crate) fn first_pair(bytes: &[u8]) -> Option<(u8, &[u8])>
     ensures { IfSome result (λ found. IsPair bytes.now found.0 found.1.now) }
 {
-    let (high, rest) = first_byte(bytes)?;
-    let (low, behind) = first_byte(rest)?;
-    let high = hex_value(high)?;
-    let low = hex_value(low)?;
-    Some((16 * high + low, behind))
+    match bytes {
+        [high, low, behind @ ..] => {
+            let value = 16 * digit_or_more(*high) + digit_or_more(*low);
+            if value < 256 {
+                Some((value as u8, behind))
+            } else {
+                None
+            }
+        }
+        _ => None,
+    }
 }
 
 /// How many bytes of a text stand in front.
