@@ -147,8 +147,9 @@ impl Parser {
         }
     }
 
-    /// Reads on over pairs of hexadecimal digits.
-    #[inline(always)]
+    /// Reads on over pairs of hexadecimal digits. It is apart so that what most fields are read by stays
+    /// small.
+    #[inline(never)]
     fn read_pairs<'t>(
         &mut self,
         field: u32,
@@ -166,16 +167,20 @@ impl Parser {
         }
     }
 
-    /// Keeps the text that was read so far.
+    /// Keeps the text that was read so far. Behind the tick of a text of pairs it reads on over them.
     #[inline(always)]
     fn keep<'t>(&mut self, scanned: Scanned<'t>) -> Result<(Mode, &'t [u8]), AllocError>
         requires kept { Keeps self.old }
         requires between { text_read self.old ≡ [] }
+        requires depth { self.old.depth < usize.MAX }
         ensures over { IfOk result (λ to. RunsOver (with_text scanned.entry.text.now (reading self.old scanned.entry.mode)) scanned.entry.behind.now (reading self.new to.0) to.1.now) }
         ensures kept { OnOk result (Keeps self.new) }
     {
         self.push_bytes(scanned.text)?;
-        Ok((scanned.mode, scanned.behind))
+        match scanned.mode {
+            Mode::Pairs { field } => self.read_pairs(field, scanned.behind),
+            _ => Ok((scanned.mode, scanned.behind)),
+        }
     }
 
     /// Reads on where a field begins.
@@ -201,25 +206,6 @@ impl Parser {
         }
     }
 
-    /// Reads on where no field begins and none has ended. It is apart so that what most bytes are read by
-    /// tells few modes from one another.
-    #[inline(never)]
-    fn read_apart<'t>(
-        &mut self,
-        mode: Mode,
-        bytes: &'t [u8],
-    ) -> Result<(Mode, &'t [u8]), AllocError>
-        requires kept { Keeps self.old }
-        requires depth { self.old.depth < usize.MAX }
-        ensures over { IfOk result (λ to. RunsOver (reading self.old mode) bytes.now (reading self.new to.0) to.1.now) }
-        ensures kept { OnOk result (Keeps self.new) }
-    {
-        match mode {
-            Mode::Pairs { field } => self.read_pairs(field, bytes),
-            _ => Ok((mode, bytes)),
-        }
-    }
-
     /// Reads on over the bytes in front that are read at once, and answers where the reading stands
     /// then and the bytes behind them.
     #[inline(always)]
@@ -237,7 +223,7 @@ impl Parser {
         match mode {
             Mode::Start { opened } => self.read_field(opened, bytes),
             Mode::After => self.read_behind(bytes),
-            _ => self.read_apart(mode, bytes),
+            _ => Ok((mode, bytes)),
         }
     }
 }
