@@ -177,9 +177,10 @@ impl Words for PlainTable {
         let seen = self.peek(chunk);
         let Seen { word, header } = seen;
         let place = self.layout.spot(chunk).place;
-        if word.state(place) != ChunkState::Complete
-            || header.writer_id != writer
+        // Few chunks have this header, so that the first two tests mostly decide.
+        if header.writer_id != writer
             || header.chunk_id != id
+            || word.state(place) != ChunkState::Complete
         {
             self.note_look(chunk, seen);
             return Err(NotComplete { word, header });

@@ -19,7 +19,7 @@ use Rattle.chunk_plain.proofs.Resting as resting
 use Rattle.chunk_plain.proofs.Taking as taking
 use Rattle.chunk_plain.proofs.Taking.{ready_found, other_found, not_false, with_items_is}
 use Rattle.chunk_plain.proofs.plain_words.PlainTableWords.take.Goals as goal
-use Rattle.chunk_plain.proofs.plain_words.PlainTableWords.take.Goals.{then-ne-via-then-ne, then-ne-via-else-ne+then-header-writer, then-ne-via-else-ne+else-header-writer+then-header-id}
+use Rattle.chunk_plain.proofs.plain_words.PlainTableWords.take.Goals.{then-header-writer-via-else-header-writer+else-header-id+then-ne, then-header-writer-via-then-header-writer, then-header-writer-via-else-header-writer+then-header-id}
 
 pub set_read-requires-clause-ready : goal.set_read-requires-clause-ready
 set_read-requires-clause-ready c =
@@ -215,18 +215,18 @@ returns-clause-told_taken c = λ world e.
       ap (λ (w : World). Some w) (taking.taken_world self.seat.me.0 middle next place chunk seen.word.0 c.args.id header full_content took c.learn.ensures.world ready),
     )
 
-pub returns-then-ne-clause-told_other : goal.returns-then-ne-clause-told_other
-returns-then-ne-clause-told_other c = λ world e.
+pub returns-then-header-writer-clause-told_other : goal.returns-then-header-writer-clause-told_other
+returns-then-header-writer-clause-told_other c = λ world e.
     let self = c.args.self.now in let place = c.args.writer - 1 in let chunk = c.args.chunk in let seen = c.peek-seen.result in let header = seen.header in
     let next = c.note_look.new.self.seat.me.0 in
     let same : self.seat.me.0 ≡ world = cc in
     let back : c.args.writer ≡ place + 1 = omega arith in
     let at_is : c.spot-place.result.place ≡ (spot self.layout chunk).place = ap (λ (s : Spot). s.place) c.spot-place.ensures.spot in
     let other : HasState seen.word.0 (spot self.layout chunk).place Complete → header.writer_id ≡ place + 1 → header.chunk_id ≡ c.args.id → ⊥ = λ complete writer id_is.
-    elim c.then-ne.branch [
-      | then-ne-via-then-ne w ↦ let found = c.state.ensures.only Complete (subst (λ (p : ℕ). HasState seen.word.0 p Complete) (sym at_is) complete) in let t = w.if-ne.true in let n : c.ne.result ≡ false = c.ne.ensures ∙ ap (λ s. not (sameb the_type s Complete)) found in absurd (true≢false (sym t ∙ n))
-      | then-ne-via-else-ne+then-header-writer w ↦ w.if-header-writer.true (omega (arith, back, writer))
-      | then-ne-via-else-ne+else-header-writer+then-header-id w ↦ w.if-header-id.true id_is
+    elim c.then-header-writer.branch [
+      | then-header-writer-via-else-header-writer+else-header-id+then-ne w ↦ let found = w.state.ensures.only Complete (subst (λ (p : ℕ). HasState seen.word.0 p Complete) (sym at_is) complete) in let t = w.if-ne.true in let n : w.ne.result ≡ false = w.ne.ensures ∙ ap (λ s. not (sameb the_type s Complete)) found in absurd (true≢false (sym t ∙ n))
+      | then-header-writer-via-then-header-writer w ↦ w.if-header-writer.true (omega (arith, back, writer))
+      | then-header-writer-via-else-header-writer+then-header-id w ↦ w.if-header-id.true id_is
     ] in
     subst (λ (w : World). ((content : Content) → status w chunk ≡ Ready place c.args.id content → ⊥) × (Some next ≡ Some (serviced w next.service))) same (
       other_found self.layout self.words.items self.slots.items self.seat.me.0 self.kept place chunk c.args.id seen.word.0 header c.requires.chunk c.peek-seen.ensures.word c.peek-seen.ensures.fields other,
