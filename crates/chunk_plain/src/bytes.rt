@@ -1,5 +1,5 @@
 //! Payload bytes in words, eight a word, the lowest first.
-ghost use Rattle.std.specs.Prelude.{◌≡◌, ℕ, ◌+◌, ◌*◌, ◌/◌, ◌<◌, ◌≤◌, ◌++◌, length, take, drop};
+ghost use Rattle.std.specs.Prelude.{◌≡◌, ℕ, ◌+◌, ◌*◌, ◌/◌, ◌^◌, ◌<◌, ◌≤◌, ◌++◌, length, take, drop};
 ghost use Rattle.chunk_plain.specs.Payload.{byte_of, byte_at, byte_in, StoredUpTo};
 
 /// The word with the bytes from a place on, and zeros behind the last of them.
@@ -75,6 +75,26 @@ pub fn word_end(from: u32, to: u32) -> usize
     } else {
         from as usize / 8
     }
+}
+
+/// As many words at once are stored.
+const AT_ONCE: usize = 4;
+
+/// The place up to which the words are stored where each is to be that has a byte of this range: some
+/// more than these, so that they go by the same steps whatever the range is, but none behind the
+/// payload.
+pub fn stored_end(from: u32, to: u32, size: usize) -> usize
+    requires order { from ≤ to }
+    requires within { to ≤ size }
+    requires small { size < 2 ^ 32 }
+    ensures least { from / 8 ≤ result }
+    ensures some { from < to → to ≤ 8 * result }
+    ensures within { 8 * result < size + 8 }
+{
+    let first = from as usize / 8;
+    let count = word_end(from, to) - first;
+    let rounded = (count + AT_ONCE - 1) / AT_ONCE * AT_ONCE;
+    (first + rounded).min((size + 7) / 8)
 }
 
 /// Puts eight bytes at a place.

@@ -12,7 +12,7 @@ ghost use Rattle.chunk_plain.specs.World.{World, writer, nowhere};
 ghost use Rattle.chunk_plain.specs.Owned.{IsOwned};
 ghost use Rattle.chunk_plain.specs.Words.{IsAtRest, IsServing, HasBoth};
 
-use crate::bytes::{unpack, word_end};
+use crate::bytes::{stored_end, unpack};
 use crate::notes::{ServiceEvent, WriterCall};
 use crate::plain::PlainTable;
 use crate::plain_seats::{PlainService, PlainWriter};
@@ -118,7 +118,7 @@ impl Words for PlainTable {
 
     fn publish(&mut self, seat: &mut PlainWriter, held: &mut Held, from: u32, to: u32) {
         let first = from as usize / 8;
-        let end = word_end(from, to);
+        let end = stored_end(from, to, held.body.payload.len());
         self.store_words(
             seat.place,
             held.chunk,

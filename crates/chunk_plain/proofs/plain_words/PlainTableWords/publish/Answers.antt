@@ -1,5 +1,4 @@
-use Rattle.std.proofs.Common.{◌≡◌, ℕ, ◌/◌, ◌<◌, ◌≤◌, ◌∙◌, List, length, refl, ap, sym, subst, arith, Some, ⊎_elim}
-use Rattle.std.proofs.lemmas.Bool.{cases_lt}
+use Rattle.std.proofs.Common.{◌≡◌, ℕ, ◌/◌, ◌≤◌, ◌∙◌, List, length, refl, ap, sym, subst, arith, Some}
 use Rattle.chunk_plain.specs.Payload.{StoredUpTo}
 use Rattle.chunk_plain.specs.Views.{Draft, Held}
 use Rattle.chunk_plain.specs.World.{World, Writing, writer}
@@ -16,16 +15,12 @@ pub store_words-requires-clause-size : goal.store_words-requires-clause-size
 store_words-requires-clause-size c = ap (λ (l : List ℕ). length l) c.deref.ensures.value ∙ sym c.args.held.now.body.payload.ok.0 ∙ c.requires.size
 
 pub store_words-requires-clause-order : goal.store_words-requires-clause-order
-store_words-requires-clause-order c = c.word_end-end.ensures.least
+store_words-requires-clause-order c = c.stored_end-end.ensures.least
 
 pub store_words-requires-clause-inside : goal.store_words-requires-clause-inside
 store_words-requires-clause-inside c =
-    let many = ap (λ (l : List ℕ). length l) c.deref.ensures.value in let joined = c.args.held.now.body.payload.ok.0 in let size = c.requires.size in
-    let some = c.word_end-end.ensures.some in let none = c.word_end-end.ensures.none in let order = c.requires.order in let most = c.requires.inside in
-    ⊎_elim
-    (λ (less : c.args.from < c.args.to). let ends = (some less).1 in omega arith)
-    (λ (rest : c.args.to ≤ c.args.from). let ends = none rest in omega arith)
-    (cases_lt c.args.from c.args.to)
+    let many = ap (λ (l : List ℕ). length l) c.deref.ensures.value in let joined = c.args.held.now.body.payload.ok.0 in
+    let within = c.stored_end-end.ensures.within in omega arith
 
 pub store_words-requires-clause-kept : goal.store_words-requires-clause-kept
 store_words-requires-clause-kept c =
@@ -41,9 +36,9 @@ returns-clause-view c =
     let whole : c.args.to ≤ length copy = let inside = c.requires.inside in omega arith in
     record {
       words = stored;
-      bytes = publishing.published_range copy old.words stored c.args.from c.args.to c.word_end-end.result
-          c.requires.order whole (λ less. (c.word_end-end.ensures.some less).0)
-          (subst (λ (l : List ℕ). StoredUpTo l (c.args.from / 8) c.word_end-end.result old.words stored) c.deref.ensures.value c.store_words.ensures.words);
+      bytes = publishing.published_range copy old.words stored c.args.from c.args.to c.stored_end-end.result
+          c.requires.order whole (λ less. c.stored_end-end.ensures.some less)
+          (subst (λ (l : List ℕ). StoredUpTo l (c.args.from / 8) c.stored_end-end.result old.words stored) c.deref.ensures.value c.store_words.ensures.words);
       view = publishing.drafted_view self.seat.me.0 c.store_words.new.self.seat.me.0 place chunk id (with_words old stored) c.store_words.ensures.world
           (known.seat_inside self.layout self.words.items self.slots.items self.seat.me.0 self.kept place c.requires.seat.inside);
     }
