@@ -37,7 +37,11 @@ pub fn get_varint(bytes: &[u8]) -> Result<(u64, usize), VarintFault>
         [first, last, ..] if *last < 128 => {
             Ok((u64::from(*first % 128) + 128 * u64::from(*last), 2))
         }
-        _ => get_long(bytes),
+        // The answer is taken apart, so that only this way pays for the room it is handed back in.
+        _ => match get_long(bytes) {
+            Ok(found) => Ok(found),
+            Err(fault) => Err(fault),
+        },
     }
 }
 

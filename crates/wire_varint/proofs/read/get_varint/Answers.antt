@@ -1,6 +1,9 @@
+use Rattle.std.proofs.Common.{Ok, Err}
 use Rattle.wire_varint.proofs.Varints.{read_every}
 use Rattle.wire_varint.proofs.read.get_varint.Goals as goal
 
-pub returns-in_default-clause-every : goal.returns-in_default-clause-every
-returns-in_default-clause-every c =
-    read_every c.args.bytes.now c.get_long.result c.get_long.ensures.within c.get_long.ensures.found c.get_long.ensures.none
+pub returns-in-Ok-clause-every : goal.returns-in-Ok-clause-every
+returns-in-Ok-clause-every c = read_every c.args.bytes.now (Ok c.in-Ok.found) c.in-Ok.ensures.within c.in-Ok.ensures.found tt
+
+pub returns-in-Err-clause-every : goal.returns-in-Err-clause-every
+returns-in-Err-clause-every c = read_every c.args.bytes.now (Err c.in-Err.fault) tt tt c.in-Err.ensures.none
