@@ -1,5 +1,5 @@
 -- How lines are kept: one head for each, and the nodes of all as bytes, one line's behind another's.
-use Rattle.std.specs.Prelude.{◌≡◌, ℕ, ◌≤◌, List, [], ◌∷◌, length, take, drop, ⊤}
+use Rattle.std.specs.Prelude.{◌≡◌, ℕ, ◌+◌, ◌*◌, ◌^◌, ◌≤◌, List, [], ◌∷◌, length, take, drop, ⊤}
 use Rattle.field_tree.specs.Written.{shown_in, AreFitNodes}
 use Rattle.scenario_text.specs.declared.line_list.KeptKind.{KeptKind}
 use Rattle.scenario_text.specs.declared.line_list.KeptKind.TheVariants.{Packet, Begin, Add, Nest, Unnest, End, Flush, Collect, Scrape, Close, Read, Request}
@@ -26,7 +26,7 @@ kind_of (Flush writer) own = kinds.Flush writer
 kind_of (Collect producer) own = kinds.Collect producer
 kind_of (Scrape producer) own = kinds.Scrape producer
 kind_of (Close producer) own = kinds.Close producer
-kind_of (Read buffer limit) own = kinds.Read buffer limit
+kind_of (Read buffer high low) own = kinds.Read buffer (high * 2 ^ 32 + low)
 kind_of Request own = kinds.Request
 
 -- the bytes say the line's nodes, where it has some

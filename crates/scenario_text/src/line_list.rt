@@ -12,12 +12,16 @@ use field_tree::Fields;
 use std::alloc::{AllocError, Global};
 use std::marker::Model;
 
-/// What a line has done, where its nodes are the next `len` bytes.
+/// The halves of a limit are counts of this many and of one.
+const HALF: u64 = 1 << 32;
+
+/// What a line has done, where its nodes are the next `len` bytes. A limit stands there in halves, so
+/// that no head is larger for it.
 #[derive(Clone, Copy)]
 pub(crate) enum KeptKind {
-    Packet { writer: u16, len: usize },
+    Packet { writer: u16, len: u32 },
     Begin { writer: u16 },
-    Add { writer: u16, len: usize },
+    Add { writer: u16, len: u32 },
     Nest { writer: u16, field: u32 },
     Unnest { writer: u16 },
     End { writer: u16 },
@@ -25,7 +29,7 @@ pub(crate) enum KeptKind {
     Collect { producer: u16 },
     Scrape { producer: u16 },
     Close { producer: u16 },
-    Read { buffer: u8, limit: u64 },
+    Read { buffer: u8, high: u32, low: u32 },
     Request,
 }
 
@@ -40,8 +44,8 @@ fn own_len(what: KeptKind) -> usize
     ensures { result ≡ kept.own_len what }
 {
     match what {
-        KeptKind::Packet { writer: _, len } => len,
-        KeptKind::Add { writer: _, len } => len,
+        KeptKind::Packet { writer: _, len } => len as usize,
+        KeptKind::Add { writer: _, len } => len as usize,
         _ => 0,
     }
 }
@@ -69,18 +73,18 @@ struct Parted<'c> {
     own: &'c [u8],
 }
 
-/// A line, to be kept.
-fn part_line<'c>(what: &LineKind<'c>) -> Parted<'c>
-    ensures kind { kind_of result.what result.own.now ≡ what.now }
-    ensures own { HasOwn result.what result.own.now }
-    ensures len { kept.own_len result.what ≡ length result.own.now }
+/// A line, to be kept. One with more bytes of its own than can be counted isn't.
+fn part_line<'c>(what: &LineKind<'c>) -> Option<Parted<'c>>
+    ensures kind { IfSome result (λ parted. kind_of parted.what parted.own.now ≡ what.now) }
+    ensures own { IfSome result (λ parted. HasOwn parted.what parted.own.now) }
+    ensures len { IfSome result (λ parted. kept.own_len parted.what ≡ length parted.own.now) }
 {
     let own = match what {
         LineKind::Packet { writer: _, fields } => fields.code(),
         LineKind::Add { writer: _, fields } => fields.code(),
         _ => &[],
     };
-    let len = own.len();
+    let len = u32::try_from(own.len()).ok()?;
     let what = match what {
         LineKind::Packet { writer, fields: _ } => KeptKind::Packet {
             writer: *writer,
@@ -109,11 +113,12 @@ fn part_line<'c>(what: &LineKind<'c>) -> Parted<'c>
         },
         LineKind::Read { buffer, limit } => KeptKind::Read {
             buffer: *buffer,
-            limit: *limit,
+            high: (*limit / HALF) as u32,
+            low: (*limit % HALF) as u32,
         },
         LineKind::Request => KeptKind::Request,
     };
-    Parted { what, own }
+    Some(Parted { what, own })
 }
 
 /// What a line that is kept has done, with the bytes that are its own.
@@ -138,7 +143,10 @@ fn join_line(what: KeptKind, own: &[u8]) -> LineKind<'_>
         KeptKind::Collect { producer } => LineKind::Collect { producer },
         KeptKind::Scrape { producer } => LineKind::Scrape { producer },
         KeptKind::Close { producer } => LineKind::Close { producer },
-        KeptKind::Read { buffer, limit } => LineKind::Read { buffer, limit },
+        KeptKind::Read { buffer, high, low } => LineKind::Read {
+            buffer,
+            limit: u64::from(high) * HALF + u64::from(low),
+        },
         KeptKind::Request => LineKind::Request,
     }
 }
@@ -210,7 +218,9 @@ impl LineList {
         ensures pushed { OnOk result (self.new ≡ self.old ++ (record { line = line; what = what.entry }) ∷ []) }
         ensures kept { OnErr result (self.new ≡ self.old) }
     {
-        let Parted { what, own } = part_line(&what);
+        let Some(Parted { what, own }) = part_line(&what) else {
+            return Err(AllocError);
+        };
         self.push_head(KeptLine { line, what }, own)
     }
 
@@ -226,10 +236,10 @@ impl LineList {
         ensures kept { OnErr result (self.new ≡ self.old) }
     {
         let own = fields.code();
-        let what = KeptKind::Packet {
-            writer,
-            len: own.len(),
+        let Ok(len) = u32::try_from(own.len()) else {
+            return Err(AllocError);
         };
+        let what = KeptKind::Packet { writer, len };
         self.push_head(KeptLine { line, what }, own)
     }
 
