@@ -18,18 +18,18 @@ fn ask_begin<W: Words, H: HelperOn<W>, L: Ledger>(
     table: &mut W,
     help: &mut H,
     steps: &mut Steps<L>,
-) -> Result<(), CallFault>
+) -> bool
     requires seat { W.means.sits table.old core.old.seat }
     requires needs { H.needs help.old table.old }
     requires agrees { CoreAgrees (W.means.setup table.old) (W.means.place core.old.seat) (W.means.view table.old core.old.seat) core.old }
     requires going { is_stalled core.old ≡ false }
     requires ready { (coming : List Call) × IsReadyFor (route_of core.old).payload_size (W.means.view table.old core.old.seat) (calls.Begun true ∷ coming) }
-    ensures called { OnOk result (IsCalled W.means H.needs H.helps (calls.Begun true) help.old table.old core.old help.new table.new core.new) }
-    ensures stalled { OnErr result (IsStalledCall W.means H.needs H.helps (calls.Begun true) help.old table.old core.old help.new table.new core.new) }
+    ensures called { result ≡ true → IsCalled W.means H.needs H.helps (calls.Begun true) help.old table.old core.old help.new table.new core.new }
+    ensures stalled { result ≡ false → IsStalledCall W.means H.needs H.helps (calls.Begun true) help.old table.old core.old help.new table.new core.new }
 {
     match core.begin(table, help, steps) {
-        Ok(_) => Ok(()),
-        Err(fault) => Err(fault),
+        Ok(_) => true,
+        Err(_) => false,
     }
 }
 
@@ -41,18 +41,18 @@ fn ask_number<W: Words, H: HelperOn<W>, L: Ledger>(
     steps: &mut Steps<L>,
     field: u32,
     value: u64,
-) -> Result<(), CallFault>
+) -> bool
     requires seat { W.means.sits table.old core.old.seat }
     requires needs { H.needs help.old table.old }
     requires agrees { CoreAgrees (W.means.setup table.old) (W.means.place core.old.seat) (W.means.view table.old core.old.seat) core.old }
     requires going { is_stalled core.old ≡ false }
     requires ready { (coming : List Call) × IsReadyFor (route_of core.old).payload_size (W.means.view table.old core.old.seat) (calls.Number field value ∷ coming) }
-    ensures called { OnOk result (IsCalled W.means H.needs H.helps (calls.Number field value) help.old table.old core.old help.new table.new core.new) }
-    ensures stalled { OnErr result (IsStalledCall W.means H.needs H.helps (calls.Number field value) help.old table.old core.old help.new table.new core.new) }
+    ensures called { result ≡ true → IsCalled W.means H.needs H.helps (calls.Number field value) help.old table.old core.old help.new table.new core.new }
+    ensures stalled { result ≡ false → IsStalledCall W.means H.needs H.helps (calls.Number field value) help.old table.old core.old help.new table.new core.new }
 {
     match core.varint(table, help, field, value, steps) {
-        Ok(()) => Ok(()),
-        Err(fault) => Err(fault),
+        Ok(()) => true,
+        Err(_) => false,
     }
 }
 
@@ -65,19 +65,19 @@ fn ask_bytes<W: Words, H: HelperOn<W>, L: Ledger>(
     field: u32,
     text: &[u8],
     times: u32,
-) -> Result<(), CallFault>
+) -> bool
     requires seat { W.means.sits table.old core.old.seat }
     requires needs { H.needs help.old table.old }
     requires agrees { CoreAgrees (W.means.setup table.old) (W.means.place core.old.seat) (W.means.view table.old core.old.seat) core.old }
     requires going { is_stalled core.old ≡ false }
     requires ready { (coming : List Call) × IsReadyFor (route_of core.old).payload_size (W.means.view table.old core.old.seat) (calls.Bytes field text.now times ∷ coming) }
     requires text { length text.now ≤ MAX_INPUT }
-    ensures called { OnOk result (IsCalled W.means H.needs H.helps (calls.Bytes field text.now times) help.old table.old core.old help.new table.new core.new) }
-    ensures stalled { OnErr result (IsStalledCall W.means H.needs H.helps (calls.Bytes field text.now times) help.old table.old core.old help.new table.new core.new) }
+    ensures called { result ≡ true → IsCalled W.means H.needs H.helps (calls.Bytes field text.now times) help.old table.old core.old help.new table.new core.new }
+    ensures stalled { result ≡ false → IsStalledCall W.means H.needs H.helps (calls.Bytes field text.now times) help.old table.old core.old help.new table.new core.new }
 {
     match core.bytes(table, help, field, text, times, steps) {
-        Ok(()) => Ok(()),
-        Err(fault) => Err(fault),
+        Ok(()) => true,
+        Err(_) => false,
     }
 }
 
@@ -88,18 +88,18 @@ fn ask_nested<W: Words, H: HelperOn<W>, L: Ledger>(
     help: &mut H,
     steps: &mut Steps<L>,
     field: u32,
-) -> Result<(), CallFault>
+) -> bool
     requires seat { W.means.sits table.old core.old.seat }
     requires needs { H.needs help.old table.old }
     requires agrees { CoreAgrees (W.means.setup table.old) (W.means.place core.old.seat) (W.means.view table.old core.old.seat) core.old }
     requires going { is_stalled core.old ≡ false }
     requires ready { (coming : List Call) × IsReadyFor (route_of core.old).payload_size (W.means.view table.old core.old.seat) (calls.Nested field ∷ coming) }
-    ensures called { OnOk result (IsCalled W.means H.needs H.helps (calls.Nested field) help.old table.old core.old help.new table.new core.new) }
-    ensures stalled { OnErr result (IsStalledCall W.means H.needs H.helps (calls.Nested field) help.old table.old core.old help.new table.new core.new) }
+    ensures called { result ≡ true → IsCalled W.means H.needs H.helps (calls.Nested field) help.old table.old core.old help.new table.new core.new }
+    ensures stalled { result ≡ false → IsStalledCall W.means H.needs H.helps (calls.Nested field) help.old table.old core.old help.new table.new core.new }
 {
     match core.begin_nested(table, help, field, steps) {
-        Ok(()) => Ok(()),
-        Err(fault) => Err(fault),
+        Ok(()) => true,
+        Err(_) => false,
     }
 }
 
@@ -154,6 +154,18 @@ pub(crate) fn ask_flushed<W: Words, H: HelperOn<W>>(
     core.flush(table);
 }
 
+/// What a call answers that went on, or for which the writer stalled.
+#[inline(always)]
+fn answer_of(went_on: bool) -> Result<(), CallFault>
+    ensures went { OnOk result (went_on ≡ true) }
+    ensures stalled { OnErr result (went_on ≡ false) }
+{
+    if went_on {
+        return Ok(());
+    }
+    Err(CallFault::Stalled)
+}
+
 /// The writer is asked for a call. One that a writer notes by itself isn't asked for.
 #[inline(always)]
 pub fn ask_one<W: Words, H: HelperOn<W>, L: Ledger>(
@@ -173,14 +185,16 @@ pub fn ask_one<W: Words, H: HelperOn<W>, L: Ledger>(
     ensures stalled { OnErr result (IsStalledCall W.means H.needs H.helps (call_of call.entry) help.old table.old core.old help.new table.new core.new) }
 {
     match call {
-        WriterCall::Begun { kept: _ } => ask_begin(core, table, help, steps),
-        WriterCall::Number { field, value } => ask_number(core, table, help, steps, field, value),
+        WriterCall::Begun { kept: _ } => answer_of(ask_begin(core, table, help, steps)),
+        WriterCall::Number { field, value } => {
+            answer_of(ask_number(core, table, help, steps, field, value))
+        }
         WriterCall::Bytes {
             field,
             value,
             times,
-        } => ask_bytes(core, table, help, steps, field, value, times),
-        WriterCall::Nested { field } => ask_nested(core, table, help, steps, field),
+        } => answer_of(ask_bytes(core, table, help, steps, field, value, times)),
+        WriterCall::Nested { field } => answer_of(ask_nested(core, table, help, steps, field)),
         WriterCall::Ended => {
             ask_ended(core, table, help);
             Ok(())
