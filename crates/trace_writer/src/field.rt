@@ -61,7 +61,11 @@ pub(crate) fn write_field<W: Words, L: Ledger, H: HelperOn<W>>(
         table.note_call(seat, call);
         return Ok(());
     }
-    write_field_on(writer, table, seat, help, head, text, times, call, steps)
+    // The answer is taken apart, so that only this way pays for the room it is handed back in.
+    match write_field_on(writer, table, seat, help, head, text, times, call, steps) {
+        Ok(()) => Ok(()),
+        Err(fault) => Err(fault),
+    }
 }
 
 /// Writes a field over as many chunks as it takes.
@@ -158,7 +162,10 @@ pub(crate) fn write_nested<W: Words, L: Ledger, H: HelperOn<W>>(
         table.note_call(seat, WriterCall::Nested { field });
         return Ok(());
     }
-    write_nested_on(writer, table, seat, help, field, tag, steps)
+    match write_nested_on(writer, table, seat, help, field, tag, steps) {
+        Ok(()) => Ok(()),
+        Err(fault) => Err(fault),
+    }
 }
 
 /// Begins a nested message over as many chunks as its tag and its length take.

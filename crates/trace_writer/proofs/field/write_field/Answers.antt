@@ -42,9 +42,16 @@ returns-then-put_field_here-clause-done g c = λ goes.
       λ stops. absurd (true≢false (sym stops)),
     )
 
-pub returns-clause-asked : goal.returns-clause-asked
-returns-clause-asked g c = λ needs.
-    c.write_field_on.ensures.asked
+pub returns-in-Ok-clause-asked : goal.returns-in-Ok-clause-asked
+returns-in-Ok-clause-asked g c = λ needs.
+    c.in-Ok.ensures.asked
+    (ap (λ (writer : Writer). is_empty writer.state) (c.put_field_here.ensures.unchanged c.if-put_field_here.false)
+    ∙ needs_empty c.args.writer.now.state (length c.args.head.now + c.args.times * length c.args.text.now) needs
+    (λ fragment was fits. absurd (true≢false (sym (c.put_field_here.ensures.fits fragment was fits) ∙ c.if-put_field_here.false))))
+
+pub returns-in-Err-clause-asked : goal.returns-in-Err-clause-asked
+returns-in-Err-clause-asked g c = λ needs.
+    c.in-Err.ensures.asked
     (ap (λ (writer : Writer). is_empty writer.state) (c.put_field_here.ensures.unchanged c.if-put_field_here.false)
     ∙ needs_empty c.args.writer.now.state (length c.args.head.now + c.args.times * length c.args.text.now) needs
     (λ fragment was fits. absurd (true≢false (sym (c.put_field_here.ensures.fits fragment was fits) ∙ c.if-put_field_here.false))))
