@@ -90,7 +90,9 @@ fn note_reserved(found: &mut Option<u32>, now: usize, node: FieldNode)
     ensures { found.new ≡ option_or found.old (reserved_at now node None) }
 {
     if now == 0 && found.is_none() {
-        *found = reserved_field(node);
+        if let Some(field) = reserved_field(node) {
+            *found = Some(field);
+        }
     }
 }
 
