@@ -102,14 +102,21 @@ impl<S> ServiceCore<S> {
 }
 
 impl<S> ServiceCore<S> {
-    /// Takes a chunk where it is the next one of the writer at this place.
-    fn try_take<W: Words<Service = S>>(&mut self, table: &mut W, place: usize, chunk: u32) -> bool
+    /// Takes a chunk where it is the next one of the writer at this place, which has this id.
+    fn try_take<W: Words<Service = S>>(
+        &mut self,
+        table: &mut W,
+        place: usize,
+        chunk: u32,
+        id: u32,
+    ) -> bool
         requires serves { W.means.serves table.old self.old.seat }
         requires agrees { ServiceAgrees (W.means.setup table.old) (W.means.service_view table.old self.old.seat) self.old }
         requires place { place < length (W.means.setup table.old).writers }
         requires chunk { IsChunkOf (W.means.setup table.old) (producer_of (W.means.setup table.old) place) chunk }
         requires open { is_closed (W.means.setup table.old) self.old place ≡ false }
-        requires id { (taken_of (W.means.service_view table.old self.old.seat) place).count < ID_LIMIT }
+        requires next { id ≡ (taken_of (W.means.service_view table.old self.old.seat) place).count }
+        requires id { id < ID_LIMIT }
         ensures agrees { ServiceAgrees (W.means.setup table.old) (W.means.service_view table.new self.new.seat) self.new }
         ensures keeps { KeepsRest (W.means.setup table.old) self.old self.new }
         ensures step { IsServiceStep W.means table.old self.old.seat table.new self.new.seat }
@@ -122,7 +129,7 @@ impl<S> ServiceCore<S> {
             → FreesNone place (taken_of (W.means.service_view table.old self.old.seat) place).count chunk world
             (W.means.told table.new) (W.means.service_view table.new self.new.seat) }
     {
-        match table.take(&mut self.seat, chunk, place as u16 + 1, self.taken[place]) {
+        match table.take(&mut self.seat, chunk, place as u16 + 1, id) {
             Ok(taken) => {
                 self.take_in(table, place, taken);
                 true
@@ -165,8 +172,9 @@ impl<S> ServiceCore<S> {
             → FreesNoneOf place (taken_of (W.means.service_view table.old self.old.seat) place).count first last world
             (W.means.told table.new) (W.means.service_view table.new self.new.seat) }
     {
+        let id = self.taken[place];
         for chunk in first..last {
-            if self.try_take(table, place, chunk) {
+            if self.try_take(table, place, chunk, id) {
                 return Some(chunk);
             }
         }

@@ -1,4 +1,4 @@
-use Rattle.std.proofs.Common.{◌≡◌, ℕ, sym, subst, ap, arith}
+use Rattle.std.proofs.Common.{◌≡◌, ℕ, ◌<◌, ◌∙◌, length, sym, subst, ap, arith}
 use Rattle.chunk_plain.specs.Views.{ServiceView, taken_of}
 use Rattle.service_core.specs.Told.{FreesOne, FreesNone}
 use Rattle.service_core.proofs.ToldLemmas.{frees_none_yet, frees_none_more, frees_none_all, frees_next}
@@ -7,6 +7,7 @@ use Rattle.chunk_plain.proofs.SeatSteps.{services_follow, serves_on}
 use Rattle.service_core.specs.Agreement.{ServiceAgrees, KeepsRest}
 use Rattle.service_core.specs.Taking.{SeesOther}
 use Rattle.service_core.proofs.AgreeLemmas.{keeps_same, keeps_both}
+use Rattle.service_core.proofs.TakingLemmas.{read_count}
 use Rattle.service_core.proofs.ChainLemmas.{sees_none_yet, sees_more}
 use Rattle.service_core.proofs.service.ServiceCore.take_among.Goals as goal
 
@@ -72,3 +73,26 @@ try_take-requires-clause-chunk g c =
     let means = g.W.Words.means in
     subst (λ (s : Setup). IsChunkOf s (producer_of s c.args.place) c.loop-chunk.chunk) (sym c.loop-chunk.invariant.step.setup_stays)
     (c.requires.range c.loop-chunk.chunk c.loop-chunk.auto.chunk c.loop-chunk-test.true)
+
+pub try_take-requires-clause-next : goal.try_take-requires-clause-next
+try_take-requires-clause-next g c =
+    let means = g.W.Words.means in
+    let place = c.args.place in
+    let old = means.service_view c.args.table.now c.args.self.now.seat in
+    let many = (g.met.W.Words.serving c.args.table.now c.args.self.now.seat c.requires.serves).writers in
+    let below = c.requires.place in
+    let inside : place < length old.taken = omega (arith, many, below) in
+    read_count old c.args.self.now.taken.items place c.index-id.result.now c.requires.agrees.taken inside c.index-id.ensures
+    ∙ sym (ap (λ (v : ServiceView). (taken_of v place).count) c.loop-chunk.invariant.seen.view)
+
+pub try_take-requires-clause-id : goal.try_take-requires-clause-id
+try_take-requires-clause-id g c =
+    let means = g.W.Words.means in
+    let place = c.args.place in
+    let old = means.service_view c.args.table.now c.args.self.now.seat in
+    let many = (g.met.W.Words.serving c.args.table.now c.args.self.now.seat c.requires.serves).writers in
+    let below = c.requires.place in
+    let inside : place < length old.taken = omega (arith, many, below) in
+    let is = read_count old c.args.self.now.taken.items place c.index-id.result.now c.requires.agrees.taken inside c.index-id.ensures in
+    let few = c.requires.id in
+    omega (arith, is, few)

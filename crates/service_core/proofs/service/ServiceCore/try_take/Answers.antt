@@ -10,7 +10,7 @@ use Rattle.chunk_plain.specs.Words.{taken_content}
 use Rattle.chunk_plain.proofs.SeatSteps.{services_follow}
 use Rattle.service_core.specs.Routing.{IsAt}
 use Rattle.service_core.specs.Agreement.{ServiceAgrees, spec_at}
-use Rattle.service_core.proofs.TakingLemmas.{one_of, other_of, read_count}
+use Rattle.service_core.proofs.TakingLemmas.{one_of, other_of}
 use Rattle.service_core.proofs.AgreeLemmas.{agrees_took, agrees_looked}
 use Rattle.service_core.proofs.RoutedLemmas.{stands, closed_stays}
 use Rattle.service_core.proofs.service.ServiceCore.try_take.Goals as goal
@@ -38,9 +38,9 @@ returns-in-Ok-clause-agrees g c =
     let many = serving.writers in
     let below = c.requires.place in
     let inside : place < length old.taken = omega (arith, many, below) in
-    let count = read_count old c.args.self.now.taken.items place c.index.result.now c.requires.agrees.taken inside c.index.ensures in
+    let count = c.requires.next in
     let takes = c.in-Ok.ensures.taken in
-    let one = one_of setup old mid new place c.args.chunk c.index.result.now c.in-Ok.taken c.requires.agrees.none_read inside count takes c.take_in.ensures.view in
+    let one = one_of setup old mid new place c.args.chunk c.args.id c.in-Ok.taken c.requires.agrees.none_read inside count takes c.take_in.ensures.view in
     let id_is = takes.id_is ∙ count in
     subst (λ (v : ServiceView). ServiceAgrees setup v c.take_in.new.self) (sym one.1)
     (agrees_took setup old c.args.self.now c.take_in.new.self place (one.0 ∷ []) (taken_content place c.in-Ok.taken) c.requires.agrees
@@ -72,8 +72,8 @@ returns-in-Ok-clause-taken g c _ =
     let many = serving.writers in
     let below = c.requires.place in
     let inside : place < length old.taken = omega (arith, many, below) in
-    let count = read_count old c.args.self.now.taken.items place c.index.result.now c.requires.agrees.taken inside c.index.ensures in
-    let one = one_of setup old mid new place c.args.chunk c.index.result.now c.in-Ok.taken c.requires.agrees.none_read inside count c.in-Ok.ensures.taken c.take_in.ensures.view in
+    let count = c.requires.next in
+    let one = one_of setup old mid new place c.args.chunk c.args.id c.in-Ok.taken c.requires.agrees.none_read inside count c.in-Ok.ensures.taken c.take_in.ensures.view in
     record { look = one.0; content = taken_content place c.in-Ok.taken; view = one.1 }
 
 pub returns-in-Err-clause-agrees : goal.returns-in-Err-clause-agrees
@@ -97,8 +97,8 @@ returns-in-Err-clause-other g c _ =
     let many = serving.writers in
     let below = c.requires.place in
     let inside : place < length old.taken = omega (arith, many, below) in
-    let count = read_count old c.args.self.now.taken.items place c.index.result.now c.requires.agrees.taken inside c.index.ensures in
-    other_of setup old new place c.args.chunk c.index.result.now c.in-Err.found count c.header_fits.ensures.id c.header_fits.ensures.writer c.in-Err.ensures.other
+    let count = c.requires.next in
+    other_of setup old new place c.args.chunk c.args.id c.in-Err.found count c.header_fits.ensures.id c.header_fits.ensures.writer c.in-Err.ensures.other
 
 pub returns-in-Ok-clause-told_taken : goal.returns-in-Ok-clause-told_taken
 returns-in-Ok-clause-told_taken g c _ world is =
@@ -110,9 +110,9 @@ returns-in-Ok-clause-told_taken g c _ world is =
     let many = serving.writers in
     let below = c.requires.place in
     let inside : place < length old.taken = omega (arith, many, below) in
-    let count = read_count old c.args.self.now.taken.items place c.index.result.now c.requires.agrees.taken inside c.index.ensures in
+    let count = c.requires.next in
     let told = c.in-Ok.ensures.told_taken world is in
-    frees_one place (place + 1 - 1) (taken_of old place).count c.index.result.now c.args.chunk c.in-Ok.taken.chunk (taken_content (place + 1 - 1) c.in-Ok.taken) world
+    frees_one place (place + 1 - 1) (taken_of old place).count c.args.id c.args.chunk c.in-Ok.taken.chunk (taken_content (place + 1 - 1) c.in-Ok.taken) world
     (g.W.Words.means.told c.take_in.new.table) mid new (omega arith) count c.in-Ok.ensures.taken.chunk_is told.0 (c.take_in.ensures.told _ told.1)
 
 pub returns-in-Err-clause-told_other : goal.returns-in-Err-clause-told_other
@@ -124,6 +124,6 @@ returns-in-Err-clause-told_other g c _ world is =
     let many = serving.writers in
     let below = c.requires.place in
     let inside : place < length old.taken = omega (arith, many, below) in
-    let count = read_count old c.args.self.now.taken.items place c.index.result.now c.requires.agrees.taken inside c.index.ensures in
+    let count = c.requires.next in
     let told = c.in-Err.ensures.told_other world is in
-    frees_none place (place + 1 - 1) (taken_of old place).count c.index.result.now c.args.chunk world (g.W.Words.means.told c.take.new.self) new (omega arith) count told.0 told.1
+    frees_none place (place + 1 - 1) (taken_of old place).count c.args.id c.args.chunk world (g.W.Words.means.told c.take.new.self) new (omega arith) count told.0 told.1
