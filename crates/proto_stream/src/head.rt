@@ -62,6 +62,40 @@ fn tag_and_varint(field: u32, wire: u8, value: u64) -> Head
     head
 }
 
+/// How many bytes the shortest varint of a number has.
+#[inline(always)]
+fn varint_size(value: u64) -> u32
+    ensures is { result ≡ length (varint value) }
+    ensures most { result ≤ 10 }
+{
+    // Most numbers have few bytes, for which a loop takes longer than the tests.
+    if value < 128 {
+        return 1;
+    }
+    if value < 16_384 {
+        return 2;
+    }
+    if value < 2_097_152 {
+        return 3;
+    }
+    let mut rest = value / 128 / 128 / 128;
+    let mut size = 3;
+    while rest >= 128 {
+        rest /= 128;
+        size += 1;
+    }
+    size + 1
+}
+
+/// How many bytes a number's field has.
+#[inline(always)]
+#[tactic(auto, unfolding(trace_model::specs::Encoding::number_field, wire_varint::specs::Varint::tag))]
+pub fn number_size(field: u32, value: u64) -> u32
+    ensures { result ≡ length (number_field field value) }
+{
+    varint_size(8 * u64::from(field)) + varint_size(value)
+}
+
 /// A number's field, whole.
 #[inline(always)]
 #[tactic(auto, unfolding(trace_model::specs::Encoding::number_field))]

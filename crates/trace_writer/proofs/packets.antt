@@ -10,3 +10,4 @@ pub mod Putting
 pub mod RunOn
 pub mod SettingAside
 pub mod Starting
+pub mod Varints

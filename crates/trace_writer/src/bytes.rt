@@ -1,7 +1,9 @@
 //! Bytes of a chunk's payload, by a cursor that is lent it.
 ghost use Rattle.std.specs.Prelude.{◌≡◌, ℕ, ◌+◌, ◌-◌, ◌<◌, ◌≤◌, [], ◌∷◌, length, min, take, nat_le, if◌then◌else◌};
 ghost use Rattle.std.specs.List.{repeat};
+ghost use Rattle.wire_varint.specs.Varint.{varint};
 ghost use Rattle.trace_base.specs.declared.limits.TheConstants.{MAX_INPUT};
+ghost use Rattle.trace_model.specs.Encoding.{number_field};
 ghost use Rattle.trace_model.specs.Packets.{open_length};
 ghost use Rattle.trace_model.specs.Images.{with_bytes};
 
@@ -34,6 +36,34 @@ fn put_short(payload: &mut [u8], at: usize, piece: &[u8])
     for i in 0..piece.len() {
         payload[at + i] = piece[i];
     }
+}
+
+/// Writes the shortest varint of a number at a place, where it fits, and answers the place behind it.
+#[inline(always)]
+fn put_varint_at(payload: &mut [u8], at: usize, value: u64) -> usize
+    requires { at + length (varint value) ≤ length payload.old }
+    ensures bytes { payload.new ≡ with_bytes payload.old at (varint value) }
+    ensures behind { result ≡ at + length (varint value) }
+{
+    let mut rest = value;
+    let mut here = at;
+    while rest >= 128 {
+        payload[here] = 128 + (rest % 128) as u8;
+        rest /= 128;
+        here += 1;
+    }
+    payload[here] = rest as u8;
+    here + 1
+}
+
+/// Writes a number's field at a place, where it fits.
+#[inline(always)]
+pub fn put_number_at(payload: &mut [u8], at: u32, field: u32, value: u64)
+    requires { at + length (number_field field value) ≤ length payload.old }
+    ensures { payload.new ≡ with_bytes payload.old at (number_field field value) }
+{
+    let behind = put_varint_at(payload, at as usize, 8 * u64::from(field));
+    put_varint_at(payload, behind, value);
 }
 
 /// Writes one byte so many times at a place, where they fit.

@@ -1,9 +1,9 @@
 //! The fields of a packet that is begun, and its nested messages.
 ghost use Rattle.std.specs.Prelude.{◌≡◌, ℕ, ◌+◌, ◌*◌, ◌<◌, ◌≤◌, true, false, [], ◌∷◌, ◌++◌, List, length, Bool, Ok, Err, MatchResult};
 ghost use Rattle.std.specs.List.{repeat};
-ghost use Rattle.trace_base.specs.declared.limits.TheConstants.{MAX_PACKET_LEN, MAX_OPEN_HOLES};
+ghost use Rattle.trace_base.specs.declared.limits.TheConstants.{MAX_FIELD, MAX_PACKET_LEN, MAX_OPEN_HOLES};
 ghost use Rattle.trace_model.specs.Calls as call;
-ghost use Rattle.trace_model.specs.Encoding.{nested_tag};
+ghost use Rattle.trace_model.specs.Encoding.{nested_tag, number_field};
 ghost use Rattle.trace_model.specs.Packets.{Account, noted, on_newest, with_more, packets_of, newest_is_lost};
 ghost use Rattle.chunk_plain.specs.Words.{call_of};
 ghost use Rattle.trace_writer.specs.Agreement.{Agrees, NeedsNoChunk, is_begun, len_of, open_message_count};
@@ -16,13 +16,101 @@ ghost use Rattle.trace_writer.specs.OwnSteps.{IsQuiet};
 use crate::fault::CallFault;
 use crate::flow::Flow;
 use crate::helper::HelperOn;
-use crate::here::{put_field_here, put_nested_here};
+use crate::here::{put_field_here, put_nested_here, put_number_here};
 use crate::state::{State, Writer, is_stalled, put_state, take_state};
 use crate::stream::{put_field, put_nested};
 use chunk_plain::{Words, WriterCall};
+use proto_stream::head_number;
 use std::sync::ledger::Ledger;
 use trace_base::policy::WriterPolicy;
 use trace_base::steps::Steps;
+
+/// Writes a number that the packet may have, whose field has so many bytes.
+#[inline(always)]
+pub(crate) fn write_number<W: Words, L: Ledger, H: HelperOn<W>>(
+    writer: &mut Writer,
+    table: &mut W,
+    seat: &mut W::Writer,
+    help: &mut H,
+    field: u32,
+    value: u64,
+    size: u32,
+    steps: &mut Steps<L>,
+) -> Result<(), CallFault>
+    requires seat { W.means.sits table.old seat.old }
+    requires needs { H.needs help.old table.old }
+    requires agrees { Agrees (W.means.setup table.old) (W.means.place seat.old) (W.means.view table.old seat.old) writer.old }
+    requires begun { is_begun writer.old.packet ≡ true }
+    requires field { (1 ≤ field) × (field ≤ MAX_FIELD) }
+    requires size { size ≡ length (number_field field value) }
+    requires fits { len_of writer.old.packet + size ≤ MAX_PACKET_LEN }
+    ensures agrees { Agrees (W.means.setup table.old) (W.means.place seat.old) (W.means.view table.new seat.new) writer.new }
+    ensures route { writer.new.route ≡ writer.old.route }
+    ensures stays { is_stalled_state writer.old.state ≡ true
+        → (result ≡ Err call_fault.Stalled) × (writer.new ≡ writer.old) × (table.new ≡ table.old) × (seat.new ≡ seat.old) × (help.new ≡ help.old) × (steps.new ≡ steps.old) }
+    ensures answers { is_stalled_state writer.old.state ≡ false
+        → MatchResult result (λ _. is_stalled_state writer.new.state ≡ false) (λ fault. (fault ≡ call_fault.Stalled) × (is_stalled_state writer.new.state ≡ true)) }
+    ensures done { is_stalled_state writer.old.state ≡ false → (stopped : Bool)
+        × IsAsked W.means H.needs H.helps
+        writer.old.route help.old table.old seat.old steps.old stopped (written_as stopped writer.old.route.spec.policy (call.Number field value))
+        (is_stalled_state writer.new.state) help.new table.new seat.new steps.new
+        × (stopped ≡ true → newest_is_lost (packets_of (W.means.view table.old seat.old).calls) ≡ false) }
+    ensures asked { NeedsNoChunk writer.old.state size → (W.means.view table.new seat.new).asked ≡ (W.means.view table.old seat.old).asked }
+{
+    if put_number_here(writer, field, value, size) {
+        table.note_call(seat, WriterCall::Number { field, value });
+        return Ok(());
+    }
+    match write_number_on(writer, table, seat, help, field, value, steps) {
+        Ok(()) => Ok(()),
+        Err(fault) => Err(fault),
+    }
+}
+
+/// Writes a number over as many chunks as it takes. Only here are its bytes put together first.
+#[inline(never)]
+fn write_number_on<W: Words, L: Ledger, H: HelperOn<W>>(
+    writer: &mut Writer,
+    table: &mut W,
+    seat: &mut W::Writer,
+    help: &mut H,
+    field: u32,
+    value: u64,
+    steps: &mut Steps<L>,
+) -> Result<(), CallFault>
+    requires seat { W.means.sits table.old seat.old }
+    requires needs { H.needs help.old table.old }
+    requires agrees { Agrees (W.means.setup table.old) (W.means.place seat.old) (W.means.view table.old seat.old) writer.old }
+    requires begun { is_begun writer.old.packet ≡ true }
+    requires field { (1 ≤ field) × (field ≤ MAX_FIELD) }
+    requires fits { len_of writer.old.packet + length (number_field field value) ≤ MAX_PACKET_LEN }
+    ensures agrees { Agrees (W.means.setup table.old) (W.means.place seat.old) (W.means.view table.new seat.new) writer.new }
+    ensures route { writer.new.route ≡ writer.old.route }
+    ensures stays { is_stalled_state writer.old.state ≡ true
+        → (result ≡ Err call_fault.Stalled) × (writer.new ≡ writer.old) × (table.new ≡ table.old) × (seat.new ≡ seat.old) × (help.new ≡ help.old) × (steps.new ≡ steps.old) }
+    ensures answers { is_stalled_state writer.old.state ≡ false
+        → MatchResult result (λ _. is_stalled_state writer.new.state ≡ false) (λ fault. (fault ≡ call_fault.Stalled) × (is_stalled_state writer.new.state ≡ true)) }
+    ensures done { is_stalled_state writer.old.state ≡ false → (stopped : Bool)
+        × IsAsked W.means H.needs H.helps
+        writer.old.route help.old table.old seat.old steps.old stopped (written_as stopped writer.old.route.spec.policy (call.Number field value))
+        (is_stalled_state writer.new.state) help.new table.new seat.new steps.new
+        × (stopped ≡ true → newest_is_lost (packets_of (W.means.view table.old seat.old).calls) ≡ false) }
+    ensures asked { is_empty writer.old.state ≡ true → (W.means.view table.new seat.new).asked ≡ (W.means.view table.old seat.old).asked }
+{
+    let head = head_number(field, value);
+    let call = WriterCall::Number { field, value };
+    write_field_on(
+        writer,
+        table,
+        seat,
+        help,
+        head.as_slice(),
+        &[],
+        0,
+        call,
+        steps,
+    )
+}
 
 /// Writes a field that the packet may have: what stands in front of its content, and its text so
 /// many times. It is put into its callers, since a `call` that is passed on costs more than what is done.

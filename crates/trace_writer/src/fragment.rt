@@ -4,6 +4,7 @@ ghost use Rattle.chunk_plain.specs.declared.tokens.TheConstants.{ID_LIMIT};
 ghost use Rattle.std.specs.List.{repeat};
 ghost use Rattle.wire_varint.specs.Varint.{redundant};
 ghost use Rattle.trace_base.specs.declared.limits.TheConstants.{MAX_PACKET_LEN, MAX_OPEN_HOLES, MAX_PAGE_SIZE, MAX_FRAGMENTS};
+ghost use Rattle.trace_model.specs.Encoding.{number_field};
 ghost use Rattle.trace_model.specs.Images.{with_bytes};
 ghost use Rattle.trace_model.specs.Packets.{open_length};
 ghost use Rattle.trace_model.specs.Fragments.{drop_mark};
@@ -11,7 +12,7 @@ ghost use Rattle.commit_body.specs.declared.body.TheConstants.{MAX_PATCHES};
 ghost use Rattle.commit_body.specs.declared.closed.Closed.TheVariants.{Here, Later};
 ghost use Rattle.commit_body.specs.Patches.{holes_outside};
 
-use crate::bytes::{put_at, put_hole_at, put_run, set_four_at};
+use crate::bytes::{put_at, put_hole_at, put_number_at, put_run, set_four_at};
 use crate::chunk::HeldChunk;
 use chunk_plain::Held;
 use commit_body::{Closed, PatchList};
@@ -73,6 +74,23 @@ impl OpenFragment {
         }
         self.put(head);
         self.put_text(text, times);
+        true
+    }
+
+    /// Writes a number's field, which has so many bytes, where it fits; else nothing changes.
+    #[inline(always)]
+    pub fn put_number(&mut self, field: u32, value: u64, size: u32) -> bool
+        requires { size ≡ length (number_field field value) }
+        ensures fits { self.old.at + size ≤ vec_len self.old.held.body.payload → result ≡ true }
+        ensures unchanged { result ≡ false → self.new ≡ self.old }
+        ensures bytes { result ≡ true → IsPutInto self.old self.new self.old.at (number_field field value) }
+        ensures at { result ≡ true → self.new.at ≡ self.old.at + length (number_field field value) }
+    {
+        if !self.has_left(size as usize) {
+            return false;
+        }
+        put_number_at(&mut self.held.body.payload, self.at, field, value);
+        self.at += size;
         true
     }
 

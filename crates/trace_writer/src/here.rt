@@ -3,6 +3,7 @@
 ghost use Rattle.std.specs.Prelude.{◌≡◌, ◌+◌, ◌*◌, ◌<◌, ◌≤◌, ◌++◌, true, false, length, vec_len};
 ghost use Rattle.std.specs.List.{repeat};
 ghost use Rattle.trace_base.specs.declared.limits.TheConstants.{MAX_PACKET_LEN, MAX_OPEN_HOLES};
+ghost use Rattle.trace_model.specs.Encoding.{number_field};
 ghost use Rattle.trace_writer.specs.declared.fragment.OpenFragment.{OpenFragment};
 ghost use Rattle.trace_writer.specs.declared.state.State.TheVariants.{Writing};
 ghost use Rattle.trace_writer.specs.Agreement.{is_begun, len_of, open_message_count};
@@ -28,6 +29,29 @@ pub(crate) fn put_field_here(writer: &mut Writer, head: &[u8], text: &[u8], time
         unreachable!()
     };
     packet.add_field(head.len() as u64 + u64::from(times) * text.len() as u64);
+    true
+}
+
+/// Writes a number's field, which has so many bytes, where all of it fits; else nothing changes.
+#[inline(always)]
+pub(crate) fn put_number_here(writer: &mut Writer, field: u32, value: u64, size: u32) -> bool
+    requires begun { is_begun writer.old.packet ≡ true }
+    requires size { size ≡ length (number_field field value) }
+    requires fits { len_of writer.old.packet + size ≤ MAX_PACKET_LEN }
+    ensures fits { (fragment : OpenFragment) → writer.old.state ≡ Writing fragment → fragment.at + size ≤ vec_len fragment.held.body.payload → result ≡ true }
+    ensures unchanged { result ≡ false → writer.new ≡ writer.old }
+    ensures puts { result ≡ true → PutsField writer.old writer.new (number_field field value) }
+{
+    let State::Writing(fragment) = &mut writer.state else {
+        return false;
+    };
+    if !fragment.put_number(field, value, size) {
+        return false;
+    }
+    let Some(packet) = &mut writer.packet else {
+        unreachable!()
+    };
+    packet.add_field(u64::from(size));
     true
 }
 

@@ -23,7 +23,7 @@ ghost use Rattle.trace_writer.specs.Core.{CoreAgrees, in_packet, open_depth, fie
 
 use crate::begin::begin;
 use crate::fault::{Begun, CallFault};
-use crate::field::{end_message, write_field, write_nested};
+use crate::field::{end_message, write_field, write_nested, write_number};
 use crate::finish::{finish, flush};
 use crate::helper::HelperOn;
 use crate::packet::OpenPacket;
@@ -33,7 +33,7 @@ use chunk_plain::{Words, WriterCall};
 use claim_arbiter::Arbiter;
 use commit_body::PatchList;
 use page_geometry::Geometry;
-use proto_stream::{head_bytes, head_nested, head_number};
+use proto_stream::{head_bytes, head_nested, number_size};
 use std::sync::ledger::Ledger;
 use trace_base::limits::MAX_PACKET_LEN;
 use trace_base::policy::WriterSpec;
@@ -144,17 +144,16 @@ impl<S> WriterCore<S> {
         ensures alone { (route_of self.old).spec.policy ≡ Drops → (help.new ≡ help.old)
             × IsWriterStep W.means table.old self.old.seat table.new self.new.seat }
     {
-        let head = head_number(field, value);
-        check_field(&self.writer.packet, field, head.as_slice().len() as u64)?;
-        write_field(
+        let size = number_size(field, value);
+        check_field(&self.writer.packet, field, u64::from(size))?;
+        write_number(
             &mut self.writer,
             table,
             &mut self.seat,
             help,
-            head.as_slice(),
-            &[],
-            0,
-            WriterCall::Number { field, value },
+            field,
+            value,
+            size,
             steps,
         )
     }

@@ -40,7 +40,7 @@ use Rattle.trace_writer.proofs.packets.RunOn.{inside_seen}
 drop_more : (n m : ℕ) (xs : List ℕ) → drop m (drop n xs) ≡ drop (n + m) xs
 drop_more n m xs = grind (arith, common_steps)
 
-with_bytes_both : (old one two : List ℕ) (at : ℕ) → at + length one + length two ≤ length old
+pub with_bytes_both : (old one two : List ℕ) (at : ℕ) → at + length one + length two ≤ length old
     → with_bytes (with_bytes old at one) (at + length one) two ≡ with_bytes old at (one ++ two)
 with_bytes_both old one two at fits =
     let rest : List ℕ = drop (at + length one) old in

@@ -16,9 +16,9 @@ pub returns-in_err-check_field-clause-refused : goal.returns-in_err-check_field-
 returns-in_err-check_field-clause-refused g c = λ fault asked.
     let found = c.in_err-check_field.field-0.0 in
     let result_is : c.from_residual.result ≡ Err found = search rules in
-    let is = field_fault_is (g.W.Words.means.setup c.args.table.now) (g.W.Words.means.place c.args.self.now.seat) (g.W.Words.means.view c.args.table.now c.args.self.now.seat) c.args.self.now.writer c.args.field (length c.as_slice.result.now) c.requires.agrees.writes c.requires.begun
-    ∙ ap (λ (bytes : List ℕ). field_fault (g.W.Words.means.view c.args.table.now c.args.self.now.seat) c.args.field (length bytes)) (c.as_slice.ensures ∙ c.head_number-head.ensures) in
-    let refused : field_refusal (open_message_count c.args.self.now.writer.packet) (len_of c.args.self.now.writer.packet) c.args.field (length c.as_slice.result.now) ≡ Some found = c.in_err-check_field.ensures.refused in
+    let is = field_fault_is (g.W.Words.means.setup c.args.table.now) (g.W.Words.means.place c.args.self.now.seat) (g.W.Words.means.view c.args.table.now c.args.self.now.seat) c.args.self.now.writer c.args.field c.from.result c.requires.agrees.writes c.requires.begun
+    ∙ ap (λ (size : ℕ). field_fault (g.W.Words.means.view c.args.table.now c.args.self.now.seat) c.args.field size) (c.from.ensures ∙ c.number_size-size.ensures) in
+    let refused : field_refusal (open_message_count c.args.self.now.writer.packet) (len_of c.args.self.now.writer.packet) c.args.field c.from.result ≡ Some found = c.in_err-check_field.ensures.refused in
     record {
       answer_is = result_is ∙ ap Err (refused_so c.args.self.now (field_fault (g.W.Words.means.view c.args.table.now c.args.self.now.seat) c.args.field (length (number_field c.args.field c.args.value))) found fault (sym is ∙ refused) asked);
       writer_stays = refl;
@@ -30,29 +30,29 @@ returns-in_err-check_field-clause-refused g c = λ fault asked.
 pub returns-in_err-check_field-clause-answers : goal.returns-in_err-check_field-clause-answers
 returns-in_err-check_field-clause-answers g c = λ asked.
     let found = c.in_err-check_field.field-0.0 in
-    let is = field_fault_is (g.W.Words.means.setup c.args.table.now) (g.W.Words.means.place c.args.self.now.seat) (g.W.Words.means.view c.args.table.now c.args.self.now.seat) c.args.self.now.writer c.args.field (length c.as_slice.result.now) c.requires.agrees.writes c.requires.begun
-    ∙ ap (λ (bytes : List ℕ). field_fault (g.W.Words.means.view c.args.table.now c.args.self.now.seat) c.args.field (length bytes)) (c.as_slice.ensures ∙ c.head_number-head.ensures) in
-    let refused : field_refusal (open_message_count c.args.self.now.writer.packet) (len_of c.args.self.now.writer.packet) c.args.field (length c.as_slice.result.now) ≡ Some found = c.in_err-check_field.ensures.refused in
+    let is = field_fault_is (g.W.Words.means.setup c.args.table.now) (g.W.Words.means.place c.args.self.now.seat) (g.W.Words.means.view c.args.table.now c.args.self.now.seat) c.args.self.now.writer c.args.field c.from.result c.requires.agrees.writes c.requires.begun
+    ∙ ap (λ (size : ℕ). field_fault (g.W.Words.means.view c.args.table.now c.args.self.now.seat) c.args.field size) (c.from.ensures ∙ c.number_size-size.ensures) in
+    let refused : field_refusal (open_message_count c.args.self.now.writer.packet) (len_of c.args.self.now.writer.packet) c.args.field c.from.result ≡ Some found = c.in_err-check_field.ensures.refused in
     absurd (never_none c.args.self.now (field_fault (g.W.Words.means.view c.args.table.now c.args.self.now.seat) c.args.field (length (number_field c.args.field c.args.value))) found (sym is ∙ refused) asked)
 
 pub returns-in_err-check_field-clause-done : goal.returns-in_err-check_field-clause-done
 returns-in_err-check_field-clause-done g c = λ asked.
     let found = c.in_err-check_field.field-0.0 in
-    let is = field_fault_is (g.W.Words.means.setup c.args.table.now) (g.W.Words.means.place c.args.self.now.seat) (g.W.Words.means.view c.args.table.now c.args.self.now.seat) c.args.self.now.writer c.args.field (length c.as_slice.result.now) c.requires.agrees.writes c.requires.begun
-    ∙ ap (λ (bytes : List ℕ). field_fault (g.W.Words.means.view c.args.table.now c.args.self.now.seat) c.args.field (length bytes)) (c.as_slice.ensures ∙ c.head_number-head.ensures) in
-    let refused : field_refusal (open_message_count c.args.self.now.writer.packet) (len_of c.args.self.now.writer.packet) c.args.field (length c.as_slice.result.now) ≡ Some found = c.in_err-check_field.ensures.refused in
+    let is = field_fault_is (g.W.Words.means.setup c.args.table.now) (g.W.Words.means.place c.args.self.now.seat) (g.W.Words.means.view c.args.table.now c.args.self.now.seat) c.args.self.now.writer c.args.field c.from.result c.requires.agrees.writes c.requires.begun
+    ∙ ap (λ (size : ℕ). field_fault (g.W.Words.means.view c.args.table.now c.args.self.now.seat) c.args.field size) (c.from.ensures ∙ c.number_size-size.ensures) in
+    let refused : field_refusal (open_message_count c.args.self.now.writer.packet) (len_of c.args.self.now.writer.packet) c.args.field c.from.result ≡ Some found = c.in_err-check_field.ensures.refused in
     absurd (never_none c.args.self.now (field_fault (g.W.Words.means.view c.args.table.now c.args.self.now.seat) c.args.field (length (number_field c.args.field c.args.value))) found (sym is ∙ refused) asked)
 
 pub returns-clause-refused : goal.returns-clause-refused
 returns-clause-refused g c = λ fault asked.
-    let is = field_fault_is (g.W.Words.means.setup c.args.table.now) (g.W.Words.means.place c.args.self.now.seat) (g.W.Words.means.view c.args.table.now c.args.self.now.seat) c.args.self.now.writer c.args.field (length c.as_slice.result.now) c.requires.agrees.writes c.requires.begun
-    ∙ ap (λ (bytes : List ℕ). field_fault (g.W.Words.means.view c.args.table.now c.args.self.now.seat) c.args.field (length bytes)) (c.as_slice.ensures ∙ c.head_number-head.ensures) in
-    let accepted : field_refusal (open_message_count c.args.self.now.writer.packet) (len_of c.args.self.now.writer.packet) c.args.field (length c.as_slice.result.now) ≡ None = c.in_ok-check_field.ensures.accepted in
+    let is = field_fault_is (g.W.Words.means.setup c.args.table.now) (g.W.Words.means.place c.args.self.now.seat) (g.W.Words.means.view c.args.table.now c.args.self.now.seat) c.args.self.now.writer c.args.field c.from.result c.requires.agrees.writes c.requires.begun
+    ∙ ap (λ (size : ℕ). field_fault (g.W.Words.means.view c.args.table.now c.args.self.now.seat) c.args.field size) (c.from.ensures ∙ c.number_size-size.ensures) in
+    let accepted : field_refusal (open_message_count c.args.self.now.writer.packet) (len_of c.args.self.now.writer.packet) c.args.field c.from.result ≡ None = c.in_ok-check_field.ensures.accepted in
     let now = refused_stalled c.args.self.now (field_fault (g.W.Words.means.view c.args.table.now c.args.self.now.seat) c.args.field (length (number_field c.args.field c.args.value))) fault (sym is ∙ accepted) asked in
-    let stays = c.write_field.ensures.stays now.stalled_is in
+    let stays = c.write_number.ensures.stays now.stalled_is in
     record {
       answer_is = stays.0 ∙ ap Err (sym now.fault_is);
-      writer_stays = ap (λ writer. let one : WriterCore _ = record { seat = c.write_field.new.seat; writer = writer } in one) stays.1
+      writer_stays = ap (λ writer. let one : WriterCore _ = record { seat = c.write_number.new.seat; writer = writer } in one) stays.1
           ∙ ap (λ seat. let one : WriterCore _ = record { seat = seat; writer = c.args.self.now.writer } in one) stays.3;
       table_stays = stays.2;
       helper_stays = stays.4;
@@ -61,92 +61,91 @@ returns-clause-refused g c = λ fault asked.
 
 pub returns-clause-answers : goal.returns-clause-answers
 returns-clause-answers g c = λ asked.
-    let is = field_fault_is (g.W.Words.means.setup c.args.table.now) (g.W.Words.means.place c.args.self.now.seat) (g.W.Words.means.view c.args.table.now c.args.self.now.seat) c.args.self.now.writer c.args.field (length c.as_slice.result.now) c.requires.agrees.writes c.requires.begun
-    ∙ ap (λ (bytes : List ℕ). field_fault (g.W.Words.means.view c.args.table.now c.args.self.now.seat) c.args.field (length bytes)) (c.as_slice.ensures ∙ c.head_number-head.ensures) in
-    let accepted : field_refusal (open_message_count c.args.self.now.writer.packet) (len_of c.args.self.now.writer.packet) c.args.field (length c.as_slice.result.now) ≡ None = c.in_ok-check_field.ensures.accepted in
-    c.write_field.ensures.answers (none_stalled c.args.self.now (field_fault (g.W.Words.means.view c.args.table.now c.args.self.now.seat) c.args.field (length (number_field c.args.field c.args.value))) (sym is ∙ accepted) asked)
+    let is = field_fault_is (g.W.Words.means.setup c.args.table.now) (g.W.Words.means.place c.args.self.now.seat) (g.W.Words.means.view c.args.table.now c.args.self.now.seat) c.args.self.now.writer c.args.field c.from.result c.requires.agrees.writes c.requires.begun
+    ∙ ap (λ (size : ℕ). field_fault (g.W.Words.means.view c.args.table.now c.args.self.now.seat) c.args.field size) (c.from.ensures ∙ c.number_size-size.ensures) in
+    let accepted : field_refusal (open_message_count c.args.self.now.writer.packet) (len_of c.args.self.now.writer.packet) c.args.field c.from.result ≡ None = c.in_ok-check_field.ensures.accepted in
+    c.write_number.ensures.answers (none_stalled c.args.self.now (field_fault (g.W.Words.means.view c.args.table.now c.args.self.now.seat) c.args.field (length (number_field c.args.field c.args.value))) (sym is ∙ accepted) asked)
 
 pub returns-clause-done : goal.returns-clause-done
 returns-clause-done g c = λ asked.
-    let is = field_fault_is (g.W.Words.means.setup c.args.table.now) (g.W.Words.means.place c.args.self.now.seat) (g.W.Words.means.view c.args.table.now c.args.self.now.seat) c.args.self.now.writer c.args.field (length c.as_slice.result.now) c.requires.agrees.writes c.requires.begun
-    ∙ ap (λ (bytes : List ℕ). field_fault (g.W.Words.means.view c.args.table.now c.args.self.now.seat) c.args.field (length bytes)) (c.as_slice.ensures ∙ c.head_number-head.ensures) in
-    let accepted : field_refusal (open_message_count c.args.self.now.writer.packet) (len_of c.args.self.now.writer.packet) c.args.field (length c.as_slice.result.now) ≡ None = c.in_ok-check_field.ensures.accepted in
-    let d = c.write_field.ensures.done (none_stalled c.args.self.now (field_fault (g.W.Words.means.view c.args.table.now c.args.self.now.seat) c.args.field (length (number_field c.args.field c.args.value))) (sym is ∙ accepted) asked) in
+    let is = field_fault_is (g.W.Words.means.setup c.args.table.now) (g.W.Words.means.place c.args.self.now.seat) (g.W.Words.means.view c.args.table.now c.args.self.now.seat) c.args.self.now.writer c.args.field c.from.result c.requires.agrees.writes c.requires.begun
+    ∙ ap (λ (size : ℕ). field_fault (g.W.Words.means.view c.args.table.now c.args.self.now.seat) c.args.field size) (c.from.ensures ∙ c.number_size-size.ensures) in
+    let accepted : field_refusal (open_message_count c.args.self.now.writer.packet) (len_of c.args.self.now.writer.packet) c.args.field c.from.result ≡ None = c.in_ok-check_field.ensures.accepted in
+    let d = c.write_number.ensures.done (none_stalled c.args.self.now (field_fault (g.W.Words.means.view c.args.table.now c.args.self.now.seat) c.args.field (length (number_field c.args.field c.args.value))) (sym is ∙ accepted) asked) in
     (d.0, d.1)
 
 pub returns-clause-agrees : goal.returns-clause-agrees
 returns-clause-agrees g c =
     (left_written g.W.Words.means g.H.HelperOn.needs g.H.HelperOn.helps
-    c.args.help.now c.args.table.now c.args.self.now c.args.steps.now c.write_field.new.help c.write_field.new.table (record { seat = c.write_field.new.seat; writer = c.write_field.new.writer }) c.write_field.new.steps (call.Number c.args.field c.args.value)
-    (with_more (number_field c.args.field c.args.value)) c.requires.seat c.requires.needs c.requires.agrees c.requires.begun (λ account. refl) (more_fate (number_field c.args.field c.args.value)) c.requires.begun c.write_field.ensures.agrees
-    (λ stalled. let is = c.write_field.ensures.stays stalled in (
-      ap (λ writer. let one : WriterCore _ = record { seat = c.write_field.new.seat; writer = writer } in one) is.1
+    c.args.help.now c.args.table.now c.args.self.now c.args.steps.now c.write_number.new.help c.write_number.new.table (record { seat = c.write_number.new.seat; writer = c.write_number.new.writer }) c.write_number.new.steps (call.Number c.args.field c.args.value)
+    (with_more (number_field c.args.field c.args.value)) c.requires.seat c.requires.needs c.requires.agrees c.requires.begun (λ account. refl) (more_fate (number_field c.args.field c.args.value)) c.requires.begun c.write_number.ensures.agrees
+    (λ stalled. let is = c.write_number.ensures.stays stalled in (
+      ap (λ writer. let one : WriterCore _ = record { seat = c.write_number.new.seat; writer = writer } in one) is.1
           ∙ ap (λ seat. let one : WriterCore _ = record { seat = seat; writer = c.args.self.now.writer } in one) is.3,
       is.2,
       is.4,
-    )) c.write_field.ensures.done).0.agrees
+    )) c.write_number.ensures.done).0.agrees
 
 pub returns-clause-needs : goal.returns-clause-needs
 returns-clause-needs g c =
     (left_written g.W.Words.means g.H.HelperOn.needs g.H.HelperOn.helps
-    c.args.help.now c.args.table.now c.args.self.now c.args.steps.now c.write_field.new.help c.write_field.new.table (record { seat = c.write_field.new.seat; writer = c.write_field.new.writer }) c.write_field.new.steps (call.Number c.args.field c.args.value)
-    (with_more (number_field c.args.field c.args.value)) c.requires.seat c.requires.needs c.requires.agrees c.requires.begun (λ account. refl) (more_fate (number_field c.args.field c.args.value)) c.requires.begun c.write_field.ensures.agrees
-    (λ stalled. let is = c.write_field.ensures.stays stalled in (
-      ap (λ writer. let one : WriterCore _ = record { seat = c.write_field.new.seat; writer = writer } in one) is.1
+    c.args.help.now c.args.table.now c.args.self.now c.args.steps.now c.write_number.new.help c.write_number.new.table (record { seat = c.write_number.new.seat; writer = c.write_number.new.writer }) c.write_number.new.steps (call.Number c.args.field c.args.value)
+    (with_more (number_field c.args.field c.args.value)) c.requires.seat c.requires.needs c.requires.agrees c.requires.begun (λ account. refl) (more_fate (number_field c.args.field c.args.value)) c.requires.begun c.write_number.ensures.agrees
+    (λ stalled. let is = c.write_number.ensures.stays stalled in (
+      ap (λ writer. let one : WriterCore _ = record { seat = c.write_number.new.seat; writer = writer } in one) is.1
           ∙ ap (λ seat. let one : WriterCore _ = record { seat = seat; writer = c.args.self.now.writer } in one) is.3,
       is.2,
       is.4,
-    )) c.write_field.ensures.done).0.needed
+    )) c.write_number.ensures.done).0.needed
 
 pub returns-clause-others : goal.returns-clause-others
 returns-clause-others g c =
     (left_written g.W.Words.means g.H.HelperOn.needs g.H.HelperOn.helps
-    c.args.help.now c.args.table.now c.args.self.now c.args.steps.now c.write_field.new.help c.write_field.new.table (record { seat = c.write_field.new.seat; writer = c.write_field.new.writer }) c.write_field.new.steps (call.Number c.args.field c.args.value)
-    (with_more (number_field c.args.field c.args.value)) c.requires.seat c.requires.needs c.requires.agrees c.requires.begun (λ account. refl) (more_fate (number_field c.args.field c.args.value)) c.requires.begun c.write_field.ensures.agrees
-    (λ stalled. let is = c.write_field.ensures.stays stalled in (
-      ap (λ writer. let one : WriterCore _ = record { seat = c.write_field.new.seat; writer = writer } in one) is.1
+    c.args.help.now c.args.table.now c.args.self.now c.args.steps.now c.write_number.new.help c.write_number.new.table (record { seat = c.write_number.new.seat; writer = c.write_number.new.writer }) c.write_number.new.steps (call.Number c.args.field c.args.value)
+    (with_more (number_field c.args.field c.args.value)) c.requires.seat c.requires.needs c.requires.agrees c.requires.begun (λ account. refl) (more_fate (number_field c.args.field c.args.value)) c.requires.begun c.write_number.ensures.agrees
+    (λ stalled. let is = c.write_number.ensures.stays stalled in (
+      ap (λ writer. let one : WriterCore _ = record { seat = c.write_number.new.seat; writer = writer } in one) is.1
           ∙ ap (λ seat. let one : WriterCore _ = record { seat = seat; writer = c.args.self.now.writer } in one) is.3,
       is.2,
       is.4,
-    )) c.write_field.ensures.done).0.others
+    )) c.write_number.ensures.done).0.others
 
 pub returns-clause-alone : goal.returns-clause-alone
 returns-clause-alone g c =
     (left_written g.W.Words.means g.H.HelperOn.needs g.H.HelperOn.helps
-    c.args.help.now c.args.table.now c.args.self.now c.args.steps.now c.write_field.new.help c.write_field.new.table (record { seat = c.write_field.new.seat; writer = c.write_field.new.writer }) c.write_field.new.steps (call.Number c.args.field c.args.value)
-    (with_more (number_field c.args.field c.args.value)) c.requires.seat c.requires.needs c.requires.agrees c.requires.begun (λ account. refl) (more_fate (number_field c.args.field c.args.value)) c.requires.begun c.write_field.ensures.agrees
-    (λ stalled. let is = c.write_field.ensures.stays stalled in (
-      ap (λ writer. let one : WriterCore _ = record { seat = c.write_field.new.seat; writer = writer } in one) is.1
+    c.args.help.now c.args.table.now c.args.self.now c.args.steps.now c.write_number.new.help c.write_number.new.table (record { seat = c.write_number.new.seat; writer = c.write_number.new.writer }) c.write_number.new.steps (call.Number c.args.field c.args.value)
+    (with_more (number_field c.args.field c.args.value)) c.requires.seat c.requires.needs c.requires.agrees c.requires.begun (λ account. refl) (more_fate (number_field c.args.field c.args.value)) c.requires.begun c.write_number.ensures.agrees
+    (λ stalled. let is = c.write_number.ensures.stays stalled in (
+      ap (λ writer. let one : WriterCore _ = record { seat = c.write_number.new.seat; writer = writer } in one) is.1
           ∙ ap (λ seat. let one : WriterCore _ = record { seat = seat; writer = c.args.self.now.writer } in one) is.3,
       is.2,
       is.4,
-    )) c.write_field.ensures.done).0.alone
+    )) c.write_number.ensures.done).0.alone
 
 pub returns-clause-in_packet : goal.returns-clause-in_packet
 returns-clause-in_packet g c =
     (left_written g.W.Words.means g.H.HelperOn.needs g.H.HelperOn.helps
-    c.args.help.now c.args.table.now c.args.self.now c.args.steps.now c.write_field.new.help c.write_field.new.table (record { seat = c.write_field.new.seat; writer = c.write_field.new.writer }) c.write_field.new.steps (call.Number c.args.field c.args.value)
-    (with_more (number_field c.args.field c.args.value)) c.requires.seat c.requires.needs c.requires.agrees c.requires.begun (λ account. refl) (more_fate (number_field c.args.field c.args.value)) c.requires.begun c.write_field.ensures.agrees
-    (λ stalled. let is = c.write_field.ensures.stays stalled in (
-      ap (λ writer. let one : WriterCore _ = record { seat = c.write_field.new.seat; writer = writer } in one) is.1
+    c.args.help.now c.args.table.now c.args.self.now c.args.steps.now c.write_number.new.help c.write_number.new.table (record { seat = c.write_number.new.seat; writer = c.write_number.new.writer }) c.write_number.new.steps (call.Number c.args.field c.args.value)
+    (with_more (number_field c.args.field c.args.value)) c.requires.seat c.requires.needs c.requires.agrees c.requires.begun (λ account. refl) (more_fate (number_field c.args.field c.args.value)) c.requires.begun c.write_number.ensures.agrees
+    (λ stalled. let is = c.write_number.ensures.stays stalled in (
+      ap (λ writer. let one : WriterCore _ = record { seat = c.write_number.new.seat; writer = writer } in one) is.1
           ∙ ap (λ seat. let one : WriterCore _ = record { seat = seat; writer = c.args.self.now.writer } in one) is.3,
       is.2,
       is.4,
-    )) c.write_field.ensures.done).1
+    )) c.write_number.ensures.done).1
 
 pub returns-clause-depth : goal.returns-clause-depth
 returns-clause-depth g c =
     deep_written g.W.Words.means g.H.HelperOn.needs g.H.HelperOn.helps
-    c.args.help.now c.args.table.now c.args.self.now c.args.steps.now c.write_field.new.help c.write_field.new.table (record { seat = c.write_field.new.seat; writer = c.write_field.new.writer }) c.write_field.new.steps (call.Number c.args.field c.args.value)
+    c.args.help.now c.args.table.now c.args.self.now c.args.steps.now c.write_number.new.help c.write_number.new.table (record { seat = c.write_number.new.seat; writer = c.write_number.new.writer }) c.write_number.new.steps (call.Number c.args.field c.args.value)
     (with_more (number_field c.args.field c.args.value)) (λ account. refl) (more_keeps (number_field c.args.field c.args.value))
-    (λ stalled. let is = c.write_field.ensures.stays stalled in (
-      ap (λ writer. let one : WriterCore _ = record { seat = c.write_field.new.seat; writer = writer } in one) is.1
+    (λ stalled. let is = c.write_number.ensures.stays stalled in (
+      ap (λ writer. let one : WriterCore _ = record { seat = c.write_number.new.seat; writer = writer } in one) is.1
           ∙ ap (λ seat. let one : WriterCore _ = record { seat = seat; writer = c.args.self.now.writer } in one) is.3,
       is.2,
       is.4,
-    )) c.write_field.ensures.done
+    )) c.write_number.ensures.done
 
 pub returns-clause-asked : goal.returns-clause-asked
 returns-clause-asked g c = λ needs.
-    let head : length (number_field c.args.field c.args.value) ≡ length c.as_slice-2.result.now = ap length (sym (c.as_slice-2.ensures ∙ c.head_number-head.ensures)) in
-    c.write_field.ensures.asked (subst (λ (n : ℕ). NeedsNoChunk c.args.self.now.writer.state n) (omega (arith, head)) needs)
+    c.write_number.ensures.asked (subst (λ (n : ℕ). NeedsNoChunk c.args.self.now.writer.state n) (sym c.number_size-size.ensures) needs)
