@@ -87,6 +87,16 @@ fn varint_size(value: u64) -> u32
     size + 1
 }
 
+/// How many bytes stand before the length of a nested message.
+#[inline(always)]
+#[tactic(auto, unfolding(wire_varint::specs::Varint::tag))]
+pub fn nested_tag_size(field: u32) -> u32
+    ensures is { result ≡ length (nested_tag field) }
+    ensures most { result ≤ 10 }
+{
+    varint_size(8 * u64::from(field) + 2)
+}
+
 /// How many bytes a number's field has.
 #[inline(always)]
 #[tactic(auto, unfolding(trace_model::specs::Encoding::number_field, wire_varint::specs::Varint::tag))]

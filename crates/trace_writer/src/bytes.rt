@@ -3,7 +3,7 @@ ghost use Rattle.std.specs.Prelude.{◌≡◌, ℕ, ◌+◌, ◌-◌, ◌<◌, �
 ghost use Rattle.std.specs.List.{repeat};
 ghost use Rattle.wire_varint.specs.Varint.{varint};
 ghost use Rattle.trace_base.specs.declared.limits.TheConstants.{MAX_INPUT};
-ghost use Rattle.trace_model.specs.Encoding.{number_field};
+ghost use Rattle.trace_model.specs.Encoding.{nested_tag, number_field};
 ghost use Rattle.trace_model.specs.Packets.{open_length};
 ghost use Rattle.trace_model.specs.Images.{with_bytes};
 
@@ -64,6 +64,15 @@ pub fn put_number_at(payload: &mut [u8], at: u32, field: u32, value: u64)
 {
     let behind = put_varint_at(payload, at as usize, 8 * u64::from(field));
     put_varint_at(payload, behind, value);
+}
+
+/// Writes a nested message's tag at a place, where it fits.
+#[inline(always)]
+pub fn put_tag_at(payload: &mut [u8], at: u32, field: u32)
+    requires { at + length (nested_tag field) ≤ length payload.old }
+    ensures { payload.new ≡ with_bytes payload.old at (nested_tag field) }
+{
+    put_varint_at(payload, at as usize, 8 * u64::from(field) + 2);
 }
 
 /// Writes one byte so many times at a place, where they fit.

@@ -20,7 +20,7 @@ use crate::here::{put_field_here, put_nested_here, put_number_here};
 use crate::state::{State, Writer, is_stalled, put_state, take_state};
 use crate::stream::{put_field, put_nested};
 use chunk_plain::{Words, WriterCall};
-use proto_stream::head_number;
+use proto_stream::{head_nested, head_number};
 use std::sync::ledger::Ledger;
 use trace_base::policy::WriterPolicy;
 use trace_base::steps::Steps;
@@ -215,7 +215,8 @@ fn write_field_on<W: Words, L: Ledger, H: HelperOn<W>>(
     }
 }
 
-/// Begins a nested message that the packet may have, by its tag and a length that is set aside.
+/// Begins a nested message that the packet may have, by its tag, which
+/// has so many bytes, and a length that is set aside.
 #[inline(always)]
 pub(crate) fn write_nested<W: Words, L: Ledger, H: HelperOn<W>>(
     writer: &mut Writer,
@@ -223,15 +224,16 @@ pub(crate) fn write_nested<W: Words, L: Ledger, H: HelperOn<W>>(
     seat: &mut W::Writer,
     help: &mut H,
     field: u32,
-    tag: &[u8],
+    size: u32,
     steps: &mut Steps<L>,
 ) -> Result<(), CallFault>
     requires seat { W.means.sits table.old seat.old }
     requires needs { H.needs help.old table.old }
     requires agrees { Agrees (W.means.setup table.old) (W.means.place seat.old) (W.means.view table.old seat.old) writer.old }
     requires begun { is_begun writer.old.packet ≡ true }
-    requires tag { tag.now ≡ nested_tag field }
-    requires fits { len_of writer.old.packet + (length tag.now + 4) ≤ MAX_PACKET_LEN }
+    requires field { (1 ≤ field) × (field ≤ MAX_FIELD) }
+    requires size { size ≡ length (nested_tag field) }
+    requires fits { len_of writer.old.packet + (size + 4) ≤ MAX_PACKET_LEN }
     requires depth { open_message_count writer.old.packet < MAX_OPEN_HOLES }
     ensures agrees { Agrees (W.means.setup table.old) (W.means.place seat.old) (W.means.view table.new seat.new) writer.new }
     ensures route { writer.new.route ≡ writer.old.route }
@@ -244,19 +246,20 @@ pub(crate) fn write_nested<W: Words, L: Ledger, H: HelperOn<W>>(
         writer.old.route help.old table.old seat.old steps.old stopped (written_as stopped writer.old.route.spec.policy (call.Nested field))
         (is_stalled_state writer.new.state) help.new table.new seat.new steps.new
         × (stopped ≡ true → newest_is_lost (packets_of (W.means.view table.old seat.old).calls) ≡ false) }
-    ensures asked { NeedsNoChunk writer.old.state (length tag.now + 4) → (W.means.view table.new seat.new).asked ≡ (W.means.view table.old seat.old).asked }
+    ensures asked { NeedsNoChunk writer.old.state (size + 4) → (W.means.view table.new seat.new).asked ≡ (W.means.view table.old seat.old).asked }
 {
-    if put_nested_here(writer, tag) {
+    if put_nested_here(writer, field, size) {
         table.note_call(seat, WriterCall::Nested { field });
         return Ok(());
     }
-    match write_nested_on(writer, table, seat, help, field, tag, steps) {
+    match write_nested_on(writer, table, seat, help, field, steps) {
         Ok(()) => Ok(()),
         Err(fault) => Err(fault),
     }
 }
 
-/// Begins a nested message over as many chunks as its tag and its length take.
+/// Begins a nested message over as many chunks as its tag and its length take. Only
+/// here are the tag's bytes put together first.
 #[inline(never)]
 fn write_nested_on<W: Words, L: Ledger, H: HelperOn<W>>(
     writer: &mut Writer,
@@ -264,15 +267,14 @@ fn write_nested_on<W: Words, L: Ledger, H: HelperOn<W>>(
     seat: &mut W::Writer,
     help: &mut H,
     field: u32,
-    tag: &[u8],
     steps: &mut Steps<L>,
 ) -> Result<(), CallFault>
     requires seat { W.means.sits table.old seat.old }
     requires needs { H.needs help.old table.old }
     requires agrees { Agrees (W.means.setup table.old) (W.means.place seat.old) (W.means.view table.old seat.old) writer.old }
     requires begun { is_begun writer.old.packet ≡ true }
-    requires tag { tag.now ≡ nested_tag field }
-    requires fits { len_of writer.old.packet + (length tag.now + 4) ≤ MAX_PACKET_LEN }
+    requires field { (1 ≤ field) × (field ≤ MAX_FIELD) }
+    requires fits { len_of writer.old.packet + (length (nested_tag field) + 4) ≤ MAX_PACKET_LEN }
     requires depth { open_message_count writer.old.packet < MAX_OPEN_HOLES }
     ensures agrees { Agrees (W.means.setup table.old) (W.means.place seat.old) (W.means.view table.new seat.new) writer.new }
     ensures route { writer.new.route ≡ writer.old.route }
@@ -290,6 +292,8 @@ fn write_nested_on<W: Words, L: Ledger, H: HelperOn<W>>(
     if is_stalled(&writer.state) {
         return Err(CallFault::Stalled);
     }
+    let head = head_nested(field);
+    let tag = head.as_slice();
     let route = writer.route;
     let call = WriterCall::Nested { field };
     let Some(packet) = &mut writer.packet else {

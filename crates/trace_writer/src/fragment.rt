@@ -4,7 +4,7 @@ ghost use Rattle.chunk_plain.specs.declared.tokens.TheConstants.{ID_LIMIT};
 ghost use Rattle.std.specs.List.{repeat};
 ghost use Rattle.wire_varint.specs.Varint.{redundant};
 ghost use Rattle.trace_base.specs.declared.limits.TheConstants.{MAX_PACKET_LEN, MAX_OPEN_HOLES, MAX_PAGE_SIZE, MAX_FRAGMENTS};
-ghost use Rattle.trace_model.specs.Encoding.{number_field};
+ghost use Rattle.trace_model.specs.Encoding.{nested_tag, number_field};
 ghost use Rattle.trace_model.specs.Images.{with_bytes};
 ghost use Rattle.trace_model.specs.Packets.{open_length};
 ghost use Rattle.trace_model.specs.Fragments.{drop_mark};
@@ -12,7 +12,7 @@ ghost use Rattle.commit_body.specs.declared.body.TheConstants.{MAX_PATCHES};
 ghost use Rattle.commit_body.specs.declared.closed.Closed.TheVariants.{Here, Later};
 ghost use Rattle.commit_body.specs.Patches.{holes_outside};
 
-use crate::bytes::{put_at, put_hole_at, put_number_at, put_run, set_four_at};
+use crate::bytes::{put_at, put_hole_at, put_number_at, put_run, put_tag_at, set_four_at};
 use crate::chunk::HeldChunk;
 use chunk_plain::Held;
 use commit_body::{Closed, PatchList};
@@ -129,20 +129,35 @@ impl OpenFragment {
         true
     }
 
-    /// Writes a nested message's tag and sets its length aside, where both fit; else nothing changes.
-    pub fn put_message(&mut self, pending: &mut PatchList, tag: &[u8]) -> bool
+    /// Writes a nested message's tag, which has so many bytes, and sets its length aside, where both
+    /// fit; else nothing changes.
+    #[inline(always)]
+    pub fn put_message(&mut self, pending: &mut PatchList, field: u32, size: u32) -> bool
         requires few { length pending.old.holes < MAX_OPEN_HOLES }
-        requires small { length tag.now + 4 ≤ MAX_PACKET_LEN }
-        ensures fits { self.old.at + (length tag.now + 4) ≤ vec_len self.old.held.body.payload → result ≡ true }
+        requires size { size ≡ length (nested_tag field) }
+        requires small { size + 4 ≤ MAX_PACKET_LEN }
+        ensures fits { self.old.at + (size + 4) ≤ vec_len self.old.held.body.payload → result ≡ true }
         ensures unchanged { result ≡ false → self.new ≡ self.old }
         ensures none_added { result ≡ false → pending.new ≡ pending.old }
-        ensures opens { result ≡ true → OpensMessage self.old self.new pending.old pending.new tag.now }
+        ensures opens { result ≡ true → OpensMessage self.old self.new pending.old pending.new (nested_tag field) }
     {
-        if tag.len() + 4 > self.held.body.payload.len() - self.at as usize {
+        if !self.has_left(size as usize + 4) {
             return false;
         }
-        self.put(tag);
+        self.put_tag(field, size);
         self.put_hole(pending)
+    }
+
+    /// Writes a nested message's tag, which has so many bytes and fits.
+    #[inline(always)]
+    fn put_tag(&mut self, field: u32, size: u32)
+        requires size { size ≡ length (nested_tag field) }
+        requires fits { self.old.at + size ≤ vec_len self.old.held.body.payload }
+        ensures bytes { IsPutInto self.old self.new self.old.at (nested_tag field) }
+        ensures at { self.new.at ≡ self.old.at + size }
+    {
+        put_tag_at(&mut self.held.body.payload, self.at, field);
+        self.at += size;
     }
 
     /// Closes the innermost hole with a length.

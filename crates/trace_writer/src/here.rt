@@ -3,7 +3,7 @@
 ghost use Rattle.std.specs.Prelude.{◌≡◌, ◌+◌, ◌*◌, ◌<◌, ◌≤◌, ◌++◌, true, false, length, vec_len};
 ghost use Rattle.std.specs.List.{repeat};
 ghost use Rattle.trace_base.specs.declared.limits.TheConstants.{MAX_PACKET_LEN, MAX_OPEN_HOLES};
-ghost use Rattle.trace_model.specs.Encoding.{number_field};
+ghost use Rattle.trace_model.specs.Encoding.{nested_tag, number_field};
 ghost use Rattle.trace_writer.specs.declared.fragment.OpenFragment.{OpenFragment};
 ghost use Rattle.trace_writer.specs.declared.state.State.TheVariants.{Writing};
 ghost use Rattle.trace_writer.specs.Agreement.{is_begun, len_of, open_message_count};
@@ -55,25 +55,28 @@ pub(crate) fn put_number_here(writer: &mut Writer, field: u32, value: u64, size:
     true
 }
 
-/// Begins a nested message where its tag and its length fit; else nothing changes.
-pub(crate) fn put_nested_here(writer: &mut Writer, tag: &[u8]) -> bool
+/// Begins a nested message, whose tag has so many bytes, where its tag and its length fit; else
+/// nothing changes.
+#[inline(always)]
+pub(crate) fn put_nested_here(writer: &mut Writer, field: u32, size: u32) -> bool
     requires begun { is_begun writer.old.packet ≡ true }
-    requires fits { len_of writer.old.packet + (length tag.now + 4) ≤ MAX_PACKET_LEN }
+    requires size { size ≡ length (nested_tag field) }
+    requires fits { len_of writer.old.packet + (size + 4) ≤ MAX_PACKET_LEN }
     requires depth { open_message_count writer.old.packet < MAX_OPEN_HOLES }
     requires few { (fragment : OpenFragment) → writer.old.state ≡ Writing fragment → length writer.old.pending.holes < MAX_OPEN_HOLES }
-    ensures fits { (fragment : OpenFragment) → writer.old.state ≡ Writing fragment → fragment.at + (length tag.now + 4) ≤ vec_len fragment.held.body.payload → result ≡ true }
+    ensures fits { (fragment : OpenFragment) → writer.old.state ≡ Writing fragment → fragment.at + (size + 4) ≤ vec_len fragment.held.body.payload → result ≡ true }
     ensures unchanged { result ≡ false → writer.new ≡ writer.old }
-    ensures puts { result ≡ true → PutsNested writer.old writer.new tag.now }
+    ensures puts { result ≡ true → PutsNested writer.old writer.new (nested_tag field) }
 {
     let State::Writing(fragment) = &mut writer.state else {
         return false;
     };
-    if !fragment.put_message(&mut writer.pending, tag) {
+    if !fragment.put_message(&mut writer.pending, field, size) {
         return false;
     }
     let Some(packet) = &mut writer.packet else {
         unreachable!()
     };
-    packet.add_nested(tag.len() as u32);
+    packet.add_nested(size);
     true
 }

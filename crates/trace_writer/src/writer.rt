@@ -33,7 +33,7 @@ use chunk_plain::{Words, WriterCall};
 use claim_arbiter::Arbiter;
 use commit_body::PatchList;
 use page_geometry::Geometry;
-use proto_stream::{head_bytes, head_nested, number_size};
+use proto_stream::{head_bytes, nested_tag_size, number_size};
 use std::sync::ledger::Ledger;
 use trace_base::limits::MAX_PACKET_LEN;
 use trace_base::policy::WriterSpec;
@@ -249,16 +249,15 @@ impl<S> WriterCore<S> {
         ensures alone { (route_of self.old).spec.policy ≡ Drops → (help.new ≡ help.old)
             × IsWriterStep W.means table.old self.old.seat table.new self.new.seat }
     {
-        let head = head_nested(field);
-        let tag = head.as_slice();
-        check_nested(&self.writer.packet, field, tag.len() as u32)?;
+        let size = nested_tag_size(field);
+        check_nested(&self.writer.packet, field, size)?;
         write_nested(
             &mut self.writer,
             table,
             &mut self.seat,
             help,
             field,
-            tag,
+            size,
             steps,
         )
     }

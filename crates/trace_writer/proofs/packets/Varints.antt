@@ -7,7 +7,7 @@ use Rattle.std.proofs.Math.Nat.{pow-suc}
 use Rattle.wire_varint.specs.Varint.{groups, varint, tag}
 use Rattle.wire_varint.proofs.Groups.{groups_last, groups_more}
 use Rattle.wire_varint.proofs.Lengths.{length-groups-pos}
-use Rattle.trace_model.specs.Encoding.{number_field}
+use Rattle.trace_model.specs.Encoding.{nested_tag, number_field}
 use Rattle.trace_model.specs.Images.{with_bytes}
 
 -- the bytes that were put from a place up to here and the groups of the rest are the varint
@@ -89,3 +89,8 @@ put_last old now value rest at here put room small =
 pub number_parts : (field value : ℕ) → number_field field value ≡ varint (8 * field) ++ varint value
 unfolding number_field tag
 number_parts field value = let none : 8 * field + 0 ≡ 8 * field = omega arith in ap (λ (n : ℕ). varint n ++ varint value) none
+
+-- the wire type of what has its length in front is 2
+pub tag_number : (field : ℕ) → nested_tag field ≡ varint (8 * field + 2)
+unfolding tag
+tag_number field = refl

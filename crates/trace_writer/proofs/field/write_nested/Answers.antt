@@ -1,6 +1,8 @@
-use Rattle.std.proofs.Common.{◌∙◌, ◌+◌, length, refl, sym, ap, false, [], ◌∷◌}
+use Rattle.std.proofs.Common.{◌∙◌, ℕ, ◌+◌, ◌≤◌, length, refl, sym, ap, subst, false, [], ◌∷◌}
 use Rattle.std.proofs.lemmas.Bool.{true≢false}
 use Rattle.trace_model.specs.Calls as call
+use Rattle.trace_model.specs.Encoding.{nested_tag}
+use Rattle.trace_writer.specs.Agreement.{len_of}
 use Rattle.trace_writer.specs.declared.state.Writer.{Writer}
 use Rattle.trace_writer.specs.Empty.{is_empty, is_stalled}
 use Rattle.chunk_plain.specs.Views.{WriterView}
@@ -21,9 +23,10 @@ returns-then-put_nested_here-clause-agrees g c =
     let view = g.W.Words.means.view c.args.table.now c.args.seat.now in
     let puts = c.if-put_nested_here.ensures.puts refl in
     agrees_opened setup place view (g.W.Words.means.view c.note_call.new.self c.note_call.new.seat) c.args.writer.now c.put_nested_here.new.writer
-    c.args.field c.args.tag.now c.requires.agrees puts c.requires.fits
+    c.args.field (nested_tag c.args.field) c.requires.agrees puts
+    (subst (λ (n : ℕ). len_of c.args.writer.now.packet + (n + 4) ≤ 1048576) c.requires.size c.requires.fits)
     (few_holes setup place view c.args.writer.now c.args.writer.now.packet puts.fragment refl c.requires.agrees puts.was c.requires.begun c.requires.depth)
-    c.requires.tag c.note_call.ensures.view
+    refl c.note_call.ensures.view
 
 pub returns-then-put_nested_here-clause-answers : goal.returns-then-put_nested_here-clause-answers
 returns-then-put_nested_here-clause-answers g c = λ goes. ap (λ (writer : Writer). is_stalled writer.state) (c.if-put_nested_here.ensures.puts refl).new_is
@@ -49,12 +52,12 @@ pub returns-in-Ok-clause-asked : goal.returns-in-Ok-clause-asked
 returns-in-Ok-clause-asked g c = λ needs.
     c.in-Ok.ensures.asked
     (ap (λ (writer : Writer). is_empty writer.state) (c.put_nested_here.ensures.unchanged c.if-put_nested_here.false)
-    ∙ needs_empty c.args.writer.now.state (length c.args.tag.now + 4) needs
+    ∙ needs_empty c.args.writer.now.state (c.args.size + 4) needs
     (λ fragment was fits. absurd (true≢false (sym (c.put_nested_here.ensures.fits fragment was fits) ∙ c.if-put_nested_here.false))))
 
 pub returns-in-Err-clause-asked : goal.returns-in-Err-clause-asked
 returns-in-Err-clause-asked g c = λ needs.
     c.in-Err.ensures.asked
     (ap (λ (writer : Writer). is_empty writer.state) (c.put_nested_here.ensures.unchanged c.if-put_nested_here.false)
-    ∙ needs_empty c.args.writer.now.state (length c.args.tag.now + 4) needs
+    ∙ needs_empty c.args.writer.now.state (c.args.size + 4) needs
     (λ fragment was fits. absurd (true≢false (sym (c.put_nested_here.ensures.fits fragment was fits) ∙ c.if-put_nested_here.false))))

@@ -29,19 +29,20 @@ put_nested-flow-requires-clause-few g c =
 
 pub returns-in-Writing-clause-agrees : goal.returns-in-Writing-clause-agrees
 returns-in-Writing-clause-agrees g c =
-    let tag = c.args.tag.now in
+    let tag = c.as_slice-tag.result.now in
     agrees_behind (g.W.Words.means.setup c.args.table.now) (g.W.Words.means.place c.args.seat.now) (g.W.Words.means.view c.args.table.now c.args.seat.now)
     (g.W.Words.means.view c.put_nested-flow.new.table c.put_nested-flow.new.seat) (g.W.Words.means.view c.go_on.new.table c.go_on.new.seat)
     c.args.writer.now c.go_on.new.writer c.take_state.new.state c.put_nested-flow.new.pending c.in-Writing.fragment c.in-Some.packet c.add_nested.new.self
     (length tag + 4) (λ (packet : Packet). with_open (with_more tag packet)) (call.Nested c.args.field) c.put_nested-flow.result c.requires.agrees
     (sym c.in-Writing.ensures.taken) c.in-Some.is (grows_nested tag)
     (λ (packet : Packet) some m. measured_nested c.in-Some.packet c.add_nested.new.self packet tag (length tag) refl c.add_nested.ensures.len c.add_nested.ensures.starts some m)
-    (subst (λ (o : Option OpenPacket). len_of o + (length tag + 4) ≤ 1048576) c.in-Some.is c.requires.fits) (noted_tag c.args.field tag c.requires.tag) c.put_nested-flow.ensures.flow c.go_on.ensures.goes
+    (subst (λ (o : Option OpenPacket). len_of o + (length tag + 4) ≤ 1048576) c.in-Some.is
+    (subst (λ (t : List ℕ). len_of c.args.writer.now.packet + (length t + 4) ≤ 1048576) (sym (c.as_slice-tag.ensures ∙ c.head_nested-head.ensures)) c.requires.fits)) (noted_tag c.args.field tag (c.as_slice-tag.ensures ∙ c.head_nested-head.ensures)) c.put_nested-flow.ensures.flow c.go_on.ensures.goes
 
 pub returns-in-Writing-clause-done : goal.returns-in-Writing-clause-done
 returns-in-Writing-clause-done g c = λ goes.
     let route = c.args.writer.now.route in
-    let tag = c.args.tag.now in
+    let tag = c.as_slice-tag.result.now in
     let stopped = is_stopped c.put_nested-flow.result in
     let noted = notes_behind (g.W.Words.means.setup c.args.table.now) (g.W.Words.means.place c.args.seat.now) (g.W.Words.means.view c.args.table.now c.args.seat.now)
     (g.W.Words.means.view c.put_nested-flow.new.table c.put_nested-flow.new.seat) (g.W.Words.means.view c.go_on.new.table c.go_on.new.seat)
@@ -61,13 +62,13 @@ returns-in-Writing-clause-done g c = λ goes.
 
 pub returns-in-Dropping-clause-agrees : goal.returns-in-Dropping-clause-agrees
 returns-in-Dropping-clause-agrees g c =
-    let tag = c.args.tag.now in
+    let tag = c.as_slice-tag.result.now in
     agrees_dropping (g.W.Words.means.setup c.args.table.now) (g.W.Words.means.place c.args.seat.now) (g.W.Words.means.view c.args.table.now c.args.seat.now)
     (g.W.Words.means.view c.note_call.new.self c.note_call.new.seat) c.args.writer.now c.put_state.new.state c.in-Dropping.next_id c.in-Some.packet c.add_nested.new.self
     (length tag + 4) (λ (packet : Packet). with_open (with_more tag packet)) (call.Nested c.args.field) c.requires.agrees (sym c.in-Dropping.ensures.taken)
     c.put_state.ensures c.in-Some.is (grows_nested tag)
     (λ (packet : Packet) some m. measured_nested c.in-Some.packet c.add_nested.new.self packet tag (length tag) refl c.add_nested.ensures.len c.add_nested.ensures.starts some m)
-    (noted_tag c.args.field tag c.requires.tag) c.note_call.ensures.view
+    (noted_tag c.args.field tag (c.as_slice-tag.ensures ∙ c.head_nested-head.ensures)) c.note_call.ensures.view
 
 pub returns-in-Dropping-clause-done : goal.returns-in-Dropping-clause-done
 returns-in-Dropping-clause-done g c = λ goes.

@@ -1,4 +1,4 @@
-use Rattle.std.proofs.Common.{refl}
+use Rattle.std.proofs.Common.{◌∙◌, ℕ, ◌+◌, refl, ap}
 use Rattle.trace_writer.proofs.here.put_nested_here.Goals as goal
 
 pub returns-clause-puts : goal.returns-clause-puts
@@ -11,6 +11,6 @@ returns-clause-puts c = λ _. record {
   packet_was = c.in-Some.is;
   new_is = refl;
   opens = c.if-not-put_message.ensures.opens refl;
-  len = c.add_nested.ensures.len;
+  len = c.add_nested.ensures.len ∙ ap (λ (n : ℕ). c.in-Some.packet.len + (n + 4)) c.requires.size;
   starts = c.add_nested.ensures.starts;
 }

@@ -1,5 +1,5 @@
 use Rattle.std.proofs.Common.{◌≡◌, ◌∙◌, ℕ, ◌+◌, ◌≤◌, Some, None, Err, List, length, rules, refl, sym, ap, subst, arith}
-use Rattle.wire_varint.proofs.Lengths.{length-tag-le}
+use Rattle.trace_model.specs.Encoding.{nested_tag}
 use Rattle.trace_model.specs.Packets.{with_nested}
 use Rattle.trace_model.specs.Calls as call
 use Rattle.trace_writer.specs.declared.writer.WriterCore.{WriterCore}
@@ -15,8 +15,9 @@ pub returns-in_err-check_nested-clause-refused : goal.returns-in_err-check_neste
 returns-in_err-check_nested-clause-refused g c = λ fault asked.
     let found = c.in_err-check_nested.field-0.0 in
     let result_is : c.from_residual.result ≡ Err found = search rules in
-    let is = nested_fault_is (g.W.Words.means.setup c.args.table.now) (g.W.Words.means.place c.args.self.now.seat) (g.W.Words.means.view c.args.table.now c.args.self.now.seat) c.args.self.now.writer c.args.field c.as_slice-tag.result.now c.requires.agrees.writes c.requires.begun (c.as_slice-tag.ensures ∙ c.head_nested-head.ensures) in
-    let refused : nested_refusal (open_message_count c.args.self.now.writer.packet) (len_of c.args.self.now.writer.packet) c.args.field (length c.as_slice-tag.result.now) ≡ Some found = c.in_err-check_nested.ensures.refused in
+    let is = nested_fault_is (g.W.Words.means.setup c.args.table.now) (g.W.Words.means.place c.args.self.now.seat) (g.W.Words.means.view c.args.table.now c.args.self.now.seat) c.args.self.now.writer c.args.field (nested_tag c.args.field) c.requires.agrees.writes c.requires.begun refl in
+    let refused : nested_refusal (open_message_count c.args.self.now.writer.packet) (len_of c.args.self.now.writer.packet) c.args.field (length (nested_tag c.args.field)) ≡ Some found =
+    ap (λ (n : ℕ). nested_refusal (open_message_count c.args.self.now.writer.packet) (len_of c.args.self.now.writer.packet) c.args.field n) (sym c.nested_tag_size-size.ensures.is) ∙ c.in_err-check_nested.ensures.refused in
     record {
       answer_is = result_is ∙ ap Err (refused_so c.args.self.now (nested_fault (g.W.Words.means.view c.args.table.now c.args.self.now.seat) c.args.field) found fault (sym is ∙ refused) asked);
       writer_stays = refl;
@@ -28,21 +29,24 @@ returns-in_err-check_nested-clause-refused g c = λ fault asked.
 pub returns-in_err-check_nested-clause-answers : goal.returns-in_err-check_nested-clause-answers
 returns-in_err-check_nested-clause-answers g c = λ asked.
     let found = c.in_err-check_nested.field-0.0 in
-    let is = nested_fault_is (g.W.Words.means.setup c.args.table.now) (g.W.Words.means.place c.args.self.now.seat) (g.W.Words.means.view c.args.table.now c.args.self.now.seat) c.args.self.now.writer c.args.field c.as_slice-tag.result.now c.requires.agrees.writes c.requires.begun (c.as_slice-tag.ensures ∙ c.head_nested-head.ensures) in
-    let refused : nested_refusal (open_message_count c.args.self.now.writer.packet) (len_of c.args.self.now.writer.packet) c.args.field (length c.as_slice-tag.result.now) ≡ Some found = c.in_err-check_nested.ensures.refused in
+    let is = nested_fault_is (g.W.Words.means.setup c.args.table.now) (g.W.Words.means.place c.args.self.now.seat) (g.W.Words.means.view c.args.table.now c.args.self.now.seat) c.args.self.now.writer c.args.field (nested_tag c.args.field) c.requires.agrees.writes c.requires.begun refl in
+    let refused : nested_refusal (open_message_count c.args.self.now.writer.packet) (len_of c.args.self.now.writer.packet) c.args.field (length (nested_tag c.args.field)) ≡ Some found =
+    ap (λ (n : ℕ). nested_refusal (open_message_count c.args.self.now.writer.packet) (len_of c.args.self.now.writer.packet) c.args.field n) (sym c.nested_tag_size-size.ensures.is) ∙ c.in_err-check_nested.ensures.refused in
     absurd (never_none c.args.self.now (nested_fault (g.W.Words.means.view c.args.table.now c.args.self.now.seat) c.args.field) found (sym is ∙ refused) asked)
 
 pub returns-in_err-check_nested-clause-done : goal.returns-in_err-check_nested-clause-done
 returns-in_err-check_nested-clause-done g c = λ asked.
     let found = c.in_err-check_nested.field-0.0 in
-    let is = nested_fault_is (g.W.Words.means.setup c.args.table.now) (g.W.Words.means.place c.args.self.now.seat) (g.W.Words.means.view c.args.table.now c.args.self.now.seat) c.args.self.now.writer c.args.field c.as_slice-tag.result.now c.requires.agrees.writes c.requires.begun (c.as_slice-tag.ensures ∙ c.head_nested-head.ensures) in
-    let refused : nested_refusal (open_message_count c.args.self.now.writer.packet) (len_of c.args.self.now.writer.packet) c.args.field (length c.as_slice-tag.result.now) ≡ Some found = c.in_err-check_nested.ensures.refused in
+    let is = nested_fault_is (g.W.Words.means.setup c.args.table.now) (g.W.Words.means.place c.args.self.now.seat) (g.W.Words.means.view c.args.table.now c.args.self.now.seat) c.args.self.now.writer c.args.field (nested_tag c.args.field) c.requires.agrees.writes c.requires.begun refl in
+    let refused : nested_refusal (open_message_count c.args.self.now.writer.packet) (len_of c.args.self.now.writer.packet) c.args.field (length (nested_tag c.args.field)) ≡ Some found =
+    ap (λ (n : ℕ). nested_refusal (open_message_count c.args.self.now.writer.packet) (len_of c.args.self.now.writer.packet) c.args.field n) (sym c.nested_tag_size-size.ensures.is) ∙ c.in_err-check_nested.ensures.refused in
     absurd (never_none c.args.self.now (nested_fault (g.W.Words.means.view c.args.table.now c.args.self.now.seat) c.args.field) found (sym is ∙ refused) asked)
 
 pub returns-clause-refused : goal.returns-clause-refused
 returns-clause-refused g c = λ fault asked.
-    let is = nested_fault_is (g.W.Words.means.setup c.args.table.now) (g.W.Words.means.place c.args.self.now.seat) (g.W.Words.means.view c.args.table.now c.args.self.now.seat) c.args.self.now.writer c.args.field c.as_slice-tag.result.now c.requires.agrees.writes c.requires.begun (c.as_slice-tag.ensures ∙ c.head_nested-head.ensures) in
-    let accepted : nested_refusal (open_message_count c.args.self.now.writer.packet) (len_of c.args.self.now.writer.packet) c.args.field (length c.as_slice-tag.result.now) ≡ None = c.in_ok-check_nested.ensures.accepted in
+    let is = nested_fault_is (g.W.Words.means.setup c.args.table.now) (g.W.Words.means.place c.args.self.now.seat) (g.W.Words.means.view c.args.table.now c.args.self.now.seat) c.args.self.now.writer c.args.field (nested_tag c.args.field) c.requires.agrees.writes c.requires.begun refl in
+    let accepted : nested_refusal (open_message_count c.args.self.now.writer.packet) (len_of c.args.self.now.writer.packet) c.args.field (length (nested_tag c.args.field)) ≡ None =
+    ap (λ (n : ℕ). nested_refusal (open_message_count c.args.self.now.writer.packet) (len_of c.args.self.now.writer.packet) c.args.field n) (sym c.nested_tag_size-size.ensures.is) ∙ c.in_ok-check_nested.ensures.accepted in
     let now = refused_stalled c.args.self.now (nested_fault (g.W.Words.means.view c.args.table.now c.args.self.now.seat) c.args.field) fault (sym is ∙ accepted) asked in
     let stays = c.write_nested.ensures.stays now.stalled_is in
     record {
@@ -56,14 +60,16 @@ returns-clause-refused g c = λ fault asked.
 
 pub returns-clause-answers : goal.returns-clause-answers
 returns-clause-answers g c = λ asked.
-    let is = nested_fault_is (g.W.Words.means.setup c.args.table.now) (g.W.Words.means.place c.args.self.now.seat) (g.W.Words.means.view c.args.table.now c.args.self.now.seat) c.args.self.now.writer c.args.field c.as_slice-tag.result.now c.requires.agrees.writes c.requires.begun (c.as_slice-tag.ensures ∙ c.head_nested-head.ensures) in
-    let accepted : nested_refusal (open_message_count c.args.self.now.writer.packet) (len_of c.args.self.now.writer.packet) c.args.field (length c.as_slice-tag.result.now) ≡ None = c.in_ok-check_nested.ensures.accepted in
+    let is = nested_fault_is (g.W.Words.means.setup c.args.table.now) (g.W.Words.means.place c.args.self.now.seat) (g.W.Words.means.view c.args.table.now c.args.self.now.seat) c.args.self.now.writer c.args.field (nested_tag c.args.field) c.requires.agrees.writes c.requires.begun refl in
+    let accepted : nested_refusal (open_message_count c.args.self.now.writer.packet) (len_of c.args.self.now.writer.packet) c.args.field (length (nested_tag c.args.field)) ≡ None =
+    ap (λ (n : ℕ). nested_refusal (open_message_count c.args.self.now.writer.packet) (len_of c.args.self.now.writer.packet) c.args.field n) (sym c.nested_tag_size-size.ensures.is) ∙ c.in_ok-check_nested.ensures.accepted in
     c.write_nested.ensures.answers (none_stalled c.args.self.now (nested_fault (g.W.Words.means.view c.args.table.now c.args.self.now.seat) c.args.field) (sym is ∙ accepted) asked)
 
 pub returns-clause-done : goal.returns-clause-done
 returns-clause-done g c = λ asked.
-    let is = nested_fault_is (g.W.Words.means.setup c.args.table.now) (g.W.Words.means.place c.args.self.now.seat) (g.W.Words.means.view c.args.table.now c.args.self.now.seat) c.args.self.now.writer c.args.field c.as_slice-tag.result.now c.requires.agrees.writes c.requires.begun (c.as_slice-tag.ensures ∙ c.head_nested-head.ensures) in
-    let accepted : nested_refusal (open_message_count c.args.self.now.writer.packet) (len_of c.args.self.now.writer.packet) c.args.field (length c.as_slice-tag.result.now) ≡ None = c.in_ok-check_nested.ensures.accepted in
+    let is = nested_fault_is (g.W.Words.means.setup c.args.table.now) (g.W.Words.means.place c.args.self.now.seat) (g.W.Words.means.view c.args.table.now c.args.self.now.seat) c.args.self.now.writer c.args.field (nested_tag c.args.field) c.requires.agrees.writes c.requires.begun refl in
+    let accepted : nested_refusal (open_message_count c.args.self.now.writer.packet) (len_of c.args.self.now.writer.packet) c.args.field (length (nested_tag c.args.field)) ≡ None =
+    ap (λ (n : ℕ). nested_refusal (open_message_count c.args.self.now.writer.packet) (len_of c.args.self.now.writer.packet) c.args.field n) (sym c.nested_tag_size-size.ensures.is) ∙ c.in_ok-check_nested.ensures.accepted in
     let d = c.write_nested.ensures.done (none_stalled c.args.self.now (nested_fault (g.W.Words.means.view c.args.table.now c.args.self.now.seat) c.args.field) (sym is ∙ accepted) asked) in
     (d.0, d.1)
 
@@ -127,13 +133,7 @@ returns-clause-in_packet g c =
       is.4,
     )) c.write_nested.ensures.done).1
 
-pub check_nested-requires-clause-tag : goal.check_nested-requires-clause-tag
-check_nested-requires-clause-tag g c =
-    let long : length c.as_slice-tag.result.now ≤ 5 =
-    subst (λ (bytes : List ℕ). length bytes ≤ 5) (sym (c.as_slice-tag.ensures ∙ c.head_nested-head.ensures)) (length-tag-le c.args.field 2 c.requires.most (omega arith)) in
-    omega (arith, long)
-
 pub returns-clause-asked : goal.returns-clause-asked
 returns-clause-asked g c = λ needs.
     c.write_nested.ensures.asked (subst (λ (n : ℕ). NeedsNoChunk c.args.self.now.writer.state n)
-    (ap (λ (bytes : List ℕ). length bytes + 4) (sym (c.as_slice-tag.ensures ∙ c.head_nested-head.ensures))) needs)
+    (ap (λ (n : ℕ). n + 4) (sym c.nested_tag_size-size.ensures.is)) needs)
