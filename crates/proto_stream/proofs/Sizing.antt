@@ -5,7 +5,6 @@ use Rattle.std.proofs.lemmas.Nat.{div_below}
 use Rattle.std.proofs.Math.Nat.{pow-suc}
 use Rattle.wire_varint.specs.Varint.{groups, varint}
 use Rattle.wire_varint.proofs.Groups.{groups_last, groups_more}
-use Rattle.wire_varint.proofs.Lengths.{length-groups-pos}
 
 -- the bytes so far and the groups of the rest are as many as the varint has
 pub record IsCountedUpTo (value rest size : ℕ) : Type 0 where

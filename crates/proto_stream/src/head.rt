@@ -97,6 +97,16 @@ pub fn nested_tag_size(field: u32) -> u32
     varint_size(8 * u64::from(field) + 2)
 }
 
+/// How many bytes stand before the `len` bytes of a text.
+#[inline(always)]
+#[tactic(auto, unfolding(trace_model::specs::Encoding::bytes_head, wire_varint::specs::Varint::tag))]
+pub fn bytes_head_size(field: u32, len: u32) -> u32
+    ensures is { result ≡ length (bytes_head field len) }
+    ensures most { result ≤ 20 }
+{
+    varint_size(8 * u64::from(field) + 2) + varint_size(u64::from(len))
+}
+
 /// How many bytes a number's field has.
 #[inline(always)]
 #[tactic(auto, unfolding(trace_model::specs::Encoding::number_field, wire_varint::specs::Varint::tag))]

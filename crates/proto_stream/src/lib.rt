@@ -8,4 +8,6 @@ mod cursor;
 mod head;
 
 pub use cursor::ChunkCursor;
-pub use head::{Head, head_bytes, head_nested, head_number, nested_tag_size, number_size};
+pub use head::{
+    Head, bytes_head_size, head_bytes, head_nested, head_number, nested_tag_size, number_size,
+};

@@ -1,9 +1,9 @@
 //! Bytes of a chunk's payload, by a cursor that is lent it.
-ghost use Rattle.std.specs.Prelude.{◌≡◌, ℕ, ◌+◌, ◌-◌, ◌<◌, ◌≤◌, [], ◌∷◌, length, min, take, nat_le, if◌then◌else◌};
+ghost use Rattle.std.specs.Prelude.{◌≡◌, ℕ, ◌+◌, ◌-◌, ◌<◌, ◌≤◌, [], ◌∷◌, ◌++◌, length, min, take, nat_le, if◌then◌else◌};
 ghost use Rattle.std.specs.List.{repeat};
 ghost use Rattle.wire_varint.specs.Varint.{varint};
 ghost use Rattle.trace_base.specs.declared.limits.TheConstants.{MAX_INPUT};
-ghost use Rattle.trace_model.specs.Encoding.{nested_tag, number_field};
+ghost use Rattle.trace_model.specs.Encoding.{bytes_head, nested_tag, number_field};
 ghost use Rattle.trace_model.specs.Packets.{open_length};
 ghost use Rattle.trace_model.specs.Images.{with_bytes};
 
@@ -56,14 +56,32 @@ fn put_varint_at(payload: &mut [u8], at: usize, value: u64) -> usize
     here + 1
 }
 
+/// Writes two varints at a place, one behind the other, where they fit.
+#[inline(always)]
+fn put_two_at(payload: &mut [u8], at: u32, first: u64, second: u64)
+    requires { at + length (varint first ++ varint second) ≤ length payload.old }
+    ensures { payload.new ≡ with_bytes payload.old at (varint first ++ varint second) }
+{
+    let behind = put_varint_at(payload, at as usize, first);
+    put_varint_at(payload, behind, second);
+}
+
 /// Writes a number's field at a place, where it fits.
 #[inline(always)]
 pub fn put_number_at(payload: &mut [u8], at: u32, field: u32, value: u64)
     requires { at + length (number_field field value) ≤ length payload.old }
     ensures { payload.new ≡ with_bytes payload.old at (number_field field value) }
 {
-    let behind = put_varint_at(payload, at as usize, 8 * u64::from(field));
-    put_varint_at(payload, behind, value);
+    put_two_at(payload, at, 8 * u64::from(field), value);
+}
+
+/// Writes what stands before the `len` bytes of a text at a place, where it fits.
+#[inline(always)]
+pub fn put_head_at(payload: &mut [u8], at: u32, field: u32, len: u32)
+    requires { at + length (bytes_head field len) ≤ length payload.old }
+    ensures { payload.new ≡ with_bytes payload.old at (bytes_head field len) }
+{
+    put_two_at(payload, at, 8 * u64::from(field) + 2, u64::from(len));
 }
 
 /// Writes a nested message's tag at a place, where it fits.

@@ -3,7 +3,7 @@ ghost use Rattle.std.specs.Prelude.{◌≡◌, ℕ, ◌+◌, ◌*◌, ◌<◌, �
 ghost use Rattle.std.specs.List.{repeat};
 ghost use Rattle.trace_base.specs.declared.limits.TheConstants.{MAX_FIELD, MAX_PACKET_LEN, MAX_OPEN_HOLES};
 ghost use Rattle.trace_model.specs.Calls as call;
-ghost use Rattle.trace_model.specs.Encoding.{nested_tag, number_field};
+ghost use Rattle.trace_model.specs.Encoding.{bytes_head, nested_tag, number_field};
 ghost use Rattle.trace_model.specs.Packets.{Account, noted, on_newest, with_more, packets_of, newest_is_lost};
 ghost use Rattle.chunk_plain.specs.Words.{call_of};
 ghost use Rattle.trace_writer.specs.Agreement.{Agrees, NeedsNoChunk, is_begun, len_of, open_message_count};
@@ -16,11 +16,11 @@ ghost use Rattle.trace_writer.specs.OwnSteps.{IsQuiet};
 use crate::fault::CallFault;
 use crate::flow::Flow;
 use crate::helper::HelperOn;
-use crate::here::{put_field_here, put_nested_here, put_number_here};
+use crate::here::{put_nested_here, put_number_here, put_text_here};
 use crate::state::{State, Writer, is_stalled, put_state, take_state};
 use crate::stream::{put_field, put_nested};
 use chunk_plain::{Words, WriterCall};
-use proto_stream::{head_nested, head_number};
+use proto_stream::{head_bytes, head_nested, head_number};
 use std::sync::ledger::Ledger;
 use trace_base::policy::WriterPolicy;
 use trace_base::steps::Steps;
@@ -112,26 +112,29 @@ fn write_number_on<W: Words, L: Ledger, H: HelperOn<W>>(
     )
 }
 
-/// Writes a field that the packet may have: what stands in front of its content, and its text so
-/// many times. It is put into its callers, since a `call` that is passed on costs more than what is done.
+/// Writes a text that the packet may have, so many times over. What stands before the `len` bytes of
+/// them has so many bytes.
 #[inline(always)]
-pub(crate) fn write_field<W: Words, L: Ledger, H: HelperOn<W>>(
+pub(crate) fn write_text<W: Words, L: Ledger, H: HelperOn<W>>(
     writer: &mut Writer,
     table: &mut W,
     seat: &mut W::Writer,
     help: &mut H,
-    head: &[u8],
+    field: u32,
+    len: u32,
+    size: u32,
     text: &[u8],
     times: u32,
-    call: WriterCall<'_>,
     steps: &mut Steps<L>,
 ) -> Result<(), CallFault>
     requires seat { W.means.sits table.old seat.old }
     requires needs { H.needs help.old table.old }
     requires agrees { Agrees (W.means.setup table.old) (W.means.place seat.old) (W.means.view table.old seat.old) writer.old }
     requires begun { is_begun writer.old.packet ≡ true }
-    requires fits { len_of writer.old.packet + (length head.now + times * length text.now) ≤ MAX_PACKET_LEN }
-    requires call { (account : Account) → noted account (call_of call) ≡ on_newest (with_more (head.now ++ repeat times text.now)) account }
+    requires field { (1 ≤ field) × (field ≤ MAX_FIELD) }
+    requires size { size ≡ length (bytes_head field len) }
+    requires fits { len_of writer.old.packet + (size + times * length text.now) ≤ MAX_PACKET_LEN }
+    requires call { (account : Account) → noted account (call.Bytes field text.now times) ≡ on_newest (with_more (bytes_head field len ++ repeat times text.now)) account }
     ensures agrees { Agrees (W.means.setup table.old) (W.means.place seat.old) (W.means.view table.new seat.new) writer.new }
     ensures route { writer.new.route ≡ writer.old.route }
     ensures stays { is_stalled_state writer.old.state ≡ true
@@ -140,20 +143,80 @@ pub(crate) fn write_field<W: Words, L: Ledger, H: HelperOn<W>>(
         → MatchResult result (λ _. is_stalled_state writer.new.state ≡ false) (λ fault. (fault ≡ call_fault.Stalled) × (is_stalled_state writer.new.state ≡ true)) }
     ensures done { is_stalled_state writer.old.state ≡ false → (stopped : Bool)
         × IsAsked W.means H.needs H.helps
-        writer.old.route help.old table.old seat.old steps.old stopped (written_as stopped writer.old.route.spec.policy (call_of call.entry))
+        writer.old.route help.old table.old seat.old steps.old stopped (written_as stopped writer.old.route.spec.policy (call.Bytes field text.now times))
         (is_stalled_state writer.new.state) help.new table.new seat.new steps.new
         × (stopped ≡ true → newest_is_lost (packets_of (W.means.view table.old seat.old).calls) ≡ false) }
-    ensures asked { NeedsNoChunk writer.old.state (length head.now + times * length text.now) → (W.means.view table.new seat.new).asked ≡ (W.means.view table.old seat.old).asked }
+    ensures asked { NeedsNoChunk writer.old.state (size + times * length text.now) → (W.means.view table.new seat.new).asked ≡ (W.means.view table.old seat.old).asked }
 {
-    if put_field_here(writer, head, text, times) {
-        table.note_call(seat, call);
+    if put_text_here(writer, field, len, size, text, times) {
+        let value = text;
+        table.note_call(
+            seat,
+            WriterCall::Bytes {
+                field,
+                value,
+                times,
+            },
+        );
         return Ok(());
     }
-    // The answer is taken apart, so that only this way pays for the room it is handed back in.
-    match write_field_on(writer, table, seat, help, head, text, times, call, steps) {
+    match write_text_on(writer, table, seat, help, field, len, text, times, steps) {
         Ok(()) => Ok(()),
         Err(fault) => Err(fault),
     }
+}
+
+/// Writes a text over as many chunks as it takes. Only here is what stands before it put together
+/// first.
+#[inline(never)]
+fn write_text_on<W: Words, L: Ledger, H: HelperOn<W>>(
+    writer: &mut Writer,
+    table: &mut W,
+    seat: &mut W::Writer,
+    help: &mut H,
+    field: u32,
+    len: u32,
+    text: &[u8],
+    times: u32,
+    steps: &mut Steps<L>,
+) -> Result<(), CallFault>
+    requires seat { W.means.sits table.old seat.old }
+    requires needs { H.needs help.old table.old }
+    requires agrees { Agrees (W.means.setup table.old) (W.means.place seat.old) (W.means.view table.old seat.old) writer.old }
+    requires begun { is_begun writer.old.packet ≡ true }
+    requires field { (1 ≤ field) × (field ≤ MAX_FIELD) }
+    requires fits { len_of writer.old.packet + (length (bytes_head field len) + times * length text.now) ≤ MAX_PACKET_LEN }
+    requires call { (account : Account) → noted account (call.Bytes field text.now times) ≡ on_newest (with_more (bytes_head field len ++ repeat times text.now)) account }
+    ensures agrees { Agrees (W.means.setup table.old) (W.means.place seat.old) (W.means.view table.new seat.new) writer.new }
+    ensures route { writer.new.route ≡ writer.old.route }
+    ensures stays { is_stalled_state writer.old.state ≡ true
+        → (result ≡ Err call_fault.Stalled) × (writer.new ≡ writer.old) × (table.new ≡ table.old) × (seat.new ≡ seat.old) × (help.new ≡ help.old) × (steps.new ≡ steps.old) }
+    ensures answers { is_stalled_state writer.old.state ≡ false
+        → MatchResult result (λ _. is_stalled_state writer.new.state ≡ false) (λ fault. (fault ≡ call_fault.Stalled) × (is_stalled_state writer.new.state ≡ true)) }
+    ensures done { is_stalled_state writer.old.state ≡ false → (stopped : Bool)
+        × IsAsked W.means H.needs H.helps
+        writer.old.route help.old table.old seat.old steps.old stopped (written_as stopped writer.old.route.spec.policy (call.Bytes field text.now times))
+        (is_stalled_state writer.new.state) help.new table.new seat.new steps.new
+        × (stopped ≡ true → newest_is_lost (packets_of (W.means.view table.old seat.old).calls) ≡ false) }
+    ensures asked { is_empty writer.old.state ≡ true → (W.means.view table.new seat.new).asked ≡ (W.means.view table.old seat.old).asked }
+{
+    let head = head_bytes(field, len);
+    let call = WriterCall::Bytes {
+        field,
+        value: text,
+        times,
+    };
+    write_field_on(
+        writer,
+        table,
+        seat,
+        help,
+        head.as_slice(),
+        text,
+        times,
+        call,
+        steps,
+    )
 }
 
 /// Writes a field over as many chunks as it takes.

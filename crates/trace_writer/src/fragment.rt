@@ -4,7 +4,7 @@ ghost use Rattle.chunk_plain.specs.declared.tokens.TheConstants.{ID_LIMIT};
 ghost use Rattle.std.specs.List.{repeat};
 ghost use Rattle.wire_varint.specs.Varint.{redundant};
 ghost use Rattle.trace_base.specs.declared.limits.TheConstants.{MAX_PACKET_LEN, MAX_OPEN_HOLES, MAX_PAGE_SIZE, MAX_FRAGMENTS};
-ghost use Rattle.trace_model.specs.Encoding.{nested_tag, number_field};
+ghost use Rattle.trace_model.specs.Encoding.{bytes_head, nested_tag, number_field};
 ghost use Rattle.trace_model.specs.Images.{with_bytes};
 ghost use Rattle.trace_model.specs.Packets.{open_length};
 ghost use Rattle.trace_model.specs.Fragments.{drop_mark};
@@ -12,7 +12,9 @@ ghost use Rattle.commit_body.specs.declared.body.TheConstants.{MAX_PATCHES};
 ghost use Rattle.commit_body.specs.declared.closed.Closed.TheVariants.{Here, Later};
 ghost use Rattle.commit_body.specs.Patches.{holes_outside};
 
-use crate::bytes::{put_at, put_hole_at, put_number_at, put_run, put_tag_at, set_four_at};
+use crate::bytes::{
+    put_at, put_head_at, put_hole_at, put_number_at, put_run, put_tag_at, set_four_at,
+};
 use crate::chunk::HeldChunk;
 use chunk_plain::Held;
 use commit_body::{Closed, PatchList};
@@ -60,21 +62,35 @@ impl OpenFragment {
         count
     }
 
-    /// Writes a head, and behind it a text so many times, where all of it fits; else nothing changes.
-    pub fn put_whole(&mut self, head: &[u8], text: &[u8], times: u32) -> bool
-        requires { length head.now + times * length text.now ≤ MAX_PACKET_LEN }
-        ensures fits { self.old.at + (length head.now + times * length text.now) ≤ vec_len self.old.held.body.payload → result ≡ true }
+    /// Writes a text's field, where all of it fits; else nothing changes. What stands before the `len`
+    /// bytes of the text has so many bytes.
+    pub fn put_whole(&mut self, field: u32, len: u32, size: u32, text: &[u8], times: u32) -> bool
+        requires size { size ≡ length (bytes_head field len) }
+        requires small { size + times * length text.now ≤ MAX_PACKET_LEN }
+        ensures fits { self.old.at + (size + times * length text.now) ≤ vec_len self.old.held.body.payload → result ≡ true }
         ensures unchanged { result ≡ false → self.new ≡ self.old }
-        ensures bytes { result ≡ true → IsPutInto self.old self.new self.old.at (head.now ++ repeat times text.now) }
-        ensures at { result ≡ true → self.new.at ≡ self.old.at + (length head.now + times * length text.now) }
+        ensures bytes { result ≡ true → IsPutInto self.old self.new self.old.at (bytes_head field len ++ repeat times text.now) }
+        ensures at { result ≡ true → self.new.at ≡ self.old.at + (size + times * length text.now) }
     {
-        let more = head.len() as u64 + u64::from(times) * text.len() as u64;
+        let more = u64::from(size) + u64::from(times) * text.len() as u64;
         if more > (self.held.body.payload.len() - self.at as usize) as u64 {
             return false;
         }
-        self.put(head);
+        self.put_head(field, len, size);
         self.put_text(text, times);
         true
+    }
+
+    /// Writes what stands before the `len` bytes of a text, which has so many bytes and fits.
+    #[inline(always)]
+    fn put_head(&mut self, field: u32, len: u32, size: u32)
+        requires size { size ≡ length (bytes_head field len) }
+        requires fits { self.old.at + size ≤ vec_len self.old.held.body.payload }
+        ensures bytes { IsPutInto self.old self.new self.old.at (bytes_head field len) }
+        ensures at { self.new.at ≡ self.old.at + size }
+    {
+        put_head_at(&mut self.held.body.payload, self.at, field, len);
+        self.at += size;
     }
 
     /// Writes a number's field, which has so many bytes, where it fits; else nothing changes.

@@ -3,7 +3,7 @@
 ghost use Rattle.std.specs.Prelude.{◌≡◌, ◌+◌, ◌*◌, ◌<◌, ◌≤◌, ◌++◌, true, false, length, vec_len};
 ghost use Rattle.std.specs.List.{repeat};
 ghost use Rattle.trace_base.specs.declared.limits.TheConstants.{MAX_PACKET_LEN, MAX_OPEN_HOLES};
-ghost use Rattle.trace_model.specs.Encoding.{nested_tag, number_field};
+ghost use Rattle.trace_model.specs.Encoding.{bytes_head, nested_tag, number_field};
 ghost use Rattle.trace_writer.specs.declared.fragment.OpenFragment.{OpenFragment};
 ghost use Rattle.trace_writer.specs.declared.state.State.TheVariants.{Writing};
 ghost use Rattle.trace_writer.specs.Agreement.{is_begun, len_of, open_message_count};
@@ -11,24 +11,33 @@ ghost use Rattle.trace_writer.specs.InPlace.{PutsField, PutsNested};
 
 use crate::state::{State, Writer};
 
-/// Writes a field where all of it fits; else nothing changes.
-pub(crate) fn put_field_here(writer: &mut Writer, head: &[u8], text: &[u8], times: u32) -> bool
+/// Writes a text's field where all of it fits; else nothing changes. What stands before the `len`
+/// bytes of the text has so many bytes.
+pub(crate) fn put_text_here(
+    writer: &mut Writer,
+    field: u32,
+    len: u32,
+    size: u32,
+    text: &[u8],
+    times: u32,
+) -> bool
     requires begun { is_begun writer.old.packet ≡ true }
-    requires fits { len_of writer.old.packet + (length head.now + times * length text.now) ≤ MAX_PACKET_LEN }
-    ensures fits { (fragment : OpenFragment) → writer.old.state ≡ Writing fragment → fragment.at + (length head.now + times * length text.now) ≤ vec_len fragment.held.body.payload → result ≡ true }
+    requires size { size ≡ length (bytes_head field len) }
+    requires fits { len_of writer.old.packet + (size + times * length text.now) ≤ MAX_PACKET_LEN }
+    ensures fits { (fragment : OpenFragment) → writer.old.state ≡ Writing fragment → fragment.at + (size + times * length text.now) ≤ vec_len fragment.held.body.payload → result ≡ true }
     ensures unchanged { result ≡ false → writer.new ≡ writer.old }
-    ensures puts { result ≡ true → PutsField writer.old writer.new (head.now ++ repeat times text.now) }
+    ensures puts { result ≡ true → PutsField writer.old writer.new (bytes_head field len ++ repeat times text.now) }
 {
     let State::Writing(fragment) = &mut writer.state else {
         return false;
     };
-    if !fragment.put_whole(head, text, times) {
+    if !fragment.put_whole(field, len, size, text, times) {
         return false;
     }
     let Some(packet) = &mut writer.packet else {
         unreachable!()
     };
-    packet.add_field(head.len() as u64 + u64::from(times) * text.len() as u64);
+    packet.add_field(u64::from(size) + u64::from(times) * text.len() as u64);
     true
 }
 

@@ -23,17 +23,17 @@ ghost use Rattle.trace_writer.specs.Core.{CoreAgrees, in_packet, open_depth, fie
 
 use crate::begin::begin;
 use crate::fault::{Begun, CallFault};
-use crate::field::{end_message, write_field, write_nested, write_number};
+use crate::field::{end_message, write_nested, write_number, write_text};
 use crate::finish::{finish, flush};
 use crate::helper::HelperOn;
 use crate::packet::OpenPacket;
 use crate::route::Route;
 use crate::state::{State, Writer};
-use chunk_plain::{Words, WriterCall};
+use chunk_plain::Words;
 use claim_arbiter::Arbiter;
 use commit_body::PatchList;
 use page_geometry::Geometry;
-use proto_stream::{head_bytes, nested_tag_size, number_size};
+use proto_stream::{bytes_head_size, nested_tag_size, number_size};
 use std::sync::ledger::Ledger;
 use trace_base::limits::MAX_PACKET_LEN;
 use trace_base::policy::WriterSpec;
@@ -195,25 +195,19 @@ impl<S> WriterCore<S> {
     {
         let len = u64::from(times) * value.len() as u64;
         // A longer one is refused, whatever stands before it.
-        let head = head_bytes(field, len.min(u64::from(MAX_PACKET_LEN)) as u32);
-        check_field(
-            &self.writer.packet,
-            field,
-            head.as_slice().len() as u64 + len,
-        )?;
-        write_field(
+        let counted = len.min(u64::from(MAX_PACKET_LEN)) as u32;
+        let size = bytes_head_size(field, counted);
+        check_field(&self.writer.packet, field, u64::from(size) + len)?;
+        write_text(
             &mut self.writer,
             table,
             &mut self.seat,
             help,
-            head.as_slice(),
+            field,
+            counted,
+            size,
             value,
             times,
-            WriterCall::Bytes {
-                field,
-                value,
-                times,
-            },
             steps,
         )
     }

@@ -7,7 +7,7 @@ use Rattle.std.proofs.Math.Nat.{pow-suc}
 use Rattle.wire_varint.specs.Varint.{groups, varint, tag}
 use Rattle.wire_varint.proofs.Groups.{groups_last, groups_more}
 use Rattle.wire_varint.proofs.Lengths.{length-groups-pos}
-use Rattle.trace_model.specs.Encoding.{nested_tag, number_field}
+use Rattle.trace_model.specs.Encoding.{bytes_head, nested_tag, number_field}
 use Rattle.trace_model.specs.Images.{with_bytes}
 
 -- the bytes that were put from a place up to here and the groups of the rest are the varint
@@ -94,3 +94,8 @@ number_parts field value = let none : 8 * field + 0 ≡ 8 * field = omega arith 
 pub tag_number : (field : ℕ) → nested_tag field ≡ varint (8 * field + 2)
 unfolding tag
 tag_number field = refl
+
+-- and so what stands before a text is two varints
+pub head_parts : (field len : ℕ) → bytes_head field len ≡ varint (8 * field + 2) ++ varint len
+unfolding bytes_head tag
+head_parts field len = refl

@@ -1,4 +1,4 @@
-use Rattle.std.proofs.Common.{◌∙◌, ℕ, ◌+◌, ◌≤◌, length, refl, sym, ap, subst, false, [], ◌∷◌}
+use Rattle.std.proofs.Common.{◌∙◌, ℕ, ◌+◌, ◌≤◌, refl, sym, ap, subst, false, [], ◌∷◌}
 use Rattle.std.proofs.lemmas.Bool.{true≢false}
 use Rattle.trace_model.specs.Calls as call
 use Rattle.trace_model.specs.Encoding.{nested_tag}

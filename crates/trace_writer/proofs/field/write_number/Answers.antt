@@ -1,4 +1,4 @@
-use Rattle.std.proofs.Common.{◌∙◌, ℕ, ◌+◌, ◌≤◌, length, refl, sym, ap, subst, false, [], ◌∷◌}
+use Rattle.std.proofs.Common.{◌∙◌, ℕ, ◌+◌, ◌≤◌, refl, sym, ap, subst, false, [], ◌∷◌}
 use Rattle.trace_model.specs.Calls.{Number}
 use Rattle.trace_model.specs.Encoding.{number_field}
 use Rattle.chunk_plain.specs.Views.{WriterView}

@@ -1,5 +1,4 @@
-use Rattle.std.proofs.Common.{◌≡◌, ◌∙◌, ℕ, ◌+◌, length, refl, sym, ap, arith}
-use Rattle.trace_model.specs.Encoding.{number_field}
+use Rattle.std.proofs.Common.{◌∙◌, ℕ, ◌+◌, refl, ap}
 use Rattle.trace_writer.proofs.here.put_number_here.Goals as goal
 
 pub returns-clause-puts : goal.returns-clause-puts

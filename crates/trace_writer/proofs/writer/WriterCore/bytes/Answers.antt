@@ -18,11 +18,15 @@ returns-in_err-check_field-clause-refused g c = λ fault asked.
     let found = c.in_err-check_field.field-0.0 in
     let result_is : c.from_residual.result ≡ Err found = search rules in
     let total : ℕ = c.args.times * length c.args.value.now in
-    let counted : c.min.result ≡ min total MAX_PACKET_LEN = search rules in
-    let head : c.as_slice.result.now ≡ bytes_head c.args.field c.min.result = c.as_slice.ensures ∙ c.head_bytes-head.ensures in
-    let is = bytes_fault (open_message_count c.args.self.now.writer.packet) (len_of c.args.self.now.writer.packet) c.args.field total c.min.result c.as_slice.result.now head counted
+    let counted : c.min-counted.result ≡ min total MAX_PACKET_LEN = search rules in
+    let head = bytes_head c.args.field c.min-counted.result in
+    let long : length head + total ≡ c.from-3.result + c.from.result * length c.args.value.now =
+    ap (λ (n : ℕ). n + total) (sym (c.from-3.ensures ∙ c.bytes_head_size-size.ensures.is))
+    ∙ ap (λ (n : ℕ). c.from-3.result + n * length c.args.value.now) (sym c.from.ensures) in
+    let is = bytes_fault (open_message_count c.args.self.now.writer.packet) (len_of c.args.self.now.writer.packet) c.args.field total c.min-counted.result head refl counted
     ∙ field_fault_is (g.W.Words.means.setup c.args.table.now) (g.W.Words.means.place c.args.self.now.seat) (g.W.Words.means.view c.args.table.now c.args.self.now.seat) c.args.self.now.writer c.args.field (length (bytes_head c.args.field total) + total) c.requires.agrees.writes c.requires.begun in
-    let refused : field_refusal (open_message_count c.args.self.now.writer.packet) (len_of c.args.self.now.writer.packet) c.args.field (length c.as_slice.result.now + total) ≡ Some found = search rules in
+    let refused : field_refusal (open_message_count c.args.self.now.writer.packet) (len_of c.args.self.now.writer.packet) c.args.field (length head + total) ≡ Some found =
+    ap (λ (n : ℕ). field_refusal (open_message_count c.args.self.now.writer.packet) (len_of c.args.self.now.writer.packet) c.args.field n) long ∙ c.in_err-check_field.ensures.refused in
     record {
       answer_is = result_is ∙ ap Err (refused_so c.args.self.now (field_fault (g.W.Words.means.view c.args.table.now c.args.self.now.seat) c.args.field (bytes_size c.args.field c.args.times c.args.value.now)) found fault (sym is ∙ refused) asked);
       writer_stays = refl;
@@ -35,37 +39,49 @@ pub returns-in_err-check_field-clause-answers : goal.returns-in_err-check_field-
 returns-in_err-check_field-clause-answers g c = λ asked.
     let found = c.in_err-check_field.field-0.0 in
     let total : ℕ = c.args.times * length c.args.value.now in
-    let counted : c.min.result ≡ min total MAX_PACKET_LEN = search rules in
-    let head : c.as_slice.result.now ≡ bytes_head c.args.field c.min.result = c.as_slice.ensures ∙ c.head_bytes-head.ensures in
-    let is = bytes_fault (open_message_count c.args.self.now.writer.packet) (len_of c.args.self.now.writer.packet) c.args.field total c.min.result c.as_slice.result.now head counted
+    let counted : c.min-counted.result ≡ min total MAX_PACKET_LEN = search rules in
+    let head = bytes_head c.args.field c.min-counted.result in
+    let long : length head + total ≡ c.from-3.result + c.from.result * length c.args.value.now =
+    ap (λ (n : ℕ). n + total) (sym (c.from-3.ensures ∙ c.bytes_head_size-size.ensures.is))
+    ∙ ap (λ (n : ℕ). c.from-3.result + n * length c.args.value.now) (sym c.from.ensures) in
+    let is = bytes_fault (open_message_count c.args.self.now.writer.packet) (len_of c.args.self.now.writer.packet) c.args.field total c.min-counted.result head refl counted
     ∙ field_fault_is (g.W.Words.means.setup c.args.table.now) (g.W.Words.means.place c.args.self.now.seat) (g.W.Words.means.view c.args.table.now c.args.self.now.seat) c.args.self.now.writer c.args.field (length (bytes_head c.args.field total) + total) c.requires.agrees.writes c.requires.begun in
-    let refused : field_refusal (open_message_count c.args.self.now.writer.packet) (len_of c.args.self.now.writer.packet) c.args.field (length c.as_slice.result.now + total) ≡ Some found = search rules in
+    let refused : field_refusal (open_message_count c.args.self.now.writer.packet) (len_of c.args.self.now.writer.packet) c.args.field (length head + total) ≡ Some found =
+    ap (λ (n : ℕ). field_refusal (open_message_count c.args.self.now.writer.packet) (len_of c.args.self.now.writer.packet) c.args.field n) long ∙ c.in_err-check_field.ensures.refused in
     absurd (never_none c.args.self.now (field_fault (g.W.Words.means.view c.args.table.now c.args.self.now.seat) c.args.field (bytes_size c.args.field c.args.times c.args.value.now)) found (sym is ∙ refused) asked)
 
 pub returns-in_err-check_field-clause-done : goal.returns-in_err-check_field-clause-done
 returns-in_err-check_field-clause-done g c = λ asked.
     let found = c.in_err-check_field.field-0.0 in
     let total : ℕ = c.args.times * length c.args.value.now in
-    let counted : c.min.result ≡ min total MAX_PACKET_LEN = search rules in
-    let head : c.as_slice.result.now ≡ bytes_head c.args.field c.min.result = c.as_slice.ensures ∙ c.head_bytes-head.ensures in
-    let is = bytes_fault (open_message_count c.args.self.now.writer.packet) (len_of c.args.self.now.writer.packet) c.args.field total c.min.result c.as_slice.result.now head counted
+    let counted : c.min-counted.result ≡ min total MAX_PACKET_LEN = search rules in
+    let head = bytes_head c.args.field c.min-counted.result in
+    let long : length head + total ≡ c.from-3.result + c.from.result * length c.args.value.now =
+    ap (λ (n : ℕ). n + total) (sym (c.from-3.ensures ∙ c.bytes_head_size-size.ensures.is))
+    ∙ ap (λ (n : ℕ). c.from-3.result + n * length c.args.value.now) (sym c.from.ensures) in
+    let is = bytes_fault (open_message_count c.args.self.now.writer.packet) (len_of c.args.self.now.writer.packet) c.args.field total c.min-counted.result head refl counted
     ∙ field_fault_is (g.W.Words.means.setup c.args.table.now) (g.W.Words.means.place c.args.self.now.seat) (g.W.Words.means.view c.args.table.now c.args.self.now.seat) c.args.self.now.writer c.args.field (length (bytes_head c.args.field total) + total) c.requires.agrees.writes c.requires.begun in
-    let refused : field_refusal (open_message_count c.args.self.now.writer.packet) (len_of c.args.self.now.writer.packet) c.args.field (length c.as_slice.result.now + total) ≡ Some found = search rules in
+    let refused : field_refusal (open_message_count c.args.self.now.writer.packet) (len_of c.args.self.now.writer.packet) c.args.field (length head + total) ≡ Some found =
+    ap (λ (n : ℕ). field_refusal (open_message_count c.args.self.now.writer.packet) (len_of c.args.self.now.writer.packet) c.args.field n) long ∙ c.in_err-check_field.ensures.refused in
     absurd (never_none c.args.self.now (field_fault (g.W.Words.means.view c.args.table.now c.args.self.now.seat) c.args.field (bytes_size c.args.field c.args.times c.args.value.now)) found (sym is ∙ refused) asked)
 
 pub returns-clause-refused : goal.returns-clause-refused
 returns-clause-refused g c = λ fault asked.
     let total : ℕ = c.args.times * length c.args.value.now in
-    let counted : c.min.result ≡ min total MAX_PACKET_LEN = search rules in
-    let head : c.as_slice.result.now ≡ bytes_head c.args.field c.min.result = c.as_slice.ensures ∙ c.head_bytes-head.ensures in
-    let is = bytes_fault (open_message_count c.args.self.now.writer.packet) (len_of c.args.self.now.writer.packet) c.args.field total c.min.result c.as_slice.result.now head counted
+    let counted : c.min-counted.result ≡ min total MAX_PACKET_LEN = search rules in
+    let head = bytes_head c.args.field c.min-counted.result in
+    let long : length head + total ≡ c.from-3.result + c.from.result * length c.args.value.now =
+    ap (λ (n : ℕ). n + total) (sym (c.from-3.ensures ∙ c.bytes_head_size-size.ensures.is))
+    ∙ ap (λ (n : ℕ). c.from-3.result + n * length c.args.value.now) (sym c.from.ensures) in
+    let is = bytes_fault (open_message_count c.args.self.now.writer.packet) (len_of c.args.self.now.writer.packet) c.args.field total c.min-counted.result head refl counted
     ∙ field_fault_is (g.W.Words.means.setup c.args.table.now) (g.W.Words.means.place c.args.self.now.seat) (g.W.Words.means.view c.args.table.now c.args.self.now.seat) c.args.self.now.writer c.args.field (length (bytes_head c.args.field total) + total) c.requires.agrees.writes c.requires.begun in
-    let accepted : field_refusal (open_message_count c.args.self.now.writer.packet) (len_of c.args.self.now.writer.packet) c.args.field (length c.as_slice.result.now + total) ≡ None = search rules in
+    let accepted : field_refusal (open_message_count c.args.self.now.writer.packet) (len_of c.args.self.now.writer.packet) c.args.field (length head + total) ≡ None =
+    ap (λ (n : ℕ). field_refusal (open_message_count c.args.self.now.writer.packet) (len_of c.args.self.now.writer.packet) c.args.field n) long ∙ c.in_ok-check_field.ensures.accepted in
     let now = refused_stalled c.args.self.now (field_fault (g.W.Words.means.view c.args.table.now c.args.self.now.seat) c.args.field (bytes_size c.args.field c.args.times c.args.value.now)) fault (sym is ∙ accepted) asked in
-    let stays = c.write_field.ensures.stays now.stalled_is in
+    let stays = c.write_text.ensures.stays now.stalled_is in
     record {
       answer_is = stays.0 ∙ ap Err (sym now.fault_is);
-      writer_stays = ap (λ writer. let one : WriterCore _ = record { seat = c.write_field.new.seat; writer = writer } in one) stays.1
+      writer_stays = ap (λ writer. let one : WriterCore _ = record { seat = c.write_text.new.seat; writer = writer } in one) stays.1
           ∙ ap (λ seat. let one : WriterCore _ = record { seat = seat; writer = c.args.self.now.writer } in one) stays.3;
       table_stays = stays.2;
       helper_stays = stays.4;
@@ -75,109 +91,125 @@ returns-clause-refused g c = λ fault asked.
 pub returns-clause-answers : goal.returns-clause-answers
 returns-clause-answers g c = λ asked.
     let total : ℕ = c.args.times * length c.args.value.now in
-    let counted : c.min.result ≡ min total MAX_PACKET_LEN = search rules in
-    let head : c.as_slice.result.now ≡ bytes_head c.args.field c.min.result = c.as_slice.ensures ∙ c.head_bytes-head.ensures in
-    let is = bytes_fault (open_message_count c.args.self.now.writer.packet) (len_of c.args.self.now.writer.packet) c.args.field total c.min.result c.as_slice.result.now head counted
+    let counted : c.min-counted.result ≡ min total MAX_PACKET_LEN = search rules in
+    let head = bytes_head c.args.field c.min-counted.result in
+    let long : length head + total ≡ c.from-3.result + c.from.result * length c.args.value.now =
+    ap (λ (n : ℕ). n + total) (sym (c.from-3.ensures ∙ c.bytes_head_size-size.ensures.is))
+    ∙ ap (λ (n : ℕ). c.from-3.result + n * length c.args.value.now) (sym c.from.ensures) in
+    let is = bytes_fault (open_message_count c.args.self.now.writer.packet) (len_of c.args.self.now.writer.packet) c.args.field total c.min-counted.result head refl counted
     ∙ field_fault_is (g.W.Words.means.setup c.args.table.now) (g.W.Words.means.place c.args.self.now.seat) (g.W.Words.means.view c.args.table.now c.args.self.now.seat) c.args.self.now.writer c.args.field (length (bytes_head c.args.field total) + total) c.requires.agrees.writes c.requires.begun in
-    let accepted : field_refusal (open_message_count c.args.self.now.writer.packet) (len_of c.args.self.now.writer.packet) c.args.field (length c.as_slice.result.now + total) ≡ None = search rules in
-    c.write_field.ensures.answers (none_stalled c.args.self.now (field_fault (g.W.Words.means.view c.args.table.now c.args.self.now.seat) c.args.field (bytes_size c.args.field c.args.times c.args.value.now)) (sym is ∙ accepted) asked)
+    let accepted : field_refusal (open_message_count c.args.self.now.writer.packet) (len_of c.args.self.now.writer.packet) c.args.field (length head + total) ≡ None =
+    ap (λ (n : ℕ). field_refusal (open_message_count c.args.self.now.writer.packet) (len_of c.args.self.now.writer.packet) c.args.field n) long ∙ c.in_ok-check_field.ensures.accepted in
+    c.write_text.ensures.answers (none_stalled c.args.self.now (field_fault (g.W.Words.means.view c.args.table.now c.args.self.now.seat) c.args.field (bytes_size c.args.field c.args.times c.args.value.now)) (sym is ∙ accepted) asked)
 
 pub returns-clause-done : goal.returns-clause-done
 returns-clause-done g c = λ asked.
     let total : ℕ = c.args.times * length c.args.value.now in
-    let counted : c.min.result ≡ min total MAX_PACKET_LEN = search rules in
-    let head : c.as_slice.result.now ≡ bytes_head c.args.field c.min.result = c.as_slice.ensures ∙ c.head_bytes-head.ensures in
-    let is = bytes_fault (open_message_count c.args.self.now.writer.packet) (len_of c.args.self.now.writer.packet) c.args.field total c.min.result c.as_slice.result.now head counted
+    let counted : c.min-counted.result ≡ min total MAX_PACKET_LEN = search rules in
+    let head = bytes_head c.args.field c.min-counted.result in
+    let long : length head + total ≡ c.from-3.result + c.from.result * length c.args.value.now =
+    ap (λ (n : ℕ). n + total) (sym (c.from-3.ensures ∙ c.bytes_head_size-size.ensures.is))
+    ∙ ap (λ (n : ℕ). c.from-3.result + n * length c.args.value.now) (sym c.from.ensures) in
+    let is = bytes_fault (open_message_count c.args.self.now.writer.packet) (len_of c.args.self.now.writer.packet) c.args.field total c.min-counted.result head refl counted
     ∙ field_fault_is (g.W.Words.means.setup c.args.table.now) (g.W.Words.means.place c.args.self.now.seat) (g.W.Words.means.view c.args.table.now c.args.self.now.seat) c.args.self.now.writer c.args.field (length (bytes_head c.args.field total) + total) c.requires.agrees.writes c.requires.begun in
-    let accepted : field_refusal (open_message_count c.args.self.now.writer.packet) (len_of c.args.self.now.writer.packet) c.args.field (length c.as_slice.result.now + total) ≡ None = search rules in
-    let d = c.write_field.ensures.done (none_stalled c.args.self.now (field_fault (g.W.Words.means.view c.args.table.now c.args.self.now.seat) c.args.field (bytes_size c.args.field c.args.times c.args.value.now)) (sym is ∙ accepted) asked) in
+    let accepted : field_refusal (open_message_count c.args.self.now.writer.packet) (len_of c.args.self.now.writer.packet) c.args.field (length head + total) ≡ None =
+    ap (λ (n : ℕ). field_refusal (open_message_count c.args.self.now.writer.packet) (len_of c.args.self.now.writer.packet) c.args.field n) long ∙ c.in_ok-check_field.ensures.accepted in
+    let d = c.write_text.ensures.done (none_stalled c.args.self.now (field_fault (g.W.Words.means.view c.args.table.now c.args.self.now.seat) c.args.field (bytes_size c.args.field c.args.times c.args.value.now)) (sym is ∙ accepted) asked) in
     (d.0, d.1)
 
 pub returns-clause-agrees : goal.returns-clause-agrees
 returns-clause-agrees g c =
     (left_written g.W.Words.means g.H.HelperOn.needs g.H.HelperOn.helps
-    c.args.help.now c.args.table.now c.args.self.now c.args.steps.now c.write_field.new.help c.write_field.new.table (record { seat = c.write_field.new.seat; writer = c.write_field.new.writer }) c.write_field.new.steps (call.Bytes c.args.field c.args.value.now c.args.times)
-    (with_more (bytes_field c.args.field c.args.value.now c.args.times)) c.requires.seat c.requires.needs c.requires.agrees c.requires.begun (λ account. refl) (more_fate (bytes_field c.args.field c.args.value.now c.args.times)) c.requires.begun c.write_field.ensures.agrees
-    (λ stalled. let is = c.write_field.ensures.stays stalled in (
-      ap (λ writer. let one : WriterCore _ = record { seat = c.write_field.new.seat; writer = writer } in one) is.1
+    c.args.help.now c.args.table.now c.args.self.now c.args.steps.now c.write_text.new.help c.write_text.new.table (record { seat = c.write_text.new.seat; writer = c.write_text.new.writer }) c.write_text.new.steps (call.Bytes c.args.field c.args.value.now c.args.times)
+    (with_more (bytes_field c.args.field c.args.value.now c.args.times)) c.requires.seat c.requires.needs c.requires.agrees c.requires.begun (λ account. refl) (more_fate (bytes_field c.args.field c.args.value.now c.args.times)) c.requires.begun c.write_text.ensures.agrees
+    (λ stalled. let is = c.write_text.ensures.stays stalled in (
+      ap (λ writer. let one : WriterCore _ = record { seat = c.write_text.new.seat; writer = writer } in one) is.1
           ∙ ap (λ seat. let one : WriterCore _ = record { seat = seat; writer = c.args.self.now.writer } in one) is.3,
       is.2,
       is.4,
-    )) c.write_field.ensures.done).0.agrees
+    )) c.write_text.ensures.done).0.agrees
 
 pub returns-clause-needs : goal.returns-clause-needs
 returns-clause-needs g c =
     (left_written g.W.Words.means g.H.HelperOn.needs g.H.HelperOn.helps
-    c.args.help.now c.args.table.now c.args.self.now c.args.steps.now c.write_field.new.help c.write_field.new.table (record { seat = c.write_field.new.seat; writer = c.write_field.new.writer }) c.write_field.new.steps (call.Bytes c.args.field c.args.value.now c.args.times)
-    (with_more (bytes_field c.args.field c.args.value.now c.args.times)) c.requires.seat c.requires.needs c.requires.agrees c.requires.begun (λ account. refl) (more_fate (bytes_field c.args.field c.args.value.now c.args.times)) c.requires.begun c.write_field.ensures.agrees
-    (λ stalled. let is = c.write_field.ensures.stays stalled in (
-      ap (λ writer. let one : WriterCore _ = record { seat = c.write_field.new.seat; writer = writer } in one) is.1
+    c.args.help.now c.args.table.now c.args.self.now c.args.steps.now c.write_text.new.help c.write_text.new.table (record { seat = c.write_text.new.seat; writer = c.write_text.new.writer }) c.write_text.new.steps (call.Bytes c.args.field c.args.value.now c.args.times)
+    (with_more (bytes_field c.args.field c.args.value.now c.args.times)) c.requires.seat c.requires.needs c.requires.agrees c.requires.begun (λ account. refl) (more_fate (bytes_field c.args.field c.args.value.now c.args.times)) c.requires.begun c.write_text.ensures.agrees
+    (λ stalled. let is = c.write_text.ensures.stays stalled in (
+      ap (λ writer. let one : WriterCore _ = record { seat = c.write_text.new.seat; writer = writer } in one) is.1
           ∙ ap (λ seat. let one : WriterCore _ = record { seat = seat; writer = c.args.self.now.writer } in one) is.3,
       is.2,
       is.4,
-    )) c.write_field.ensures.done).0.needed
+    )) c.write_text.ensures.done).0.needed
 
 pub returns-clause-others : goal.returns-clause-others
 returns-clause-others g c =
     (left_written g.W.Words.means g.H.HelperOn.needs g.H.HelperOn.helps
-    c.args.help.now c.args.table.now c.args.self.now c.args.steps.now c.write_field.new.help c.write_field.new.table (record { seat = c.write_field.new.seat; writer = c.write_field.new.writer }) c.write_field.new.steps (call.Bytes c.args.field c.args.value.now c.args.times)
-    (with_more (bytes_field c.args.field c.args.value.now c.args.times)) c.requires.seat c.requires.needs c.requires.agrees c.requires.begun (λ account. refl) (more_fate (bytes_field c.args.field c.args.value.now c.args.times)) c.requires.begun c.write_field.ensures.agrees
-    (λ stalled. let is = c.write_field.ensures.stays stalled in (
-      ap (λ writer. let one : WriterCore _ = record { seat = c.write_field.new.seat; writer = writer } in one) is.1
+    c.args.help.now c.args.table.now c.args.self.now c.args.steps.now c.write_text.new.help c.write_text.new.table (record { seat = c.write_text.new.seat; writer = c.write_text.new.writer }) c.write_text.new.steps (call.Bytes c.args.field c.args.value.now c.args.times)
+    (with_more (bytes_field c.args.field c.args.value.now c.args.times)) c.requires.seat c.requires.needs c.requires.agrees c.requires.begun (λ account. refl) (more_fate (bytes_field c.args.field c.args.value.now c.args.times)) c.requires.begun c.write_text.ensures.agrees
+    (λ stalled. let is = c.write_text.ensures.stays stalled in (
+      ap (λ writer. let one : WriterCore _ = record { seat = c.write_text.new.seat; writer = writer } in one) is.1
           ∙ ap (λ seat. let one : WriterCore _ = record { seat = seat; writer = c.args.self.now.writer } in one) is.3,
       is.2,
       is.4,
-    )) c.write_field.ensures.done).0.others
+    )) c.write_text.ensures.done).0.others
 
 pub returns-clause-alone : goal.returns-clause-alone
 returns-clause-alone g c =
     (left_written g.W.Words.means g.H.HelperOn.needs g.H.HelperOn.helps
-    c.args.help.now c.args.table.now c.args.self.now c.args.steps.now c.write_field.new.help c.write_field.new.table (record { seat = c.write_field.new.seat; writer = c.write_field.new.writer }) c.write_field.new.steps (call.Bytes c.args.field c.args.value.now c.args.times)
-    (with_more (bytes_field c.args.field c.args.value.now c.args.times)) c.requires.seat c.requires.needs c.requires.agrees c.requires.begun (λ account. refl) (more_fate (bytes_field c.args.field c.args.value.now c.args.times)) c.requires.begun c.write_field.ensures.agrees
-    (λ stalled. let is = c.write_field.ensures.stays stalled in (
-      ap (λ writer. let one : WriterCore _ = record { seat = c.write_field.new.seat; writer = writer } in one) is.1
+    c.args.help.now c.args.table.now c.args.self.now c.args.steps.now c.write_text.new.help c.write_text.new.table (record { seat = c.write_text.new.seat; writer = c.write_text.new.writer }) c.write_text.new.steps (call.Bytes c.args.field c.args.value.now c.args.times)
+    (with_more (bytes_field c.args.field c.args.value.now c.args.times)) c.requires.seat c.requires.needs c.requires.agrees c.requires.begun (λ account. refl) (more_fate (bytes_field c.args.field c.args.value.now c.args.times)) c.requires.begun c.write_text.ensures.agrees
+    (λ stalled. let is = c.write_text.ensures.stays stalled in (
+      ap (λ writer. let one : WriterCore _ = record { seat = c.write_text.new.seat; writer = writer } in one) is.1
           ∙ ap (λ seat. let one : WriterCore _ = record { seat = seat; writer = c.args.self.now.writer } in one) is.3,
       is.2,
       is.4,
-    )) c.write_field.ensures.done).0.alone
+    )) c.write_text.ensures.done).0.alone
 
 pub returns-clause-in_packet : goal.returns-clause-in_packet
 returns-clause-in_packet g c =
     (left_written g.W.Words.means g.H.HelperOn.needs g.H.HelperOn.helps
-    c.args.help.now c.args.table.now c.args.self.now c.args.steps.now c.write_field.new.help c.write_field.new.table (record { seat = c.write_field.new.seat; writer = c.write_field.new.writer }) c.write_field.new.steps (call.Bytes c.args.field c.args.value.now c.args.times)
-    (with_more (bytes_field c.args.field c.args.value.now c.args.times)) c.requires.seat c.requires.needs c.requires.agrees c.requires.begun (λ account. refl) (more_fate (bytes_field c.args.field c.args.value.now c.args.times)) c.requires.begun c.write_field.ensures.agrees
-    (λ stalled. let is = c.write_field.ensures.stays stalled in (
-      ap (λ writer. let one : WriterCore _ = record { seat = c.write_field.new.seat; writer = writer } in one) is.1
+    c.args.help.now c.args.table.now c.args.self.now c.args.steps.now c.write_text.new.help c.write_text.new.table (record { seat = c.write_text.new.seat; writer = c.write_text.new.writer }) c.write_text.new.steps (call.Bytes c.args.field c.args.value.now c.args.times)
+    (with_more (bytes_field c.args.field c.args.value.now c.args.times)) c.requires.seat c.requires.needs c.requires.agrees c.requires.begun (λ account. refl) (more_fate (bytes_field c.args.field c.args.value.now c.args.times)) c.requires.begun c.write_text.ensures.agrees
+    (λ stalled. let is = c.write_text.ensures.stays stalled in (
+      ap (λ writer. let one : WriterCore _ = record { seat = c.write_text.new.seat; writer = writer } in one) is.1
           ∙ ap (λ seat. let one : WriterCore _ = record { seat = seat; writer = c.args.self.now.writer } in one) is.3,
       is.2,
       is.4,
-    )) c.write_field.ensures.done).1
+    )) c.write_text.ensures.done).1
 
 pub returns-clause-depth : goal.returns-clause-depth
 returns-clause-depth g c =
     deep_written g.W.Words.means g.H.HelperOn.needs g.H.HelperOn.helps
-    c.args.help.now c.args.table.now c.args.self.now c.args.steps.now c.write_field.new.help c.write_field.new.table (record { seat = c.write_field.new.seat; writer = c.write_field.new.writer }) c.write_field.new.steps (call.Bytes c.args.field c.args.value.now c.args.times)
+    c.args.help.now c.args.table.now c.args.self.now c.args.steps.now c.write_text.new.help c.write_text.new.table (record { seat = c.write_text.new.seat; writer = c.write_text.new.writer }) c.write_text.new.steps (call.Bytes c.args.field c.args.value.now c.args.times)
     (with_more (bytes_field c.args.field c.args.value.now c.args.times)) (λ account. refl) (more_keeps (bytes_field c.args.field c.args.value.now c.args.times))
-    (λ stalled. let is = c.write_field.ensures.stays stalled in (
-      ap (λ writer. let one : WriterCore _ = record { seat = c.write_field.new.seat; writer = writer } in one) is.1
+    (λ stalled. let is = c.write_text.ensures.stays stalled in (
+      ap (λ writer. let one : WriterCore _ = record { seat = c.write_text.new.seat; writer = writer } in one) is.1
           ∙ ap (λ seat. let one : WriterCore _ = record { seat = seat; writer = c.args.self.now.writer } in one) is.3,
       is.2,
       is.4,
-    )) c.write_field.ensures.done
+    )) c.write_text.ensures.done
 
-pub write_field-requires-clause-call : goal.write_field-requires-clause-call
-write_field-requires-clause-call g c = λ account.
+pub write_text-requires-clause-call : goal.write_text-requires-clause-call
+write_text-requires-clause-call g c = λ account.
     let total : ℕ = c.args.times * length c.args.value.now in
-    let counted : c.min.result ≡ min total MAX_PACKET_LEN = search rules in
-    let head : c.as_slice-2.result.now ≡ bytes_head c.args.field c.min.result = c.as_slice-2.ensures ∙ c.head_bytes-head.ensures in
-    bytes_call c.args.field c.args.times c.args.value.now c.as_slice-2.result.now account
-    (accepted_head (open_message_count c.args.self.now.writer.packet) (len_of c.args.self.now.writer.packet) c.args.field total c.min.result c.as_slice-2.result.now head counted
-    (search rules))
+    let counted : c.min-counted.result ≡ min total MAX_PACKET_LEN = search rules in
+    let head = bytes_head c.args.field c.min-counted.result in
+    let long : length head + total ≡ c.from-3.result + c.from.result * length c.args.value.now =
+    ap (λ (n : ℕ). n + total) (sym (c.from-3.ensures ∙ c.bytes_head_size-size.ensures.is))
+    ∙ ap (λ (n : ℕ). c.from-3.result + n * length c.args.value.now) (sym c.from.ensures) in
+    bytes_call c.args.field c.args.times c.args.value.now head account
+    (accepted_head (open_message_count c.args.self.now.writer.packet) (len_of c.args.self.now.writer.packet) c.args.field total c.min-counted.result head refl counted
+    (ap (λ (n : ℕ). field_refusal (open_message_count c.args.self.now.writer.packet) (len_of c.args.self.now.writer.packet) c.args.field n) long ∙ c.in_ok-check_field.ensures.accepted))
 
 pub returns-clause-asked : goal.returns-clause-asked
 returns-clause-asked g c = λ needs.
     let total : ℕ = c.args.times * length c.args.value.now in
-    let counted : c.min.result ≡ min total MAX_PACKET_LEN = search rules in
-    let head : c.as_slice-2.result.now ≡ bytes_head c.args.field c.min.result = c.as_slice-2.ensures ∙ c.head_bytes-head.ensures in
-    c.write_field.ensures.asked (subst (λ (n : ℕ). NeedsNoChunk c.args.self.now.writer.state n)
-    (ap (λ (bytes : List ℕ). length bytes + total) (sym (accepted_head (open_message_count c.args.self.now.writer.packet) (len_of c.args.self.now.writer.packet) c.args.field total c.min.result c.as_slice-2.result.now head counted (search rules)))) needs)
+    let counted : c.min-counted.result ≡ min total MAX_PACKET_LEN = search rules in
+    let head = bytes_head c.args.field c.min-counted.result in
+    let long : length head + total ≡ c.from-3.result + c.from.result * length c.args.value.now =
+    ap (λ (n : ℕ). n + total) (sym (c.from-3.ensures ∙ c.bytes_head_size-size.ensures.is))
+    ∙ ap (λ (n : ℕ). c.from-3.result + n * length c.args.value.now) (sym c.from.ensures) in
+    c.write_text.ensures.asked (subst (λ (n : ℕ). NeedsNoChunk c.args.self.now.writer.state n)
+    (ap (λ (bytes : List ℕ). length bytes + total) (sym (accepted_head (open_message_count c.args.self.now.writer.packet) (len_of c.args.self.now.writer.packet) c.args.field total c.min-counted.result head refl counted
+    (ap (λ (n : ℕ). field_refusal (open_message_count c.args.self.now.writer.packet) (len_of c.args.self.now.writer.packet) c.args.field n) long ∙ c.in_ok-check_field.ensures.accepted)))
+    ∙ ap (λ (n : ℕ). n + total) (sym c.bytes_head_size-size.ensures.is)) needs)

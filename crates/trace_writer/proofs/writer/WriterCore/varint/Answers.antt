@@ -1,4 +1,4 @@
-use Rattle.std.proofs.Common.{◌≡◌, ◌∙◌, ℕ, Some, None, Err, List, length, rules, refl, sym, ap, subst, arith}
+use Rattle.std.proofs.Common.{◌≡◌, ◌∙◌, ℕ, Some, None, Err, length, rules, refl, sym, ap, subst}
 use Rattle.trace_model.specs.Encoding.{number_field}
 use Rattle.trace_model.specs.Packets.{with_more}
 use Rattle.trace_model.specs.Calls as call
