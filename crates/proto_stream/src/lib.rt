@@ -1,7 +1,8 @@
 //! Writing a packet's bytes into the payload of a chunk.
 //! A layer above may rely on this: what a cursor writes is the next bytes of what it is given, as
 //! many as fit, and nothing else in the payload changes; a hole is four bytes at the offset that is
-//! answered; and a head is exactly what stands before a field's content in the encoding.
+//! answered; a head is exactly what stands before a field's content in the encoding; and the size of
+//! one that is answered is that of those bytes.
 #![tactic(auto)]
 
 mod cursor;
