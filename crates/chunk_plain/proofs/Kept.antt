@@ -1,14 +1,15 @@
 -- Each call of the table of one thread keeps what the table keeps.
 use Rattle.std.proofs.Common.{◌≡◌, ◌≢◌, ℕ, ◌+◌, ◌<◌, ◌⊎◌, ◌↔◌, inl, inr, not, IsTrue, Bool, true, false, List, length, set, get_or, subst, sym, refl, ap, ◌∙◌, arith, ⊎_elim, length-set}
 use Rattle.std.specs.Int.{bit_at}
-use Rattle.std.proofs.lemmas.List.{get_or-set_same, get_or-set_other}
-use Rattle.page_geometry.specs.PageBits.{Claims, KeepsOthers, IsClaimed}
+use Rattle.std.proofs.lemmas.List.{get_or-set_same, get_or-set_other, set-get_or}
+use Rattle.page_geometry.specs.PageBits.{HasLayout, Claims, KeepsOthers, IsClaimed}
 use Rattle.chunk_plain.specs.declared.setup.Spot.{Spot}
 use Rattle.chunk_plain.specs.declared.step.Step.TheVariants.{Claim}
 use Rattle.chunk_plain.specs.Setup.{Setup, spot, IsLaid}
 use Rattle.chunk_plain.specs.Views.{At, Ask, WriterView, ServiceView, newcomer}
 use Rattle.chunk_plain.specs.World.{World, Status, Unclaimed, Claimed, Stamped, Writing, Ready, Reading, status, writer}
 use Rattle.chunk_plain.specs.Steps.{claims}
+use Rattle.chunk_plain.specs.Owned.{IsOwned}
 use Rattle.chunk_plain.specs.Shows.{state_of, claim_of, NeverAsked, ShowsPage, ShowsHeader, ShowsSlot, page_word, header_word}
 use Rattle.chunk_plain.specs.Stored.{Stored, stored_at}
 use Rattle.chunk_plain.specs.Plain.{world_after, IsKept}
@@ -105,6 +106,33 @@ claim_lost setup words slots world place chunk found new laid kept inside_w insi
       owned = misses_owned world place chunk found kept.owned w_inside taken;
       writers = length-set world.writers place (claims v chunk found false) ∙ kept.writers;
     }
+
+-- where a chunk is claimed, some writer asked for it: its page is laid out
+pub laid_out : (setup : Setup) (world : World) (chunk word : ℕ) → IsOwned world → ShowsPage setup world (spot setup chunk) word (status world chunk)
+    → IsClaimed word (spot setup chunk).place → HasLayout word (spot setup chunk).layout
+laid_out setup world chunk word owned page claimed =
+    let one : claim_of (status world chunk) ≡ 1 = sym page.claim ∙ claimed in
+    let taken : status world chunk ≡ Unclaimed → ⊥ = λ free. absurd (let none : claim_of (status world chunk) ≡ 0 = ap claim_of free in omega arith) in
+    let won = owned.claimed_won chunk taken in
+    ⊎_elim (λ has. has) (λ never. absurd (never.1 won.0 won.1 won.2 won.3 (ap (λ c. (spot setup c).page) won.5))) page.layout
+
+-- a claim in vain that only reads the page word: a step that sets its bits would leave it as it is
+pub claim_seen : (setup : Setup) (words : List ℕ) (slots : List Stored) (world : World) (place chunk found : ℕ)
+    → IsLaid setup → IsKept setup words slots world → place < length setup.writers → chunk < length setup.spots
+    → found ≡ page_word setup words chunk → IsClaimed found (spot setup chunk).place
+    → IsKept setup words slots (world_after world (Claim place chunk found false))
+claim_seen setup words slots world place chunk found laid kept inside_w inside_c is claimed =
+    let at = spot setup chunk in
+    let page : ShowsPage setup world at found (status world chunk) = subst (λ w. ShowsPage setup world at w (status world chunk)) (sym is) (kept.shown.page chunk inside_c) in
+    subst (λ l. IsKept setup l slots (world_after world (Claim place chunk found false))) (ap (set words at.page) is ∙ set-get_or words at.page 0)
+    (claim_lost setup words slots world place chunk found found laid kept inside_w inside_c is
+    record {
+      claimed = claimed;
+      laid_out = λ _. laid_out setup world chunk found kept.owned page claimed;
+      states = λ bit below. refl;
+      others = λ bit high differs. refl;
+    }
+    record { states = λ other state below differs has. has; claims = λ other below differs. refl } claimed)
 
 by_claimed : (setup : Setup) (words : List ℕ) (slots : List Stored) (world : World) (place chunk found new : ℕ) (claimed : Bool)
     → IsLaid setup → IsKept setup words slots world → place < length setup.writers → chunk < length setup.spots

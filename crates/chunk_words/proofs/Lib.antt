@@ -5,6 +5,7 @@ pub mod Telling
 pub mod Turns
 pub mod WriterMoves
 pub mod WriterEnds
+pub mod Asking
 pub mod ServiceFinds
 pub mod ServiceMoves
 pub mod ServiceEnds

@@ -1,5 +1,5 @@
 -- What each atomic step tells the seat that makes it.
-use Rattle.std.specs.Prelude.{◌≡◌, ℕ, ◌+◌, ◌*◌, ◌<◌, ◌≤◌, ◌==◌, not, true, Bool, Option, Some, None, List, [], ◌∷◌, length, vec_len, slice_index_or, IfSome, if◌then◌else◌}
+use Rattle.std.specs.Prelude.{◌≡◌, ℕ, ◌+◌, ◌*◌, ◌<◌, ◌≤◌, ◌==◌, not, true, false, Bool, Option, Some, None, List, [], ◌∷◌, length, vec_len, slice_index_or, IfSome, if◌then◌else◌}
 use Rattle.std.specs.Int.{bit_at}
 use Rattle.atomic_table.specs.Table.{Me}
 use Rattle.trace_model.specs.Calls.{Call}
@@ -21,7 +21,7 @@ use Rattle.chunk_plain.specs.Shows.{IsBodyOf, content_of}
 use Rattle.chunk_plain.specs.Setup.{Setup, spot, sequence_of}
 use Rattle.chunk_plain.specs.Words.{LooksAt, call_of, event_of, committed_of}
 use Rattle.chunk_words.specs.declared.moves.Move.{Move}
-use Rattle.chunk_words.specs.declared.moves.Move.TheVariants.{Claim, Stamp, Begin, SetHeader, Publish, Fetch, Complete as CompleteStep, Call as CallStep, Peek, Find, Know, Miss, Take, Load, Learn, Lift, Release, Event, NoteRead, Recall, Commit}
+use Rattle.chunk_words.specs.declared.moves.Move.TheVariants.{Ask, Claim, Stamp, Begin, SetHeader, Publish, Fetch, Complete as CompleteStep, Call as CallStep, Peek, Find, Know, Miss, Take, Load, Learn, Lift, Release, Event, NoteRead, Recall, Commit}
 use Rattle.chunk_words.specs.GoesOn.{GoesOn}
 use Rattle.chunk_words.specs.Told.{ShowsAllTold, TellsComplete}
 use Rattle.chunk_words.specs.Knows.{Watch, Nothing, Started, Full, Known, Lifted, Here, Knows, Service, hand_with, made_of, desk_of, stage_of, staged, with_stage, no_content, hand_of, view_of, place_of, service_of, watch_of, by_writer, by_service}
@@ -71,6 +71,11 @@ pub record IsTakenWith (place id size : ℕ) (header : ChunkHeader) (content : C
   pub body_is : IsBodyOf size content body
 
 -- What each step tells of what was known and carried before it, the number that it found, and what is known and carried behind it.
+
+-- The page word is found. Where it has the claim bit, that is a claim in vain; else nothing is noted of it.
+abbrev pub Asks : (chunk place : ℕ) → Mine → ℕ → Mine → Type 0
+Asks chunk place me found new =
+    new ≡ (by_writer 0 (λ view. if is_clear found place then view else claims view chunk found false) me.0, [])
 
 -- the claim bit is set; a chunk that was won was none that the writer has claimed already
 pub record Claims (chunk place : ℕ) (me : Mine) (found : ℕ) (new : Mine) : Type 0 where
@@ -219,6 +224,7 @@ watched _ = no_content
 
 -- what a seat knows behind a move that found this word
 abbrev pub After : Move → Mine → ℕ → Mine → Type 0
+After (Ask chunk place) me found new = Asks chunk place me found new
 After (Claim chunk place) me found new = Claims chunk place me found new
 After (Stamp chunk payload_size) me found new = Stamps chunk payload_size me new
 After (Begin chunk payload_size) me found new = Begins chunk payload_size me new

@@ -6,6 +6,12 @@ use page_geometry::ChunkHeader;
 /// A step with all that its seat keeps of it beside what it finds.
 #[derive(Clone, Copy)]
 pub enum Move<'a> {
+    /// The page word is read: a claim in vain where it has the chunk's claim bit.
+    Ask {
+        chunk: u32,
+        /// Its place in its page.
+        place: u8,
+    },
     Claim {
         chunk: u32,
         /// Its place in its page.

@@ -32,6 +32,12 @@ impl HostTable {
         ensures place { seat.new.place ≡ seat.old.place }
     {
         let spot = self.layout.spot(chunk);
+        // A look leaves the word with the other cores. Only one that shows the chunk free is worth
+        // a change of the word.
+        let seen = self.step_ask(seat, chunk);
+        if PageWord(seen).claimed(spot.place) {
+            return None;
+        }
         let found = self.step_claim(seat, chunk);
         if PageWord(found).claimed(spot.place) {
             None

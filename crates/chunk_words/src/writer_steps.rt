@@ -9,7 +9,7 @@ ghost use Rattle.chunk_plain.specs.Drafts.{MayFollow, draft_at, head_at, publish
 ghost use Rattle.chunk_plain.specs.Plain.{StandsWhole};
 ghost use Rattle.chunk_plain.specs.Words.{HasClaimed, call_of};
 ghost use Rattle.chunk_words.specs.Knows.{view_of};
-ghost use Rattle.chunk_words.specs.Moves.{Claims, Stamps, Begins, SetsHeader, Publishes, KeepsWord, Fetches, Completes, Notes, body_in};
+ghost use Rattle.chunk_words.specs.Moves.{Asks, Claims, Stamps, Begins, SetsHeader, Publishes, KeepsWord, Fetches, Completes, Notes, body_in};
 ghost use Rattle.chunk_words.specs.Places.{payload_words};
 ghost use Rattle.chunk_words.specs.Seats.{IsIdle, HasOut};
 
@@ -22,6 +22,25 @@ use page_geometry::ChunkHeader;
 use page_geometry::masks::{begin_mask, claim_mask, complete_mask};
 
 impl HostTable {
+    /// Reads the page word of a chunk. Where it has the chunk's claim bit, this is the claim, and it is
+    /// lost; else the seat knows what it knew.
+    pub(crate) fn step_ask(&self, seat: &mut WriterSeat, chunk: u32) -> u64
+        requires seat { seat.old.seat.table_id ≡ self.now.table.shared.table_id }
+        requires idle { IsIdle seat.old.place seat.old.seat.me }
+        requires chunk { chunk < length self.now.layout.spots }
+        ensures seat { seat.new.seat.table_id ≡ seat.old.seat.table_id }
+        ensures place { seat.new.place ≡ seat.old.place }
+        ensures me { Asks chunk (spot self.now.layout chunk).place seat.old.seat.me result seat.new.seat.me }
+    {
+        let spot = self.layout.spot(chunk);
+        let step = Move::Ask {
+            chunk,
+            place: spot.place,
+        };
+        let table = &self.table;
+        make_load(&table.shared, &mut seat.seat, spot.page as usize, &step)
+    }
+
     /// Sets the claim bit of a chunk, and the layout of its page.
     pub(crate) fn step_claim(&self, seat: &mut WriterSeat, chunk: u32) -> u64
         requires seat { seat.old.seat.table_id ≡ self.now.table.shared.table_id }

@@ -1,0 +1,82 @@
+-- A writer's look at a page word, which is its claim where the claim bit is set: it keeps the rule, and tells what it does.
+use Rattle.std.proofs.Common.{◌≡◌, ℕ, ◌<◌, Bool, true, false, List, [], length, set, get_or, if◌then◌else◌, subst, sym, refl, ap, ◌∙◌, arith}
+use Rattle.std.proofs.lemmas.Bool.Decides.{nat_tests}
+use Rattle.atomic_table.specs.Table.{Allows, keeps}
+use Rattle.page_geometry.specs.PageBits.{IsClaimed}
+use Rattle.chunk_plain.specs.declared.step.Step.TheVariants.{Claim}
+use Rattle.chunk_plain.specs.Setup.{Setup, spot, IsLaid}
+use Rattle.chunk_plain.specs.Views.{WriterView}
+use Rattle.chunk_plain.specs.World.{World, writer}
+use Rattle.chunk_plain.specs.Steps.{claims}
+use Rattle.chunk_plain.specs.Stored.{Stored}
+use Rattle.chunk_plain.specs.Shows.{page_word}
+use Rattle.chunk_plain.specs.Plain.{world_after, IsKept}
+use Rattle.chunk_plain.proofs.Kept.{claim_seen}
+use Rattle.chunk_words.specs.Knows.{Writer, by_writer}
+use Rattle.chunk_words.specs.Rule.{IsManned, IsShared}
+use Rattle.chunk_words.specs.Moves.{Mine, is_clear, Asks, Claims}
+use Rattle.chunk_words.proofs.Bodies.{with_hand, in_before, bodies_stay}
+use Rattle.chunk_words.proofs.Turns.{IsWriterChange, noted_change, same_change, writer_turn}
+use Rattle.chunk_words.proofs.WriterMoves.{page_is, writer_inside, world_inside, hand_none}
+use Rattle.chunk_words.proofs.WriterEnds.{words_loaded}
+
+-- the world behind it
+abbrev asked_world : World → (place chunk found : ℕ) → (clear : Bool) → World
+asked_world world place chunk found true = world
+asked_world world place chunk found false = world_after world (Claim place chunk found false)
+
+abbrev asked_view : WriterView → (chunk found : ℕ) → (clear : Bool) → WriterView
+asked_view view chunk found clear = if clear then view else claims view chunk found false
+
+asked_change : (world : World) (place chunk found : ℕ) (clear : Bool) → place < length world.writers
+    → IsWriterChange world (asked_world world place chunk found clear) place (asked_view (writer world place) chunk found clear)
+asked_change world place chunk found true inside = same_change world place
+asked_change world place chunk found false inside = noted_change world place (claims (writer world place) chunk found false) inside refl
+
+asked_kept : (setup : Setup) (words : List ℕ) (slots : List Stored) (world : World) (place chunk found : ℕ) (clear : Bool)
+    → IsLaid setup → IsKept setup words slots world → place < length setup.writers → chunk < length setup.spots
+    → found ≡ page_word setup words chunk → (clear ≡ false → IsClaimed found (spot setup chunk).place)
+    → IsKept setup words slots (asked_world world place chunk found clear)
+asked_kept setup words slots world place chunk found true laid kept inside_w inside is set_ = kept
+asked_kept setup words slots world place chunk found false laid kept inside_w inside is set_ = claim_seen setup words slots world place chunk found laid kept inside_w inside is (set_ refl)
+
+pub asks_allowed : (setup : Setup) (count id k chunk : ℕ) (v : WriterView) → chunk < length setup.spots
+    → Allows (IsShared setup) count id (Writer k 0 v, []) (spot setup chunk).page (λ found. found) (Asks chunk (spot setup chunk).place (Writer k 0 v, []))
+asks_allowed setup count id k chunk v inside s r deep at small =
+    let at_ = spot setup chunk in let found = get_or s.words at_.page 0 in let clear = is_clear found at_.place in
+    let world = r.world in let f = r.manned.each id (Writer k 0 v) at in
+    let inside_w = writer_inside setup s r id k 0 v at in let w_inside = world_inside setup s r id k 0 v at in
+    let next = asked_world world k chunk found clear in let roll = with_hand r.roll k 0 in
+    let set_ : clear ≡ false → IsClaimed found at_.place = λ unclear. grind (arith, nat_tests, unclear) in
+    let turn = writer_turn setup world next r.roll s.views id k 0 0 v (asked_view (writer world k) chunk found clear) r.manned at
+    (asked_change world k chunk found clear w_inside) (λ d e. absurd (omega arith)) in (
+      Writer k 0 (asked_view v chunk found clear),
+      keeps,
+      tt,
+      record {
+        world = next;
+        front = r.front;
+        slots = r.slots;
+        roll = roll;
+        laid = r.laid;
+        kept = asked_kept setup r.front r.slots world k chunk found clear r.laid r.kept inside_w inside (page_is setup s r chunk inside) set_;
+        words = words_loaded setup s.words r.front r.slots at_.page r.words;
+        bodies = bodies_stay setup s.homes r.slots r.slots r.roll roll r.bodies (λ d. refl) (λ d. in_before r.roll k 0 d (hand_none r.roll k d f.2));
+        manned = subst (λ z. IsManned setup next roll (set s.views id (Writer k 0 (asked_view z chunk found clear)))) (sym f.0) turn;
+      },
+      refl,
+    )
+
+-- a look that found the claim bit set was the claim
+pub asked_in_vain : (chunk place found : ℕ) (me new : Mine) → Asks chunk place me found new → IsClaimed found place → new ≡ (by_writer 0 (λ view. claims view chunk found false) me.0, [])
+asked_in_vain chunk place found me new asked claimed =
+    let unclear : is_clear found place ≡ false = grind (arith, nat_tests, claimed) in
+    asked ∙ ap (λ clear. let m : Mine = (by_writer 0 (λ view. asked_view view chunk found clear) me.0, []) in m) unclear
+
+-- a claim behind a look that found it clear is what it is without the look
+pub claimed_behind : (chunk place seen found : ℕ) (me asked new : Mine) → Asks chunk place me seen asked → (IsClaimed seen place → ⊥) → Claims chunk place asked found new
+    → new ≡ (by_writer 0 (λ view. claims view chunk found (is_clear found place)) me.0, [])
+claimed_behind chunk place seen found me asked new looked unclaimed claimed =
+    let clear : is_clear seen place ≡ true = grind (arith, nat_tests, unclaimed) in
+    let kept : asked ≡ (by_writer 0 (λ view. view) me.0, []) = looked ∙ ap (λ clear. let m : Mine = (by_writer 0 (λ view. asked_view view chunk seen clear) me.0, []) in m) clear in
+    claimed.new_is ∙ ap (λ (m : Mine). let m' : Mine = (by_writer 0 (λ view. claims view chunk found (is_clear found place)) m.0, []) in m') kept
