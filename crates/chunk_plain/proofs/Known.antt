@@ -1,5 +1,5 @@
 -- What the code of the table of one thread knows of its world, and what its steps keep, as its goals say it.
-use Rattle.std.proofs.Common.{◌≡◌, ℕ, ◌+◌, ◌-◌, ◌*◌, ◌^◌, ◌<◌, ◌≤◌, ◌↔◌, IsTrue, IsSome, IfSome, not, Bool, Option, Some, None, List, length, set, get_or, vec_len, subst, sym, refl, ap, ◌∙◌, arith}
+use Rattle.std.proofs.Common.{◌≡◌, ℕ, ◌+◌, ◌-◌, ◌*◌, ◌^◌, ◌<◌, ◌≤◌, ◌↔◌, IsTrue, IsSome, IfSome, not, Bool, false, Option, Some, None, List, length, set, get_or, vec_len, subst, sym, refl, ap, ◌∙◌, arith}
 use Rattle.std.proofs.Math.Logic.{∥∥₁_map, ∥∥₁_elim}
 use Rattle.std.proofs.Math.Nat.{ℕ_set}
 use Rattle.std.proofs.Math.Bool.{Bool-set}
@@ -26,7 +26,7 @@ use Rattle.chunk_plain.specs.Drafts.{MayFollow, draft_at, head_at, published, en
 use Rattle.chunk_plain.specs.Stored.{Stored, stored_at}
 use Rattle.chunk_plain.specs.Shows.{claim_of, content_of, IsHeader, page_word}
 use Rattle.chunk_plain.specs.Plain.{IsLent, StandsWhole, world_after, read_as, IsKept}
-use Rattle.chunk_plain.proofs.Kept.{claim_kept, claim_bit_free}
+use Rattle.chunk_plain.proofs.Kept.{claim_kept, claim_seen, claim_bit_free}
 use Rattle.chunk_plain.proofs.KeptWriter.{claimed_by, is_chunk, body_of_claimed, stamp_kept, begin_kept, lent_inside, body_kept, held_status, held_chunk, held_slot, header_kept, publish_kept, complete_kept, call_kept}
 use Rattle.chunk_plain.proofs.KeptService.{serviced_kept, look_kept, take_kept, learn_kept, reading_of, read_chunk, release_kept}
 
@@ -103,6 +103,12 @@ module _ (setup : Setup) (words : List ℕ) (slots : List Stored) (world : World
   draft_here place chunk id holding = ∥∥₁_elim kept (words_set _ _) (λ k. (held_slot setup words slots world place chunk id k holding).words.0)
 
   -- ---- claim
+
+  pub claim_vain : (next : World) (place chunk found : ℕ) (at : Spot) → at ≡ spot setup chunk → IsLaid setup → place < length setup.writers → chunk < length setup.spots
+      → found ≡ get_or words at.page 0 → IsClaimed found at.place → next ≡ world_after world (Claim place chunk found false) → ∥ IsKept setup words slots next ∥₁
+  claim_vain next place chunk found at at_is laid inside_w inside_c is claimed next_is =
+      ∥∥₁_map kept (λ k. subst (IsKept setup words slots) (sym next_is)
+      (claim_seen setup words slots world place chunk found laid k inside_w inside_c (is ∙ ap (λ (s : Spot). get_or words s.page 0) at_is) (subst (λ (s : Spot). IsClaimed found s.place) at_is claimed)))
 
   pub claim_step : (next : World) (place chunk found new : ℕ) (claimed : Bool) (at : Spot) → at ≡ spot setup chunk → IsLaid setup → place < length setup.writers → chunk < length setup.spots
       → found ≡ get_or words at.page 0 → Claims found new at.place at.layout → KeepsOthers found new at.place → (IsTrue claimed ↔ IsClaimed found at.place)

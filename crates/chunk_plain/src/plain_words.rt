@@ -91,20 +91,22 @@ impl Words for PlainTable {
         let page = spot.page as usize;
         let found = self.words[page];
         let claimed = PageWord(found).claimed(spot.place);
-        self.words[page] = found | claim_mask(spot.place, spot.layout);
         let step = Step::Claim {
             place: seat.place,
             chunk,
             found,
             won: !claimed,
         };
+        if claimed {
+            // The word has each bit that the claim would set.
+            let world = &self.world;
+            make_step(&world.shared, &mut self.seat, &step);
+            return None;
+        }
+        self.words[page] = found | claim_mask(spot.place, spot.layout);
         let world = &self.world;
         make_step(&world.shared, &mut self.seat, &step);
-        if claimed {
-            None
-        } else {
-            Some(Claimed { chunk })
-        }
+        Some(Claimed { chunk })
     }
 
     fn begin(&mut self, seat: &mut PlainWriter, claimed: Claimed, id: u32) -> Held {
