@@ -62,6 +62,14 @@ pub(crate) fn tail(sequence: u32, marked: bool) -> ArrayVec<u8, 14>
     tail
 }
 
+/// Two bytes as one number has them: they are stored at once, and so are loaded again at once. Of bytes
+/// that are stored one by one a load of both has to wait until they are in memory.
+fn two(first: u8, second: u8) -> [u8; 2]
+    ensures { result ≡ first ∷ second ∷ [] }
+{
+    u16::from_le_bytes([first, second]).to_le_bytes()
+}
+
 /// Writes the head of a record. Most are of two bytes, which go to the sink at once.
 fn put_head<O: Sink>(out: &mut O, len: u64) -> Result<(), WriteFault>
     ensures all { OnOk result (O.taken out.new ≡ after_told (O.taken out.old) (0x0A ∷ varint len)) }
@@ -69,7 +77,7 @@ fn put_head<O: Sink>(out: &mut O, len: u64) -> Result<(), WriteFault>
     ensures count { CountsFaults (O.faults out.old) (O.faults out.new) result }
 {
     if len < 128 {
-        return put_all(out, &[PACKET_TAG, len as u8]);
+        return put_all(out, &two(PACKET_TAG, len as u8));
     }
     put_all(out, &head(len))
 }
@@ -81,7 +89,7 @@ fn put_tail<O: Sink>(out: &mut O, sequence: u32, marked: bool) -> Result<(), Wri
     ensures count { CountsFaults (O.faults out.old) (O.faults out.new) result }
 {
     if sequence < 128 && !marked {
-        return put_all(out, &[SEQUENCE_TAG, sequence as u8]);
+        return put_all(out, &two(SEQUENCE_TAG, sequence as u8));
     }
     put_all(out, &tail(sequence, marked))
 }
