@@ -19,7 +19,7 @@ use Rattle.sequence_reader.specs.declared.read.Progress.{Progress}
 use Rattle.sequence_reader.specs.declared.spot.Bounds.{Bounds}
 use Rattle.sequence_reader.specs.Ends.{record_bytes, row_met, why_told, stop_told}
 use Rattle.sequence_reader.specs.Links.{IsLink, EndsAt}
-use Rattle.sequence_reader.specs.Spots.{AreBounds, IsSpot, rows_of, cursor_of}
+use Rattle.sequence_reader.specs.Spots.{AreBounds, IsSpot, IsHeld, rows_of, cursor_of}
 use Rattle.sequence_reader.specs.Turns.{IsAt, IsReadTo, GoesOn, IsDone, Fails}
 use Rattle.sequence_reader.proofs.TurnLemmas.{given_at, read_on, told_on, end_on, shorter, none_at_zero, read_nothing, told_nothing, end_here, known_after, rows_after, met_after, closed_after, horizon_after, marked_after}
 
@@ -41,11 +41,12 @@ bounds_after b bounds to t are = record {
   low = are.low;
 }
 
-pub at_after : (b : Buffer) (bounds : Bounds) (t : Turn) (next : Progress) → AreBounds b bounds → IsSpot b bounds next.at → not (delivers t) ≡ next.marked
+pub at_after : (b : Buffer) (bounds : Bounds) (t : Turn) (next : Progress) → AreBounds b bounds → IsSpot b bounds next.at → IsHeld b bounds.sequence next.held → not (delivers t) ≡ next.marked
     → IsAt (with_advance b bounds.sequence (cursor_of next.at) t) bounds next
-at_after b bounds t next are spot marked = record {
+at_after b bounds t next are spot held marked = record {
   bounds_are = bounds_after b bounds (cursor_of next.at) t are;
   spot = spot;
+  held = held;
   links = met_after b bounds.sequence (cursor_of next.at) t are.known ∙ sym (rows_after b bounds.sequence (cursor_of next.at) t (cursor_of next.at) are.known);
   marked = marked_after b bounds.sequence (cursor_of next.at) t are.known ∙ marked;
 }
@@ -210,10 +211,10 @@ taken_one before after q wrote body marked mark same is took =
 pub goes_by : (b : Buffer) (bounds : Bounds) (before after : Intake) (limit : ℕ) (progress next : Progress) (t : Turn) → IsAt b bounds progress → ends t ≡ false
     → (is : IsLink (rows_of b bounds.sequence (cursor_of progress.at)) (rows_of b bounds.sequence (cursor_of next.at)) t (cursor_of next.at))
     → after ≡ after_told before (record_bytes bounds.sequence (given_at t is.link (is_marked (sequence_in b.sequences bounds.sequence))))
-    → IsSpot b bounds next.at → not (delivers t) ≡ next.marked → next.delivered ≤ limit → next.delivered ≡ progress.delivered + one_if (delivers t)
+    → IsSpot b bounds next.at → IsHeld b bounds.sequence next.held → not (delivers t) ≡ next.marked → next.delivered ≤ limit → next.delivered ≡ progress.delivered + one_if (delivers t)
     → GoesOn b (with_advance b bounds.sequence (cursor_of next.at) t) before after bounds limit progress next
-goes_by b bounds before after limit progress next t at on is took spot marked most count = record {
-  at = at_after b bounds t next at.bounds_are spot marked;
+goes_by b bounds before after limit progress next t at on is took spot held marked most count = record {
+  at = at_after b bounds t next at.bounds_are spot held marked;
   most = most;
   later = omega (arith, count);
   read = read_one b bounds.sequence before after t (cursor_of next.at) at.bounds_are.known on (rows_of b bounds.sequence (cursor_of progress.at)) at.links is took

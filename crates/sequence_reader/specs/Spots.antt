@@ -5,6 +5,8 @@ use Rattle.trace_model.specs.Images.{Chunk, Fragment}
 use Rattle.trace_model.specs.Reading as reading
 use Rattle.trace_model.specs.Row.{Link, place, is_part, horizon, row_of, slots_of}
 use Rattle.trace_model.specs.Sequences.{Sequence, Cursor, sequence_in, is_known}
+use Rattle.trace_buffer.specs.Calls.{place_in}
+use Rattle.sequence_reader.specs.declared.held.Held.{Held}
 use Rattle.sequence_reader.specs.declared.spot.Spot.{Spot}
 use Rattle.sequence_reader.specs.declared.spot.Bounds.{Bounds}
 
@@ -43,6 +45,10 @@ pub record FitsChunk (closed : Bool) (chunk : Chunk) (spot : Spot) : Type 0 wher
 abbrev pub IsSpot : Buffer → Bounds → Spot → Type 0
 IsSpot buffer bounds spot = spot.chunk_id < bounds.end → (stored : BufferRecord)
     → live_at buffer bounds.sequence spot.chunk_id ≡ Some stored → FitsChunk bounds.closed stored.chunk spot
+
+-- a read holds the place of the chunk's record
+abbrev pub IsHeld : Buffer → ℕ → Held → Type 0
+IsHeld buffer sequence held = held.place ≡ place_in (live_at buffer sequence held.chunk_id)
 
 -- how many bytes of payloads, of the greatest size, can come before a spot
 abbrev pub reach_of : Spot → ℕ

@@ -16,7 +16,7 @@ use Rattle.sequence_reader.specs.declared.read.Turned.{Turned}
 use Rattle.sequence_reader.specs.declared.read.Turned.TheVariants.{On, Ended, Failed}
 use Rattle.sequence_reader.specs.declared.spot.Bounds.{Bounds}
 use Rattle.sequence_reader.specs.Ends.{record_bytes, row_met, why_told}
-use Rattle.sequence_reader.specs.Spots.{AreBounds, IsSpot, rows_of, cursor_of}
+use Rattle.sequence_reader.specs.Spots.{AreBounds, IsSpot, IsHeld, rows_of, cursor_of}
 
 -- the bytes of the first link
 abbrev pub first_bytes : List Link → List ℕ
@@ -35,6 +35,7 @@ pub record IsWholeAt (links : List Link) (len : ℕ) : Type 0 where
 pub record IsAt (buffer : Buffer) (bounds : Bounds) (progress : Progress) : Type 0 where
   pub bounds_are : AreBounds buffer bounds
   pub spot : IsSpot buffer bounds progress.at
+  pub held : IsHeld buffer bounds.sequence progress.held
   pub links : row_met buffer bounds.sequence ≡ rows_of buffer bounds.sequence (cursor_of progress.at)
   pub marked : is_marked (sequence_in buffer.sequences bounds.sequence) ≡ progress.marked
 

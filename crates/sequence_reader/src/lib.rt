@@ -8,6 +8,7 @@
 mod bools;
 mod deliver;
 mod ends;
+mod held;
 mod link;
 mod read;
 mod spot;

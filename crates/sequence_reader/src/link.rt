@@ -1,14 +1,15 @@
 //! The next link of a row: a packet, what there is of one, a gap, or the end of the read.
 ghost use Rattle.std.specs.Prelude.{◌≡◌, ◌<◌, ◌&&◌, not, true, false, if◌then◌else◌};
 ghost use Rattle.trace_model.specs.Buffers.{Buffer};
-ghost use Rattle.sequence_reader.specs.Spots.{AreBounds, IsSpot, reach_of};
+ghost use Rattle.sequence_reader.specs.Spots.{AreBounds, IsSpot, IsHeld, reach_of};
 ghost use Rattle.sequence_reader.specs.Steps.{IsPieceAt};
 ghost use Rattle.sequence_reader.specs.Links.{Finds, IsWalked, passed_by};
 
 use crate::bools::{both, either};
 use crate::ends::Why;
+use crate::held::Held;
 use crate::spot::{Bounds, Spot};
-use crate::step::{Piece, Step, look_at};
+use crate::step::{Piece, Step, look_at, look_in};
 use trace_buffer::{Passed, TraceBuffer};
 
 /// What ends a chain of fragments.
@@ -60,14 +61,21 @@ pub enum Found<'a> {
     },
 }
 
-/// What a read does at a spot.
-pub fn next_link(buffer: &TraceBuffer, bounds: Bounds, spot: Spot) -> Found<'_>
+/// What a read does at a spot, whose chunk it holds.
+pub fn next_link(buffer: &TraceBuffer, bounds: Bounds, spot: Spot, held: Held) -> Found<'_>
     requires bounds { AreBounds buffer.now bounds }
     requires spot { IsSpot buffer.now bounds spot }
+    requires held { IsHeld buffer.now bounds.sequence held }
+    requires here { held.chunk_id ≡ spot.chunk_id }
     ensures finds { Finds buffer.now bounds spot result }
 {
-    match look_at(buffer, bounds, spot) {
-        Step::Fragment { piece } => found_of(follow(buffer, bounds, spot, piece), piece),
+    match look_in(buffer, bounds, spot, held) {
+        Step::Fragment { piece } => {
+            if both(piece.runs_on, !piece.dropped) {
+                return found_of(follow_begun(buffer, bounds, spot, piece), piece);
+            }
+            found_of(begun(spot, piece), piece)
+        }
         Step::Gap { lost: _ } => Found::Passes {
             passed: Passed::Nothing,
             next: Spot::at_start(spot.chunk_id + 1),
@@ -76,21 +84,7 @@ pub fn next_link(buffer: &TraceBuffer, bounds: Bounds, spot: Spot) -> Found<'_>
     }
 }
 
-/// Follows a packet from one of its fragments to what ends it.
-fn follow(buffer: &TraceBuffer, bounds: Bounds, spot: Spot, first: Piece<'_>) -> Chain
-    requires bounds { AreBounds buffer.now bounds }
-    requires first { IsPieceAt buffer.now bounds spot first }
-    ensures chain { IsWalked buffer.now bounds result }
-    ensures at { result.at ≡ spot }
-    ensures ended { result.goes_on ≡ false }
-{
-    if both(first.runs_on, !first.dropped) {
-        return follow_begun(buffer, bounds, spot, first);
-    }
-    begun(spot, first)
-}
-
-/// The same of a fragment that isn't the last one. It is a function of its own so that what goes through
+/// Follows a packet from a fragment that isn't its last one to what ends it. It is a function of its own so that what goes through
 /// memory for the call is put there only where the call is made.
 #[inline(always)]
 fn follow_begun(buffer: &TraceBuffer, bounds: Bounds, spot: Spot, first: Piece<'_>) -> Chain

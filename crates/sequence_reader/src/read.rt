@@ -9,6 +9,7 @@ ghost use Rattle.sequence_reader.specs.Turns.{IsAt, Turns, CountsTurn, Puts, Cou
 
 use crate::deliver::put_packet_at;
 use crate::ends::{ReadCount, ReadEnd, Why};
+use crate::held::Held;
 use crate::link::{Found, next_link};
 use crate::spot::{Bounds, Spot, find_spot};
 use byte_io::put::WriteFault;
@@ -19,6 +20,8 @@ use trace_buffer::{Passed, TraceBuffer};
 #[derive(Clone, Copy, Debug, PartialEq, Eq)]
 struct Progress {
     at: Spot,
+    /// A chunk that it holds: mostly that of its spot.
+    held: Held,
     /// The next packet that is delivered is marked.
     marked: bool,
     delivered: u64,
@@ -120,8 +123,10 @@ fn begun(buffer: &TraceBuffer, bounds: Bounds) -> Progress
     ensures none { result.delivered ≡ 0 }
 {
     let state = buffer.state(bounds.sequence);
+    let at = find_spot(buffer, bounds, state.cursor);
     Progress {
-        at: find_spot(buffer, bounds, state.cursor),
+        at,
+        held: Held::of(buffer, bounds, at.chunk_id),
         marked: state.missing || state.delivered == 0,
         delivered: 0,
     }
@@ -166,12 +171,14 @@ fn put_next<O: Sink>(
     ensures puts { Puts buffer.now (O.taken out.old) (O.taken out.new) bounds limit progress result }
     ensures count { CountsPut (O.faults out.old) (O.faults out.new) result }
 {
-    match next_link(buffer, bounds, progress.at) {
+    let held = progress.held.at(buffer, bounds, progress.at.chunk_id);
+    match next_link(buffer, bounds, progress.at, held) {
         Found::Ends { why } => Put::Ended { why },
         Found::Passes { passed, next } => Put::Passed {
             passed,
             progress: Progress {
                 at: next,
+                held,
                 marked: true,
                 delivered: progress.delivered,
             },
@@ -193,6 +200,7 @@ fn put_next<O: Sink>(
                     passed: Passed::Delivered,
                     progress: Progress {
                         at: next,
+                        held,
                         marked: false,
                         delivered: progress.delivered + 1,
                     },

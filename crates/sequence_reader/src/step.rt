@@ -3,11 +3,12 @@ ghost use Rattle.std.specs.Prelude.{◌≡◌, ◌+◌, ◌<◌, ◌≤◌, ◌^
 ghost use Rattle.trace_model.specs.Buffers.{live_at};
 ghost use Rattle.trace_model.specs.Reading.{reading_of};
 ghost use Rattle.trace_buffer.specs.Records.{chunk_of, is_readable};
-ghost use Rattle.sequence_reader.specs.Spots.{AreBounds, FitsChunk, IsSpot};
+ghost use Rattle.sequence_reader.specs.Spots.{AreBounds, FitsChunk, IsSpot, IsHeld};
 ghost use Rattle.sequence_reader.specs.Steps.{Shows, ShowsIn, spot_behind};
 
 use crate::bools::both;
 use crate::ends::Why;
+use crate::held::Held;
 use crate::spot::{Bounds, Spot};
 use chunk_image::read_fragment;
 use page_geometry::{FIRST_CONTINUES, LAST_CONTINUES};
@@ -38,12 +39,29 @@ pub enum Step<'a> {
     Stop { why: Why, may: bool },
 }
 
-/// What stands at a spot. It and its cases are no calls, so that a step doesn't go through memory, in
-/// parts that would have to be waited for.
+/// What stands at a spot.
 #[inline(always)]
 pub fn look_at(buffer: &TraceBuffer, bounds: Bounds, spot: Spot) -> Step<'_>
     requires bounds { AreBounds buffer.now bounds }
     requires spot { IsSpot buffer.now bounds spot }
+    ensures shows { Shows buffer.now bounds spot result }
+{
+    look_in(
+        buffer,
+        bounds,
+        spot,
+        Held::of(buffer, bounds, spot.chunk_id),
+    )
+}
+
+/// The same by the place of the record. It and its cases are no calls, so that a step doesn't go through
+/// memory, in parts that would have to be waited for.
+#[inline(always)]
+pub fn look_in(buffer: &TraceBuffer, bounds: Bounds, spot: Spot, held: Held) -> Step<'_>
+    requires bounds { AreBounds buffer.now bounds }
+    requires spot { IsSpot buffer.now bounds spot }
+    requires held { IsHeld buffer.now bounds.sequence held }
+    requires here { held.chunk_id ≡ spot.chunk_id }
     ensures shows { Shows buffer.now bounds spot result }
 {
     if spot.chunk_id >= bounds.end {
@@ -56,8 +74,11 @@ pub fn look_at(buffer: &TraceBuffer, bounds: Bounds, spot: Spot) -> Step<'_>
             missing(spot)
         };
     }
-    match buffer.image_of(bounds.sequence, spot.chunk_id) {
-        Some((key, payload)) => present(key, payload, bounds.closed, spot),
+    match held.place {
+        Some(place) => {
+            let (key, payload) = buffer.image_at(bounds.sequence, spot.chunk_id, place);
+            present(key, payload, bounds.closed, spot)
+        }
         None => absent(buffer, bounds, spot),
     }
 }

@@ -8,7 +8,7 @@ use Rattle.ring_bytes.specs.declared.key.RecordKey.{RecordKey}
 use Rattle.trace_model.specs.Buffers.{BufferRecord, is_of}
 use Rattle.trace_model.specs.Reading.{Reading, Fragments, Unreadable, reading_of}
 use Rattle.trace_model.specs.Sequences.{Sequence}
-use Rattle.trace_buffer.specs.Calls.{TellsRecord}
+use Rattle.trace_buffer.specs.Calls.{TellsRecord, place_in}
 use Rattle.trace_buffer.specs.BufferFields.{PlacesOnce, AllKept, IsKept}
 use Rattle.trace_buffer.specs.Records.{record_of, chunk_of, is_at_key, is_readable, fragments_of}
 
@@ -76,6 +76,23 @@ is_found ring sequence chunk_id place result some is there = of (find (is_at_key
 
 pub live_is : (ring : RingValue) (live : List BufferRecord) (sequence chunk_id : ℕ) → map record_of ring.live ≡ live → find (is_of sequence chunk_id) live ≡ option_map record_of (find (is_at_key sequence chunk_id) ring.live)
 live_is ring live sequence chunk_id view = ap (find (is_of sequence chunk_id)) (sym view) ∙ find_records (is_of sequence chunk_id) ring.live
+
+-- its place
+pub place_told : (o : Option Stored) → option_map (λ (s : Stored). s.at) o ≡ place_in (option_map record_of o)
+place_told None = refl
+place_told (Some s) = refl
+
+pub no_place : (o : Option BufferRecord) → place_in o ≡ None → o ≡ None
+no_place None is = refl
+no_place (Some r) is = absurd (cc)
+
+-- a record of which the place is known
+pub found_there : (ring : RingValue) (live : List BufferRecord) (sequence chunk_id place : ℕ) → map record_of ring.live ≡ live → PlacesOnce ring.live
+    → place_in (find (is_of sequence chunk_id) live) ≡ Some place → IsFound ring sequence chunk_id place
+found_there ring live sequence chunk_id place view once is =
+    let told : Some place ≡ option_map (λ (s : Stored). s.at) (find (is_at_key sequence chunk_id) ring.live) =
+    sym is ∙ ap place_in (live_is ring live sequence chunk_id view) ∙ sym (place_told (find (is_at_key sequence chunk_id) ring.live)) in
+    is_found ring sequence chunk_id place (Some place) refl told (at_place (is_at_key sequence chunk_id) ring (Some place) once told)
 
 pub none_is : (ring : RingValue) (sequence chunk_id : ℕ) (result : Option ℕ) → result ≡ None → result ≡ option_map (λ (s : Stored). s.at) (find (is_at_key sequence chunk_id) ring.live) → find (is_at_key sequence chunk_id) ring.live ≡ None
 none_is ring sequence chunk_id result none is = of (find (is_at_key sequence chunk_id) ring.live) (sym is ∙ none)

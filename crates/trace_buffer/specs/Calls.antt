@@ -1,5 +1,6 @@
 -- What a reader asks of a buffer, and tells it.
 use Rattle.std.specs.Prelude.{◌≡◌, ℕ, Bool, not, ◌&&◌, ◌||◌, List, Option, Some, None, is_some}
+use Rattle.std.specs.Option.{option_map}
 use Rattle.ring_bytes.specs.declared.key.RecordKey.{RecordKey}
 use Rattle.trace_model.specs.Buffers.{Buffer, BufferRecord, live_at}
 use Rattle.trace_model.specs.Reading.{Fragments, reading_of}
@@ -19,6 +20,10 @@ is_lost buffer sequence chunk_id =
     not (is_some (live_at buffer sequence chunk_id))
     && (has_arrived (sequence_in buffer.sequences sequence) chunk_id
     || is_among chunk_id (sequence_in buffer.sequences sequence).final)
+
+-- where the record lies
+abbrev pub place_in : Option BufferRecord → Option ℕ
+place_in = option_map (λ (stored : BufferRecord). stored.at)
 
 -- the header and the payload are those of the record, and the payload reads as its fragments
 pub record TellsRecord (key : RecordKey) (payload : List ℕ) (stored : BufferRecord) : Type 0 where

@@ -13,7 +13,7 @@ ghost use Rattle.commit_body.specs.Patches.{patch_value};
 ghost use Rattle.trace_buffer.specs.Answers.{arrived_value, patch_told, counts_of, state_of, cursor_value, turn_value};
 ghost use Rattle.trace_buffer.specs.Records.{chunk_of, is_readable};
 ghost use Rattle.trace_buffer.specs.Made.{sequence_of, AreDistinct, AllSmall};
-ghost use Rattle.trace_buffer.specs.Calls.{with_advance, is_lost, IsImageOf};
+ghost use Rattle.trace_buffer.specs.Calls.{with_advance, is_lost, place_in, IsImageOf};
 ghost use Rattle.trace_buffer.specs.BufferFields.{NoPart, IsPartNear};
 
 use crate::answers::{
@@ -266,12 +266,31 @@ impl TraceBuffer {
         ensures none { IfNone result (live_at self.now sequence chunk_id ≡ None) }
         ensures small { IfSome result (λ image. length image.1.now ≤ MAX_RING_SIZE) }
     {
+        let place = self.place_of(sequence, chunk_id)?;
+        Some(self.image_at(sequence, chunk_id, place))
+    }
+
+    /// Where the record of a chunk lies.
+    #[inline(always)]
+    pub fn place_of(&self, sequence: u32, chunk_id: u64) -> Option<u32>
+        ensures { result ≡ place_in (live_at self.now sequence chunk_id) }
+    {
         let _room = self.ring.size();
         let Ok(id) = u32::try_from(chunk_id) else {
             return None;
         };
-        let place = find_place(&self.ring, &self.index, &self.rows, sequence, id)?;
-        Some((self.ring.key_at(place), self.ring.payload_at(place)))
+        find_place(&self.ring, &self.index, &self.rows, sequence, id)
+    }
+
+    /// What the record of a chunk has, by its place, so that it isn't looked for.
+    #[inline(always)]
+    pub fn image_at(&self, sequence: u32, chunk_id: u64, place: u32) -> (RecordKey, &[u8])
+        requires { place_in (live_at self.now sequence chunk_id) ≡ Some place }
+        ensures image { IsImageOf result.0 result.1.now (live_at self.now sequence chunk_id) }
+        ensures small { length result.1.now ≤ MAX_RING_SIZE }
+    {
+        let _room = self.ring.size();
+        (self.ring.key_at(place), self.ring.payload_at(place))
     }
 
     /// A reader has come to a place of a sequence.

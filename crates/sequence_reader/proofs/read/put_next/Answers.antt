@@ -21,10 +21,10 @@ returns-in-Passes-clause-puts g c =
     let q = c.args.bounds.sequence in
     let found = c.in-Passes.ensures.finds in
     let t = turn_value c.in-Passes.passed in
-    let next : Progress = record { at = c.in-Passes.next; marked = true; delivered = c.args.progress.delivered } in
+    let next : Progress = record { at = c.in-Passes.next; held = c.at-held.result; marked = true; delivered = c.args.progress.delivered } in
     goes_by b c.args.bounds (g.O.Sink.taken c.args.out.now) (g.O.Sink.taken c.args.out.now) c.args.limit c.args.progress next t c.requires.at (stays_on c.in-Passes.passed) found.is
     (taken_none (g.O.Sink.taken c.args.out.now) q (link_bytes found.is.link) (is_marked (model.sequence_in b.sequences q)) (delivers t) found.kept)
-    found.behind (ap not found.kept) c.requires.most (none_counted c.args.progress.delivered (delivers t) found.kept)
+    found.behind c.at-held.ensures.held (ap not found.kept) c.requires.most (none_counted c.args.progress.delivered (delivers t) found.kept)
 
 pub returns-then-progress-limit-clause-puts : goal.returns-then-progress-limit-clause-puts
 returns-then-progress-limit-clause-puts g c =
@@ -48,8 +48,8 @@ returns-in-Ok-clause-puts g c =
     let q = c.args.bounds.sequence in
     let links = rows_of b q (cursor_of c.args.progress.at) in
     let is = c.in-Delivers.ensures.finds.is in
-    let next : Progress = record { at = c.in-Delivers.next; marked = false; delivered = c.args.progress.delivered + 1 } in
+    let next : Progress = record { at = c.in-Delivers.next; held = c.at-held.result; marked = false; delivered = c.args.progress.delivered + 1 } in
     let took = taken_one (g.O.Sink.taken c.args.out.now) (g.O.Sink.taken c.put_packet_at.new.out) q (first_bytes links) (link_bytes is.link) c.args.progress.marked (is_marked (model.sequence_in b.sequences q))
     (ap first_bytes is.links_are) c.requires.at.marked c.in-Ok.ensures.all in
     goes_by b c.args.bounds (g.O.Sink.taken c.args.out.now) (g.O.Sink.taken c.put_packet_at.new.out) c.args.limit c.args.progress next Delivers c.requires.at refl is took
-    c.in-Delivers.ensures.finds.behind refl (omega (arith, c.requires.most, c.if-progress-limit.false)) refl
+    c.in-Delivers.ensures.finds.behind c.at-held.ensures.held refl (omega (arith, c.requires.most, c.if-progress-limit.false)) refl
