@@ -84,8 +84,8 @@ pub fn next_link(buffer: &TraceBuffer, bounds: Bounds, spot: Spot, held: Held) -
     }
 }
 
-/// Follows a packet from a fragment that isn't its last one to what ends it. It is a function of its own so that what goes through
-/// memory for the call is put there only where the call is made.
+/// Follows a packet from a fragment that isn't its last one to what ends it. It is a function of its
+/// own so that what goes through memory for the call is put there only where the call is made.
 #[inline(always)]
 fn follow_begun(buffer: &TraceBuffer, bounds: Bounds, spot: Spot, first: Piece<'_>) -> Chain
     requires bounds { AreBounds buffer.now bounds }
