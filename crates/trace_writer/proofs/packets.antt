@@ -11,3 +11,4 @@ pub mod RunOn
 pub mod SettingAside
 pub mod Starting
 pub mod Varints
+pub mod Written

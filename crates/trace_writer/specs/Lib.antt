@@ -18,3 +18,4 @@ pub mod Placing
 pub mod Refusals
 pub mod Site
 pub mod States
+pub mod Written

@@ -1,17 +1,17 @@
 //! The fields of a packet that is begun, and its nested messages.
-ghost use Rattle.std.specs.Prelude.{◌≡◌, ℕ, ◌+◌, ◌*◌, ◌<◌, ◌≤◌, true, false, [], ◌∷◌, ◌++◌, List, length, Bool, Ok, Err, MatchResult};
+ghost use Rattle.std.specs.Prelude.{◌≡◌, ◌+◌, ◌*◌, ◌<◌, ◌≤◌, true, false, [], ◌∷◌, ◌++◌, length, MatchResult};
 ghost use Rattle.std.specs.List.{repeat};
 ghost use Rattle.trace_base.specs.declared.limits.TheConstants.{MAX_FIELD, MAX_PACKET_LEN, MAX_OPEN_HOLES};
 ghost use Rattle.trace_model.specs.Calls as call;
 ghost use Rattle.trace_model.specs.Encoding.{bytes_head, nested_tag, number_field};
-ghost use Rattle.trace_model.specs.Packets.{Account, noted, on_newest, with_more, packets_of, newest_is_lost};
+ghost use Rattle.trace_model.specs.Packets.{Account, noted, on_newest, with_more};
 ghost use Rattle.chunk_plain.specs.Words.{call_of};
 ghost use Rattle.trace_writer.specs.Agreement.{Agrees, NeedsNoChunk, is_begun, len_of, open_message_count};
 ghost use Rattle.trace_writer.specs.declared.fault.CallFault.TheVariants as call_fault;
-ghost use Rattle.trace_writer.specs.Asked.{IsAsked, written_as};
 ghost use Rattle.trace_writer.specs.Empty.{is_empty, is_stalled as is_stalled_state};
 ghost use Rattle.trace_writer.specs.Outcomes.{GoesBehind};
 ghost use Rattle.trace_writer.specs.OwnSteps.{IsQuiet};
+ghost use Rattle.trace_writer.specs.Written.{IsWritten};
 
 use crate::fault::CallFault;
 use crate::flow::Flow;
@@ -44,17 +44,8 @@ pub(crate) fn write_number<W: Words, L: Ledger, H: HelperOn<W>>(
     requires field { (1 ≤ field) × (field ≤ MAX_FIELD) }
     requires size { size ≡ length (number_field field value) }
     requires fits { len_of writer.old.packet + size ≤ MAX_PACKET_LEN }
-    ensures agrees { Agrees (W.means.setup table.old) (W.means.place seat.old) (W.means.view table.new seat.new) writer.new }
-    ensures route { writer.new.route ≡ writer.old.route }
-    ensures stays { is_stalled_state writer.old.state ≡ true
-        → (result ≡ Err call_fault.Stalled) × (writer.new ≡ writer.old) × (table.new ≡ table.old) × (seat.new ≡ seat.old) × (help.new ≡ help.old) × (steps.new ≡ steps.old) }
-    ensures answers { is_stalled_state writer.old.state ≡ false
-        → MatchResult result (λ _. is_stalled_state writer.new.state ≡ false) (λ fault. (fault ≡ call_fault.Stalled) × (is_stalled_state writer.new.state ≡ true)) }
-    ensures done { is_stalled_state writer.old.state ≡ false → (stopped : Bool)
-        × IsAsked W.means H.needs H.helps
-        writer.old.route help.old table.old seat.old steps.old stopped (written_as stopped writer.old.route.spec.policy (call.Number field value))
-        (is_stalled_state writer.new.state) help.new table.new seat.new steps.new
-        × (stopped ≡ true → newest_is_lost (packets_of (W.means.view table.old seat.old).calls) ≡ false) }
+    ensures written { IsWritten W.means H.needs H.helps (call.Number field value)
+        writer.old help.old table.old seat.old steps.old result writer.new help.new table.new seat.new steps.new }
     ensures asked { NeedsNoChunk writer.old.state size → (W.means.view table.new seat.new).asked ≡ (W.means.view table.old seat.old).asked }
 {
     if put_number_here(writer, field, value, size) {
@@ -84,17 +75,8 @@ fn write_number_on<W: Words, L: Ledger, H: HelperOn<W>>(
     requires begun { is_begun writer.old.packet ≡ true }
     requires field { (1 ≤ field) × (field ≤ MAX_FIELD) }
     requires fits { len_of writer.old.packet + length (number_field field value) ≤ MAX_PACKET_LEN }
-    ensures agrees { Agrees (W.means.setup table.old) (W.means.place seat.old) (W.means.view table.new seat.new) writer.new }
-    ensures route { writer.new.route ≡ writer.old.route }
-    ensures stays { is_stalled_state writer.old.state ≡ true
-        → (result ≡ Err call_fault.Stalled) × (writer.new ≡ writer.old) × (table.new ≡ table.old) × (seat.new ≡ seat.old) × (help.new ≡ help.old) × (steps.new ≡ steps.old) }
-    ensures answers { is_stalled_state writer.old.state ≡ false
-        → MatchResult result (λ _. is_stalled_state writer.new.state ≡ false) (λ fault. (fault ≡ call_fault.Stalled) × (is_stalled_state writer.new.state ≡ true)) }
-    ensures done { is_stalled_state writer.old.state ≡ false → (stopped : Bool)
-        × IsAsked W.means H.needs H.helps
-        writer.old.route help.old table.old seat.old steps.old stopped (written_as stopped writer.old.route.spec.policy (call.Number field value))
-        (is_stalled_state writer.new.state) help.new table.new seat.new steps.new
-        × (stopped ≡ true → newest_is_lost (packets_of (W.means.view table.old seat.old).calls) ≡ false) }
+    ensures written { IsWritten W.means H.needs H.helps (call.Number field value)
+        writer.old help.old table.old seat.old steps.old result writer.new help.new table.new seat.new steps.new }
     ensures asked { is_empty writer.old.state ≡ true → (W.means.view table.new seat.new).asked ≡ (W.means.view table.old seat.old).asked }
 {
     let head = head_number(field, value);
@@ -135,17 +117,8 @@ pub(crate) fn write_text<W: Words, L: Ledger, H: HelperOn<W>>(
     requires size { size ≡ length (bytes_head field len) }
     requires fits { len_of writer.old.packet + (size + times * length text.now) ≤ MAX_PACKET_LEN }
     requires call { (account : Account) → noted account (call.Bytes field text.now times) ≡ on_newest (with_more (bytes_head field len ++ repeat times text.now)) account }
-    ensures agrees { Agrees (W.means.setup table.old) (W.means.place seat.old) (W.means.view table.new seat.new) writer.new }
-    ensures route { writer.new.route ≡ writer.old.route }
-    ensures stays { is_stalled_state writer.old.state ≡ true
-        → (result ≡ Err call_fault.Stalled) × (writer.new ≡ writer.old) × (table.new ≡ table.old) × (seat.new ≡ seat.old) × (help.new ≡ help.old) × (steps.new ≡ steps.old) }
-    ensures answers { is_stalled_state writer.old.state ≡ false
-        → MatchResult result (λ _. is_stalled_state writer.new.state ≡ false) (λ fault. (fault ≡ call_fault.Stalled) × (is_stalled_state writer.new.state ≡ true)) }
-    ensures done { is_stalled_state writer.old.state ≡ false → (stopped : Bool)
-        × IsAsked W.means H.needs H.helps
-        writer.old.route help.old table.old seat.old steps.old stopped (written_as stopped writer.old.route.spec.policy (call.Bytes field text.now times))
-        (is_stalled_state writer.new.state) help.new table.new seat.new steps.new
-        × (stopped ≡ true → newest_is_lost (packets_of (W.means.view table.old seat.old).calls) ≡ false) }
+    ensures written { IsWritten W.means H.needs H.helps (call.Bytes field text.now times)
+        writer.old help.old table.old seat.old steps.old result writer.new help.new table.new seat.new steps.new }
     ensures asked { NeedsNoChunk writer.old.state (size + times * length text.now) → (W.means.view table.new seat.new).asked ≡ (W.means.view table.old seat.old).asked }
 {
     if put_text_here(writer, field, len, size, text, times) {
@@ -187,17 +160,8 @@ fn write_text_on<W: Words, L: Ledger, H: HelperOn<W>>(
     requires field { (1 ≤ field) × (field ≤ MAX_FIELD) }
     requires fits { len_of writer.old.packet + (length (bytes_head field len) + times * length text.now) ≤ MAX_PACKET_LEN }
     requires call { (account : Account) → noted account (call.Bytes field text.now times) ≡ on_newest (with_more (bytes_head field len ++ repeat times text.now)) account }
-    ensures agrees { Agrees (W.means.setup table.old) (W.means.place seat.old) (W.means.view table.new seat.new) writer.new }
-    ensures route { writer.new.route ≡ writer.old.route }
-    ensures stays { is_stalled_state writer.old.state ≡ true
-        → (result ≡ Err call_fault.Stalled) × (writer.new ≡ writer.old) × (table.new ≡ table.old) × (seat.new ≡ seat.old) × (help.new ≡ help.old) × (steps.new ≡ steps.old) }
-    ensures answers { is_stalled_state writer.old.state ≡ false
-        → MatchResult result (λ _. is_stalled_state writer.new.state ≡ false) (λ fault. (fault ≡ call_fault.Stalled) × (is_stalled_state writer.new.state ≡ true)) }
-    ensures done { is_stalled_state writer.old.state ≡ false → (stopped : Bool)
-        × IsAsked W.means H.needs H.helps
-        writer.old.route help.old table.old seat.old steps.old stopped (written_as stopped writer.old.route.spec.policy (call.Bytes field text.now times))
-        (is_stalled_state writer.new.state) help.new table.new seat.new steps.new
-        × (stopped ≡ true → newest_is_lost (packets_of (W.means.view table.old seat.old).calls) ≡ false) }
+    ensures written { IsWritten W.means H.needs H.helps (call.Bytes field text.now times)
+        writer.old help.old table.old seat.old steps.old result writer.new help.new table.new seat.new steps.new }
     ensures asked { is_empty writer.old.state ≡ true → (W.means.view table.new seat.new).asked ≡ (W.means.view table.old seat.old).asked }
 {
     let head = head_bytes(field, len);
@@ -238,17 +202,8 @@ fn write_field_on<W: Words, L: Ledger, H: HelperOn<W>>(
     requires begun { is_begun writer.old.packet ≡ true }
     requires fits { len_of writer.old.packet + (length head.now + times * length text.now) ≤ MAX_PACKET_LEN }
     requires call { (account : Account) → noted account (call_of call) ≡ on_newest (with_more (head.now ++ repeat times text.now)) account }
-    ensures agrees { Agrees (W.means.setup table.old) (W.means.place seat.old) (W.means.view table.new seat.new) writer.new }
-    ensures route { writer.new.route ≡ writer.old.route }
-    ensures stays { is_stalled_state writer.old.state ≡ true
-        → (result ≡ Err call_fault.Stalled) × (writer.new ≡ writer.old) × (table.new ≡ table.old) × (seat.new ≡ seat.old) × (help.new ≡ help.old) × (steps.new ≡ steps.old) }
-    ensures answers { is_stalled_state writer.old.state ≡ false
-        → MatchResult result (λ _. is_stalled_state writer.new.state ≡ false) (λ fault. (fault ≡ call_fault.Stalled) × (is_stalled_state writer.new.state ≡ true)) }
-    ensures done { is_stalled_state writer.old.state ≡ false → (stopped : Bool)
-        × IsAsked W.means H.needs H.helps
-        writer.old.route help.old table.old seat.old steps.old stopped (written_as stopped writer.old.route.spec.policy (call_of call.entry))
-        (is_stalled_state writer.new.state) help.new table.new seat.new steps.new
-        × (stopped ≡ true → newest_is_lost (packets_of (W.means.view table.old seat.old).calls) ≡ false) }
+    ensures written { IsWritten W.means H.needs H.helps (call_of call.entry)
+        writer.old help.old table.old seat.old steps.old result writer.new help.new table.new seat.new steps.new }
     ensures asked { is_empty writer.old.state ≡ true → (W.means.view table.new seat.new).asked ≡ (W.means.view table.old seat.old).asked }
 {
     if is_stalled(&writer.state) {
@@ -298,17 +253,8 @@ pub(crate) fn write_nested<W: Words, L: Ledger, H: HelperOn<W>>(
     requires size { size ≡ length (nested_tag field) }
     requires fits { len_of writer.old.packet + (size + 4) ≤ MAX_PACKET_LEN }
     requires depth { open_message_count writer.old.packet < MAX_OPEN_HOLES }
-    ensures agrees { Agrees (W.means.setup table.old) (W.means.place seat.old) (W.means.view table.new seat.new) writer.new }
-    ensures route { writer.new.route ≡ writer.old.route }
-    ensures stays { is_stalled_state writer.old.state ≡ true
-        → (result ≡ Err call_fault.Stalled) × (writer.new ≡ writer.old) × (table.new ≡ table.old) × (seat.new ≡ seat.old) × (help.new ≡ help.old) × (steps.new ≡ steps.old) }
-    ensures answers { is_stalled_state writer.old.state ≡ false
-        → MatchResult result (λ _. is_stalled_state writer.new.state ≡ false) (λ fault. (fault ≡ call_fault.Stalled) × (is_stalled_state writer.new.state ≡ true)) }
-    ensures done { is_stalled_state writer.old.state ≡ false → (stopped : Bool)
-        × IsAsked W.means H.needs H.helps
-        writer.old.route help.old table.old seat.old steps.old stopped (written_as stopped writer.old.route.spec.policy (call.Nested field))
-        (is_stalled_state writer.new.state) help.new table.new seat.new steps.new
-        × (stopped ≡ true → newest_is_lost (packets_of (W.means.view table.old seat.old).calls) ≡ false) }
+    ensures written { IsWritten W.means H.needs H.helps (call.Nested field)
+        writer.old help.old table.old seat.old steps.old result writer.new help.new table.new seat.new steps.new }
     ensures asked { NeedsNoChunk writer.old.state (size + 4) → (W.means.view table.new seat.new).asked ≡ (W.means.view table.old seat.old).asked }
 {
     if put_nested_here(writer, field, size) {
@@ -339,17 +285,8 @@ fn write_nested_on<W: Words, L: Ledger, H: HelperOn<W>>(
     requires field { (1 ≤ field) × (field ≤ MAX_FIELD) }
     requires fits { len_of writer.old.packet + (length (nested_tag field) + 4) ≤ MAX_PACKET_LEN }
     requires depth { open_message_count writer.old.packet < MAX_OPEN_HOLES }
-    ensures agrees { Agrees (W.means.setup table.old) (W.means.place seat.old) (W.means.view table.new seat.new) writer.new }
-    ensures route { writer.new.route ≡ writer.old.route }
-    ensures stays { is_stalled_state writer.old.state ≡ true
-        → (result ≡ Err call_fault.Stalled) × (writer.new ≡ writer.old) × (table.new ≡ table.old) × (seat.new ≡ seat.old) × (help.new ≡ help.old) × (steps.new ≡ steps.old) }
-    ensures answers { is_stalled_state writer.old.state ≡ false
-        → MatchResult result (λ _. is_stalled_state writer.new.state ≡ false) (λ fault. (fault ≡ call_fault.Stalled) × (is_stalled_state writer.new.state ≡ true)) }
-    ensures done { is_stalled_state writer.old.state ≡ false → (stopped : Bool)
-        × IsAsked W.means H.needs H.helps
-        writer.old.route help.old table.old seat.old steps.old stopped (written_as stopped writer.old.route.spec.policy (call.Nested field))
-        (is_stalled_state writer.new.state) help.new table.new seat.new steps.new
-        × (stopped ≡ true → newest_is_lost (packets_of (W.means.view table.old seat.old).calls) ≡ false) }
+    ensures written { IsWritten W.means H.needs H.helps (call.Nested field)
+        writer.old help.old table.old seat.old steps.old result writer.new help.new table.new seat.new steps.new }
     ensures asked { is_empty writer.old.state ≡ true → (W.means.view table.new seat.new).asked ≡ (W.means.view table.old seat.old).asked }
 {
     if is_stalled(&writer.state) {

@@ -10,9 +10,10 @@ use Rattle.trace_writer.specs.declared.fault.CallFault.{CallFault}
 use Rattle.trace_writer.specs.declared.fault.CallFault.TheVariants as fault_of
 use Rattle.trace_writer.specs.declared.writer.WriterCore.{WriterCore}
 use Rattle.trace_writer.specs.Agreement.{Agrees}
-use Rattle.trace_writer.specs.Asked.{IsAsked, written_as, begun_as, stops_with}
+use Rattle.trace_writer.specs.Asked.{IsAsked, LeavesAll, written_as, begun_as, stops_with}
 use Rattle.trace_writer.specs.Core.{CoreAgrees, in_packet, open_depth, is_stalled, refusal_of}
 use Rattle.trace_writer.specs.Helping.{LeavesOthers}
+use Rattle.trace_writer.specs.Written.{IsWritten}
 use Rattle.trace_writer.proofs.seat_calls.CoreCalls.{KeepsOpen, written_in, written_deep, begins_in}
 use Rattle.trace_writer.proofs.seat_calls.CoreHolding.{inside_holds}
 use Rattle.trace_writer.proofs.claims.KeepingClaims.{claims_kept}
@@ -50,6 +51,12 @@ refused_so core asked found fault some is = let same : Some found ≡ Some fault
 pub never_none : {S : Type 0} (core : WriterCore S) (asked : Option CallFault) (found : CallFault) → asked ≡ Some found → refusal_of core asked ≡ None → ⊥
 never_none core asked found some is = absurd (let wrong : Some found ≡ None = sym (ap (λ (o : Option CallFault). refusal_of core o) some) ∙ is in cc)
 
+-- a writer and its seat that are the same ones
+pub core_stays : {S : Type 0} (core after : WriterCore S) → after.writer ≡ core.writer → after.seat ≡ core.seat → after ≡ core
+core_stays {S} core after writer seat =
+    ap (λ writer. let one : WriterCore S = record { seat = after.seat; writer = writer } in one) writer
+    ∙ ap (λ seat. let one : WriterCore S = record { seat = seat; writer = core.writer } in one) seat
+
 -- Calls that claim
 
 -- What a call leaves beside its own contract: the writer agrees, the helper has what it needs, and the others are as they were.
@@ -81,18 +88,13 @@ module _ {H T W S : Type 0} (means : Meaning T W S) (needs : H → T → Type 0)
       (left_same helper old core there needed agrees)))
 
   -- a field call
-  pub left_written : (helper : H) (old : T) (core : WriterCore W) (steps : ℕ) (left : H) (new : T) (after : WriterCore W) (later : ℕ) (call : Call) (change : Packet → Packet)
+  pub left_written : {A : Type 0} (helper : H) (old : T) (core : WriterCore W) (steps : ℕ) (answer : Result A CallFault) (left : H) (new : T) (after : WriterCore W) (later : ℕ) (call : Call) (change : Packet → Packet)
       → means.sits old core.seat → needs helper old → CoreAgrees (means.setup old) (means.place core.seat) (means.view old core.seat) core → in_packet (means.view old core.seat) ≡ true
       → ((account : Account) → noted account call ≡ on_newest change account) → KeepsFate change → is_possible (packets_of (means.view old core.seat).calls) call ≡ true
-      → Agrees (means.setup old) (means.place core.seat) (means.view new after.seat) after.writer
-      → (is_stalled core ≡ true → (after ≡ core) × (new ≡ old) × (left ≡ helper))
-      → (is_stalled core ≡ false → (stopped : Bool)
-      × IsAsked means needs helps core.writer.route helper old core.seat steps stopped (written_as stopped core.writer.route.spec.policy call)
-      (is_stalled after) left new after.seat later
-      × (stopped ≡ true → newest_is_lost (packets_of (means.view old core.seat).calls) ≡ false))
+      → IsWritten means needs helps call core.writer helper old core.seat steps answer after.writer left new after.seat later
       → CoreLeft means needs helper old core left new after × (in_packet (means.view new after.seat) ≡ true)
-  left_written helper old core steps left new after later call change there needed ok writes noted_is keeps possible agrees waits done =
-      either_way (is_stalled core) (λ goes. goes_on (done goes)) (λ stalled. same (waits stalled))
+  left_written helper old core steps answer left new after later call change there needed ok writes noted_is keeps possible written =
+      either_way (is_stalled core) (λ goes. goes_on (written.done goes)) (λ stalled. let is = written.stays stalled in same (core_stays core after is.1 is.3, is.2, is.4))
     where
       same : (after ≡ core) × (new ≡ old) × (left ≡ helper) → CoreLeft means needs helper old core left new after × (in_packet (means.view new after.seat) ≡ true)
       same is = (
@@ -111,11 +113,11 @@ module _ {H T W S : Type 0} (means : Meaning T W S) (needs : H → T → Type 0)
           written_in (means.view old core.seat) (means.view new after.seat) call change policy d.0 noted_is keeps.finished d.1.notes ∙ writes in (
             record {
               agrees = record {
-                writes = agrees;
+                writes = written.agrees;
                 claims = claims_kept means needs helps (means.setup old) (means.place core.seat) core.writer.route helper old core.seat steps d.0 (written_as d.0 policy call) (is_stalled after) left new after.seat later
                     ok.writes.route.range d.1 (field_loses (means.view old core.seat) (means.view new after.seat) call change policy d.0 noted_is keeps d.1.notes) ok.claims;
                 possible = field_possible (means.view old core.seat) (means.view new after.seat) call change policy d.0 noted_is keeps possible writes d.1.notes d.2 ok.possible;
-                holds = inside_holds (means.setup old) (means.place core.seat) (means.view new after.seat) after.writer agrees inside;
+                holds = inside_holds (means.setup old) (means.place core.seat) (means.view new after.seat) after.writer written.agrees inside;
               };
               needed = d.1.needed;
               others = d.1.others;
@@ -124,18 +126,30 @@ module _ {H T W S : Type 0} (means : Meaning T W S) (needs : H → T → Type 0)
             inside,
           )
 
-  pub deep_written : (helper : H) (old : T) (core : WriterCore W) (steps : ℕ) (left : H) (new : T) (after : WriterCore W) (later : ℕ) (call : Call) (change : Packet → Packet)
+  pub deep_written : {A : Type 0} (helper : H) (old : T) (core : WriterCore W) (steps : ℕ) (answer : Result A CallFault) (left : H) (new : T) (after : WriterCore W) (later : ℕ) (call : Call) (change : Packet → Packet)
       → ((account : Account) → noted account call ≡ on_newest change account) → KeepsOpen change
-      → (is_stalled core ≡ true → (after ≡ core) × (new ≡ old) × (left ≡ helper))
-      → (is_stalled core ≡ false → (stopped : Bool)
-      × IsAsked means needs helps core.writer.route helper old core.seat steps stopped (written_as stopped core.writer.route.spec.policy call)
-      (is_stalled after) left new after.seat later
-      × (stopped ≡ true → newest_is_lost (packets_of (means.view old core.seat).calls) ≡ false))
+      → IsWritten means needs helps call core.writer helper old core.seat steps answer after.writer left new after.seat later
       → open_depth (means.view new after.seat) ≡ open_depth (means.view old core.seat)
-  deep_written helper old core steps left new after later call change noted_is keeps waits done =
+  deep_written helper old core steps answer left new after later call change noted_is keeps written =
       either_way (is_stalled core)
-      (λ goes. let d = done goes in written_deep (means.view old core.seat) (means.view new after.seat) call change core.writer.route.spec.policy d.0 noted_is keeps d.1.notes)
-      (λ stalled. let is = waits stalled in ap (λ (t : T). open_depth (means.view t after.seat)) is.1 ∙ ap (λ (c : WriterCore W). open_depth (means.view old c.seat)) is.0)
+      (λ goes. let d = written.done goes in written_deep (means.view old core.seat) (means.view new after.seat) call change core.writer.route.spec.policy d.0 noted_is keeps d.1.notes)
+      (λ stalled. let is = written.stays stalled in
+      ap (λ (t : T). open_depth (means.view t after.seat)) is.2 ∙ ap (λ (seat : W). open_depth (means.view old seat)) is.3)
+
+  -- one that is refused though its packet allows it: the writer is stalled
+  pub refused_written : {A : Type 0} (helper : H) (old : T) (core : WriterCore W) (steps : ℕ) (answer : Result A CallFault) (left : H) (new : T) (after : WriterCore W) (later : ℕ) (call : Call)
+      (asked : Option CallFault) (fault : CallFault) → asked ≡ None → refusal_of core asked ≡ Some fault
+      → IsWritten means needs helps call core.writer helper old core.seat steps answer after.writer left new after.seat later
+      → LeavesAll fault answer core after old new helper left steps later
+  refused_written helper old core steps answer left new after later call asked fault none is written =
+      let now = refused_stalled core asked fault none is in let stays = written.stays now.stalled_is in
+      record {
+        answer_is = stays.0 ∙ ap Err (sym now.fault_is);
+        writer_stays = core_stays core after stays.1 stays.3;
+        table_stays = stays.2;
+        helper_stays = stays.4;
+        steps_stay = stays.5;
+      }
 
   -- a packet's begin
   pub left_begun : (helper : H) (old : T) (core : WriterCore W) (steps : ℕ) (stopped : Bool) (left : H) (new : T) (after : WriterCore W) (later : ℕ)

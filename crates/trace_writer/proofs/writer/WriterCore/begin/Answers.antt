@@ -1,7 +1,5 @@
-use Rattle.std.proofs.Common.{◌∙◌, ap}
-use Rattle.trace_writer.specs.declared.writer.WriterCore.{WriterCore}
 use Rattle.trace_writer.specs.Asked.{stops_with}
-use Rattle.trace_writer.proofs.seat_calls.CoreDone.{left_begun, begun_inside}
+use Rattle.trace_writer.proofs.seat_calls.CoreDone.{core_stays, left_begun, begun_inside}
 use Rattle.trace_writer.proofs.writer.WriterCore.begin.Goals as goal
 
 pub returns-clause-agrees : goal.returns-clause-agrees
@@ -10,8 +8,7 @@ returns-clause-agrees g c =
     c.args.help.now c.args.table.now c.args.self.now c.args.steps.now (stops_with c.begin.result) c.begin.new.help c.begin.new.table (record { seat = c.begin.new.seat; writer = c.begin.new.writer }) c.begin.new.steps
     c.requires.seat c.requires.needs c.requires.agrees c.requires.none_begun c.begin.ensures.agrees
     (λ stalled. let is = c.begin.ensures.stays stalled in (
-      ap (λ writer. let one : WriterCore _ = record { seat = c.begin.new.seat; writer = writer } in one) is.1
-          ∙ ap (λ seat. let one : WriterCore _ = record { seat = seat; writer = c.args.self.now.writer } in one) is.3,
+      core_stays c.args.self.now (record { seat = c.begin.new.seat; writer = c.begin.new.writer }) is.1 is.3,
       is.2,
       is.4,
     )) c.begin.ensures.done).agrees
@@ -22,8 +19,7 @@ returns-clause-others g c =
     c.args.help.now c.args.table.now c.args.self.now c.args.steps.now (stops_with c.begin.result) c.begin.new.help c.begin.new.table (record { seat = c.begin.new.seat; writer = c.begin.new.writer }) c.begin.new.steps
     c.requires.seat c.requires.needs c.requires.agrees c.requires.none_begun c.begin.ensures.agrees
     (λ stalled. let is = c.begin.ensures.stays stalled in (
-      ap (λ writer. let one : WriterCore _ = record { seat = c.begin.new.seat; writer = writer } in one) is.1
-          ∙ ap (λ seat. let one : WriterCore _ = record { seat = seat; writer = c.args.self.now.writer } in one) is.3,
+      core_stays c.args.self.now (record { seat = c.begin.new.seat; writer = c.begin.new.writer }) is.1 is.3,
       is.2,
       is.4,
     )) c.begin.ensures.done).others
@@ -34,8 +30,7 @@ returns-clause-alone g c =
     c.args.help.now c.args.table.now c.args.self.now c.args.steps.now (stops_with c.begin.result) c.begin.new.help c.begin.new.table (record { seat = c.begin.new.seat; writer = c.begin.new.writer }) c.begin.new.steps
     c.requires.seat c.requires.needs c.requires.agrees c.requires.none_begun c.begin.ensures.agrees
     (λ stalled. let is = c.begin.ensures.stays stalled in (
-      ap (λ writer. let one : WriterCore _ = record { seat = c.begin.new.seat; writer = writer } in one) is.1
-          ∙ ap (λ seat. let one : WriterCore _ = record { seat = seat; writer = c.args.self.now.writer } in one) is.3,
+      core_stays c.args.self.now (record { seat = c.begin.new.seat; writer = c.begin.new.writer }) is.1 is.3,
       is.2,
       is.4,
     )) c.begin.ensures.done).alone

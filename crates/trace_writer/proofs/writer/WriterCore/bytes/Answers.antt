@@ -3,12 +3,11 @@ use Rattle.trace_base.specs.declared.limits.TheConstants.{MAX_PACKET_LEN}
 use Rattle.trace_model.specs.Encoding.{bytes_head, bytes_field}
 use Rattle.trace_model.specs.Packets.{with_more}
 use Rattle.trace_model.specs.Calls as call
-use Rattle.trace_writer.specs.declared.writer.WriterCore.{WriterCore}
 use Rattle.trace_writer.specs.Agreement.{NeedsNoChunk, open_message_count, len_of}
 use Rattle.trace_writer.specs.Core.{field_fault, bytes_size}
 use Rattle.trace_writer.specs.Refusals.{field_refusal}
 use Rattle.trace_writer.proofs.seat_calls.CoreCalls.{more_keeps}
-use Rattle.trace_writer.proofs.seat_calls.CoreDone.{left_written, deep_written, refused_so, never_none, refused_stalled, none_stalled}
+use Rattle.trace_writer.proofs.seat_calls.CoreDone.{left_written, deep_written, refused_so, never_none, refused_written, none_stalled}
 use Rattle.trace_writer.proofs.seat_calls.CoreLemmas.{field_fault_is, bytes_fault, accepted_head, bytes_call}
 use Rattle.trace_writer.proofs.accounts.Possible.{more_keeps as more_fate}
 use Rattle.trace_writer.proofs.writer.WriterCore.bytes.Goals as goal
@@ -77,16 +76,9 @@ returns-clause-refused g c = λ fault asked.
     ∙ field_fault_is (g.W.Words.means.setup c.args.table.now) (g.W.Words.means.place c.args.self.now.seat) (g.W.Words.means.view c.args.table.now c.args.self.now.seat) c.args.self.now.writer c.args.field (length (bytes_head c.args.field total) + total) c.requires.agrees.writes c.requires.begun in
     let accepted : field_refusal (open_message_count c.args.self.now.writer.packet) (len_of c.args.self.now.writer.packet) c.args.field (length head + total) ≡ None =
     ap (λ (n : ℕ). field_refusal (open_message_count c.args.self.now.writer.packet) (len_of c.args.self.now.writer.packet) c.args.field n) long ∙ c.in_ok-check_field.ensures.accepted in
-    let now = refused_stalled c.args.self.now (field_fault (g.W.Words.means.view c.args.table.now c.args.self.now.seat) c.args.field (bytes_size c.args.field c.args.times c.args.value.now)) fault (sym is ∙ accepted) asked in
-    let stays = c.write_text.ensures.stays now.stalled_is in
-    record {
-      answer_is = stays.0 ∙ ap Err (sym now.fault_is);
-      writer_stays = ap (λ writer. let one : WriterCore _ = record { seat = c.write_text.new.seat; writer = writer } in one) stays.1
-          ∙ ap (λ seat. let one : WriterCore _ = record { seat = seat; writer = c.args.self.now.writer } in one) stays.3;
-      table_stays = stays.2;
-      helper_stays = stays.4;
-      steps_stay = stays.5;
-    }
+    refused_written g.W.Words.means g.H.HelperOn.needs g.H.HelperOn.helps c.args.help.now c.args.table.now c.args.self.now c.args.steps.now c.write_text.result c.write_text.new.help c.write_text.new.table
+    (record { seat = c.write_text.new.seat; writer = c.write_text.new.writer }) c.write_text.new.steps (call.Bytes c.args.field c.args.value.now c.args.times)
+    (field_fault (g.W.Words.means.view c.args.table.now c.args.self.now.seat) c.args.field (bytes_size c.args.field c.args.times c.args.value.now)) fault (sym is ∙ accepted) asked c.write_text.ensures.written
 
 pub returns-clause-answers : goal.returns-clause-answers
 returns-clause-answers g c = λ asked.
@@ -100,7 +92,7 @@ returns-clause-answers g c = λ asked.
     ∙ field_fault_is (g.W.Words.means.setup c.args.table.now) (g.W.Words.means.place c.args.self.now.seat) (g.W.Words.means.view c.args.table.now c.args.self.now.seat) c.args.self.now.writer c.args.field (length (bytes_head c.args.field total) + total) c.requires.agrees.writes c.requires.begun in
     let accepted : field_refusal (open_message_count c.args.self.now.writer.packet) (len_of c.args.self.now.writer.packet) c.args.field (length head + total) ≡ None =
     ap (λ (n : ℕ). field_refusal (open_message_count c.args.self.now.writer.packet) (len_of c.args.self.now.writer.packet) c.args.field n) long ∙ c.in_ok-check_field.ensures.accepted in
-    c.write_text.ensures.answers (none_stalled c.args.self.now (field_fault (g.W.Words.means.view c.args.table.now c.args.self.now.seat) c.args.field (bytes_size c.args.field c.args.times c.args.value.now)) (sym is ∙ accepted) asked)
+    c.write_text.ensures.written.answers (none_stalled c.args.self.now (field_fault (g.W.Words.means.view c.args.table.now c.args.self.now.seat) c.args.field (bytes_size c.args.field c.args.times c.args.value.now)) (sym is ∙ accepted) asked)
 
 pub returns-clause-done : goal.returns-clause-done
 returns-clause-done g c = λ asked.
@@ -114,80 +106,50 @@ returns-clause-done g c = λ asked.
     ∙ field_fault_is (g.W.Words.means.setup c.args.table.now) (g.W.Words.means.place c.args.self.now.seat) (g.W.Words.means.view c.args.table.now c.args.self.now.seat) c.args.self.now.writer c.args.field (length (bytes_head c.args.field total) + total) c.requires.agrees.writes c.requires.begun in
     let accepted : field_refusal (open_message_count c.args.self.now.writer.packet) (len_of c.args.self.now.writer.packet) c.args.field (length head + total) ≡ None =
     ap (λ (n : ℕ). field_refusal (open_message_count c.args.self.now.writer.packet) (len_of c.args.self.now.writer.packet) c.args.field n) long ∙ c.in_ok-check_field.ensures.accepted in
-    let d = c.write_text.ensures.done (none_stalled c.args.self.now (field_fault (g.W.Words.means.view c.args.table.now c.args.self.now.seat) c.args.field (bytes_size c.args.field c.args.times c.args.value.now)) (sym is ∙ accepted) asked) in
+    let d = c.write_text.ensures.written.done (none_stalled c.args.self.now (field_fault (g.W.Words.means.view c.args.table.now c.args.self.now.seat) c.args.field (bytes_size c.args.field c.args.times c.args.value.now)) (sym is ∙ accepted) asked) in
     (d.0, d.1)
 
 pub returns-clause-agrees : goal.returns-clause-agrees
 returns-clause-agrees g c =
     (left_written g.W.Words.means g.H.HelperOn.needs g.H.HelperOn.helps
-    c.args.help.now c.args.table.now c.args.self.now c.args.steps.now c.write_text.new.help c.write_text.new.table (record { seat = c.write_text.new.seat; writer = c.write_text.new.writer }) c.write_text.new.steps (call.Bytes c.args.field c.args.value.now c.args.times)
-    (with_more (bytes_field c.args.field c.args.value.now c.args.times)) c.requires.seat c.requires.needs c.requires.agrees c.requires.begun (λ account. refl) (more_fate (bytes_field c.args.field c.args.value.now c.args.times)) c.requires.begun c.write_text.ensures.agrees
-    (λ stalled. let is = c.write_text.ensures.stays stalled in (
-      ap (λ writer. let one : WriterCore _ = record { seat = c.write_text.new.seat; writer = writer } in one) is.1
-          ∙ ap (λ seat. let one : WriterCore _ = record { seat = seat; writer = c.args.self.now.writer } in one) is.3,
-      is.2,
-      is.4,
-    )) c.write_text.ensures.done).0.agrees
+    c.args.help.now c.args.table.now c.args.self.now c.args.steps.now c.write_text.result c.write_text.new.help c.write_text.new.table (record { seat = c.write_text.new.seat; writer = c.write_text.new.writer }) c.write_text.new.steps (call.Bytes c.args.field c.args.value.now c.args.times)
+    (with_more (bytes_field c.args.field c.args.value.now c.args.times)) c.requires.seat c.requires.needs c.requires.agrees c.requires.begun (λ account. refl) (more_fate (bytes_field c.args.field c.args.value.now c.args.times)) c.requires.begun
+    c.write_text.ensures.written).0.agrees
 
 pub returns-clause-needs : goal.returns-clause-needs
 returns-clause-needs g c =
     (left_written g.W.Words.means g.H.HelperOn.needs g.H.HelperOn.helps
-    c.args.help.now c.args.table.now c.args.self.now c.args.steps.now c.write_text.new.help c.write_text.new.table (record { seat = c.write_text.new.seat; writer = c.write_text.new.writer }) c.write_text.new.steps (call.Bytes c.args.field c.args.value.now c.args.times)
-    (with_more (bytes_field c.args.field c.args.value.now c.args.times)) c.requires.seat c.requires.needs c.requires.agrees c.requires.begun (λ account. refl) (more_fate (bytes_field c.args.field c.args.value.now c.args.times)) c.requires.begun c.write_text.ensures.agrees
-    (λ stalled. let is = c.write_text.ensures.stays stalled in (
-      ap (λ writer. let one : WriterCore _ = record { seat = c.write_text.new.seat; writer = writer } in one) is.1
-          ∙ ap (λ seat. let one : WriterCore _ = record { seat = seat; writer = c.args.self.now.writer } in one) is.3,
-      is.2,
-      is.4,
-    )) c.write_text.ensures.done).0.needed
+    c.args.help.now c.args.table.now c.args.self.now c.args.steps.now c.write_text.result c.write_text.new.help c.write_text.new.table (record { seat = c.write_text.new.seat; writer = c.write_text.new.writer }) c.write_text.new.steps (call.Bytes c.args.field c.args.value.now c.args.times)
+    (with_more (bytes_field c.args.field c.args.value.now c.args.times)) c.requires.seat c.requires.needs c.requires.agrees c.requires.begun (λ account. refl) (more_fate (bytes_field c.args.field c.args.value.now c.args.times)) c.requires.begun
+    c.write_text.ensures.written).0.needed
 
 pub returns-clause-others : goal.returns-clause-others
 returns-clause-others g c =
     (left_written g.W.Words.means g.H.HelperOn.needs g.H.HelperOn.helps
-    c.args.help.now c.args.table.now c.args.self.now c.args.steps.now c.write_text.new.help c.write_text.new.table (record { seat = c.write_text.new.seat; writer = c.write_text.new.writer }) c.write_text.new.steps (call.Bytes c.args.field c.args.value.now c.args.times)
-    (with_more (bytes_field c.args.field c.args.value.now c.args.times)) c.requires.seat c.requires.needs c.requires.agrees c.requires.begun (λ account. refl) (more_fate (bytes_field c.args.field c.args.value.now c.args.times)) c.requires.begun c.write_text.ensures.agrees
-    (λ stalled. let is = c.write_text.ensures.stays stalled in (
-      ap (λ writer. let one : WriterCore _ = record { seat = c.write_text.new.seat; writer = writer } in one) is.1
-          ∙ ap (λ seat. let one : WriterCore _ = record { seat = seat; writer = c.args.self.now.writer } in one) is.3,
-      is.2,
-      is.4,
-    )) c.write_text.ensures.done).0.others
+    c.args.help.now c.args.table.now c.args.self.now c.args.steps.now c.write_text.result c.write_text.new.help c.write_text.new.table (record { seat = c.write_text.new.seat; writer = c.write_text.new.writer }) c.write_text.new.steps (call.Bytes c.args.field c.args.value.now c.args.times)
+    (with_more (bytes_field c.args.field c.args.value.now c.args.times)) c.requires.seat c.requires.needs c.requires.agrees c.requires.begun (λ account. refl) (more_fate (bytes_field c.args.field c.args.value.now c.args.times)) c.requires.begun
+    c.write_text.ensures.written).0.others
 
 pub returns-clause-alone : goal.returns-clause-alone
 returns-clause-alone g c =
     (left_written g.W.Words.means g.H.HelperOn.needs g.H.HelperOn.helps
-    c.args.help.now c.args.table.now c.args.self.now c.args.steps.now c.write_text.new.help c.write_text.new.table (record { seat = c.write_text.new.seat; writer = c.write_text.new.writer }) c.write_text.new.steps (call.Bytes c.args.field c.args.value.now c.args.times)
-    (with_more (bytes_field c.args.field c.args.value.now c.args.times)) c.requires.seat c.requires.needs c.requires.agrees c.requires.begun (λ account. refl) (more_fate (bytes_field c.args.field c.args.value.now c.args.times)) c.requires.begun c.write_text.ensures.agrees
-    (λ stalled. let is = c.write_text.ensures.stays stalled in (
-      ap (λ writer. let one : WriterCore _ = record { seat = c.write_text.new.seat; writer = writer } in one) is.1
-          ∙ ap (λ seat. let one : WriterCore _ = record { seat = seat; writer = c.args.self.now.writer } in one) is.3,
-      is.2,
-      is.4,
-    )) c.write_text.ensures.done).0.alone
+    c.args.help.now c.args.table.now c.args.self.now c.args.steps.now c.write_text.result c.write_text.new.help c.write_text.new.table (record { seat = c.write_text.new.seat; writer = c.write_text.new.writer }) c.write_text.new.steps (call.Bytes c.args.field c.args.value.now c.args.times)
+    (with_more (bytes_field c.args.field c.args.value.now c.args.times)) c.requires.seat c.requires.needs c.requires.agrees c.requires.begun (λ account. refl) (more_fate (bytes_field c.args.field c.args.value.now c.args.times)) c.requires.begun
+    c.write_text.ensures.written).0.alone
 
 pub returns-clause-in_packet : goal.returns-clause-in_packet
 returns-clause-in_packet g c =
     (left_written g.W.Words.means g.H.HelperOn.needs g.H.HelperOn.helps
-    c.args.help.now c.args.table.now c.args.self.now c.args.steps.now c.write_text.new.help c.write_text.new.table (record { seat = c.write_text.new.seat; writer = c.write_text.new.writer }) c.write_text.new.steps (call.Bytes c.args.field c.args.value.now c.args.times)
-    (with_more (bytes_field c.args.field c.args.value.now c.args.times)) c.requires.seat c.requires.needs c.requires.agrees c.requires.begun (λ account. refl) (more_fate (bytes_field c.args.field c.args.value.now c.args.times)) c.requires.begun c.write_text.ensures.agrees
-    (λ stalled. let is = c.write_text.ensures.stays stalled in (
-      ap (λ writer. let one : WriterCore _ = record { seat = c.write_text.new.seat; writer = writer } in one) is.1
-          ∙ ap (λ seat. let one : WriterCore _ = record { seat = seat; writer = c.args.self.now.writer } in one) is.3,
-      is.2,
-      is.4,
-    )) c.write_text.ensures.done).1
+    c.args.help.now c.args.table.now c.args.self.now c.args.steps.now c.write_text.result c.write_text.new.help c.write_text.new.table (record { seat = c.write_text.new.seat; writer = c.write_text.new.writer }) c.write_text.new.steps (call.Bytes c.args.field c.args.value.now c.args.times)
+    (with_more (bytes_field c.args.field c.args.value.now c.args.times)) c.requires.seat c.requires.needs c.requires.agrees c.requires.begun (λ account. refl) (more_fate (bytes_field c.args.field c.args.value.now c.args.times)) c.requires.begun
+    c.write_text.ensures.written).1
 
 pub returns-clause-depth : goal.returns-clause-depth
 returns-clause-depth g c =
     deep_written g.W.Words.means g.H.HelperOn.needs g.H.HelperOn.helps
-    c.args.help.now c.args.table.now c.args.self.now c.args.steps.now c.write_text.new.help c.write_text.new.table (record { seat = c.write_text.new.seat; writer = c.write_text.new.writer }) c.write_text.new.steps (call.Bytes c.args.field c.args.value.now c.args.times)
+    c.args.help.now c.args.table.now c.args.self.now c.args.steps.now c.write_text.result c.write_text.new.help c.write_text.new.table (record { seat = c.write_text.new.seat; writer = c.write_text.new.writer }) c.write_text.new.steps (call.Bytes c.args.field c.args.value.now c.args.times)
     (with_more (bytes_field c.args.field c.args.value.now c.args.times)) (λ account. refl) (more_keeps (bytes_field c.args.field c.args.value.now c.args.times))
-    (λ stalled. let is = c.write_text.ensures.stays stalled in (
-      ap (λ writer. let one : WriterCore _ = record { seat = c.write_text.new.seat; writer = writer } in one) is.1
-          ∙ ap (λ seat. let one : WriterCore _ = record { seat = seat; writer = c.args.self.now.writer } in one) is.3,
-      is.2,
-      is.4,
-    )) c.write_text.ensures.done
+    c.write_text.ensures.written
 
 pub write_text-requires-clause-call : goal.write_text-requires-clause-call
 write_text-requires-clause-call g c = λ account.

@@ -5,6 +5,7 @@ use Rattle.trace_writer.specs.Empty.{is_stalled}
 use Rattle.trace_writer.proofs.seat_calls.CoreCalls.{ended_in, deep_writing}
 use Rattle.trace_writer.specs.declared.writer.WriterCore.{WriterCore}
 use Rattle.trace_writer.proofs.seat_calls.CoreHolding.{core_ended, core_still}
+use Rattle.trace_writer.proofs.seat_calls.CoreDone.{core_stays}
 use Rattle.trace_writer.proofs.stops.Stopping.{either_way}
 use Rattle.trace_writer.proofs.writer.WriterCore.end_nested.Goals as goal
 
@@ -31,5 +32,4 @@ returns-clause-agrees g c =
     (λ stalled. let is = c.end_message.ensures.stalled stalled in
     core_still g.W.Words.means
     c.args.table.now core c.end_message.new.table after c.requires.agrees
-    (ap (λ writer. let one : WriterCore _ = record { seat = c.end_message.new.seat; writer = writer } in one) is.0
-    ∙ ap (λ seat. let one : WriterCore _ = record { seat = seat; writer = core.writer } in one) is.2) is.1)
+    (core_stays core after is.0 is.2) is.1)

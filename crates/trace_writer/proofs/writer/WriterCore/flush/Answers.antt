@@ -1,7 +1,7 @@
-use Rattle.std.proofs.Common.{◌∙◌, ap}
 use Rattle.trace_writer.specs.Empty.{is_stalled}
 use Rattle.trace_writer.specs.declared.writer.WriterCore.{WriterCore}
 use Rattle.trace_writer.proofs.seat_calls.CoreHolding.{core_flushed, core_still}
+use Rattle.trace_writer.proofs.seat_calls.CoreDone.{core_stays}
 use Rattle.trace_writer.proofs.stops.Stopping.{either_way}
 use Rattle.trace_writer.proofs.writer.WriterCore.flush.Goals as goal
 
@@ -15,5 +15,4 @@ returns-clause-agrees g c =
     (λ stalled. let is = c.flush.ensures.stalled stalled in
     core_still g.W.Words.means
     c.args.table.now core c.flush.new.table after c.requires.agrees
-    (ap (λ writer. let one : WriterCore _ = record { seat = c.flush.new.seat; writer = writer } in one) is.0
-    ∙ ap (λ seat. let one : WriterCore _ = record { seat = seat; writer = core.writer } in one) is.2) is.1)
+    (core_stays core after is.0 is.2) is.1)

@@ -1,0 +1,46 @@
+-- What a field call or the begin of a nested message leaves, put together from what its steps did.
+use Rattle.std.proofs.Common.{◌≡◌, ◌∙◌, ℕ, Bool, false, [], ◌∷◌, Some, Result, Ok, sym, ap, subst}
+use Rattle.std.proofs.lemmas.Bool.{true≢false}
+use Rattle.trace_model.specs.Calls.{Call}
+use Rattle.chunk_plain.specs.Meaning.{Meaning, IsWriterStep}
+use Rattle.chunk_plain.specs.Steps.{notes_call, with_writer_view}
+use Rattle.chunk_plain.specs.Views.{WriterView}
+use Rattle.chunk_plain.specs.World.{World}
+use Rattle.trace_writer.specs.declared.fault.CallFault.{CallFault}
+use Rattle.trace_writer.specs.declared.state.Writer.{Writer}
+use Rattle.trace_writer.specs.Agreement.{Agrees}
+use Rattle.trace_writer.specs.Empty.{is_stalled}
+use Rattle.trace_writer.specs.Written.{IsWritten}
+use Rattle.trace_writer.proofs.claims.QuietSteps.{quiet_noted}
+use Rattle.trace_writer.proofs.claims.Working.{asked_alone}
+use Rattle.trace_writer.proofs.stops.Stopping.{refuses_none}
+
+module _ {H T W S A : Type 0} (means : Meaning T W S) (needs : H → T → Type 0) (helps : H → T → ℕ → Bool → H → T → Type 0) where
+  -- no chunk was asked for, and the call is noted
+  pub written_alone : (call : Call) (old : Writer) (helper : H) (table : T) (seat : W) (steps : ℕ) (value : A) (new : Writer) (behind : T) (after : W) (by : ℕ)
+      → means.sits table seat → ((helper : H) (old new : T) (seat after : W) → IsWriterStep means old seat new after → needs helper old → needs helper new)
+      → needs helper table → Agrees (means.setup table) (means.place seat) (means.view behind after) new
+      → new.route ≡ old.route → is_stalled old.state ≡ false → is_stalled new.state ≡ false
+      → IsWriterStep means table seat behind after → means.view behind after ≡ notes_call (means.view table seat) call
+      → ((world : World) → means.told table ≡ Some world → means.told behind ≡ Some (with_writer_view world by (means.view behind after)))
+      → IsWritten means needs helps call old helper table seat steps (Ok value) new helper behind after steps
+  written_alone call old helper table seat steps value new behind after by there keeps needed agrees route_stays was goes step is tells = record {
+    agrees = agrees;
+    route_stays = route_stays;
+    stays = λ stalled. absurd (true≢false (sym stalled ∙ was));
+    answers = λ _. goes;
+    done = λ _. (
+      false,
+      asked_alone means needs helps old.route helper table seat steps (call ∷ []) (is_stalled new.state) behind after there keeps needed
+          (quiet_noted means table seat behind after by call step is tells) (ap (λ (v : WriterView). v.calls) is)
+          (goes ∙ sym (refuses_none old.route.spec.policy)),
+      λ stops. absurd (true≢false (sym stops)),
+    );
+  }
+
+  -- what was tried before changed nothing
+  pub written_after_all : {call : Call} {old mid : Writer} {helper : H} {table : T} {seat : W} {steps : ℕ} {answer : Result A CallFault} {new : Writer} {left : H} {behind : T} {after : W} {later : ℕ}
+      → mid ≡ old → IsWritten means needs helps call mid helper table seat steps answer new left behind after later
+      → IsWritten means needs helps call old helper table seat steps answer new left behind after later
+  written_after_all {call} {old} {mid} {helper} {table} {seat} {steps} {answer} {new} {left} {behind} {after} {later} same written =
+      subst (λ (writer : Writer). IsWritten means needs helps call writer helper table seat steps answer new left behind after later) same written
