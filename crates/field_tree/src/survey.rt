@@ -8,23 +8,7 @@ ghost use Rattle.wire_varint.specs.Varint.{varint, tag};
 
 use crate::node::FieldNode;
 use trace_base::reserved::is_reserved;
-use wire_varint::put_varint;
-
-/// The length of a number as a varint.
-#[tactic(auto, unfolding(wire_varint::specs::Varint::varint, wire_varint::specs::Varint::groups))]
-fn varint_len(value: u64) -> u64
-    ensures len { result ≡ length (varint value) }
-    ensures few { result ≤ 10 }
-{
-    if value < 128 {
-        return 1;
-    }
-    if value < 16_384 {
-        return 2;
-    }
-    let mut bytes = [0; 10];
-    put_varint(value, &mut bytes) as u64
-}
+use wire_varint::varint_len;
 
 /// The length of what stands in front of a field.
 #[tactic(auto, unfolding(wire_varint::specs::Varint::tag))]
@@ -33,7 +17,7 @@ fn tag_len(field: u32, wire: u8) -> u64
     ensures len { result ≡ length (tag field wire) }
     ensures few { result ≤ 10 }
 {
-    varint_len(8 * u64::from(field) + u64::from(wire))
+    u64::from(varint_len(8 * u64::from(field) + u64::from(wire)))
 }
 
 /// The length of a number's encoding, where its value has so many bytes.
@@ -52,7 +36,7 @@ pub(crate) fn text_len(field: u32, times: u32, len: usize) -> u64
     ensures { IsCounted result (node_len_at (FieldNode.Bytes field times) len) }
 {
     let whole = u64::from(times).saturating_mul(len as u64);
-    (tag_len(field, 2) + varint_len(whole)).saturating_add(whole)
+    (tag_len(field, 2) + u64::from(varint_len(whole))).saturating_add(whole)
 }
 
 /// The length of what stands in front of a nested message.

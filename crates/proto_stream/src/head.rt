@@ -1,11 +1,12 @@
 //! What stands before a field's content: its tag, and its value or its length.
-ghost use Rattle.std.specs.Prelude.{◌≡◌, ◌+◌, ◌≤◌, ◌++◌, length};
+ghost use Rattle.std.specs.Prelude.{◌≡◌, ◌≤◌, ◌++◌, length};
 ghost use Rattle.wire_varint.specs.Varint.{tag, varint};
 ghost use Rattle.trace_model.specs.Encoding.{number_field, bytes_head, nested_tag};
 ghost use Rattle.proto_stream.specs.Head.{head_of};
 
 use arrayvec::ArrayVec;
 use trace_base::limits::MAX_FIELD;
+use wire_varint::{push_tag, push_varint, varint_len};
 
 /// The bytes before a field's content, at most 15.
 #[derive(Drop)]
@@ -21,32 +22,6 @@ impl Head {
     }
 }
 
-/// Appends the shortest varint of a number, byte by byte: a copy of so few bytes takes longer.
-#[inline(always)]
-fn push_number(out: &mut ArrayVec<u8, 15>, value: u64)
-    requires { length out.old.items + length (varint value) ≤ 15 }
-    ensures { out.new.items ≡ out.old.items ++ varint value }
-{
-    let mut rest = value;
-    while rest >= 128 {
-        out.push(128 + (rest % 128) as u8);
-        rest /= 128;
-    }
-    out.push(rest as u8);
-}
-
-/// Appends a field's tag.
-#[inline(always)]
-#[tactic(auto, unfolding(wire_varint::specs::Varint::tag))]
-fn push_tag(out: &mut ArrayVec<u8, 15>, field: u32, wire: u8)
-    requires field { (1 ≤ field) × (field ≤ MAX_FIELD) }
-    requires wire { wire ≤ 5 }
-    requires room { length out.old.items + length (tag field wire) ≤ 15 }
-    ensures { out.new.items ≡ out.old.items ++ tag field wire }
-{
-    push_number(out, 8 * u64::from(field) + u64::from(wire));
-}
-
 /// The tag of a field with a value, and then the value in its shortest varint.
 #[inline(always)]
 fn tag_and_varint(field: u32, wire: u8, value: u64) -> Head
@@ -58,33 +33,8 @@ fn tag_and_varint(field: u32, wire: u8, value: u64) -> Head
         bytes: ArrayVec::new(),
     };
     push_tag(&mut head.bytes, field, wire);
-    push_number(&mut head.bytes, value);
+    push_varint(&mut head.bytes, value);
     head
-}
-
-/// How many bytes the shortest varint of a number has.
-#[inline(always)]
-fn varint_size(value: u64) -> u32
-    ensures is { result ≡ length (varint value) }
-    ensures most { result ≤ 10 }
-{
-    // Most numbers have few bytes, for which a loop takes longer than the tests.
-    if value < 128 {
-        return 1;
-    }
-    if value < 16_384 {
-        return 2;
-    }
-    if value < 2_097_152 {
-        return 3;
-    }
-    let mut rest = value / 128 / 128 / 128;
-    let mut size = 3;
-    while rest >= 128 {
-        rest /= 128;
-        size += 1;
-    }
-    size + 1
 }
 
 /// How many bytes stand before the length of a nested message.
@@ -94,7 +44,7 @@ pub fn nested_tag_size(field: u32) -> u32
     ensures is { result ≡ length (nested_tag field) }
     ensures most { result ≤ 10 }
 {
-    varint_size(8 * u64::from(field) + 2)
+    varint_len(8 * u64::from(field) + 2)
 }
 
 /// How many bytes stand before the `len` bytes of a text.
@@ -104,7 +54,7 @@ pub fn bytes_head_size(field: u32, len: u32) -> u32
     ensures is { result ≡ length (bytes_head field len) }
     ensures most { result ≤ 20 }
 {
-    varint_size(8 * u64::from(field) + 2) + varint_size(u64::from(len))
+    varint_len(8 * u64::from(field) + 2) + varint_len(u64::from(len))
 }
 
 /// How many bytes a number's field has.
@@ -113,7 +63,7 @@ pub fn bytes_head_size(field: u32, len: u32) -> u32
 pub fn number_size(field: u32, value: u64) -> u32
     ensures { result ≡ length (number_field field value) }
 {
-    varint_size(8 * u64::from(field)) + varint_size(value)
+    varint_len(8 * u64::from(field)) + varint_len(value)
 }
 
 /// A number's field, whole.

@@ -8,6 +8,7 @@ ghost use Rattle.trace_model.specs.Packets.{open_length};
 ghost use Rattle.trace_model.specs.Images.{with_bytes};
 
 use proto_stream::ChunkCursor;
+use wire_varint::put_varint_at;
 
 /// Pieces up to so many bytes are short.
 const SHORT: usize = 16;
@@ -36,24 +37,6 @@ fn put_short(payload: &mut [u8], at: usize, piece: &[u8])
     for i in 0..piece.len() {
         payload[at + i] = piece[i];
     }
-}
-
-/// Writes the shortest varint of a number at a place, where it fits, and answers the place behind it.
-#[inline(always)]
-fn put_varint_at(payload: &mut [u8], at: usize, value: u64) -> usize
-    requires { at + length (varint value) ≤ length payload.old }
-    ensures bytes { payload.new ≡ with_bytes payload.old at (varint value) }
-    ensures behind { result ≡ at + length (varint value) }
-{
-    let mut rest = value;
-    let mut here = at;
-    while rest >= 128 {
-        payload[here] = 128 + (rest % 128) as u8;
-        rest /= 128;
-        here += 1;
-    }
-    payload[here] = rest as u8;
-    here + 1
 }
 
 /// Writes two varints at a place, one behind the other, where they fit.

@@ -1,3 +1,4 @@
+pub mod Counting
 pub mod Groups
 pub mod Joined
 pub mod Lengths

@@ -18,4 +18,4 @@ pub use laws::{
 };
 pub use read::{VarintFault, get_varint};
 pub use redundant::{get_redundant, put_redundant};
-pub use write::{push_tag, push_varint, put_tag, put_varint};
+pub use write::{push_tag, push_varint, put_tag, put_varint, put_varint_at, varint_len};

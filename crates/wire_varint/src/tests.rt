@@ -29,6 +29,7 @@ fn numbers_have_their_known_bytes(rt: HostRuntime) {
         let mut out = [0xEE; 10];
         let len = put_varint(value, &mut out);
         assert_eq!(rt; &out[..len], bytes, "{value}");
+        assert_eq!(rt; varint_len(value) as usize, bytes.len(), "{value}");
         assert_eq!(rt; get_varint(bytes), Ok((value, len)), "{value}");
         assert_eq!(rt;
             get_varint(&out),

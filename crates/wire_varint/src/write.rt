@@ -1,5 +1,5 @@
 //! Writing numbers and tags in the shortest form.
-ghost use Rattle.std.specs.Prelude.{◌≡◌, ℕ, ◌+◌, ◌*◌, ◌^◌, ◌<◌, ◌≤◌, ◌++◌, length, take, drop};
+ghost use Rattle.std.specs.Prelude.{◌≡◌, ◌+◌, ◌*◌, ◌≤◌, ◌++◌, length, take, drop};
 ghost use Rattle.wire_varint.specs.Varint.{varint, tag};
 
 use arrayvec::ArrayVec;
@@ -13,7 +13,7 @@ pub fn put_varint(value: u64, out: &mut [u8; 10]) -> usize
     ensures within { (1 ≤ result) × (result ≤ 10) }
     ensures behind { drop result out.new ≡ drop result out.old }
 {
-    put_shortest(value, out)
+    put_varint_at(out, 0, value)
 }
 
 /// The number of which a tag is the varint.
@@ -35,7 +35,7 @@ pub fn put_tag(field: u32, wire: u8, out: &mut [u8; 5]) -> usize
     ensures within { (1 ≤ result) × (result ≤ 5) }
     ensures behind { drop result out.new ≡ drop result out.old }
 {
-    put_shortest(tag_number(field, wire), out)
+    put_varint_at(out, 0, tag_number(field, wire))
 }
 
 /// Appends the shortest varint of `value`.
@@ -67,21 +67,45 @@ pub fn push_tag<const CAP: usize>(out: &mut ArrayVec<u8, CAP>, field: u32, wire:
     push_varint(out, tag_number(field, wire));
 }
 
-/// `put_varint` into any array that has the room.
-#[tactic(auto, using(crate::proofs::Writing::writing_steps))]
-fn put_shortest(value: u64, out: &mut [u8]) -> usize
-    requires { length (varint value) ≤ length out.old }
-    ensures written { take result out.new ≡ varint value }
-    ensures len { result ≡ length (varint value) }
-    ensures behind { drop result out.new ≡ drop result out.old }
+/// Writes the shortest varint of `value` at a place, and answers the place behind it.
+#[inline(always)]
+pub fn put_varint_at(out: &mut [u8], at: usize, value: u64) -> usize
+    requires { at + length (varint value) ≤ length out.old }
+    ensures bytes { out.new ≡ take at out.old ++ varint value ++ drop (at + length (varint value)) out.old }
+    ensures behind { result ≡ at + length (varint value) }
 {
     let mut rest = value;
-    let mut at = 0;
+    let mut here = at;
     while rest >= 128 {
-        out[at] = 128 + (rest % 128) as u8;
+        out[here] = 128 + (rest % 128) as u8;
         rest /= 128;
-        at += 1;
+        here += 1;
     }
-    out[at] = rest as u8;
-    at + 1
+    out[here] = rest as u8;
+    here + 1
+}
+
+/// How many bytes the shortest varint of `value` has.
+#[inline(always)]
+pub fn varint_len(value: u64) -> u32
+    ensures is { result ≡ length (varint value) }
+    ensures most { result ≤ 10 }
+{
+    // Most numbers have few bytes, for which a loop takes longer than the tests.
+    if value < 128 {
+        return 1;
+    }
+    if value < 16_384 {
+        return 2;
+    }
+    if value < 2_097_152 {
+        return 3;
+    }
+    let mut rest = value / 128 / 128 / 128;
+    let mut len = 3;
+    while rest >= 128 {
+        rest /= 128;
+        len += 1;
+    }
+    len + 1
 }

@@ -12,7 +12,7 @@ pub put_varint_at-requires : goal.put_varint_at-requires
 put_varint_at-requires c =
     let both = length-append (varint c.args.first) (varint c.args.second) in
     let room : c.args.at + length (varint c.args.first) ≤ length c.args.payload.now = omega (arith, c.requires, both) in
-    let long : length c.put_varint_at-behind.new.payload ≡ length c.args.payload.now =
+    let long : length c.put_varint_at-behind.new.out ≡ length c.args.payload.now =
     ap length c.put_varint_at-behind.ensures.bytes ∙ length_with_bytes c.args.payload.now (varint c.args.first) c.args.at room in
     omega (arith, c.requires, both, long, c.put_varint_at-behind.ensures.behind)
 

@@ -1,6 +1,6 @@
 use Rattle.std.proofs.Common.{◌/◌, ◌<◌, ◌≤◌, arith}
-use Rattle.proto_stream.proofs.Sizing.{counted_nothing, counted_more, counted_last}
-use Rattle.proto_stream.proofs.head.varint_size.Goals as goal
+use Rattle.wire_varint.proofs.Counting.{counted_nothing, counted_more, counted_last}
+use Rattle.wire_varint.proofs.write.varint_len.Goals as goal
 
 pub loop-rest-init : goal.loop-rest-init
 loop-rest-init c =
