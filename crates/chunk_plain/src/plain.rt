@@ -11,8 +11,7 @@ use crate::plain_seats::{PlainService, PlainWriter};
 use crate::setup::ProducerSpec;
 use crate::slots::{Slot, free_slots};
 use crate::words::Words;
-use crate::worlds::{Unruled, WorldSeat, WorldView};
-use atomic_table::Table;
+use crate::worlds::ToldWorld;
 use std::alloc::{AllocError, Global};
 use trace_base::policy::WriterSpec;
 
@@ -24,16 +23,13 @@ pub struct PlainTable {
     pub(crate) words: Vec<u64>,
     /// The payload words of each chunk, and its body.
     pub(crate) slots: Vec<Slot>,
-    /// The view of its one seat is the world.
-    pub(crate) world: Table<u8, WorldView, Layout, Unruled, Global>,
-    pub(crate) seat: WorldSeat,
-    ghost joined: { seat.table_id ≡ world.shared.table_id },
-    ghost one_word: { 0 < world.shared.table_id.words },
+    /// The world that words and slots show.
+    pub(crate) told: ToldWorld,
     ghost laid: { IsLaid layout },
     ghost few_writers: { length layout.writers ≤ MAX_WRITERS },
     ghost word_count: { vec_len words ≡ layout.pages + length layout.spots },
     ghost slot_count: { vec_len slots ≡ length layout.spots },
-    pub ghost kept: { ∥ IsKept layout words.items slots.items seat.me.0 ∥₁ },
+    pub ghost kept: { ∥ IsKept layout words.items slots.items told.world ∥₁ },
 }
 
 impl PlainTable {
@@ -61,13 +57,12 @@ impl PlainTable {
         let words = vec![in alloc; 0; layout.word_count()]?;
         let slots = free_slots(alloc, layout.spots())?;
         let seats = make_seats(alloc, writers)?;
-        let (world, seat) = Table::of_words(alloc, [0].as_slice(), &layout)?;
+        let told = ToldWorld::first(&layout);
         let table = PlainTable {
             layout,
             words,
             slots,
-            world,
-            seat,
+            told,
         };
         Ok((table, seats, PlainService {}))
     }

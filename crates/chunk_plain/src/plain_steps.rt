@@ -35,13 +35,13 @@ impl PlainTable {
     /// Stores the header of a claimed chunk, with count 0.
     pub(crate) fn store_first_header(&mut self, place: u16, chunk: u32, id: u32)
         requires place { place < length self.old.layout.writers }
-        requires claimed { HasClaimed (writer self.old.seat.me.0 place) chunk }
-        requires unstamped { (writer self.old.seat.me.0 place).stamped ≡ None }
-        requires id { id ≡ length (writer self.old.seat.me.0 place).begun }
+        requires claimed { HasClaimed (writer self.old.told.world place) chunk }
+        requires unstamped { (writer self.old.told.world place).stamped ≡ None }
+        requires id { id ≡ length (writer self.old.told.world place).begun }
         requires id_fits { id < ID_LIMIT }
         ensures layout { self.new.layout ≡ self.old.layout }
         ensures slots { self.new.slots.items ≡ self.old.slots.items }
-        ensures world { self.new.seat.me.0 ≡ world_after self.old.seat.me.0 (Stamp place chunk) }
+        ensures world { self.new.told.world ≡ world_after self.old.told.world (Stamp place chunk) }
     {
         let header = ChunkHeader {
             chunk_id: id,
@@ -51,20 +51,19 @@ impl PlainTable {
         };
         let at = self.layout.header_index(chunk);
         self.words[at] = header.pack();
-        let world = &self.world;
-        make_step(&world.shared, &mut self.seat, &Step::Stamp { place, chunk });
+        make_step(&mut self.told, &Step::Stamp { place, chunk });
     }
 
     /// Begins a chunk whose header is stored.
     pub(crate) fn set_written(&mut self, place: u16, chunk: u32)
         requires place { place < length self.old.layout.writers }
-        requires stamped { (writer self.old.seat.me.0 place).stamped
-            ≡ Some (record { chunk = chunk; id = length (writer self.old.seat.me.0 place).begun }) }
+        requires stamped { (writer self.old.told.world place).stamped
+            ≡ Some (record { chunk = chunk; id = length (writer self.old.told.world place).begun }) }
         ensures layout { self.new.layout ≡ self.old.layout }
         ensures slots { self.new.slots.items ≡ self.old.slots.items }
-        ensures world { self.new.seat.me.0 ≡ moved self.old.seat.me.0 place
-            (begins (writer self.old.seat.me.0 place) chunk (stored_at self.old.slots.items chunk).words) chunk
-            (Writing place (length (writer self.old.seat.me.0 place).begun) (fresh (stored_at self.old.slots.items chunk).words)) }
+        ensures world { self.new.told.world ≡ moved self.old.told.world place
+            (begins (writer self.old.told.world place) chunk (stored_at self.old.slots.items chunk).words) chunk
+            (Writing place (length (writer self.old.told.world place).begun) (fresh (stored_at self.old.slots.items chunk).words)) }
     {
         let spot = self.layout.spot(chunk);
         let page = spot.page as usize;
@@ -75,28 +74,27 @@ impl PlainTable {
             chunk,
             words: words_of(&self.slots, chunk),
         };
-        let world = &self.world;
-        make_step(&world.shared, &mut self.seat, &step);
+        make_step(&mut self.told, &step);
     }
 
     /// Takes the body of a chunk out that is being written or read.
     pub(crate) fn take_body(&mut self, chunk: u32) -> CommitBody
-        requires lent { ∥ IsLent (status self.old.seat.me.0 chunk) ∥₁ }
+        requires lent { ∥ IsLent (status self.old.told.world chunk) ∥₁ }
         requires there { IsSome (stored_at self.old.slots.items chunk).body }
         ensures body { (stored_at self.old.slots.items chunk).body ≡ Some result }
         ensures layout { self.new.layout ≡ self.old.layout }
         ensures words { (stored_at self.new.slots.items chunk).words ≡ (stored_at self.old.slots.items chunk).words }
-        ensures world { self.new.seat.me.0 ≡ self.old.seat.me.0 }
+        ensures world { self.new.told.world ≡ self.old.told.world }
     {
         take_body(&mut self.slots, chunk)
     }
 
     /// Puts the body of a chunk back that is being written or read.
     pub(crate) fn put_body(&mut self, chunk: u32, body: CommitBody)
-        requires lent { ∥ IsLent (status self.old.seat.me.0 chunk) ∥₁ }
+        requires lent { ∥ IsLent (status self.old.told.world chunk) ∥₁ }
         ensures body { (stored_at self.new.slots.items chunk).body ≡ Some body }
         ensures layout { self.new.layout ≡ self.old.layout }
-        ensures world { self.new.seat.me.0 ≡ self.old.seat.me.0 }
+        ensures world { self.new.told.world ≡ self.old.told.world }
     {
         put_body(&mut self.slots, chunk, body);
     }
@@ -112,15 +110,15 @@ impl PlainTable {
         payload: &[u8],
     )
         requires place { place < length self.old.layout.writers }
-        requires held { IsHolding (writer self.old.seat.me.0 place) chunk id }
+        requires held { IsHolding (writer self.old.told.world place) chunk id }
         requires size { length payload.now ≡ (spot self.old.layout chunk).payload_size }
         requires order { first ≤ end }
         requires inside { 8 * end < length payload.now + 8 }
-        requires kept { KeepsSealed (writer self.old.seat.me.0 place) id payload.now }
+        requires kept { KeepsSealed (writer self.old.told.world place) id payload.now }
         ensures layout { self.new.layout ≡ self.old.layout }
-        ensures words { StoredUpTo payload.now first end (draft_at (writer self.old.seat.me.0 place) id).words (stored_at self.new.slots.items chunk).words }
-        ensures world { self.new.seat.me.0 ≡ drafted self.old.seat.me.0 place chunk id
-            (with_words (draft_at (writer self.old.seat.me.0 place) id) (stored_at self.new.slots.items chunk).words) }
+        ensures words { StoredUpTo payload.now first end (draft_at (writer self.old.told.world place) id).words (stored_at self.new.slots.items chunk).words }
+        ensures world { self.new.told.world ≡ drafted self.old.told.world place chunk id
+            (with_words (draft_at (writer self.old.told.world place) id) (stored_at self.new.slots.items chunk).words) }
     {
         put_words(&mut self.slots, chunk, first, end, payload);
         let step = Step::Publish {
@@ -129,23 +127,22 @@ impl PlainTable {
             id,
             words: words_of(&self.slots, chunk),
         };
-        let world = &self.world;
-        make_step(&world.shared, &mut self.seat, &step);
+        make_step(&mut self.told, &step);
     }
 
     /// Completes a chunk whose body is back, and whose words hold its payload.
     pub(crate) fn set_complete(&mut self, place: u16, chunk: u32, id: u32)
         requires place { place < length self.old.layout.writers }
-        requires held { IsHolding (writer self.old.seat.me.0 place) chunk id }
+        requires held { IsHolding (writer self.old.told.world place) chunk id }
         requires body { IsSome (stored_at self.old.slots.items chunk).body }
         requires whole { IfSome (stored_at self.old.slots.items chunk).body (λ body.
-            StandsWhole (spot self.old.layout chunk).payload_size (writer self.old.seat.me.0 place) id body) }
+            StandsWhole (spot self.old.layout chunk).payload_size (writer self.old.told.world place) id body) }
         ensures layout { self.new.layout ≡ self.old.layout }
         ensures world { IfSome (stored_at self.old.slots.items chunk).body (λ body.
-            self.new.seat.me.0 ≡ moved self.old.seat.me.0 place
-            (completes (writer self.old.seat.me.0 place) chunk id
-            (content_of place id (head_at (writer self.old.seat.me.0 place) id) body)) chunk
-            (Ready place id (content_of place id (head_at (writer self.old.seat.me.0 place) id) body))) }
+            self.new.told.world ≡ moved self.old.told.world place
+            (completes (writer self.old.told.world place) chunk id
+            (content_of place id (head_at (writer self.old.told.world place) id) body)) chunk
+            (Ready place id (content_of place id (head_at (writer self.old.told.world place) id) body))) }
     {
         let spot = self.layout.spot(chunk);
         let page = spot.page as usize;
@@ -157,8 +154,7 @@ impl PlainTable {
             id,
             body: body_of(&self.slots, chunk),
         };
-        let world = &self.world;
-        make_step(&world.shared, &mut self.seat, &step);
+        make_step(&mut self.told, &step);
     }
 
     /// Reads the page word and the header word of a chunk.
@@ -183,16 +179,15 @@ impl PlainTable {
         requires header { packed seen.header ≡ header_word self.old.layout self.old.words.items chunk }
         requires fields { seen.header ≡ unpacked (header_word self.old.layout self.old.words.items chunk) }
         ensures layout { self.new.layout ≡ self.old.layout }
-        ensures world { self.new.seat.me.0 ≡ world_after self.old.seat.me.0 (Look chunk seen.word.0 seen.header) }
-        ensures looks { LooksAt self.old.layout chunk seen.word.0 seen.header self.old.seat.me.0.service self.new.seat.me.0.service }
+        ensures world { self.new.told.world ≡ world_after self.old.told.world (Look chunk seen.word.0 seen.header) }
+        ensures looks { LooksAt self.old.layout chunk seen.word.0 seen.header self.old.told.world.service self.new.told.world.service }
     {
         let step = Step::Look {
             chunk,
             word: seen.word.0,
             header: seen.header,
         };
-        let world = &self.world;
-        make_step(&world.shared, &mut self.seat, &step);
+        make_step(&mut self.told, &step);
     }
 
     /// Takes a chunk that was found complete, with this header.
@@ -201,11 +196,11 @@ impl PlainTable {
         requires chunk { chunk < length self.old.layout.spots }
         requires word { word ≡ page_word self.old.layout self.old.words.items chunk }
         requires complete { HasState word (spot self.old.layout chunk).place CompleteState }
-        requires ready { ∥ ((content : Content) × (status self.old.seat.me.0 chunk
-            ≡ Ready place (taken_of self.old.seat.me.0.service place).count content)) ∥₁ }
+        requires ready { ∥ ((content : Content) × (status self.old.told.world chunk
+            ≡ Ready place (taken_of self.old.told.world.service place).count content)) ∥₁ }
         ensures layout { self.new.layout ≡ self.old.layout }
         ensures slots { self.new.slots.items ≡ self.old.slots.items }
-        ensures world { self.new.seat.me.0 ≡ world_after self.old.seat.me.0 (Take place chunk word header) }
+        ensures world { self.new.told.world ≡ world_after self.old.told.world (Take place chunk word header) }
     {
         let spot = self.layout.spot(chunk);
         self.words[spot.page as usize] = word & take_mask(spot.place);
@@ -215,13 +210,12 @@ impl PlainTable {
             word,
             header,
         };
-        let world = &self.world;
-        make_step(&world.shared, &mut self.seat, &step);
+        make_step(&mut self.told, &step);
     }
 
     /// Loads the payload of a chunk that the service reads.
     pub(crate) fn load_taken(&self, chunk: u32, into: &mut [u8])
-        requires reading { 0 < times chunk self.now.seat.me.0.service.reading }
+        requires reading { 0 < times chunk self.now.told.world.service.reading }
         requires size { length into.old ≡ (spot self.now.layout chunk).payload_size }
         ensures size { length into.new ≡ length into.old }
         ensures bytes { (j : ℕ) → j < length into.new → byte_in into.new j ≡ byte_at (stored_at self.now.slots.items chunk).words j }
@@ -232,36 +226,34 @@ impl PlainTable {
     /// Notes the content of the chunk that was taken last of a writer.
     pub(crate) fn learn(&mut self, place: u16, chunk: u32, header: ChunkHeader, body: &CommitBody)
         requires place { place < length self.old.layout.writers }
-        requires last { (taken_of self.old.seat.me.0.service place).count
-            ≡ length (taken_of self.old.seat.me.0.service place).contents + 1 }
-        requires content { ∥ status self.old.seat.me.0 chunk ≡ Reading place (length (taken_of self.old.seat.me.0.service place).contents)
+        requires last { (taken_of self.old.told.world.service place).count
+            ≡ length (taken_of self.old.told.world.service place).contents + 1 }
+        requires content { ∥ status self.old.told.world chunk ≡ Reading place (length (taken_of self.old.told.world.service place).contents)
             (content_of place header.chunk_id (record { count = header.count; flags = header.flags }) body.now) ∥₁ }
         ensures layout { self.new.layout ≡ self.old.layout }
-        ensures world { self.new.seat.me.0 ≡ world_after self.old.seat.me.0 (Learn place header body.entry) }
+        ensures world { self.new.told.world ≡ world_after self.old.told.world (Learn place header body.entry) }
     {
         let step = Step::Learn {
             place,
             header,
             body,
         };
-        let world = &self.world;
-        make_step(&world.shared, &mut self.seat, &step);
+        make_step(&mut self.told, &step);
     }
 
     /// Frees a chunk that the service reads, and whose body is back.
     pub(crate) fn set_free(&mut self, chunk: u32)
-        requires reading { 0 < times chunk self.old.seat.me.0.service.reading }
+        requires reading { 0 < times chunk self.old.told.world.service.reading }
         requires body { IsSome (stored_at self.old.slots.items chunk).body }
         requires size { IfSome (stored_at self.old.slots.items chunk).body (λ body.
             vec_len body.payload ≡ (spot self.old.layout chunk).payload_size) }
         ensures layout { self.new.layout ≡ self.old.layout }
-        ensures world { self.new.seat.me.0 ≡ served self.old.seat.me.0 (lets_go self.old.seat.me.0.service chunk) chunk Unclaimed }
+        ensures world { self.new.told.world ≡ served self.old.told.world (lets_go self.old.told.world.service chunk) chunk Unclaimed }
     {
         let spot = self.layout.spot(chunk);
         let page = spot.page as usize;
         let found = self.words[page];
         self.words[page] = found & release_mask(spot.place);
-        let world = &self.world;
-        make_step(&world.shared, &mut self.seat, &Step::Release { chunk });
+        make_step(&mut self.told, &Step::Release { chunk });
     }
 }

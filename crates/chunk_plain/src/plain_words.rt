@@ -32,12 +32,12 @@ impl Words for PlainTable {
 
     ghost means = { record {
       setup = λ table. table.layout;
-      sits = λ table seat. IsAtRest table.layout seat.place (writer table.seat.me.0 seat.place);
+      sits = λ table seat. IsAtRest table.layout seat.place (writer table.told.world seat.place);
       place = λ seat. seat.place;
-      view = λ table seat. writer table.seat.me.0 seat.place;
-      serves = λ table _. IsServing table.layout table.seat.me.0.service;
-      service_view = λ table _. table.seat.me.0.service;
-      told = λ table. Some table.seat.me.0;
+      view = λ table seat. writer table.told.world seat.place;
+      serves = λ table _. IsServing table.layout table.told.world.service;
+      service_view = λ table _. table.told.world.service;
+      told = λ table. Some table.told.world;
       takes_reads = λ _ _. Unit {0};
     } };
 
@@ -48,7 +48,7 @@ impl Words for PlainTable {
     ghost serving = { λ table seat serves. serves };
 
     ghost learnt = { λ table seat serves n look found content at is has.
-        let fact : IsKept table.layout table.words.items table.slots.items table.seat.me.0 → (chunk : ℕ) × StillHas look.chunk found (Completed chunk content) = λ kept.
+        let fact : IsKept table.layout table.words.items table.slots.items table.told.world → (chunk : ℕ) × StillHas look.chunk found (Completed chunk content) = λ kept.
         let there = (kept.owned.looks n look found at is).1 in
         let done = (kept.owned.counts found.place).learnt found.id content has in
         (done.0, subst (StillHas look.chunk found) (some-injective there.entry (Completed done.0 content) (sym there.at ∙ done.1)) there.has) in (
@@ -61,11 +61,11 @@ impl Words for PlainTable {
         ) };
 
     ghost looks_agree = { λ table seat serves n m look later found other at is then was place id.
-        let both : IsKept table.layout table.words.items table.slots.items table.seat.me.0 → HasBoth look.chunk found later.chunk other = λ kept.
+        let both : IsKept table.layout table.words.items table.slots.items table.told.world → HasBoth look.chunk found later.chunk other = λ kept.
         let here = kept.owned.looks n look found at is in
         let there = kept.owned.looks m later other then was in
-        let moved = subst (λ (i : ℕ). At (writer table.seat.me.0 found.place).begun i there.1.entry) (sym id)
-        (subst (λ (p : ℕ). At (writer table.seat.me.0 p).begun other.id there.1.entry) (sym place) there.1.at) in
+        let moved = subst (λ (i : ℕ). At (writer table.told.world found.place).begun i there.1.entry) (sym id)
+        (subst (λ (p : ℕ). At (writer table.told.world p).begun other.id there.1.entry) (sym place) there.1.at) in
         let same = some-injective here.1.entry there.1.entry (sym here.1.at ∙ moved) in
         record {
           entry = here.1.entry;
@@ -99,13 +99,11 @@ impl Words for PlainTable {
         };
         if claimed {
             // The word has each bit that the claim would set.
-            let world = &self.world;
-            make_step(&world.shared, &mut self.seat, &step);
+            make_step(&mut self.told, &step);
             return None;
         }
         self.words[page] = found | claim_mask(spot.place, spot.layout);
-        let world = &self.world;
-        make_step(&world.shared, &mut self.seat, &step);
+        make_step(&mut self.told, &step);
         Some(Claimed { chunk })
     }
 
@@ -149,8 +147,7 @@ impl Words for PlainTable {
             count,
             flags,
         };
-        let world = &self.world;
-        make_step(&world.shared, &mut self.seat, &step);
+        make_step(&mut self.told, &step);
     }
 
     fn complete(&mut self, seat: &mut PlainWriter, held: Held) {
@@ -213,13 +210,11 @@ impl Words for PlainTable {
             place: seat.place,
             call,
         };
-        let world = &self.world;
-        make_step(&world.shared, &mut self.seat, &step);
+        make_step(&mut self.told, &step);
     }
 
     fn note(&mut self, _seat: &mut PlainService, event: ServiceEvent) {
-        let world = &self.world;
-        make_step(&world.shared, &mut self.seat, &Step::Event { event });
+        make_step(&mut self.told, &Step::Event { event });
     }
 
     fn note_commit(
@@ -234,7 +229,6 @@ impl Words for PlainTable {
             payload,
             patches,
         };
-        let world = &self.world;
-        make_step(&world.shared, &mut self.seat, &step);
+        make_step(&mut self.told, &step);
     }
 }

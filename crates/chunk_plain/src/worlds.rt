@@ -1,71 +1,52 @@
-//! The world of a table as the view of one seat. No value of it exists when the program runs.
-ghost use Rattle.std.specs.Prelude.{◌≡◌, ◌<◌};
-ghost use Rattle.chunk_plain.specs.World.{World, nowhere};
+//! The world of a table, as a value of no bytes. Only clauses read it.
+ghost use Rattle.std.specs.Prelude.{◌≡◌};
+ghost use Rattle.chunk_plain.specs.World.{World};
 ghost use Rattle.chunk_plain.specs.Plain.{first_world, world_after};
 
 use crate::layout::Layout;
 use crate::step::Step;
-use atomic_table::{Play, Seat, Shared, TableRule};
-use std::marker::{Brand, Model, PhantomData};
+use std::marker::{Model, PhantomData};
 
-/// A world, of which no value is made.
-pub struct WorldView {}
-
-impl Model for WorldView {
-    ghost use Rattle.chunk_plain.specs.World.{World, nowhere};
-
-    ghost Value = { World };
-
-    ghost view = { λ _. nowhere };
+/// A world that is told. It owns nothing, and may be any world: what ties it to words and slots is
+/// what the table keeps that has it.
+#[derive(Drop)]
+pub struct ToldWorld {
+    marker: PhantomData<u8>,
+    pub ghost world: { World },
 }
 
-/// The seat may know any world: the table that owns it says what holds of it.
-pub struct Unruled {}
+impl Model for ToldWorld {
+    ghost use base.Fml.{ftrue};
 
-impl TableRule<u8, WorldView, Layout> for Unruled {
-    ghost holds = { λ _ _. Unit {0} };
-
-    ghost first = { first_world };
+    ghost also_owns = { λ _. ftrue };
 }
 
-/// The world after a step.
-trait Target {
-    ghost world: { World };
+impl ToldWorld {
+    /// The world in which nobody has done anything.
+    pub fn first(layout: &Layout) -> ToldWorld
+        ensures { result.world ≡ first_world layout.now }
+    {
+        let _ = layout;
+        ToldWorld {
+            marker: PhantomData,
+        }
+    }
+
+    /// The world behind the step.
+    pub fn behind(&self, step: &Step<'_>) -> ToldWorld
+        ensures { result.world ≡ world_after self.now.world step.now }
+    {
+        let _ = self;
+        let _ = step;
+        ToldWorld {
+            marker: PhantomData,
+        }
+    }
 }
 
-impl Target for Brand {
-    ghost world = { nowhere };
-}
-
-struct Becomes<N> {
-    of: PhantomData<N>,
-}
-
-impl<N: Target> Play<u8, WorldView> for Becomes<N> {
-    ghost then = { λ _ me _ new. new ≡ (N.world, me.1) };
-}
-
-pub type WorldTable = Shared<u8, WorldView, Layout, Unruled>;
-
-pub type WorldSeat = Seat<u8, WorldView>;
-
-fn become_world<N: Target>(table: &WorldTable, seat: &mut WorldSeat, step: &Step<'_>)
-    requires seat { seat.old.table_id ≡ table.now.table_id }
-    requires words { 0 < table.now.table_id.words }
-    ensures seat { seat.new.table_id ≡ seat.old.table_id }
-    ensures world { seat.new.me.0 ≡ N.world }
+/// Makes the step in the world that is told.
+pub fn make_step(told: &mut ToldWorld, step: &Step<'_>)
+    ensures world { told.new.world ≡ world_after told.old.world step.now }
 {
-    // The step picks the world, and no code reads it.
-    let _ = step;
-    table.load::<Becomes<N>>(seat, 0);
-}
-
-/// Makes the step in the world that the seat knows.
-pub fn make_step(table: &WorldTable, seat: &mut WorldSeat, step: &Step<'_>)
-    requires seat { seat.old.table_id ≡ table.now.table_id }
-    requires words { 0 < table.now.table_id.words }
-    ensures seat { seat.new.table_id ≡ seat.old.table_id }
-    ensures world { seat.new.me.0 ≡ world_after seat.old.me.0 step.now }
-{
-    become_world::<Brand>(table, seat, step);
+    *told = told.behind(step);
 }

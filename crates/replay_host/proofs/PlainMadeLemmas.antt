@@ -16,7 +16,7 @@ use Rattle.replay_host.proofs.BuiltLemmas.{IsSeatedNew}
 
 module _ (table : PlainTable) (setup : Setup) (setup_is : plain.means.setup table ≡ setup)
     (told : plain.means.told table ≡ Some (first_world setup)) where
-  world_is : table.seat.me.0 ≡ first_world setup
+  world_is : table.told.world ≡ first_world setup
   world_is = ap (λ (known : Option World). unwrap_or known nowhere) told
 
   pub table_service : (seat : PlainService) → plain.means.service_view table seat ≡ (first_world setup).service

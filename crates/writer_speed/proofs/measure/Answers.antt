@@ -21,10 +21,10 @@ write_all-requires-clause-ready g c =
     let range : range_of setup 1 ≡ range_in c.new-arbiter.result =
     ap (λ (n : ℕ). let one : ChunkRange = record { first = n; count = (range_of setup 1).count } in one) (sym first)
     ∙ ap (λ (n : ℕ). let one : ChunkRange = record { first = c.new-arbiter.result.first; count = n } in one) (sym chunks) in
-    let agrees : CoreAgrees setup 0 (writer table.seat.me.0 0) core =
-    first_agrees setup table.seat.me.0 c.in-Ok.geometry c.new-arbiter.result core setup_is world_is range c.make-writer.ensures.agrees in
+    let agrees : CoreAgrees setup 0 (writer table.told.world 0) core =
+    first_agrees setup table.told.world c.in-Ok.geometry c.new-arbiter.result core setup_is world_is range c.make-writer.ensures.agrees in
     record {
       seat = c.in-Ok-make.ensures.sits core.seat (subst (λ (s : PlainWriter). s.place < 1) (sym c.make-writer.ensures.seat) (omega arith));
-      agrees = subst (λ (s : PlainWriter). CoreAgrees setup s.place (writer table.seat.me.0 s.place) core) (sym c.make-writer.ensures.seat) agrees;
-      drops = first_drops setup c.in-Ok.geometry (writer table.seat.me.0 0) core setup_is agrees;
+      agrees = subst (λ (s : PlainWriter). CoreAgrees setup s.place (writer table.told.world s.place) core) (sym c.make-writer.ensures.seat) agrees;
+      drops = first_drops setup c.in-Ok.geometry (writer table.told.world 0) core setup_is agrees;
     }

@@ -28,7 +28,7 @@ make-requires-2-clause-fits c place low =
 
 pub play-requires-clause-agrees : goal.play-requires-clause-agrees
 play-requires-clause-agrees c =
-    let view = c.in_ok-table.table.seat.me.0.service in
+    let view = c.in_ok-table.table.told.world.service in
     let world_is = ap (λ (o : Option World). unwrap_or o nowhere) c.in_ok-table.ensures.told in
     let unused : IsUnused 1 view = subst (λ (w : World). IsUnused 1 w.service) (sym world_is) (record { taken = refl; none_taken = nothing_taken; none_read = refl; none_noted = refl }) in
     subst (λ (s : Setup). ServiceAgrees s view c.in_ok-service.service) (sym c.in_ok-table.ensures.setup) (c.in_ok-service.ensures.agrees view unused)

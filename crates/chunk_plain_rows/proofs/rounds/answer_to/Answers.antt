@@ -15,7 +15,7 @@ fill-requires-else-not-fill-clause-few c =
     let sits = c.in_ok-table.ensures.sits (record { place = 1 }) (search rules) in
     let stays = (c.fill.ensures.step.writers_stay (record { place = 1 }) sits (λ e. absurd (omega arith))).1 in
     let first = ap (λ (o : Option World). unwrap_or o nowhere) c.in_ok-table.ensures.told in
-    let none : held_count (writer c.fill.new.table.seat.me.0 1).begun ≡ 0 = ap (λ (v : WriterView). held_count v.begun) (stays ∙ ap (λ (w : World). writer w 1) first) in
+    let none : held_count (writer c.fill.new.table.told.world 1).begun ≡ 0 = ap (λ (v : WriterView). held_count v.begun) (stays ∙ ap (λ (w : World). writer w 1) first) in
     omega arith
 
 pub fill-requires-else-not-fill-clause-id : goal.fill-requires-else-not-fill-clause-id

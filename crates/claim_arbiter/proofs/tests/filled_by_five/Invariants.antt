@@ -7,5 +7,5 @@ use Rattle.claim_arbiter.proofs.tests.filled_by_five.Given as goal
 abbrev pub invariant-loop-place : goal.invariant-loop-place
 invariant-loop-place g l = record {
   setup : l.table.layout ≡ l.initial.table.layout;
-  waits : (place : ℕ) → l.place ≤ place → place < 5 → IsAtRest l.table.layout place (writer l.table.seat.me.0 place) × ((writer l.table.seat.me.0 place).begun ≡ []);
+  waits : (place : ℕ) → l.place ≤ place → place < 5 → IsAtRest l.table.layout place (writer l.table.told.world place) × ((writer l.table.told.world place).begun ≡ []);
 }

@@ -23,9 +23,9 @@ returns-clause-agrees c =
     c.new-2.ensures.chunks ∙ ap (λ range. range.1) c.chunks_of-first.ensures ∙ ap (λ (s : Setup). (range_of s 1).count) setup_is in
     let range : range_of setup 1 ≡ range_in c.new-2.result =
     range_is c.new-2.result (range_of setup 1) first count in
-    let world : c.in_ok-table.table.seat.me.0 ≡ _ = ap (λ (o : Option World). unwrap_or o nowhere) c.in_ok-table.ensures.told in
+    let world : c.in_ok-table.table.told.world ≡ _ = ap (λ (o : Option World). unwrap_or o nowhere) c.in_ok-table.ensures.told in
     let seat : c.make-writer.result.seat.place ≡ 0 = ap (λ (s : PlainWriter). s.place) c.make-writer.ensures.seat in
-    subst (λ (s : Setup). CoreAgrees s c.make-writer.result.seat.place (writer c.in_ok-table.table.seat.me.0 c.make-writer.result.seat.place) core) (sym setup_is)
-    (subst (λ (place : ℕ). CoreAgrees setup place (writer c.in_ok-table.table.seat.me.0 place) core) (sym seat)
+    subst (λ (s : Setup). CoreAgrees s c.make-writer.result.seat.place (writer c.in_ok-table.table.told.world c.make-writer.result.seat.place) core) (sym setup_is)
+    (subst (λ (place : ℕ). CoreAgrees setup place (writer c.in_ok-table.table.told.world place) core) (sym seat)
     (subst (λ (w : World). CoreAgrees setup 0 (writer w 0) core) (sym world)
     (c.make-writer.ensures.agrees setup 0 refl (record { least = omega arith; most = omega arith }) range (one_sized producer (spec ∷ [])))))

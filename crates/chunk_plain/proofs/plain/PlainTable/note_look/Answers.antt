@@ -7,12 +7,12 @@ use Rattle.chunk_plain.proofs.plain.PlainTable.note_look.Goals as goal
 
 pub invariant_of-self-clause-kept : goal.invariant_of-self-clause-kept
 invariant_of-self-clause-kept c = let self = c.args.self.now in
-    known.look_step self.layout self.words.items self.slots.items self.seat.me.0 self.kept c.make_step.new.seat.me.0 c.args.chunk c.args.seen.word.0 c.args.seen.header c.make_step.ensures.world
+    known.look_step self.layout self.words.items self.slots.items self.told.world self.kept c.make_step.new.told.world c.args.chunk c.args.seen.word.0 c.args.seen.header c.make_step.ensures.world
 
 pub returns-clause-looks : goal.returns-clause-looks
 returns-clause-looks c = let self = c.args.self.now in
     record {
-      found = found_in (status self.seat.me.0 c.args.chunk);
-      finds = finds_written self.layout self.words.items self.slots.items self.seat.me.0 self.kept c.args.chunk c.args.seen.word.0 c.args.seen.header c.requires.chunk c.requires.word c.requires.fields;
+      found = found_in (status self.told.world c.args.chunk);
+      finds = finds_written self.layout self.words.items self.slots.items self.told.world self.kept c.args.chunk c.args.seen.word.0 c.args.seen.header c.requires.chunk c.requires.word c.requires.fields;
       view = ap (λ (w : World). w.service) c.make_step.ensures.world;
     }

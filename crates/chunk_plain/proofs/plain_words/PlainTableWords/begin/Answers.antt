@@ -17,18 +17,18 @@ take_body-body-requires-clause-lent c =
     let self = c.args.self.now in let place = c.args.seat.now.place in let chunk = c.args.claimed.chunk in
     let one = c.store_first_header.new.self in let two = c.set_written.new.self in
     let words = (stored_at one.slots.items chunk).words in
-    let inside_w = known.seat_inside self.layout self.words.items self.slots.items self.seat.me.0 self.kept place c.requires.seat.inside in
-    let world_is = resting.begun_world self.seat.me.0 one.seat.me.0 two.seat.me.0 place chunk words inside_w c.store_first_header.ensures.world c.set_written.ensures.world in
-    let many = known.chunks_inside self.layout self.words.items self.slots.items self.seat.me.0 self.kept in
-    let inside_c = known.claimed_inside self.layout self.words.items self.slots.items self.seat.me.0 self.kept place chunk c.requires.claimed in
-    let to = Writing place (length (writer self.seat.me.0 place).begun) (fresh words) in
-    let is : status two.seat.me.0 chunk ≡ to = ap (λ (w : World). status w chunk) world_is ∙ get_or-set_same self.seat.me.0.chunks chunk to Unclaimed (omega (arith, many)) in
+    let inside_w = known.seat_inside self.layout self.words.items self.slots.items self.told.world self.kept place c.requires.seat.inside in
+    let world_is = resting.begun_world self.told.world one.told.world two.told.world place chunk words inside_w c.store_first_header.ensures.world c.set_written.ensures.world in
+    let many = known.chunks_inside self.layout self.words.items self.slots.items self.told.world self.kept in
+    let inside_c = known.claimed_inside self.layout self.words.items self.slots.items self.told.world self.kept place chunk c.requires.claimed in
+    let to = Writing place (length (writer self.told.world place).begun) (fresh words) in
+    let is : status two.told.world chunk ≡ to = ap (λ (w : World). status w chunk) world_is ∙ get_or-set_same self.told.world.chunks chunk to Unclaimed (omega (arith, many)) in
     ∣ subst IsLent (sym is) tt ∣₁
 
 pub take_body-body-requires-clause-there : goal.take_body-body-requires-clause-there
 take_body-body-requires-clause-there c = let self = c.args.self.now in
     let same = c.set_written.ensures.slots ∙ c.store_first_header.ensures.slots in
-    subst (λ (l : List Stored). IsSome (stored_at l c.args.claimed.chunk).body) (sym same) (known.claimed_body self.layout self.words.items self.slots.items self.seat.me.0 self.kept c.args.seat.now.place c.args.claimed.chunk c.requires.claimed)
+    subst (λ (l : List Stored). IsSome (stored_at l c.args.claimed.chunk).body) (sym same) (known.claimed_body self.layout self.words.items self.slots.items self.told.world self.kept c.args.seat.now.place c.args.claimed.chunk c.requires.claimed)
 
 pub returns-clause-held : goal.returns-clause-held
 returns-clause-held c = let self = c.args.self.now in
@@ -36,7 +36,7 @@ returns-clause-held c = let self = c.args.self.now in
     record {
       chunk_is = refl;
       id_is = refl;
-      whole = known.claimed_size self.layout self.words.items self.slots.items self.seat.me.0 self.kept c.args.seat.now.place c.args.claimed.chunk c.take_body-body.result c.requires.claimed
+      whole = known.claimed_size self.layout self.words.items self.slots.items self.told.world self.kept c.args.seat.now.place c.args.claimed.chunk c.take_body-body.result c.requires.claimed
           (sym (ap (λ (l : List Stored). (stored_at l c.args.claimed.chunk).body) same) ∙ c.take_body-body.ensures.body);
       empty = c.clear.ensures;
     }
@@ -46,16 +46,16 @@ returns-clause-view c =
     let self = c.args.self.now in let place = c.args.seat.now.place in let chunk = c.args.claimed.chunk in
     let one = c.store_first_header.new.self in let two = c.set_written.new.self in
     let words = (stored_at one.slots.items chunk).words in
-    let inside_w = known.seat_inside self.layout self.words.items self.slots.items self.seat.me.0 self.kept place c.requires.seat.inside in
-    let world_is = resting.begun_world self.seat.me.0 one.seat.me.0 two.seat.me.0 place chunk words inside_w c.store_first_header.ensures.world c.set_written.ensures.world in
+    let inside_w = known.seat_inside self.layout self.words.items self.slots.items self.told.world self.kept place c.requires.seat.inside in
+    let world_is = resting.begun_world self.told.world one.told.world two.told.world place chunk words inside_w c.store_first_header.ensures.world c.set_written.ensures.world in
     let three = c.take_body-body.new.self in
     let last_is = c.take_body-body.ensures.world ∙ world_is in
-    let view = begins (stamps (writer self.seat.me.0 place) chunk) chunk words in
+    let view = begins (stamps (writer self.told.world place) chunk) chunk words in
     record {
       words = words;
       room = subst (λ (l : List Stored). (spot self.layout chunk).payload_size ≤ 8 * length (stored_at l chunk).words) (sym c.store_first_header.ensures.slots)
-          (known.room self.layout self.words.items self.slots.items self.seat.me.0 self.kept chunk (known.claimed_inside self.layout self.words.items self.slots.items self.seat.me.0 self.kept place chunk c.requires.claimed));
-      view = known.view_now self.layout self.words.items self.slots.items self.seat.me.0 self.kept three.seat.me.0 place view c.requires.seat.inside (ap (λ (w : World). w.writers) last_is);
+          (known.room self.layout self.words.items self.slots.items self.told.world self.kept chunk (known.claimed_inside self.layout self.words.items self.slots.items self.told.world self.kept place chunk c.requires.claimed));
+      view = known.view_now self.layout self.words.items self.slots.items self.told.world self.kept three.told.world place view c.requires.seat.inside (ap (λ (w : World). w.writers) last_is);
     }
 
 pub returns-clause-step : goal.returns-clause-step
@@ -63,21 +63,21 @@ returns-clause-step c =
     let self = c.args.self.now in let place = c.args.seat.now.place in let chunk = c.args.claimed.chunk in
     let one = c.store_first_header.new.self in let two = c.set_written.new.self in
     let words = (stored_at one.slots.items chunk).words in
-    let inside_w = known.seat_inside self.layout self.words.items self.slots.items self.seat.me.0 self.kept place c.requires.seat.inside in
-    let world_is = resting.begun_world self.seat.me.0 one.seat.me.0 two.seat.me.0 place chunk words inside_w c.store_first_header.ensures.world c.set_written.ensures.world in
-    let next = c.take_body-body.new.self.seat.me.0 in
+    let inside_w = known.seat_inside self.layout self.words.items self.slots.items self.told.world self.kept place c.requires.seat.inside in
+    let world_is = resting.begun_world self.told.world one.told.world two.told.world place chunk words inside_w c.store_first_header.ensures.world c.set_written.ensures.world in
+    let next = c.take_body-body.new.self.told.world in
     let last_is = c.take_body-body.ensures.world ∙ world_is in
-    let view = begins (stamps (writer self.seat.me.0 place) chunk) chunk words in
+    let view = begins (stamps (writer self.told.world place) chunk) chunk words in
     let layout_is = c.take_body-body.ensures.layout ∙ (c.set_written.ensures.layout ∙ c.store_first_header.ensures.layout) in
     let writers_are = ap (λ (w : World). w.writers) last_is in
     record {
       setup_stays = layout_is;
       seat_stays = resting.seat_stays self.layout _ place view (writer next place) layout_is
-          (known.view_now self.layout self.words.items self.slots.items self.seat.me.0 self.kept next place view c.requires.seat.inside writers_are)
-          (resting.begins_rest self.layout place (writer self.seat.me.0 place) c.requires.seat chunk words c.requires.claimed);
+          (known.view_now self.layout self.words.items self.slots.items self.told.world self.kept next place view c.requires.seat.inside writers_are)
+          (resting.begins_rest self.layout place (writer self.told.world place) c.requires.seat chunk words c.requires.claimed);
       place_stays = refl;
-      writers_stay = λ other there differs. resting.others_stay self.layout _ self.seat.me.0 next place view other.place layout_is writers_are there differs;
-      service_stays = λ other serves. resting.serving_stays self.layout _ self.seat.me.0.service next.service layout_is (ap (λ (w : World). w.service) last_is) serves;
+      writers_stay = λ other there differs. resting.others_stay self.layout _ self.told.world next place view other.place layout_is writers_are there differs;
+      service_stays = λ other serves. resting.serving_stays self.layout _ self.told.world.service next.service layout_is (ap (λ (w : World). w.service) last_is) serves;
       reads_stay = λ other takes. takes;
     }
 
@@ -86,16 +86,16 @@ returns-clause-told c = λ world e.
     let self = c.args.self.now in let place = c.args.seat.now.place in let chunk = c.args.claimed.chunk in
     let one = c.store_first_header.new.self in let two = c.set_written.new.self in
     let words = (stored_at one.slots.items chunk).words in
-    let inside_w = known.seat_inside self.layout self.words.items self.slots.items self.seat.me.0 self.kept place c.requires.seat.inside in
-    let world_is = resting.begun_world self.seat.me.0 one.seat.me.0 two.seat.me.0 place chunk words inside_w c.store_first_header.ensures.world c.set_written.ensures.world in
-    let next = c.take_body-body.new.self.seat.me.0 in
+    let inside_w = known.seat_inside self.layout self.words.items self.slots.items self.told.world self.kept place c.requires.seat.inside in
+    let world_is = resting.begun_world self.told.world one.told.world two.told.world place chunk words inside_w c.store_first_header.ensures.world c.set_written.ensures.world in
+    let next = c.take_body-body.new.self.told.world in
     let last_is = c.take_body-body.ensures.world ∙ world_is in
-    let view = begins (stamps (writer self.seat.me.0 place) chunk) chunk words in
-    let same : self.seat.me.0 ≡ world = cc in
-    let view_is = known.view_now self.layout self.words.items self.slots.items self.seat.me.0 self.kept next place view c.requires.seat.inside (ap (λ (w : World). w.writers) last_is) in
-    let draft_is : draft_at (writer next place) c.args.id ≡ fresh words = ap (λ v. draft_at v c.args.id) view_is ∙ (ap (λ i. draft_at view i) c.requires.id ∙ begins_draft (writer self.seat.me.0 place) chunk words) in
+    let view = begins (stamps (writer self.told.world place) chunk) chunk words in
+    let same : self.told.world ≡ world = cc in
+    let view_is = known.view_now self.layout self.words.items self.slots.items self.told.world self.kept next place view c.requires.seat.inside (ap (λ (w : World). w.writers) last_is) in
+    let draft_is : draft_at (writer next place) c.args.id ≡ fresh words = ap (λ v. draft_at v c.args.id) view_is ∙ (ap (λ i. draft_at view i) c.requires.id ∙ begins_draft (writer self.told.world place) chunk words) in
     subst (λ (w : World). Some next ≡ Some (moved w place (writer next place) chunk (Writing place c.args.id (draft_at (writer next place) c.args.id)))) same
     (ap (λ (w : World). Some w) (last_is
-    ∙ (ap (λ i. moved self.seat.me.0 place view chunk (Writing place i (fresh words))) (sym c.requires.id)
-    ∙ (ap (λ d. moved self.seat.me.0 place view chunk (Writing place c.args.id d)) (sym draft_is)
-    ∙ ap (λ v. moved self.seat.me.0 place v chunk (Writing place c.args.id (draft_at (writer next place) c.args.id))) (sym view_is)))))
+    ∙ (ap (λ i. moved self.told.world place view chunk (Writing place i (fresh words))) (sym c.requires.id)
+    ∙ (ap (λ d. moved self.told.world place view chunk (Writing place c.args.id d)) (sym draft_is)
+    ∙ ap (λ v. moved self.told.world place v chunk (Writing place c.args.id (draft_at (writer next place) c.args.id))) (sym view_is)))))

@@ -9,19 +9,19 @@ use Rattle.chunk_plain.proofs.plain_words.PlainTableWords.load.Goals as goal
 pub returns-clause-found : goal.returns-clause-found
 returns-clause-found c = let self = c.args.self.now in
     let words_are = c.words_of.ensures ∙ ap (λ (l : List Stored). (stored_at l c.args.chunk).words) c.deref.ensures.value in
-    looking.load_found self.layout self.words.items self.slots.items self.seat.me.0 self.kept c.args.chunk c.unpack.new.into c.requires.chunk (c.unpack.ensures.size ∙ c.requires.size)
+    looking.load_found self.layout self.words.items self.slots.items self.told.world self.kept c.args.chunk c.unpack.new.into c.requires.chunk (c.unpack.ensures.size ∙ c.requires.size)
     (λ j below. c.unpack.ensures.bytes j below ∙ ap (λ l. byte_at l j) words_are)
 
 pub returns-clause-read : goal.returns-clause-read
 returns-clause-read c = λ reading. let self = c.args.self.now in
     let words_are = c.words_of.ensures ∙ ap (λ (l : List Stored). (stored_at l c.args.chunk).words) c.deref.ensures.value in
-    looking.load_read self.layout self.words.items self.slots.items self.seat.me.0 self.kept c.args.chunk c.unpack.new.into c.requires.chunk (c.unpack.ensures.size ∙ c.requires.size)
+    looking.load_read self.layout self.words.items self.slots.items self.told.world self.kept c.args.chunk c.unpack.new.into c.requires.chunk (c.unpack.ensures.size ∙ c.requires.size)
     (λ j below. c.unpack.ensures.bytes j below ∙ ap (λ l. byte_at l j) words_are) reading c.requires.seat
 
 pub returns-clause-shown : goal.returns-clause-shown
 returns-clause-shown c = λ world e. let self = c.args.self.now in
     let words_are = c.words_of.ensures ∙ ap (λ (l : List Stored). (stored_at l c.args.chunk).words) c.deref.ensures.value in
-    let same : self.seat.me.0 ≡ world = cc in
+    let same : self.told.world ≡ world = cc in
     subst (λ (w : World). ∥ ShowsPayload (status w c.args.chunk) c.unpack.new.into ∥₁) same
-    (looking.load_shown self.layout self.words.items self.slots.items self.seat.me.0 self.kept c.args.chunk c.unpack.new.into c.requires.chunk (c.unpack.ensures.size ∙ c.requires.size)
+    (looking.load_shown self.layout self.words.items self.slots.items self.told.world self.kept c.args.chunk c.unpack.new.into c.requires.chunk (c.unpack.ensures.size ∙ c.requires.size)
     (λ j below. c.unpack.ensures.bytes j below ∙ ap (λ l. byte_at l j) words_are))

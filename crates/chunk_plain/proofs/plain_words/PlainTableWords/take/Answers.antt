@@ -29,10 +29,10 @@ set_read-requires-clause-ready c =
     let complete : HasState seen.word.0 (spot self.layout chunk).place Complete = subst (λ (s : Spot). HasState seen.word.0 s.place Complete) c.spot-place.ensures.spot
     (subst (HasState seen.word.0 at.place) (same_true the_type (search rules) _ _ (not_false _ _ c.if-ne.false c.ne.ensures)) c.state.ensures.bits) in
     let inside_w : place < length self.layout.writers = omega arith in
-    let found = ready_found self.layout self.words.items self.slots.items self.seat.me.0 self.kept place chunk header c.requires.chunk
+    let found = ready_found self.layout self.words.items self.slots.items self.told.world self.kept place chunk header c.requires.chunk
     (subst (λ w. HasState w (spot self.layout chunk).place Complete) c.peek-seen.ensures.word complete) c.peek-seen.ensures.fields (let is = c.if-header-writer.false in omega arith) in
-    let id_is : header.chunk_id ≡ (taken_of self.seat.me.0.service place).count = c.if-header-id.false ∙ c.requires.id in
-    taking.is_ready self.layout self.slots.items self.seat.me.0 place chunk header.chunk_id head found id_is
+    let id_is : header.chunk_id ≡ (taken_of self.told.world.service place).count = c.if-header-id.false ∙ c.requires.id in
+    taking.is_ready self.layout self.slots.items self.told.world place chunk header.chunk_id head found id_is
 
 pub take_body-body-requires-clause-lent : goal.take_body-body-requires-clause-lent
 take_body-body-requires-clause-lent c =
@@ -42,12 +42,12 @@ take_body-body-requires-clause-lent c =
     let complete : HasState seen.word.0 (spot self.layout chunk).place Complete = subst (λ (s : Spot). HasState seen.word.0 s.place Complete) c.spot-place.ensures.spot
     (subst (HasState seen.word.0 at.place) (same_true the_type (search rules) _ _ (not_false _ _ c.if-ne.false c.ne.ensures)) c.state.ensures.bits) in
     let inside_w : place < length self.layout.writers = omega arith in
-    let found = ready_found self.layout self.words.items self.slots.items self.seat.me.0 self.kept place chunk header c.requires.chunk
+    let found = ready_found self.layout self.words.items self.slots.items self.told.world self.kept place chunk header c.requires.chunk
     (subst (λ w. HasState w (spot self.layout chunk).place Complete) c.peek-seen.ensures.word complete) c.peek-seen.ensures.fields (let is = c.if-header-writer.false in omega arith) in
-    let id_is : header.chunk_id ≡ (taken_of self.seat.me.0.service place).count = c.if-header-id.false ∙ c.requires.id in
-    let inside_c : chunk < length self.seat.me.0.chunks = let many = known.chunks_inside self.layout self.words.items self.slots.items self.seat.me.0 self.kept in omega (arith, many) in
-    let reading = taking.is_reading self.layout self.slots.items self.seat.me.0 place chunk header.chunk_id head found c.set_read.new.self.seat.me.0 seen.word.0 header inside_c c.set_read.ensures.world in
-    taking.lent_by c.set_read.new.self.seat.me.0 place chunk header.chunk_id reading
+    let id_is : header.chunk_id ≡ (taken_of self.told.world.service place).count = c.if-header-id.false ∙ c.requires.id in
+    let inside_c : chunk < length self.told.world.chunks = let many = known.chunks_inside self.layout self.words.items self.slots.items self.told.world self.kept in omega (arith, many) in
+    let reading = taking.is_reading self.layout self.slots.items self.told.world place chunk header.chunk_id head found c.set_read.new.self.told.world seen.word.0 header inside_c c.set_read.ensures.world in
+    taking.lent_by c.set_read.new.self.told.world place chunk header.chunk_id reading
 
 pub take_body-body-requires-clause-there : goal.take_body-body-requires-clause-there
 take_body-body-requires-clause-there c =
@@ -57,10 +57,10 @@ take_body-body-requires-clause-there c =
     let complete : HasState seen.word.0 (spot self.layout chunk).place Complete = subst (λ (s : Spot). HasState seen.word.0 s.place Complete) c.spot-place.ensures.spot
     (subst (HasState seen.word.0 at.place) (same_true the_type (search rules) _ _ (not_false _ _ c.if-ne.false c.ne.ensures)) c.state.ensures.bits) in
     let inside_w : place < length self.layout.writers = omega arith in
-    let found = ready_found self.layout self.words.items self.slots.items self.seat.me.0 self.kept place chunk header c.requires.chunk
+    let found = ready_found self.layout self.words.items self.slots.items self.told.world self.kept place chunk header c.requires.chunk
     (subst (λ w. HasState w (spot self.layout chunk).place Complete) c.peek-seen.ensures.word complete) c.peek-seen.ensures.fields (let is = c.if-header-writer.false in omega arith) in
-    let id_is : header.chunk_id ≡ (taken_of self.seat.me.0.service place).count = c.if-header-id.false ∙ c.requires.id in
-    subst (λ (l : List Stored). IsSome (stored_at l chunk).body) (sym c.set_read.ensures.slots) (taking.has_body self.layout self.slots.items self.seat.me.0 place chunk header.chunk_id head found)
+    let id_is : header.chunk_id ≡ (taken_of self.told.world.service place).count = c.if-header-id.false ∙ c.requires.id in
+    subst (λ (l : List Stored). IsSome (stored_at l chunk).body) (sym c.set_read.ensures.slots) (taking.has_body self.layout self.slots.items self.told.world place chunk header.chunk_id head found)
 
 pub load_taken-requires-clause-size : goal.load_taken-requires-clause-size
 load_taken-requires-clause-size c =
@@ -70,14 +70,14 @@ load_taken-requires-clause-size c =
     let complete : HasState seen.word.0 (spot self.layout chunk).place Complete = subst (λ (s : Spot). HasState seen.word.0 s.place Complete) c.spot-place.ensures.spot
     (subst (HasState seen.word.0 at.place) (same_true the_type (search rules) _ _ (not_false _ _ c.if-ne.false c.ne.ensures)) c.state.ensures.bits) in
     let inside_w : place < length self.layout.writers = omega arith in
-    let found = ready_found self.layout self.words.items self.slots.items self.seat.me.0 self.kept place chunk header c.requires.chunk
+    let found = ready_found self.layout self.words.items self.slots.items self.told.world self.kept place chunk header c.requires.chunk
     (subst (λ w. HasState w (spot self.layout chunk).place Complete) c.peek-seen.ensures.word complete) c.peek-seen.ensures.fields (let is = c.if-header-writer.false in omega arith) in
-    let id_is : header.chunk_id ≡ (taken_of self.seat.me.0.service place).count = c.if-header-id.false ∙ c.requires.id in
-    let inside_c : chunk < length self.seat.me.0.chunks = let many = known.chunks_inside self.layout self.words.items self.slots.items self.seat.me.0 self.kept in omega (arith, many) in
-    let reading = taking.is_reading self.layout self.slots.items self.seat.me.0 place chunk header.chunk_id head found c.set_read.new.self.seat.me.0 seen.word.0 header inside_c c.set_read.ensures.world in
+    let id_is : header.chunk_id ≡ (taken_of self.told.world.service place).count = c.if-header-id.false ∙ c.requires.id in
+    let inside_c : chunk < length self.told.world.chunks = let many = known.chunks_inside self.layout self.words.items self.slots.items self.told.world self.kept in omega (arith, many) in
+    let reading = taking.is_reading self.layout self.slots.items self.told.world place chunk header.chunk_id head found c.set_read.new.self.told.world seen.word.0 header inside_c c.set_read.ensures.world in
     let taken = c.take_body-body.result in
     let was_there : (stored_at self.slots.items chunk).body ≡ Some taken = sym (ap (λ (l : List Stored). (stored_at l chunk).body) c.set_read.ensures.slots) ∙ c.take_body-body.ensures.body in
-    let size = taking.body_size self.layout self.slots.items self.seat.me.0 place chunk header.chunk_id head found taken was_there in
+    let size = taking.body_size self.layout self.slots.items self.told.world place chunk header.chunk_id head found taken was_there in
     let layout_is = c.take_body-body.ensures.layout ∙ c.set_read.ensures.layout in
     c.deref_mut.ensures.len ∙ (size ∙ ap (λ s. (spot s chunk).payload_size) (sym layout_is))
 
@@ -89,24 +89,24 @@ learn-requires-clause-content c =
     let complete : HasState seen.word.0 (spot self.layout chunk).place Complete = subst (λ (s : Spot). HasState seen.word.0 s.place Complete) c.spot-place.ensures.spot
     (subst (HasState seen.word.0 at.place) (same_true the_type (search rules) _ _ (not_false _ _ c.if-ne.false c.ne.ensures)) c.state.ensures.bits) in
     let inside_w : place < length self.layout.writers = omega arith in
-    let found = ready_found self.layout self.words.items self.slots.items self.seat.me.0 self.kept place chunk header c.requires.chunk
+    let found = ready_found self.layout self.words.items self.slots.items self.told.world self.kept place chunk header c.requires.chunk
     (subst (λ w. HasState w (spot self.layout chunk).place Complete) c.peek-seen.ensures.word complete) c.peek-seen.ensures.fields (let is = c.if-header-writer.false in omega arith) in
-    let id_is : header.chunk_id ≡ (taken_of self.seat.me.0.service place).count = c.if-header-id.false ∙ c.requires.id in
-    let inside_c : chunk < length self.seat.me.0.chunks = let many = known.chunks_inside self.layout self.words.items self.slots.items self.seat.me.0 self.kept in omega (arith, many) in
-    let reading = taking.is_reading self.layout self.slots.items self.seat.me.0 place chunk header.chunk_id head found c.set_read.new.self.seat.me.0 seen.word.0 header inside_c c.set_read.ensures.world in
+    let id_is : header.chunk_id ≡ (taken_of self.told.world.service place).count = c.if-header-id.false ∙ c.requires.id in
+    let inside_c : chunk < length self.told.world.chunks = let many = known.chunks_inside self.layout self.words.items self.slots.items self.told.world self.kept in omega (arith, many) in
+    let reading = taking.is_reading self.layout self.slots.items self.told.world place chunk header.chunk_id head found c.set_read.new.self.told.world seen.word.0 header inside_c c.set_read.ensures.world in
     let taken = c.take_body-body.result in
     let was_there : (stored_at self.slots.items chunk).body ≡ Some taken = sym (ap (λ (l : List Stored). (stored_at l chunk).body) c.set_read.ensures.slots) ∙ c.take_body-body.ensures.body in
-    let size = taking.body_size self.layout self.slots.items self.seat.me.0 place chunk header.chunk_id head found taken was_there in
+    let size = taking.body_size self.layout self.slots.items self.told.world place chunk header.chunk_id head found taken was_there in
     let full : CommitBody = record { payload = with_items taken.payload c.load_taken.new.into; patches = taken.patches; target = taken.target } in
     let many : length c.load_taken.new.into ≡ (spot self.layout chunk).payload_size = c.load_taken.ensures.size ∙ (c.deref_mut.ensures.len ∙ size) in
     let items_are : full.payload.items ≡ c.load_taken.new.into = with_items_is taken.payload c.load_taken.new.into (c.load_taken.ensures.size ∙ c.deref_mut.ensures.len) in
     let words_are = c.take_body-body.ensures.words ∙ ap (λ (l : List Stored). (stored_at l chunk).words) c.set_read.ensures.slots in
-    let content = taking.is_content self.layout self.slots.items self.seat.me.0 place chunk header.chunk_id head found taken full was_there (ap (λ (l : List ℕ). length l) items_are ∙ many)
+    let content = taking.is_content self.layout self.slots.items self.told.world place chunk header.chunk_id head found taken full was_there (ap (λ (l : List ℕ). length l) items_are ∙ many)
     (λ j below. ap (λ (l : List ℕ). byte_in l j) items_are ∙ (c.load_taken.ensures.bytes j (subst (λ (l : List ℕ). j < length l) items_are below) ∙ ap (λ (l : List ℕ). byte_at l j) words_are)) refl refl in
-    let between = taking.taken_between self.layout self.seat.me.0 c.set_read.new.self.seat.me.0 place chunk seen.word.0 header c.requires.seat inside_w c.set_read.ensures.world in
-    let read = taking.reads_content self.seat.me.0 c.set_read.new.self.seat.me.0 place chunk seen.word.0 header.chunk_id header (content_of place header.chunk_id head full) inside_c c.set_read.ensures.world content in
+    let between = taking.taken_between self.layout self.told.world c.set_read.new.self.told.world place chunk seen.word.0 header c.requires.seat inside_w c.set_read.ensures.world in
+    let read = taking.reads_content self.told.world c.set_read.new.self.told.world place chunk seen.word.0 header.chunk_id header (content_of place header.chunk_id head full) inside_c c.set_read.ensures.world content in
     subst (λ (w : World). ∥ status w chunk ≡ Reading place (length (taken_of w.service place).contents) (content_of place header.chunk_id head full) ∥₁) (sym c.take_body-body.ensures.world)
-    (subst (λ i. ∥ status c.set_read.new.self.seat.me.0 chunk ≡ Reading place i (content_of place header.chunk_id head full) ∥₁) (id_is ∙ sym between.1) read)
+    (subst (λ i. ∥ status c.set_read.new.self.told.world chunk ≡ Reading place i (content_of place header.chunk_id head full) ∥₁) (id_is ∙ sym between.1) read)
 
 pub returns-clause-taken : goal.returns-clause-taken
 returns-clause-taken c =
@@ -116,22 +116,22 @@ returns-clause-taken c =
     let complete : HasState seen.word.0 (spot self.layout chunk).place Complete = subst (λ (s : Spot). HasState seen.word.0 s.place Complete) c.spot-place.ensures.spot
     (subst (HasState seen.word.0 at.place) (same_true the_type (search rules) _ _ (not_false _ _ c.if-ne.false c.ne.ensures)) c.state.ensures.bits) in
     let inside_w : place < length self.layout.writers = omega arith in
-    let found = ready_found self.layout self.words.items self.slots.items self.seat.me.0 self.kept place chunk header c.requires.chunk
+    let found = ready_found self.layout self.words.items self.slots.items self.told.world self.kept place chunk header c.requires.chunk
     (subst (λ w. HasState w (spot self.layout chunk).place Complete) c.peek-seen.ensures.word complete) c.peek-seen.ensures.fields (let is = c.if-header-writer.false in omega arith) in
-    let id_is : header.chunk_id ≡ (taken_of self.seat.me.0.service place).count = c.if-header-id.false ∙ c.requires.id in
-    let inside_c : chunk < length self.seat.me.0.chunks = let many = known.chunks_inside self.layout self.words.items self.slots.items self.seat.me.0 self.kept in omega (arith, many) in
-    let reading = taking.is_reading self.layout self.slots.items self.seat.me.0 place chunk header.chunk_id head found c.set_read.new.self.seat.me.0 seen.word.0 header inside_c c.set_read.ensures.world in
+    let id_is : header.chunk_id ≡ (taken_of self.told.world.service place).count = c.if-header-id.false ∙ c.requires.id in
+    let inside_c : chunk < length self.told.world.chunks = let many = known.chunks_inside self.layout self.words.items self.slots.items self.told.world self.kept in omega (arith, many) in
+    let reading = taking.is_reading self.layout self.slots.items self.told.world place chunk header.chunk_id head found c.set_read.new.self.told.world seen.word.0 header inside_c c.set_read.ensures.world in
     let taken = c.take_body-body.result in
     let was_there : (stored_at self.slots.items chunk).body ≡ Some taken = sym (ap (λ (l : List Stored). (stored_at l chunk).body) c.set_read.ensures.slots) ∙ c.take_body-body.ensures.body in
-    let size = taking.body_size self.layout self.slots.items self.seat.me.0 place chunk header.chunk_id head found taken was_there in
+    let size = taking.body_size self.layout self.slots.items self.told.world place chunk header.chunk_id head found taken was_there in
     let full : CommitBody = record { payload = with_items taken.payload c.load_taken.new.into; patches = taken.patches; target = taken.target } in
     let many : length c.load_taken.new.into ≡ (spot self.layout chunk).payload_size = c.load_taken.ensures.size ∙ (c.deref_mut.ensures.len ∙ size) in
     let items_are : full.payload.items ≡ c.load_taken.new.into = with_items_is taken.payload c.load_taken.new.into (c.load_taken.ensures.size ∙ c.deref_mut.ensures.len) in
     let words_are = c.take_body-body.ensures.words ∙ ap (λ (l : List Stored). (stored_at l chunk).words) c.set_read.ensures.slots in
-    let content = taking.is_content self.layout self.slots.items self.seat.me.0 place chunk header.chunk_id head found taken full was_there (ap (λ (l : List ℕ). length l) items_are ∙ many)
+    let content = taking.is_content self.layout self.slots.items self.told.world place chunk header.chunk_id head found taken full was_there (ap (λ (l : List ℕ). length l) items_are ∙ many)
     (λ j below. ap (λ (l : List ℕ). byte_in l j) items_are ∙ (c.load_taken.ensures.bytes j (subst (λ (l : List ℕ). j < length l) items_are below) ∙ ap (λ (l : List ℕ). byte_at l j) words_are)) refl refl in
-    let between = taking.taken_between self.layout self.seat.me.0 c.set_read.new.self.seat.me.0 place chunk seen.word.0 header c.requires.seat inside_w c.set_read.ensures.world in
-    let middle = c.take_body-body.new.self.seat.me.0 in let next = c.learn.new.self.seat.me.0 in
+    let between = taking.taken_between self.layout self.told.world c.set_read.new.self.told.world place chunk seen.word.0 header c.requires.seat inside_w c.set_read.ensures.world in
+    let middle = c.take_body-body.new.self.told.world in let next = c.learn.new.self.told.world in
     let full_content = content_of place header.chunk_id head full in
     let took = c.take_body-body.ensures.world ∙ c.set_read.ensures.world in
     record {
@@ -143,7 +143,7 @@ returns-clause-taken c =
       count_fits = c.peek-seen.ensures.count_fits;
       flags_fit = c.peek-seen.ensures.flags_fit;
       whole = size;
-      view = taking.taken_service self.seat.me.0 middle next place chunk seen.word.0 header full_content took c.learn.ensures.world;
+      view = taking.taken_service self.told.world middle next place chunk seen.word.0 header full_content took c.learn.ensures.world;
     }
 
 pub returns-clause-step : goal.returns-clause-step
@@ -154,31 +154,31 @@ returns-clause-step c =
     let complete : HasState seen.word.0 (spot self.layout chunk).place Complete = subst (λ (s : Spot). HasState seen.word.0 s.place Complete) c.spot-place.ensures.spot
     (subst (HasState seen.word.0 at.place) (same_true the_type (search rules) _ _ (not_false _ _ c.if-ne.false c.ne.ensures)) c.state.ensures.bits) in
     let inside_w : place < length self.layout.writers = omega arith in
-    let found = ready_found self.layout self.words.items self.slots.items self.seat.me.0 self.kept place chunk header c.requires.chunk
+    let found = ready_found self.layout self.words.items self.slots.items self.told.world self.kept place chunk header c.requires.chunk
     (subst (λ w. HasState w (spot self.layout chunk).place Complete) c.peek-seen.ensures.word complete) c.peek-seen.ensures.fields (let is = c.if-header-writer.false in omega arith) in
-    let id_is : header.chunk_id ≡ (taken_of self.seat.me.0.service place).count = c.if-header-id.false ∙ c.requires.id in
-    let inside_c : chunk < length self.seat.me.0.chunks = let many = known.chunks_inside self.layout self.words.items self.slots.items self.seat.me.0 self.kept in omega (arith, many) in
-    let reading = taking.is_reading self.layout self.slots.items self.seat.me.0 place chunk header.chunk_id head found c.set_read.new.self.seat.me.0 seen.word.0 header inside_c c.set_read.ensures.world in
+    let id_is : header.chunk_id ≡ (taken_of self.told.world.service place).count = c.if-header-id.false ∙ c.requires.id in
+    let inside_c : chunk < length self.told.world.chunks = let many = known.chunks_inside self.layout self.words.items self.slots.items self.told.world self.kept in omega (arith, many) in
+    let reading = taking.is_reading self.layout self.slots.items self.told.world place chunk header.chunk_id head found c.set_read.new.self.told.world seen.word.0 header inside_c c.set_read.ensures.world in
     let taken = c.take_body-body.result in
     let was_there : (stored_at self.slots.items chunk).body ≡ Some taken = sym (ap (λ (l : List Stored). (stored_at l chunk).body) c.set_read.ensures.slots) ∙ c.take_body-body.ensures.body in
-    let size = taking.body_size self.layout self.slots.items self.seat.me.0 place chunk header.chunk_id head found taken was_there in
+    let size = taking.body_size self.layout self.slots.items self.told.world place chunk header.chunk_id head found taken was_there in
     let full : CommitBody = record { payload = with_items taken.payload c.load_taken.new.into; patches = taken.patches; target = taken.target } in
     let many : length c.load_taken.new.into ≡ (spot self.layout chunk).payload_size = c.load_taken.ensures.size ∙ (c.deref_mut.ensures.len ∙ size) in
     let items_are : full.payload.items ≡ c.load_taken.new.into = with_items_is taken.payload c.load_taken.new.into (c.load_taken.ensures.size ∙ c.deref_mut.ensures.len) in
     let words_are = c.take_body-body.ensures.words ∙ ap (λ (l : List Stored). (stored_at l chunk).words) c.set_read.ensures.slots in
-    let content = taking.is_content self.layout self.slots.items self.seat.me.0 place chunk header.chunk_id head found taken full was_there (ap (λ (l : List ℕ). length l) items_are ∙ many)
+    let content = taking.is_content self.layout self.slots.items self.told.world place chunk header.chunk_id head found taken full was_there (ap (λ (l : List ℕ). length l) items_are ∙ many)
     (λ j below. ap (λ (l : List ℕ). byte_in l j) items_are ∙ (c.load_taken.ensures.bytes j (subst (λ (l : List ℕ). j < length l) items_are below) ∙ ap (λ (l : List ℕ). byte_at l j) words_are)) refl refl in
-    let between = taking.taken_between self.layout self.seat.me.0 c.set_read.new.self.seat.me.0 place chunk seen.word.0 header c.requires.seat inside_w c.set_read.ensures.world in
-    let middle = c.take_body-body.new.self.seat.me.0 in let next = c.learn.new.self.seat.me.0 in
+    let between = taking.taken_between self.layout self.told.world c.set_read.new.self.told.world place chunk seen.word.0 header c.requires.seat inside_w c.set_read.ensures.world in
+    let middle = c.take_body-body.new.self.told.world in let next = c.learn.new.self.told.world in
     let full_content = content_of place header.chunk_id head full in
     let took = c.take_body-body.ensures.world ∙ c.set_read.ensures.world in
     let layout_is = c.learn.ensures.layout ∙ (c.take_body-body.ensures.layout ∙ c.set_read.ensures.layout) in
-    let service_is = taking.taken_service self.seat.me.0 middle next place chunk seen.word.0 header full_content took c.learn.ensures.world in
-    let writers_are = taking.taken_writers self.seat.me.0 middle next place chunk seen.word.0 header full_content took c.learn.ensures.world in
+    let service_is = taking.taken_service self.told.world middle next place chunk seen.word.0 header full_content took c.learn.ensures.world in
+    let writers_are = taking.taken_writers self.told.world middle next place chunk seen.word.0 header full_content took c.learn.ensures.world in
     record {
       setup_stays = layout_is;
-      seat_stays = resting.serves_stays self.layout _ _ next.service layout_is service_is (taking.taken_serves self.layout self.seat.me.0.service place chunk seen.word.0 header full_content c.requires.seat inside_w);
-      writers_stay = λ other there. resting.all_stay self.layout _ self.seat.me.0 next other.place layout_is writers_are there;
+      seat_stays = resting.serves_stays self.layout _ _ next.service layout_is service_is (taking.taken_serves self.layout self.told.world.service place chunk seen.word.0 header full_content c.requires.seat inside_w);
+      writers_stay = λ other there. resting.all_stay self.layout _ self.told.world next other.place layout_is writers_are there;
       reads_stay = λ takes. takes;
     }
 
@@ -190,36 +190,36 @@ returns-clause-told_taken c = λ world e.
     let complete : HasState seen.word.0 (spot self.layout chunk).place Complete = subst (λ (s : Spot). HasState seen.word.0 s.place Complete) c.spot-place.ensures.spot
     (subst (HasState seen.word.0 at.place) (same_true the_type (search rules) _ _ (not_false _ _ c.if-ne.false c.ne.ensures)) c.state.ensures.bits) in
     let inside_w : place < length self.layout.writers = omega arith in
-    let found = ready_found self.layout self.words.items self.slots.items self.seat.me.0 self.kept place chunk header c.requires.chunk
+    let found = ready_found self.layout self.words.items self.slots.items self.told.world self.kept place chunk header c.requires.chunk
     (subst (λ w. HasState w (spot self.layout chunk).place Complete) c.peek-seen.ensures.word complete) c.peek-seen.ensures.fields (let is = c.if-header-writer.false in omega arith) in
-    let id_is : header.chunk_id ≡ (taken_of self.seat.me.0.service place).count = c.if-header-id.false ∙ c.requires.id in
-    let inside_c : chunk < length self.seat.me.0.chunks = let many = known.chunks_inside self.layout self.words.items self.slots.items self.seat.me.0 self.kept in omega (arith, many) in
-    let reading = taking.is_reading self.layout self.slots.items self.seat.me.0 place chunk header.chunk_id head found c.set_read.new.self.seat.me.0 seen.word.0 header inside_c c.set_read.ensures.world in
+    let id_is : header.chunk_id ≡ (taken_of self.told.world.service place).count = c.if-header-id.false ∙ c.requires.id in
+    let inside_c : chunk < length self.told.world.chunks = let many = known.chunks_inside self.layout self.words.items self.slots.items self.told.world self.kept in omega (arith, many) in
+    let reading = taking.is_reading self.layout self.slots.items self.told.world place chunk header.chunk_id head found c.set_read.new.self.told.world seen.word.0 header inside_c c.set_read.ensures.world in
     let taken = c.take_body-body.result in
     let was_there : (stored_at self.slots.items chunk).body ≡ Some taken = sym (ap (λ (l : List Stored). (stored_at l chunk).body) c.set_read.ensures.slots) ∙ c.take_body-body.ensures.body in
-    let size = taking.body_size self.layout self.slots.items self.seat.me.0 place chunk header.chunk_id head found taken was_there in
+    let size = taking.body_size self.layout self.slots.items self.told.world place chunk header.chunk_id head found taken was_there in
     let full : CommitBody = record { payload = with_items taken.payload c.load_taken.new.into; patches = taken.patches; target = taken.target } in
     let many : length c.load_taken.new.into ≡ (spot self.layout chunk).payload_size = c.load_taken.ensures.size ∙ (c.deref_mut.ensures.len ∙ size) in
     let items_are : full.payload.items ≡ c.load_taken.new.into = with_items_is taken.payload c.load_taken.new.into (c.load_taken.ensures.size ∙ c.deref_mut.ensures.len) in
     let words_are = c.take_body-body.ensures.words ∙ ap (λ (l : List Stored). (stored_at l chunk).words) c.set_read.ensures.slots in
-    let content = taking.is_content self.layout self.slots.items self.seat.me.0 place chunk header.chunk_id head found taken full was_there (ap (λ (l : List ℕ). length l) items_are ∙ many)
+    let content = taking.is_content self.layout self.slots.items self.told.world place chunk header.chunk_id head found taken full was_there (ap (λ (l : List ℕ). length l) items_are ∙ many)
     (λ j below. ap (λ (l : List ℕ). byte_in l j) items_are ∙ (c.load_taken.ensures.bytes j (subst (λ (l : List ℕ). j < length l) items_are below) ∙ ap (λ (l : List ℕ). byte_at l j) words_are)) refl refl in
-    let between = taking.taken_between self.layout self.seat.me.0 c.set_read.new.self.seat.me.0 place chunk seen.word.0 header c.requires.seat inside_w c.set_read.ensures.world in
-    let middle = c.take_body-body.new.self.seat.me.0 in let next = c.learn.new.self.seat.me.0 in
+    let between = taking.taken_between self.layout self.told.world c.set_read.new.self.told.world place chunk seen.word.0 header c.requires.seat inside_w c.set_read.ensures.world in
+    let middle = c.take_body-body.new.self.told.world in let next = c.learn.new.self.told.world in
     let full_content = content_of place header.chunk_id head full in
     let took = c.take_body-body.ensures.world ∙ c.set_read.ensures.world in
-    let same : self.seat.me.0 ≡ world = cc in
-    let ready = subst (λ i. ∥ status self.seat.me.0 chunk ≡ Ready place i full_content ∥₁) c.if-header-id.false content in
+    let same : self.told.world ≡ world = cc in
+    let ready = subst (λ i. ∥ status self.told.world chunk ≡ Ready place i full_content ∥₁) c.if-header-id.false content in
     subst (λ (w : World). ∥ status w chunk ≡ Ready place c.args.id full_content ∥₁ × (Some next ≡ Some (served w next.service chunk (Reading place c.args.id full_content)))) same (
       ready,
-      ap (λ (w : World). Some w) (taking.taken_world self.seat.me.0 middle next place chunk seen.word.0 c.args.id header full_content took c.learn.ensures.world ready),
+      ap (λ (w : World). Some w) (taking.taken_world self.told.world middle next place chunk seen.word.0 c.args.id header full_content took c.learn.ensures.world ready),
     )
 
 pub returns-then-header-writer-clause-told_other : goal.returns-then-header-writer-clause-told_other
 returns-then-header-writer-clause-told_other c = λ world e.
     let self = c.args.self.now in let place = c.args.writer - 1 in let chunk = c.args.chunk in let seen = c.peek-seen.result in let header = seen.header in
-    let next = c.note_look.new.self.seat.me.0 in
-    let same : self.seat.me.0 ≡ world = cc in
+    let next = c.note_look.new.self.told.world in
+    let same : self.told.world ≡ world = cc in
     let back : c.args.writer ≡ place + 1 = omega arith in
     let at_is : c.spot-place.result.place ≡ (spot self.layout chunk).place = ap (λ (s : Spot). s.place) c.spot-place.ensures.spot in
     let other : HasState seen.word.0 (spot self.layout chunk).place Complete → header.writer_id ≡ place + 1 → header.chunk_id ≡ c.args.id → ⊥ = λ complete writer id_is.
@@ -229,6 +229,6 @@ returns-then-header-writer-clause-told_other c = λ world e.
       | then-header-writer-via-else-header-writer+then-header-id w ↦ w.if-header-id.true id_is
     ] in
     subst (λ (w : World). ((content : Content) → status w chunk ≡ Ready place c.args.id content → ⊥) × (Some next ≡ Some (serviced w next.service))) same (
-      other_found self.layout self.words.items self.slots.items self.seat.me.0 self.kept place chunk c.args.id seen.word.0 header c.requires.chunk c.peek-seen.ensures.word c.peek-seen.ensures.fields other,
-      ap (λ (w : World). Some w) (c.note_look.ensures.world ∙ ap (λ service. serviced self.seat.me.0 service) (sym (ap (λ (w : World). w.service) c.note_look.ensures.world))),
+      other_found self.layout self.words.items self.slots.items self.told.world self.kept place chunk c.args.id seen.word.0 header c.requires.chunk c.peek-seen.ensures.word c.peek-seen.ensures.fields other,
+      ap (λ (w : World). Some w) (c.note_look.ensures.world ∙ ap (λ service. serviced self.told.world service) (sym (ap (λ (w : World). w.service) c.note_look.ensures.world))),
     )

@@ -7,7 +7,7 @@ use Rattle.trace_writer_rows.proofs.collector.Collector.try_one.Goals as goal
 pub release-requires-clause-reading : goal.release-requires-clause-reading
 release-requires-clause-reading c =
     let taken = c.in-Ok.ensures.taken in
-    takes_reads c.args.table.now.seat.me.0.service c.take.new.self.seat.me.0.service c.args.chunk c.in-Ok.token.chunk
+    takes_reads c.args.table.now.told.world.service c.take.new.self.told.world.service c.args.chunk c.in-Ok.token.chunk
     taken.word (packed c.in-Ok.token.header) 0 _ (taken_content 0 c.in-Ok.token) taken.view taken.chunk_is
 
 pub returns-clause-leaves : goal.returns-clause-leaves
