@@ -5,6 +5,8 @@ ghost use Rattle.std.proofs.Math.Logic.{∥∥₁_map, ∥∥₁_elim};
 ghost use Rattle.std.proofs.Math.Nat.{ℕ_set};
 ghost use Rattle.std.specs.Coded.{le_prop};
 ghost use mathlib.Core.Option.{some-injective};
+ghost use Rattle.trace_base.specs.declared.limits.TheConstants.{MAX_CHUNKS_PER_PAGE};
+ghost use Rattle.page_geometry.specs.PageBits.{Claims, KeepsOthers};
 ghost use Rattle.chunk_plain.specs.Views.{At, BegunChunk, Completed};
 ghost use Rattle.chunk_plain.specs.Drafts.{StillHas};
 ghost use Rattle.chunk_plain.specs.Plain.{IsKept};
@@ -102,7 +104,7 @@ impl Words for PlainTable {
             make_step(&mut self.told, &step);
             return None;
         }
-        self.words[page] = found | claim_mask(spot.place, spot.layout);
+        self.words[page] = with_claim(found, spot.place, spot.layout);
         make_step(&mut self.told, &step);
         Some(Claimed { chunk })
     }
@@ -231,4 +233,15 @@ impl Words for PlainTable {
         };
         make_step(&mut self.told, &step);
     }
+}
+
+/// The page word behind a claim that won. It isn't inlined, so that a claim in vain shifts no mask.
+#[inline(never)]
+fn with_claim(found: u64, place: u8, layout: u8) -> u64
+    requires place { place < MAX_CHUNKS_PER_PAGE }
+    requires layout { layout < 8 }
+    ensures step { Claims found result place layout }
+    ensures others { KeepsOthers found result place }
+{
+    found | claim_mask(place, layout)
 }

@@ -1,6 +1,6 @@
 use Rattle.std.proofs.Common.{refl}
 use Rattle.chunk_plain.proofs.Resting as resting
-use Rattle.std.proofs.Common.{◌≡◌, ◌<◌, ◌∙◌, get_or, length, bit_or, ap, subst, rules, true, false, not}
+use Rattle.std.proofs.Common.{◌≡◌, ◌<◌, ◌∙◌, get_or, length, ap, subst, rules, true, false, not}
 use Rattle.std.proofs.lemmas.Grind.{get_or_default_zero}
 use Rattle.chunk_plain.proofs.Known as known
 use Rattle.chunk_plain.proofs.plain_words.PlainTableWords.claim_try.Goals as goal
@@ -27,8 +27,8 @@ invariant_of-self-2-clause-kept c = let self = c.args.self.now in
     let inside : at.page < length self.words.items = search rules in
     let inside_c : c.args.chunk < length self.layout.spots = search rules in
     let is : found ≡ get_or self.words.items at.page 0 = c.index-found.ensures ∙ get_or_default_zero self.words.items at.page found inside in
-    known.claim_step self.layout self.words.items self.slots.items self.told.world self.kept c.make_step-2.new.told.world c.args.seat.now.place c.args.chunk found (bit_or found c.claim_mask.result) c.claimed-claimed.result at c.spot-spot.ensures.spot self.laid c.requires.seat.inside inside_c is
-    (c.claim_mask.ensures.step found) (c.claim_mask.ensures.others found) c.claimed-claimed.ensures c.make_step-2.ensures.world
+    known.claim_step self.layout self.words.items self.slots.items self.told.world self.kept c.make_step-2.new.told.world c.args.seat.now.place c.args.chunk found c.with_claim.result c.claimed-claimed.result at c.spot-spot.ensures.spot self.laid c.requires.seat.inside inside_c is
+    c.with_claim.ensures.step c.with_claim.ensures.others c.claimed-claimed.ensures c.make_step-2.ensures.world
 
 pub returns-then-claimed-clause-lost : goal.returns-then-claimed-clause-lost
 returns-then-claimed-clause-lost c =
