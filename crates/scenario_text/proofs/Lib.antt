@@ -22,3 +22,4 @@ pub mod ShortLemmas
 pub mod ChunksAskedLemmas
 pub mod PacketLemmas
 mod KeptLemmas
+mod OwnLineLemmas

@@ -2,7 +2,7 @@
 -- depths and lengths are those of what the writer has been asked to write so far. Which calls a writer accepts is this
 -- profile's: protobuf's field numbers, none of the service's own fields at the top level, and the limits of a packet.
 use Rattle.std.specs.Prelude.{◌≡◌, ℕ, ◌+◌, ◌*◌, ◌<◌, ◌≤◌, ◌==◌, All, Bool, true, false, List, [], ◌∷◌, ◌++◌, length, map, Some, slice_get, ⊤, if◌then◌else◌}
-use Rattle.std.specs.List.{flat_map, list_any}
+use Rattle.std.specs.List.{filter, flat_map, list_any}
 use Rattle.trace_base.specs.declared.limits.TheConstants.{MAX_NESTING, MAX_PACKET_LEN}
 use Rattle.trace_base.specs.declared.policy.WriterSpec.{WriterSpec}
 use Rattle.trace_base.specs.Reserved.{is_reserved}
@@ -37,6 +37,10 @@ is_of number (line.Unnest writer) = number == writer
 is_of number (line.End writer) = number == writer
 is_of number (line.Flush writer) = number == writer
 is_of number other = false
+
+-- what the lines of the writer with this number have done
+abbrev pub own_kinds : ℕ → List NumberedLine → List LineKind
+own_kinds number lines = filter (is_of number) (map (λ line. line.what) lines)
 
 -- the lines behind some that aren't the writer's
 pub record PassesOver (number : ℕ) (lines behind : List NumberedLine) : Type 0 where

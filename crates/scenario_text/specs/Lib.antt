@@ -20,3 +20,4 @@ pub mod Trees
 pub mod View
 pub mod KeptLines
 pub mod PacketLines
+pub mod OwnLines

@@ -16,6 +16,7 @@ pub mod lines;
 mod number;
 pub mod numeral;
 mod open_packet;
+mod own_lines;
 mod packet_line;
 pub mod pieces;
 mod playing;
@@ -32,6 +33,7 @@ pub use laws::{
 };
 pub use line_list::{LineList, LineWalk};
 pub use lines::read_scenario;
+pub use own_lines::{LinesByWriter, OwnWalk};
 pub use printing::refusal_line;
 pub use reason::{Reason, ScenarioFault};
 pub use scenario::{BufferLine, LineKind, NumberedLine, ProducerLine, Scenario};

@@ -2,11 +2,12 @@
 //! another in one list of bytes, so that memory isn't taken anew for each line.
 ghost use Rattle.std.specs.Prelude.{◌≡◌, ℕ, ◌==◌, true, false, List, ◌∷◌, ◌++◌, [], length, IfSome, IfNone, OnOk, OnErr};
 ghost use Rattle.scenario_text.specs.KeptLines as kept;
-ghost use Rattle.scenario_text.specs.KeptLines.{kind_of, HasOwn};
+ghost use Rattle.scenario_text.specs.KeptLines.{kind_of, lines_of, AreLaid, HasOwn};
 ghost use Rattle.scenario_text.specs.declared.scenario.LineKind.TheVariants as kinds;
-ghost use Rattle.scenario_text.specs.Accepted.{is_of, PassesOver};
+ghost use Rattle.scenario_text.specs.Accepted.{is_of, own_kinds, PassesOver};
 ghost use Rattle.scenario_text.specs.declared.scenario.NumberedLine.{NumberedLine};
 
+use crate::own_lines::LinesByWriter;
 use crate::scenario::{LineKind, NumberedLine};
 use field_tree::Fields;
 use std::alloc::{AllocError, Global};
@@ -40,7 +41,7 @@ pub(crate) struct KeptLine {
 }
 
 /// How many bytes are the line's own.
-fn own_len(what: KeptKind) -> usize
+pub(crate) fn own_len(what: KeptKind) -> usize
     ensures { result ≡ kept.own_len what }
 {
     match what {
@@ -243,6 +244,14 @@ impl LineList {
         self.push_head(KeptLine { line, what }, own)
     }
 
+    /// The lines by their writers, of which there are so many. Where memory runs out, each writer's stand
+    /// among all lines.
+    pub fn by_writers(&self, alloc: Global, writers: u16) -> LinesByWriter<'_>
+        ensures { result ≡ self.now }
+    {
+        LinesByWriter::new(alloc, &self.heads, &self.code, writers)
+    }
+
     /// The lines, one after another.
     pub fn walk(&self) -> LineWalk<'_>
         ensures { result ≡ self.now }
@@ -274,6 +283,14 @@ impl<'c> Model for LineWalk<'c> {
 }
 
 impl<'c> LineWalk<'c> {
+    /// The lines of these heads, whose bytes these are.
+    pub(crate) fn over(heads: &'c [KeptLine], code: &'c [u8]) -> LineWalk<'c>
+        requires { AreLaid heads.now code.now }
+        ensures { result ≡ lines_of heads.now code.now }
+    {
+        LineWalk { heads, code }
+    }
+
     /// The next line.
     pub fn next(&mut self) -> Option<NumberedLine<'c>>
         ensures first { IfSome result (λ line. self.old ≡ line ∷ self.new) }
@@ -319,5 +336,16 @@ impl<'c> LineWalk<'c> {
     {
         while self.pass_other(number) {}
         self.next()
+    }
+
+    /// What that line has done. The lines in front of it are passed over.
+    pub(crate) fn next_kind_of(&mut self, number: u16) -> Option<LineKind<'c>>
+        ensures first { IfSome result (λ kind. own_kinds number self.old ≡ kind ∷ own_kinds number self.new) }
+        ensures none { IfNone result ((own_kinds number self.old ≡ []) × (own_kinds number self.new ≡ [])) }
+    {
+        match self.next_of(number) {
+            Some(line) => Some(line.what),
+            None => None,
+        }
     }
 }
