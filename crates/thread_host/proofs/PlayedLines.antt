@@ -1,16 +1,15 @@
 -- What a writer's lines ask of it, one by one.
-use Rattle.std.proofs.Common.{◌≡◌, ℕ, ◌==◌, Bool, true, false, List, [], ◌∷◌, ◌++◌, All, refl, sym, ap, subst, append-nil, append_assoc, ◌∙◌}
+use Rattle.std.proofs.Common.{◌≡◌, ℕ, ◌==◌, Bool, true, false, List, [], ◌∷◌, ◌++◌, refl, sym, ap, subst, append-nil, append_assoc, ◌∙◌}
 use Rattle.std.proofs.lemmas.Grind.{flat_map-append}
-use Rattle.std.proofs.lemmas.List.Elements.{All-head, All-tail}
-use Rattle.std.specs.Prelude.{if◌then◌else◌}
+use Rattle.std.specs.Prelude.{cond, if◌then◌else◌}
+use Rattle.std.specs.List.{flat_map}
 use Rattle.atomic_table.specs.Seated.{TableId}
 use Rattle.trace_model.specs.Calls.{Call}
 use Rattle.chunk_words.specs.declared.host.HostTable.{HostTable}
 use Rattle.scenario_text.specs.declared.scenario.LineKind.{LineKind}
 use Rattle.scenario_text.specs.declared.scenario.LineKind.TheVariants as line
 use Rattle.scenario_text.specs.declared.scenario.NumberedLine.{NumberedLine}
-use Rattle.scenario_text.specs.Accepted.{is_of, line_calls, calls_asked, PassesOver}
-use Rattle.replay_host.proofs.LineLemmas.{calls_more}
+use Rattle.scenario_text.specs.Accepted.{is_of, line_calls, calls_asked, own_kinds}
 use Rattle.thread_writer.specs.declared.helper.Asks.{Asks}
 use Rattle.thread_writer.specs.declared.writer.TraceWriter.{TraceWriter}
 use Rattle.thread_host.specs.Playing.{calls_in, IsGoing, WasAsked}
@@ -62,68 +61,45 @@ other_calls number (line.Close producer) is = refl
 other_calls number (line.Read buffer limit) is = refl
 other_calls number line.Request is = refl
 
--- ---- lines that are passed over
+-- ---- the lines of a writer
 
-abbrev another : ℕ → NumberedLine → Type 0
-another number line = is_of number line.what ≡ false
+own_line : (number : ℕ) (line : NumberedLine) (lines : List NumberedLine) (own : Bool) → is_of number line.what ≡ own
+    → flat_map calls_in (own_kinds number lines) ≡ calls_asked number lines
+    → flat_map calls_in (cond (is_of number line.what) (line.what ∷ own_kinds number lines) (own_kinds number lines))
+    ≡ line_calls number line.what ++ calls_asked number lines
+own_line number line lines true is behind =
+    ap (λ (b : Bool). flat_map calls_in (cond b (line.what ∷ own_kinds number lines) (own_kinds number lines))) is
+    ∙ ap (λ (calls : List Call). calls ++ flat_map calls_in (own_kinds number lines)) (sym (own_calls number line.what is))
+    ∙ ap (λ (calls : List Call). line_calls number line.what ++ calls) behind
+own_line number line lines false is behind =
+    ap (λ (b : Bool). flat_map calls_in (cond b (line.what ∷ own_kinds number lines) (own_kinds number lines))) is
+    ∙ behind
+    ∙ ap (λ (calls : List Call). calls ++ calls_asked number lines) (sym (other_calls number line.what is))
 
-others_ask_none : (number : ℕ) (lines : List NumberedLine) → All (another number) lines → calls_asked number lines ≡ []
-others_ask_none number [] others = refl
-others_ask_none number (line ∷ lines) others =
-    ap (λ (calls : List Call). calls ++ calls_asked number lines) (other_calls number line.what (All-head (another number) line lines others))
-    ∙ others_ask_none number lines (All-tail (another number) line lines others)
-
--- what comes behind them asks for all that is still to come
-pub asked_behind : (number : ℕ) (lines behind : List NumberedLine) → PassesOver number lines behind → calls_asked number lines ≡ calls_asked number behind
-asked_behind number lines behind passes =
-    ap (calls_asked number) (sym passes.all)
-    ∙ flat_map-append (λ (one : NumberedLine). line_calls number one.what) passes.passed behind
-    ∙ ap (λ (calls : List Call). calls ++ calls_asked number behind) (others_ask_none number passes.passed passes.others)
-
--- and they ask for nothing more than what stands before them
-pub asked_before : (number : ℕ) (before lines behind : List NumberedLine) (passes : PassesOver number lines behind)
-    → calls_asked number (before ++ passes.passed) ≡ calls_asked number before
-asked_before number before lines behind passes =
-    flat_map-append (λ (one : NumberedLine). line_calls number one.what) before passes.passed
-    ∙ ap (λ (calls : List Call). calls_asked number before ++ calls) (others_ask_none number passes.passed passes.others)
-    ∙ append-nil (calls_asked number before)
-
--- all lines are those before them, they, and those behind
-pub passed_all : (before lines behind all : List NumberedLine) (number : ℕ) (passes : PassesOver number lines behind)
-    → before ++ lines ≡ all → (before ++ passes.passed) ++ behind ≡ all
-passed_all before lines behind all number passes is =
-    append_assoc before passes.passed behind ∙ ap (λ (ls : List NumberedLine). before ++ ls) passes.all ∙ is
+-- they ask it for all that all lines do
+pub own_asked : (number : ℕ) (lines : List NumberedLine) → flat_map calls_in (own_kinds number lines) ≡ calls_asked number lines
+own_asked number [] = refl
+own_asked number (line ∷ lines) = own_line number line lines (is_of number line.what) refl (own_asked number lines)
 
 -- ---- the line that comes next
 
-module _ {H : Type 0} (helps : H → ℕ → Bool → H → Type 0) (of_table : H → TableId → Type 0) (table : HostTable) (number : ℕ) (line : NumberedLine) (others : List NumberedLine)
+module _ {H : Type 0} (helps : H → ℕ → Bool → H → Type 0) (of_table : H → TableId → Type 0) (table : HostTable) (kind : LineKind) (others : List LineKind)
     (help : Asks H) (writer : TraceWriter)
   where
-    pub line_next : (walk : List NumberedLine) → PassesOver number walk (line ∷ others) → (place : ℕ) (asked coming : List Call)
-        → IsGoing helps of_table table place asked (calls_asked number walk ++ coming) help writer
-        → IsGoing helps of_table table place asked (line_calls number line.what ++ (calls_asked number others ++ coming)) help writer
-    line_next walk passes place asked coming going =
+    pub line_next : (walk : List LineKind) → walk ≡ kind ∷ others → (place : ℕ) (asked coming : List Call)
+        → IsGoing helps of_table table place asked (flat_map calls_in walk ++ coming) help writer
+        → IsGoing helps of_table table place asked (calls_in kind ++ (flat_map calls_in others ++ coming)) help writer
+    line_next walk is place asked coming going =
         subst (λ (calls : List Call). IsGoing helps of_table table place asked calls help writer)
-        (append_assoc (line_calls number line.what) (calls_asked number others) coming)
-        (subst (λ (calls : List Call). IsGoing helps of_table table place asked (calls ++ coming) help writer)
-        (asked_behind number walk (line ∷ others) passes) going)
-
-    -- it is the writer's own
-    pub own_next : is_of number line.what ≡ true → (place : ℕ) (asked coming : List Call)
-        → IsGoing helps of_table table place asked (line_calls number line.what ++ (calls_asked number others ++ coming)) help writer
-        → IsGoing helps of_table table place asked (calls_in line.what ++ (calls_asked number others ++ coming)) help writer
-    own_next is place asked coming =
-        subst (λ (calls : List Call). IsGoing helps of_table table place asked (calls ++ (calls_asked number others ++ coming)) help writer) (own_calls number line.what is)
-
-    pub own_played : (left : Asks H) (after : TraceWriter) → is_of number line.what ≡ true
-        → WasAsked helps of_table table (calls_in line.what) help writer left after → WasAsked helps of_table table (line_calls number line.what) help writer left after
-    own_played left after is = subst (λ (calls : List Call). WasAsked helps of_table table calls help writer left after) (sym (own_calls number line.what is))
+        (append_assoc (calls_in kind) (flat_map calls_in others) coming)
+        (subst (λ (kinds : List LineKind). IsGoing helps of_table table place asked (flat_map calls_in kinds ++ coming) help writer) is going)
 
     -- the lines up to it were played
-    pub played_more : (before : List NumberedLine) (first : Asks H) (at_first : TraceWriter) (left : Asks H) (after : TraceWriter)
-        → WasAsked helps of_table table (calls_asked number before) first at_first help writer
-        → WasAsked helps of_table table (line_calls number line.what) help writer left after
-        → WasAsked helps of_table table (calls_asked number (before ++ line ∷ [])) first at_first left after
+    pub played_more : (before : List LineKind) (first : Asks H) (at_first : TraceWriter) (left : Asks H) (after : TraceWriter)
+        → WasAsked helps of_table table (flat_map calls_in before) first at_first help writer
+        → WasAsked helps of_table table (calls_in kind) help writer left after
+        → WasAsked helps of_table table (flat_map calls_in (before ++ kind ∷ [])) first at_first left after
     played_more before first at_first left after played asked =
-        subst (λ (calls : List Call). WasAsked helps of_table table calls first at_first left after) (sym (calls_more number before line))
-        (asked_both helps of_table table (calls_asked number before) (line_calls number line.what) first help left at_first writer after played asked)
+        subst (λ (calls : List Call). WasAsked helps of_table table calls first at_first left after)
+        (sym (flat_map-append calls_in before (kind ∷ []) ∙ ap (λ (calls : List Call). flat_map calls_in before ++ calls) (append-nil (calls_in kind))))
+        (asked_both helps of_table table (flat_map calls_in before) (calls_in kind) first help left at_first writer after played asked)

@@ -26,6 +26,7 @@ use trace_base::policy::WriterSpec;
 /// A table of chunks that threads share, its service with the reading pass, and room for what comes
 /// behind a run. The service is away only while a run goes on.
 pub struct Host {
+    pub(crate) alloc: Global,
     pub(crate) table: HostTable,
     pub(crate) service: Option<Service>,
     pub(crate) pass: ReadPass,
@@ -38,7 +39,7 @@ pub struct Host {
 
 impl Host {
     /// What runs the scenario, with its writers, of which nothing was asked. All memory that a run ever
-    /// needs is taken here.
+    /// needs is taken here; what it takes more only lets it find each writer's lines sooner.
     pub fn make(alloc: Global, scenario: &Scenario) -> Result<(Host, Vec<TraceWriter>), AllocError>
         requires scenario { IsScenario scenario.now }
         requires closes { ClosesNone scenario.now.lines }
@@ -58,6 +59,7 @@ impl Host {
         let mut writers = Vec::with_capacity(alloc, specs.len())?;
         fill_writers(&mut writers, &table, given, &specs, &producers);
         let host = Host {
+            alloc,
             table,
             service: Some(service),
             pass,
@@ -92,12 +94,15 @@ impl Host {
         let Some(service) = self.service.take() else {
             unreachable!()
         };
+        let many = u16::try_from(self.specs.len()).unwrap_or(u16::MAX);
+        let own = scenario.lines.by_writers(self.alloc, many);
         let (service, told) = run_named::<Brand, R, G, T>(
             rt,
             gate,
             &self.table,
             service,
             &scenario.lines,
+            &own,
             &mut self.pass,
             out,
             writers.as_mut_slice(),

@@ -9,7 +9,7 @@ use crate::asking::{ask, ask_fields, ask_packet};
 use byte_io::traits::Gate;
 use chunk_plain::WriterCall;
 use chunk_words::HostTable;
-use scenario_text::{LineKind, LineList};
+use scenario_text::{LineKind, LinesByWriter};
 use std::sync::ledger::{Blank, Ledger};
 use thread_writer::{Asks, Helper, TraceWriter};
 use trace_base::steps::Steps;
@@ -52,7 +52,7 @@ fn play_lines<G: Gate, H: Helper, L: Ledger>(
     table: &HostTable,
     help: &mut Asks<H>,
     steps: &mut Steps<L>,
-    lines: &LineList,
+    lines: &LinesByWriter<'_>,
     number: u16,
     writer: &mut TraceWriter,
 ) -> u64
@@ -61,11 +61,11 @@ fn play_lines<G: Gate, H: Helper, L: Ledger>(
 {
     // There are never so many lines that the turn stands still.
     let mut turn: u64 = 1;
-    let mut walk = lines.walk();
-    'lines: while let Some(line) = walk.next_of(number) {
+    let mut walk = lines.walk_of(number);
+    'lines: while let Some(line) = walk.next() {
         gate.pass(number, turn);
         turn = turn.saturating_add(1);
-        play_line(table, help, steps, writer, &line.what);
+        play_line(table, help, steps, writer, &line);
     }
     turn
 }
@@ -76,7 +76,7 @@ pub(crate) fn play_all<G: Gate, H: Helper, L: Ledger>(
     table: &HostTable,
     help: &mut Asks<H>,
     blank: Blank,
-    lines: &LineList,
+    lines: &LinesByWriter<'_>,
     number: u16,
     writer: &mut TraceWriter,
 )

@@ -15,7 +15,7 @@ use crate::writing::writer_job;
 use byte_io::put::WriteFault;
 use byte_io::traits::{Gate, Sink};
 use chunk_words::{HostTable, ReadPass};
-use scenario_text::LineList;
+use scenario_text::{LineList, LinesByWriter};
 use std::sync::{Mutex, Wait};
 use std::thread;
 use std::thread::{Threads, join_mut};
@@ -28,7 +28,7 @@ fn writers_job<N: HostName + Send + Sync, R: Threads + Wait + Sync, G: Gate + Sy
     gate: &G,
     table: &HostTable,
     service: &Mutex<Locked<N>>,
-    lines: &LineList,
+    lines: &LinesByWriter<'_>,
     writers: &mut [TraceWriter],
 )
     requires table { IsNamed N.table N.setup table.now }
@@ -67,6 +67,7 @@ pub fn run_named<
     table: &HostTable,
     service: Service,
     lines: &LineList,
+    own: &LinesByWriter<'_>,
     pass: &mut ReadPass,
     out: &mut O,
     writers: &mut [TraceWriter],
@@ -79,7 +80,7 @@ pub fn run_named<
     requires pass { Passes table.now pass.old }
     requires known { IsKnownWhole (known_by_pass pass.old) }
     requires ready { (place : ℕ) (any : TraceWriter) → place < length writers.old
-        → IsReady lines.now table.now place (slice_index_or writers.old place any) }
+        → IsReady own.now table.now place (slice_index_or writers.old place any) }
     ensures serves { ServesNamed N.table N.setup result.0 }
     ensures open { AllOpen N.setup result.0 }
     ensures began { BeganWith N.setup N.first result.0 }
@@ -91,7 +92,7 @@ pub fn run_named<
     ensures stands { KeepsLoans (O.taken out.old) (O.taken out.new) }
     ensures count { CountsFaults (O.faults out.old) (O.faults out.new) result.1 }
     ensures played { (place : ℕ) (any : TraceWriter) → place < length writers.old
-        → HasPlayed lines.now table.now place (slice_index_or writers.new place any) }
+        → HasPlayed own.now table.now place (slice_index_or writers.new place any) }
 {
     let locked = Mutex::new(Locked::<N>::new(service));
     let (told, ()) = join_mut(
@@ -99,8 +100,8 @@ pub fn run_named<
         &mut || service_job(rt, gate, table, &locked, lines, pass, out),
         &mut ||
             requires { IsNamed N.table N.setup table.now × ((place : ℕ) (any : TraceWriter) → place < length writers.now
-                → IsReady lines.now table.now place (slice_index_or writers.now place any)) }
-        { writers_job(rt, gate, table, &locked, lines, writers) },
+                → IsReady own.now table.now place (slice_index_or writers.now place any)) }
+        { writers_job(rt, gate, table, &locked, own, writers) },
     );
     (locked.into_inner().into_service(), told)
 }

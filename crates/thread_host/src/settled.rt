@@ -42,6 +42,7 @@ impl Host {
         ensures pass { known_by_pass result.pass ≡ known_by_pass self.pass }
     {
         let Host {
+            alloc: _,
             table,
             service,
             pass,

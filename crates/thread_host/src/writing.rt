@@ -8,7 +8,7 @@ use crate::name::HostName;
 use crate::playing::play_all;
 use byte_io::traits::Gate;
 use chunk_words::HostTable;
-use scenario_text::LineList;
+use scenario_text::LinesByWriter;
 use std::marker::Brand;
 use std::sync::ledger::Blank;
 use std::sync::{Mutex, Wait};
@@ -23,7 +23,7 @@ pub fn writer_job<N: HostName, R: Wait, G: Gate>(
     gate: &G,
     table: &HostTable,
     service: &Mutex<Locked<N>>,
-    lines: &LineList,
+    lines: &LinesByWriter<'_>,
     place: usize,
     writer: &mut TraceWriter,
 )

@@ -1,16 +1,17 @@
 -- The lines before those that are still to come were played.
 use Rattle.std.proofs.Common.{◌≡◌, List, ◌++◌, length}
-use Rattle.scenario_text.specs.declared.scenario.NumberedLine.{NumberedLine}
-use Rattle.scenario_text.specs.Accepted.{calls_asked}
-use Rattle.thread_host.specs.Playing.{MayBeAsked, WasAsked}
+use Rattle.std.specs.List.{flat_map}
+use Rattle.scenario_text.specs.declared.scenario.LineKind.{LineKind}
+use Rattle.scenario_text.specs.Accepted.{own_kinds}
+use Rattle.thread_host.specs.Playing.{calls_in, MayBeAsked, WasAsked}
 use Rattle.thread_host.proofs.playing.play_lines.Given as goal
 
 abbrev pub invariant-lines : goal.invariant-lines
 invariant-lines g l = record {
-  before : List NumberedLine;
-  all : before ++ l.walk ≡ l.fn.lines;
-  asked : WasAsked g.H.Helper.helps g.H.Helper.of_table l.table (calls_asked l.number before) l.fn.help l.fn.writer l.help l.writer;
-  going : MayBeAsked g.H.Helper.helps g.H.Helper.of_table l.table (calls_asked l.number l.walk) l.help l.writer;
+  before : List LineKind;
+  all : before ++ l.walk ≡ own_kinds l.number l.lines;
+  asked : WasAsked g.H.Helper.helps g.H.Helper.of_table l.table (flat_map calls_in before) l.fn.help l.fn.writer l.help l.writer;
+  going : MayBeAsked g.H.Helper.helps g.H.Helper.of_table l.table (flat_map calls_in l.walk) l.help l.writer;
 }
 
 abbrev pub decreases-lines : goal.decreases-lines

@@ -1,9 +1,10 @@
 -- The service is there, and comes back as what the lock's type says of it.
 use Rattle.std.proofs.Common.{◌≡◌, ◌∙◌, ℕ, ◌<◌, List, length, sym, ap, subst}
 use Rattle.std.specs.Prelude.{slice_index_or}
+use Rattle.scenario_text.specs.declared.scenario.NumberedLine.{NumberedLine}
 use Rattle.scenario_text.specs.Scenario.{parts_of}
 use Rattle.thread_writer.specs.declared.writer.TraceWriter.{TraceWriter}
-use Rattle.thread_host.specs.Hosts.{IsReady, IsServed, HavePlayed}
+use Rattle.thread_host.specs.Hosts.{IsReady, HasPlayed, IsServed, HavePlayed}
 use Rattle.thread_host.proofs.Hosting.{all_played, given_back, held_of, never_none, ready_each, serves_named}
 use Rattle.thread_host.proofs.host.Host.run.Goals as goal
 
@@ -32,8 +33,11 @@ pub run_named-service-requires-clause-ready : goal.run_named-service-requires-cl
 run_named-service-requires-clause-ready g c κs within =
     let lines = c.args.scenario.now.lines in
     let table = c.args.self.now.table in
-    subst (λ (ws : List TraceWriter). (place : ℕ) (any : TraceWriter) → place < length ws → IsReady lines table place (slice_index_or ws place any))
-    (sym c.as_mut_slice.ensures.value) (ready_each lines table c.args.writers.now.items c.requires.writers)
+    subst (λ (ls : List NumberedLine). (place : ℕ) (any : TraceWriter) → place < length c.as_mut_slice.result.now
+    → IsReady ls table place (slice_index_or c.as_mut_slice.result.now place any))
+    (sym c.by_writers-own.ensures)
+    (subst (λ (ws : List TraceWriter). (place : ℕ) (any : TraceWriter) → place < length ws → IsReady lines table place (slice_index_or ws place any))
+    (sym c.as_mut_slice.ensures.value) (ready_each lines table c.args.writers.now.items c.requires.writers))
 
 pub returns-clause-played : goal.returns-clause-played
 returns-clause-played g c =
@@ -44,4 +48,6 @@ returns-clause-played g c =
     let whole : length c.as_mut_slice.result.now ≡ length c.args.writers.now.items = ap (λ (ws : List TraceWriter). length ws) c.as_mut_slice.ensures.value in
     subst (HavePlayed lines table) (sym (given_back new c.args.writers.now.items c.args.writers.now.len (lent ∙ c.as_mut_slice.ensures.len)))
     (all_played lines table new (lent ∙ whole ∙ c.requires.writers.many)
-    (λ place any below. c.run_named-service.ensures.played place any (subst (λ (n : ℕ). place < n) lent below)))
+    (λ place any below.
+    subst (λ (ls : List NumberedLine). HasPlayed ls table place (slice_index_or new place any)) c.by_writers-own.ensures
+    (c.run_named-service.ensures.played place any (subst (λ (n : ℕ). place < n) lent below))))
