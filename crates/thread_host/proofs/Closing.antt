@@ -1,6 +1,5 @@
 -- What the end of a run leaves of what the service knew before, and what is read there.
-use Rattle.std.proofs.Common.{◌≡◌, ◌∙◌, ℕ, zero, suc, ◌+◌, ◌≤◌, ◌⊎◌, List, [], ◌∷◌, ◌++◌, length, inl, inr, refl, sym, ap, subst, arith}
-use Rattle.std.proofs.lemmas.Bool.{cases_eq}
+use Rattle.std.proofs.Common.{◌≡◌, ◌∙◌, ℕ, zero, suc, ◌≤◌, List, [], ◌∷◌, ◌++◌, length, refl, sym, ap, subst, arith}
 use Rattle.std.specs.List.{flat_map}
 use Rattle.byte_io.specs.Bytes.{Intake}
 use Rattle.trace_model.specs.Buffers.{Buffer}
@@ -9,12 +8,12 @@ use Rattle.trace_model.specs.History as model
 use Rattle.trace_model.specs.History.{buffers_after, records_after}
 use Rattle.chunk_plain.specs.Histories.{history_of}
 use Rattle.chunk_plain.specs.Setup.{Setup}
-use Rattle.chunk_plain.specs.Views.{ServiceView, Taken, taken_of}
+use Rattle.chunk_plain.specs.Views.{ServiceView, taken_of}
 use Rattle.service_core.specs.declared.service.ServiceCore.{ServiceCore}
 use Rattle.service_core.specs.Agreement.{first_of}
 use Rattle.service_core.specs.Reading.{NotesReads, ReadsAll, noted_read, reads_in}
-use Rattle.service_core.specs.Taking.{Takes, places_of, took, noted_more}
-use Rattle.service_core.proofs.QuietLemmas.{AllBelow, places_below, long_still}
+use Rattle.service_core.specs.Taking.{Takes, places_of, noted_more}
+use Rattle.service_core.proofs.QuietLemmas.{places_below, long_still}
 use Rattle.service_core.proofs.RoomLemmas.{takes_grow}
 use Rattle.replay_host.proofs.TakenLemmas.{takes_own}
 use Rattle.run_model.specs.Settled.{ClosesTo, ReadsTo}

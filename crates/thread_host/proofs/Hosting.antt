@@ -1,5 +1,5 @@
 -- The service and the writers of a host, as a run names them and as it leaves them.
-use Rattle.std.proofs.Common.{◌≡◌, ◌∙◌, ℕ, ◌<◌, Option, Some, None, List, ◌++◌, length, take, drop, sym, subst}
+use Rattle.std.proofs.Common.{◌≡◌, ◌∙◌, ℕ, ◌+◌, ◌<◌, Option, Some, None, List, ◌++◌, length, take, drop, sym, subst, arith}
 use Rattle.std.specs.Prelude.{IsSomeAnd, slice_index_or}
 use Rattle.std.proofs.Math.Seq.{take-append_seam}
 use Rattle.std.proofs.lemmas.Option.{slice_get-get_or, slice_get_within, get_or_from_slice_get}
@@ -18,7 +18,7 @@ use Rattle.thread_service.specs.declared.service.Service.{Service}
 use Rattle.thread_service.specs.Serving as serving
 use Rattle.thread_service.specs.Serving.{Serves}
 use Rattle.thread_writer.specs.declared.writer.TraceWriter.{TraceWriter}
-use Rattle.thread_host.specs.Hosts.{IsReady, HasPlayed, AreReady, HavePlayed}
+use Rattle.thread_host.specs.Hosts.{IsReady, HasPlayed, AreReady, AreReadyFrom, HavePlayed, HavePlayedFrom}
 use Rattle.thread_host.specs.Keeping.{HasOwn, ServesNamed}
 
 -- a service serves by what the table's seats know of it
@@ -42,19 +42,29 @@ pub scrape_own : (setup : Setup) (producer taken : ℕ) (old new : Service)
 scrape_own setup producer taken old new scrapes own = scrapes_own setup producer taken (serving.view_in old) (serving.view_in new) scrapes ∙ own
 
 -- writers by their place
-pub ready_each : (lines : List NumberedLine) (table : HostTable) (writers : List TraceWriter) → AreReady lines table writers
-    → (place : ℕ) (any : TraceWriter) → place < length writers → IsReady lines table place (slice_index_or writers place any)
-ready_each lines table writers ready place any below =
-    ready.each place (slice_index_or writers place any) (slice_get-get_or writers place any below)
+none_before : (place : ℕ) → 0 + place ≡ place
+none_before place = omega arith
 
-pub all_played : (lines : List NumberedLine) (table : HostTable) (writers : List TraceWriter) → length writers ≡ length (setup_in table).writers
-    → ((place : ℕ) (any : TraceWriter) → place < length writers → HasPlayed lines table place (slice_index_or writers place any))
-    → HavePlayed lines table writers
-all_played lines table writers many each = record {
-  many = many;
+pub ready_from : (lines : List NumberedLine) (table : HostTable) (writers : List TraceWriter) → AreReady lines table writers
+    → AreReadyFrom lines table 0 writers
+ready_from lines table writers ready =
+    let few = table.few_writers in
+    let many = ready.many in
+    record {
+      room = omega (arith, few, many);
+      each = λ place any below.
+          subst (λ (at : ℕ). IsReady lines table at (slice_index_or writers place any)) (sym (none_before place))
+          (ready.each place (slice_index_or writers place any) (slice_get-get_or writers place any below));
+    }
+
+pub all_played : (lines : List NumberedLine) (table : HostTable) (old new : List TraceWriter) → length old ≡ length (setup_in table).writers
+    → HavePlayedFrom lines table 0 old new → HavePlayed lines table new
+all_played lines table old new many played = record {
+  many = played.many ∙ many;
   each = λ place writer there.
-      subst (HasPlayed lines table place) (get_or_from_slice_get writers place writer writer there)
-      (each place writer (slice_get_within writers place writer there));
+      subst (HasPlayed lines table place) (get_or_from_slice_get new place writer writer there)
+      (subst (λ (at : ℕ). HasPlayed lines table at (slice_index_or new place writer)) (none_before place)
+      (played.each place writer (subst (λ (count : ℕ). place < count) played.many (slice_get_within new place writer there))));
 }
 
 -- ---- what is away for a while

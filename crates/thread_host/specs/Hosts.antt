@@ -1,5 +1,5 @@
 -- What runs a scenario on threads, before its threads begin, once they are done, and once all is settled.
-use Rattle.std.specs.Prelude.{◌≡◌, ℕ, suc, ◌≤◌, false, List, [], ◌∷◌, ◌++◌, length, Some, IsSomeAnd, slice_get, vec_len, vec_capacity}
+use Rattle.std.specs.Prelude.{◌≡◌, ℕ, suc, ◌+◌, ◌^◌, ◌<◌, ◌≤◌, false, List, [], ◌∷◌, ◌++◌, length, Some, IsSomeAnd, slice_get, slice_index_or, vec_len, vec_capacity}
 use Rattle.trace_base.specs.declared.limits.TheConstants.{MAX_BUFFERS}
 use Rattle.trace_model.specs.Calls.{Flushed}
 use Rattle.chunk_plain.specs.Views.{newcomer}
@@ -52,6 +52,16 @@ pub record AreReady (lines : List NumberedLine) (table : HostTable) (writers : L
 pub record HavePlayed (lines : List NumberedLine) (table : HostTable) (writers : List TraceWriter) : Type 0 where
   pub many : length writers ≡ length (setup_in table).writers
   pub each : (place : ℕ) (writer : TraceWriter) → slice_get writers place ≡ Some writer → HasPlayed lines table place writer
+
+-- the writers from a place on, of which nothing was asked
+pub record AreReadyFrom (lines : List NumberedLine) (table : HostTable) (from : ℕ) (writers : List TraceWriter) : Type 0 where
+  pub room : from + length writers < 2 ^ 64
+  pub each : (index : ℕ) (any : TraceWriter) → index < length writers → IsReady lines table (from + index) (slice_index_or writers index any)
+
+-- and which have done their lines
+pub record HavePlayedFrom (lines : List NumberedLine) (table : HostTable) (from : ℕ) (old new : List TraceWriter) : Type 0 where
+  pub many : length new ≡ length old
+  pub each : (index : ℕ) (any : TraceWriter) → index < length old → HasPlayed lines table (from + index) (slice_index_or new index any)
 
 -- no line closes a producer
 abbrev pub ClosesNone : List NumberedLine → Type 0

@@ -1,10 +1,9 @@
 //! The jobs of a run, beside each other.
-ghost use Rattle.std.specs.Prelude.{ℕ, ◌<◌, length, slice_index_or, IfOk};
+ghost use Rattle.std.specs.Prelude.{ℕ, ◌<◌, length, IfOk};
 ghost use Rattle.byte_io.specs.Bytes.{CountsFaults};
 ghost use Rattle.chunk_words.specs.Sits.{Passes, known_by_pass};
 ghost use Rattle.thread_service.specs.Reading.{IsKnownWhole};
-ghost use Rattle.thread_writer.specs.declared.writer.TraceWriter.{TraceWriter};
-ghost use Rattle.thread_host.specs.Hosts.{IsReady, HasPlayed};
+ghost use Rattle.thread_host.specs.Hosts.{AreReadyFrom, HavePlayedFrom};
 ghost use Rattle.thread_host.specs.Jobs.{KeepsLoans, TellsLines};
 ghost use Rattle.thread_host.specs.Keeping.{IsNamed, ServesNamed, AllOpen, BeganWith, HasOwn};
 
@@ -17,41 +16,82 @@ use byte_io::traits::{Gate, Sink};
 use chunk_words::{HostTable, ReadPass};
 use scenario_text::{LineList, LinesByWriter};
 use std::sync::{Mutex, Wait};
-use std::thread;
 use std::thread::{Threads, join_mut};
 use thread_service::Service;
 use thread_writer::TraceWriter;
 
-/// Each writer plays its lines on a thread of its own, where one can be made.
-fn writers_job<N: HostName + Send + Sync, R: Threads + Wait + Sync, G: Gate + Sync>(
+/// How many writers a thread starts one after the other. More of them are halved first, so that the
+/// stack doesn't grow with their number.
+const MOST_STARTS: usize = 64;
+
+/// The writers from a place on play their lines, each on a thread of its own, where one can be made. They
+/// are started from the first to the last and by one thread, since threads that start others at the same
+/// time wait for one another, and the last of a long chain begins late.
+#[cycle(starting)]
+fn writers_from<N: HostName + Send + Sync, R: Threads + Wait + Sync, G: Gate + Sync>(
     rt: &R,
     gate: &G,
     table: &HostTable,
     service: &Mutex<Locked<N>>,
     lines: &LinesByWriter<'_>,
+    from: usize,
     writers: &mut [TraceWriter],
 )
     requires table { IsNamed N.table N.setup table.now }
-    requires ready { (place : ℕ) (any : TraceWriter) → place < length writers.old
-        → IsReady lines.now table.now place (slice_index_or writers.old place any) }
-    ensures played { (place : ℕ) (any : TraceWriter) → place < length writers.old
-        → HasPlayed lines.now table.now place (slice_index_or writers.new place any) }
+    requires ready { AreReadyFrom lines.now table.now from writers.old }
+    ensures played { HavePlayedFrom lines.now table.now from writers.old writers.new }
 {
-    if writers.is_empty() {
-        return;
+    match writers.len() {
+        0 => {}
+        1 => writer_job(rt, gate, table, service, lines, from, &mut writers[0]),
+        many => {
+            let front = if many > MOST_STARTS { many / 2 } else { 1 };
+            let (first, rest) = writers.split_at_mut(front);
+            start_both(
+                rt,
+                gate,
+                table,
+                service,
+                lines,
+                from,
+                first,
+                from + front,
+                rest,
+            );
+        }
     }
-    let threads = writers.len();
-    thread::for_each_mut(
-        rt,
-        writers,
-        threads,
-        &|place: usize, writer: &mut TraceWriter|
-            requires { IsNamed N.table N.setup table.now × IsReady lines.now table.now place writer.old }
-            ensures { HasPlayed lines.entry.now table.entry.now place writer.new }
-        {
-            writer_job(rt, gate, table, service, lines, place, writer);
-        },
-    );
+}
+
+/// The first writers begin on a thread of their own, where one can be made, and the rest are started by
+/// this one. It is apart, so that what its closures require is what it is given.
+#[cycle(starting)]
+fn start_both<N: HostName + Send + Sync, R: Threads + Wait + Sync, G: Gate + Sync>(
+    rt: &R,
+    gate: &G,
+    table: &HostTable,
+    service: &Mutex<Locked<N>>,
+    lines: &LinesByWriter<'_>,
+    from: usize,
+    first: &mut [TraceWriter],
+    behind: usize,
+    rest: &mut [TraceWriter],
+)
+    requires table { IsNamed N.table N.setup table.now }
+    requires some { (0 < length first.old) × (0 < length rest.old) }
+    requires first { AreReadyFrom lines.now table.now from first.old }
+    requires rest { AreReadyFrom lines.now table.now behind rest.old }
+    ensures first { HavePlayedFrom lines.now table.now from first.old first.new }
+    ensures rest { HavePlayedFrom lines.now table.now behind rest.old rest.new }
+{
+    let mut play_first = ||
+        requires { IsNamed N.table N.setup table.now × AreReadyFrom lines.now table.now from first.now }
+        ensures { HavePlayedFrom lines.entry.now table.entry.now from first.entry.now first.exit.now }
+    { writers_from(rt, gate, table, service, lines, from, first) };
+    let mut start_rest = ||
+        requires { IsNamed N.table N.setup table.now × AreReadyFrom lines.now table.now behind rest.now }
+        ensures { HavePlayedFrom lines.entry.now table.entry.now behind rest.entry.now rest.exit.now }
+    { writers_from(rt, gate, table, service, lines, behind, rest) };
+    join_mut(rt, &mut play_first, &mut start_rest);
 }
 
 /// The service plays its lines beside the writers, each of which plays its own. The service comes back
@@ -79,8 +119,7 @@ pub fn run_named<
     requires own { HasOwn service }
     requires pass { Passes table.now pass.old }
     requires known { IsKnownWhole (known_by_pass pass.old) }
-    requires ready { (place : ℕ) (any : TraceWriter) → place < length writers.old
-        → IsReady own.now table.now place (slice_index_or writers.old place any) }
+    requires ready { AreReadyFrom own.now table.now 0 writers.old }
     ensures serves { ServesNamed N.table N.setup result.0 }
     ensures open { AllOpen N.setup result.0 }
     ensures began { BeganWith N.setup N.first result.0 }
@@ -91,17 +130,15 @@ pub fn run_named<
         (O.taken out.old) (O.taken out.new)) }
     ensures stands { KeepsLoans (O.taken out.old) (O.taken out.new) }
     ensures count { CountsFaults (O.faults out.old) (O.faults out.new) result.1 }
-    ensures played { (place : ℕ) (any : TraceWriter) → place < length writers.old
-        → HasPlayed own.now table.now place (slice_index_or writers.new place any) }
+    ensures played { HavePlayedFrom own.now table.now 0 writers.old writers.new }
 {
     let locked = Mutex::new(Locked::<N>::new(service));
     let (told, ()) = join_mut(
         rt,
         &mut || service_job(rt, gate, table, &locked, lines, pass, out),
         &mut ||
-            requires { IsNamed N.table N.setup table.now × ((place : ℕ) (any : TraceWriter) → place < length writers.now
-                → IsReady own.now table.now place (slice_index_or writers.now place any)) }
-        { writers_job(rt, gate, table, &locked, own, writers) },
+            requires { IsNamed N.table N.setup table.now × AreReadyFrom own.now table.now 0 writers.now }
+        { writers_from(rt, gate, table, &locked, own, 0, writers) },
     );
     (locked.into_inner().into_service(), told)
 }

@@ -1,5 +1,5 @@
 -- Each line of the writer is played behind those before it.
-use Rattle.std.proofs.Common.{◌≡◌, ◌∙◌, List, [], ◌∷◌, ◌++◌, length, sym, ap, subst, append-nil, append_assoc, arith}
+use Rattle.std.proofs.Common.{◌∙◌, List, [], ◌∷◌, ◌++◌, length, sym, ap, subst, append-nil, append_assoc, arith}
 use Rattle.std.specs.List.{flat_map}
 use Rattle.trace_model.specs.Calls.{Call}
 use Rattle.scenario_text.specs.declared.scenario.LineKind.{LineKind}

@@ -1,11 +1,10 @@
 -- The service is there, and comes back as what the lock's type says of it.
-use Rattle.std.proofs.Common.{◌≡◌, ◌∙◌, ℕ, ◌<◌, List, length, sym, ap, subst}
-use Rattle.std.specs.Prelude.{slice_index_or}
+use Rattle.std.proofs.Common.{◌≡◌, ◌∙◌, List, length, sym, ap, subst}
 use Rattle.scenario_text.specs.declared.scenario.NumberedLine.{NumberedLine}
 use Rattle.scenario_text.specs.Scenario.{parts_of}
 use Rattle.thread_writer.specs.declared.writer.TraceWriter.{TraceWriter}
-use Rattle.thread_host.specs.Hosts.{IsReady, HasPlayed, IsServed, HavePlayed}
-use Rattle.thread_host.proofs.Hosting.{all_played, given_back, held_of, never_none, ready_each, serves_named}
+use Rattle.thread_host.specs.Hosts.{AreReadyFrom, IsServed, HavePlayed, HavePlayedFrom}
+use Rattle.thread_host.proofs.Hosting.{all_played, given_back, held_of, never_none, ready_from, serves_named}
 use Rattle.thread_host.proofs.host.Host.run.Goals as goal
 
 pub unreachable-requires : goal.unreachable-requires
@@ -33,21 +32,16 @@ pub run_named-service-requires-clause-ready : goal.run_named-service-requires-cl
 run_named-service-requires-clause-ready g c κs within =
     let lines = c.args.scenario.now.lines in
     let table = c.args.self.now.table in
-    subst (λ (ls : List NumberedLine). (place : ℕ) (any : TraceWriter) → place < length c.as_mut_slice.result.now
-    → IsReady ls table place (slice_index_or c.as_mut_slice.result.now place any))
-    (sym c.by_writers-own.ensures)
-    (subst (λ (ws : List TraceWriter). (place : ℕ) (any : TraceWriter) → place < length ws → IsReady lines table place (slice_index_or ws place any))
-    (sym c.as_mut_slice.ensures.value) (ready_each lines table c.args.writers.now.items c.requires.writers))
+    subst (λ (ls : List NumberedLine). AreReadyFrom ls table 0 c.as_mut_slice.result.now) (sym c.by_writers-own.ensures)
+    (subst (AreReadyFrom lines table 0) (sym c.as_mut_slice.ensures.value) (ready_from lines table c.args.writers.now.items c.requires.writers))
 
 pub returns-clause-played : goal.returns-clause-played
 returns-clause-played g c =
-    let lines = c.args.scenario.now.lines in
     let table = c.args.self.now.table in
+    let lent : List TraceWriter = c.as_mut_slice.result.now in
     let new : List TraceWriter = c.run_named-service.new.writers in
-    let lent : length new ≡ length c.as_mut_slice.result.now = c.run_named-service.auto.writers in
-    let whole : length c.as_mut_slice.result.now ≡ length c.args.writers.now.items = ap (λ (ws : List TraceWriter). length ws) c.as_mut_slice.ensures.value in
-    subst (HavePlayed lines table) (sym (given_back new c.args.writers.now.items c.args.writers.now.len (lent ∙ c.as_mut_slice.ensures.len)))
-    (all_played lines table new (lent ∙ whole ∙ c.requires.writers.many)
-    (λ place any below.
-    subst (λ (ls : List NumberedLine). HasPlayed ls table place (slice_index_or new place any)) c.by_writers-own.ensures
-    (c.run_named-service.ensures.played place any (subst (λ (n : ℕ). place < n) lent below))))
+    let whole : length lent ≡ length c.args.writers.now.items = ap (λ (ws : List TraceWriter). length ws) c.as_mut_slice.ensures.value in
+    let played = c.run_named-service.ensures.played in
+    subst (HavePlayed c.args.scenario.now.lines table) (sym (given_back new c.args.writers.now.items c.args.writers.now.len (played.many ∙ c.as_mut_slice.ensures.len)))
+    (all_played c.args.scenario.now.lines table lent new (whole ∙ c.requires.writers.many)
+    (subst (λ (lines : List NumberedLine). HavePlayedFrom lines table 0 lent new) c.by_writers-own.ensures played))
