@@ -1,6 +1,6 @@
 -- A replay whose trace gathers short writes into long ones: what the trace has taken in the end.
 use Rattle.std.proofs.Common.{◌≡◌, ℕ, List, [], ◌∷◌, ◌++◌, length, take, refl, sym, ap, subst, ◌∙◌, append-nil, inl, inr, Result, Ok, Err, IfOk}
-use Rattle.std.specs.Prelude.{IfErr}
+use Rattle.std.specs.Prelude.{IfErr, OnOk, OnErr}
 use Rattle.byte_io.specs.Bytes.{Intake, Loan, told, untold, after_told, lent_by, told_bytes, TakesPart, TakesUpTo, HandsOn}
 use Rattle.byte_io.proofs.Lent.{lent_part, handed_on}
 use Rattle.byte_io.proofs.Told.{up_to_end, after_told_nothing}
@@ -105,6 +105,23 @@ lent_all loan loan' (told first loans) (untold loans') waits bytes grown started
     let same_told : untold (loan' ∷ loans') ≡ told ((first ++ []) ++ bytes) (loan ∷ loans) = same in absurd cc
 lent_all loan loan' (untold loans) (told second loans') waits bytes grown started same =
     let same_told : told (second ++ waits) (loan' ∷ loans') ≡ untold (loan ∷ loans) = same in absurd cc
+
+-- the same of a writing that may fail
+pub lent_whole : {A E : Type 0} (result : Result A E) (loan loan' : Loan) (lent old new : Intake) (waits bytes : List ℕ)
+    → lent ≡ lent_by loan (after_told old []) → take (length loan'.start) (told_bytes new) ≡ loan'.start → loan.start ≡ told_bytes old
+    → OnOk result (lent_by loan' (after_told new waits) ≡ after_told lent bytes) → OnOk result (HandsOn old new bytes waits)
+lent_whole (Ok done) loan loan' lent old new waits bytes is grown started all =
+    let after = lent_by loan' (after_told new waits) in
+    lent_all loan loan' old new waits bytes grown started (subst (λ (from : Intake). after ≡ after_told from bytes) is all)
+lent_whole (Err fault) loan loan' lent old new waits bytes is grown started all = tt
+
+pub lent_front : {A E : Type 0} (result : Result A E) (loan loan' : Loan) (lent old new : Intake) (waits bytes : List ℕ)
+    → lent ≡ lent_by loan (after_told old []) → take (length loan'.start) (told_bytes new) ≡ loan'.start → loan.start ≡ told_bytes old
+    → OnErr result (TakesPart lent (lent_by loan' (after_told new waits)) bytes) → OnErr result (TakesPart old new bytes)
+lent_front (Ok done) loan loan' lent old new waits bytes is grown started part = tt
+lent_front (Err fault) loan loan' lent old new waits bytes is grown started part =
+    let after = lent_by loan' (after_told new waits) in
+    lent_part loan loan' old new waits bytes started grown (subst (λ (from : Intake). TakesPart from after bytes) is part)
 
 -- all of some bytes is a part of them
 all_part : (old : Intake) (bytes : List ℕ) → TakesPart old (after_told old bytes) bytes

@@ -7,6 +7,7 @@ mod check;
 mod commands;
 mod gather;
 mod input;
+mod report;
 mod say;
 mod top;
 mod unfit;

@@ -6,10 +6,12 @@ ghost use Rattle.tracesmb_top.specs.Answers.{Says, SaysBehind, usage_line, memor
 ghost use Rattle.tracesmb_top.specs.Refusals as refusals;
 ghost use Rattle.tracesmb_top.specs.Replayed.{report_of};
 
+use crate::report::write_report;
 use arrayvec::ArrayVec;
 use byte_io::put::{WriteFault, put_all};
 use byte_io::traits::Sink;
-use loss_report::{Done, put_report};
+use loss_report::Done;
+use std::alloc::Global;
 use trace_file::TraceFault;
 
 /// Writes a line. A fault in writing it changes nothing else: it shows in the sink's count alone.
@@ -101,14 +103,14 @@ pub fn say_stalled<O: Sink>(text: &mut O, writer: u16) -> u8
 }
 
 /// Writes the report of what a replay left.
-pub fn say_report<O: Sink>(text: &mut O, done: &Done) -> u8
+pub fn say_report<O: Sink>(alloc: Global, text: &mut O, done: &Done) -> u8
     ensures status { (result ≡ 0) ⊎ (result ≡ 5) }
     ensures all { result ≡ 0 → O.taken text.new ≡ after_told (O.taken text.old) (report_of done.now) }
     ensures steady { result ≡ 0 → O.faults text.new ≡ O.faults text.old }
     ensures part { result ≡ 5 → SaysBehind (O.taken text.old) (O.taken text.new) (O.faults text.old) (O.faults text.new) (report_of done.now) write_line }
     ensures later { O.faults text.old ≤ O.faults text.new }
 {
-    match put_report(text, &done.buffers, &done.sequences, &done.flushes) {
+    match write_report(alloc, done, text) {
         Ok(()) => 0,
         Err(WriteFault) => say_write_fault(text),
     }

@@ -137,7 +137,7 @@ pub fn trace_top<R: Threads + Wait + Sync, S: Source, T: Sink + Send, O: Sink, G
     };
     match perform(rt, alloc, command, given, trace, gate) {
         Ok(None) => 0,
-        Ok(Some(done)) => say_report(text, &done),
+        Ok(Some(done)) => say_report(alloc, text, &done),
         Err(CommandFault::OutOfMemory) => say_out_of_memory(text),
         Err(CommandFault::Refused { refusal }) => say_refusal(text, &refusal),
         Err(CommandFault::WriteFault) => say_write_fault(text),
