@@ -13,6 +13,7 @@ use Rattle.chunk_plain.specs.Shows.{page_word}
 use Rattle.chunk_plain.specs.Plain.{world_after, IsKept}
 use Rattle.chunk_plain.proofs.Kept.{claim_seen}
 use Rattle.chunk_words.specs.Knows.{Writer, by_writer}
+use Rattle.chunk_words.specs.Places.{front_place}
 use Rattle.chunk_words.specs.Rule.{IsManned, IsShared}
 use Rattle.chunk_words.specs.Moves.{Mine, is_clear, Asks, Claims}
 use Rattle.chunk_words.proofs.Bodies.{with_hand, in_before, bodies_stay}
@@ -41,9 +42,9 @@ asked_kept setup words slots world place chunk found true laid kept inside_w ins
 asked_kept setup words slots world place chunk found false laid kept inside_w inside is set_ = claim_seen setup words slots world place chunk found laid kept inside_w inside is (set_ refl)
 
 pub asks_allowed : (setup : Setup) (count id k chunk : ℕ) (v : WriterView) → chunk < length setup.spots
-    → Allows (IsShared setup) count id (Writer k 0 v, []) (spot setup chunk).page (λ found. found) (Asks chunk (spot setup chunk).place (Writer k 0 v, []))
+    → Allows (IsShared setup) count id (Writer k 0 v, []) (front_place (spot setup chunk).page) (λ found. found) (Asks chunk (spot setup chunk).place (Writer k 0 v, []))
 asks_allowed setup count id k chunk v inside s r deep at small =
-    let at_ = spot setup chunk in let found = get_or s.words at_.page 0 in let clear = is_clear found at_.place in
+    let at_ = spot setup chunk in let found = get_or s.words (front_place at_.page) 0 in let clear = is_clear found at_.place in
     let world = r.world in let f = r.manned.each id (Writer k 0 v) at in
     let inside_w = writer_inside setup s r id k 0 v at in let w_inside = world_inside setup s r id k 0 v at in
     let next = asked_world world k chunk found clear in let roll = with_hand r.roll k 0 in
@@ -60,7 +61,7 @@ asks_allowed setup count id k chunk v inside s r deep at small =
         roll = roll;
         laid = r.laid;
         kept = asked_kept setup r.front r.slots world k chunk found clear r.laid r.kept inside_w inside (page_is setup s r chunk inside) set_;
-        words = words_loaded setup s.words r.front r.slots at_.page r.words;
+        words = words_loaded setup s.words r.front r.slots (front_place at_.page) r.words;
         bodies = bodies_stay setup s.homes r.slots r.slots r.roll roll r.bodies (λ d. refl) (λ d. in_before r.roll k 0 d (hand_none r.roll k d f.2));
         manned = subst (λ z. IsManned setup next roll (set s.views id (Writer k 0 (asked_view z chunk found clear)))) (sym f.0) turn;
       },

@@ -19,6 +19,7 @@ use Rattle.chunk_plain.proofs.Lists.{at_inside, at_one, at_more, at_some}
 use Rattle.chunk_plain.proofs.Owned.{claims_of-mine}
 use Rattle.chunk_words.specs.GoesOn.{GoesOn}
 use Rattle.chunk_words.specs.Knows.{Watch, Here, Desk, Knows, Spent, Writer, Service, Pass, Report, place_of, view_of, with_view, with_views}
+use Rattle.chunk_words.specs.Places.{front_place}
 use Rattle.chunk_words.specs.Rule.{Roll, HasJoined, IsMade, Fits, IsShared}
 use Rattle.chunk_words.specs.Closed.{IsDone, AllTaken, HasAllSeats, views_of, IsUnused, IsAccount}
 use Rattle.chunk_words.specs.declared.host.HostTable.{HostTable}
@@ -214,7 +215,7 @@ module _ (setup : Setup) (id made : ℕ) (desk : Desk) (views : List WriterView)
       let at = spot setup chunk in
       let page : ShowsPage setup rule.world at (page_word setup rule.front chunk) Unclaimed
       = subst (λ t. ShowsPage setup rule.world at (page_word setup rule.front chunk) t) free (rule.kept.shown.page chunk inside) in
-      let word_is : page_word setup rule.front chunk ≡ get_or words at.page 0 = sym (page_is setup last rule chunk inside) ∙ ap (λ l. get_or l at.page 0) final.2 in
+      let word_is : page_word setup rule.front chunk ≡ get_or words (front_place at.page) 0 = sym (page_is setup last rule chunk inside) ∙ ap (λ l. get_or l (front_place at.page) 0) final.2 in
       subst (λ w. HasState w at.place Free × (bit_at w (32 + at.place) ≡ 0)) word_is (page.state, page.claim)
 
 -- ---- the seats that came back

@@ -25,7 +25,7 @@ use Rattle.chunk_plain.specs.Plain.{first_world}
 use Rattle.chunk_plain.proofs.Lists.{at_inside, at_one, at_more}
 use Rattle.chunk_plain.proofs.MadeLemmas.{all_same, first_kept, first_sits}
 use Rattle.chunk_words.specs.Knows.{Watch, Nothing, Unmade, Desk, first_desk, Knows, Spent, Writer, Service, Pass, Report, put, view_of}
-use Rattle.chunk_words.specs.Places.{words_for, words_before, payload_start, payload_words, word_total}
+use Rattle.chunk_words.specs.Places.{words_for, words_before, front_place, front_count, payload_start, payload_words, word_total}
 use Rattle.chunk_words.specs.Rule.{Roll, IsIn, Fits, IsShared, first_of}
 use Rattle.chunk_words.specs.Made.{HasStarts, HasFreeBodies, HasWriterSeats}
 use Rattle.chunk_words.specs.declared.host.HostTable.{HostTable}
@@ -113,14 +113,14 @@ starts_shared setup words bodies laid zero_ o =
     let fresh : (k : ℕ) → writer (first_world setup) k ≡ newcomer = λ k. all_same newcomer setup.writers k in
     record {
       world = first_world setup;
-      front = replicate (setup.pages + length setup.spots) 0;
+      front = replicate (front_count setup) 0;
       slots = slots;
       roll = first_roll;
       laid = laid;
       kept = first_kept setup slots free;
       words = record {
         total = ap (λ (l : List ℕ). length l) zero_ ∙ length-replicate (word_total setup) 0;
-        front_is = λ i below. word i ∙ sym (zeros (setup.pages + length setup.spots) i);
+        front_is = λ i below. word (front_place i) ∙ sym (zeros (front_count setup) i);
         count = λ chunk below. ap (λ (l : List ℕ). length l) (free.each chunk below).words ∙ length-replicate (payload_words setup chunk) 0;
         payload_is = λ chunk i below under. word (payload_start setup chunk + i) ∙ (sym (zeros (payload_words setup chunk) i) ∙ ap (λ (l : List ℕ). get_or l i 0) (sym (free.each chunk below).words));
       };

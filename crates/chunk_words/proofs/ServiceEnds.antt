@@ -15,6 +15,7 @@ use Rattle.chunk_plain.specs.Plain.{IsLent, IsKept}
 use Rattle.chunk_plain.proofs.KeptWriter.{is_chunk, body_kept}
 use Rattle.chunk_plain.proofs.KeptService.{serviced_kept, learn_kept, reading_of, read_chunk, release_kept}
 use Rattle.chunk_words.specs.Knows.{Watch, Desk, Nothing, Lifted, Service, hand_with}
+use Rattle.chunk_words.specs.Places.{front_place}
 use Rattle.chunk_words.specs.Rule.{Roll, IsIn, IsOf, IsRead, IsMade, IsManned, IsShared}
 use Rattle.chunk_words.specs.GoesOn.{GoesOn}
 use Rattle.chunk_words.proofs.Passing.{goes_same, goes_learn, goes_free}
@@ -107,10 +108,10 @@ module _ (setup : Setup) (count id made : ℕ) (desk : Desk) where
   pub releases_allowed : (chunk mask : ℕ) (body : CommitBody) (watch : Watch) (v : ServiceView) → 0 < times chunk v.reading → vec_len body.payload ≡ (spot setup chunk).payload_size
       → ((found : ℕ) → found < 2 ^ 64 → HasState found (spot setup chunk).place state.BeingRead → Releases found (bit_and found mask) (spot setup chunk).place)
       → ((found : ℕ) → KeepsOthers found (bit_and found mask) (spot setup chunk).place)
-      → Allows (IsShared setup) count id (Service (hand_with chunk) made desk watch v, (chunk, Some body) ∷ []) (spot setup chunk).page (λ found. bit_and found mask)
+      → Allows (IsShared setup) count id (Service (hand_with chunk) made desk watch v, (chunk, Some body) ∷ []) (front_place (spot setup chunk).page) (λ found. bit_and found mask)
       (λ _. Serves (λ view. lets_go view chunk) (Service (hand_with chunk) made desk watch v, (chunk, Some body) ∷ []))
   releases_allowed chunk mask body watch v reads size sets keep s r deep at small =
-      let at_ = spot setup chunk in let found = get_or s.words at_.page 0 in let new = bit_and found mask in
+      let at_ = spot setup chunk in let found = get_or s.words (front_place at_.page) 0 in let new = bit_and found mask in
       let world = r.world in let f = r.manned.each id (Service (hand_with chunk) made desk watch v) at in
       let reads' = subst (λ (z : ServiceView). 0 < times chunk z.reading) f.0 reads in
       let was = reading_of world chunk r.kept.owned reads' in
@@ -154,7 +155,7 @@ module _ (setup : Setup) (count id made : ℕ) (desk : Desk) where
       → IfSome kept (λ body. vec_len body.payload ≡ (spot setup chunk).payload_size)
       → ((found : ℕ) → found < 2 ^ 64 → HasState found (spot setup chunk).place state.BeingRead → Releases found (bit_and found mask) (spot setup chunk).place)
       → ((found : ℕ) → KeepsOthers found (bit_and found mask) (spot setup chunk).place)
-      → Allows (IsShared setup) count id (Service (hand_with chunk) made desk watch v, (chunk, kept) ∷ []) (spot setup chunk).page (λ found. bit_and found mask)
+      → Allows (IsShared setup) count id (Service (hand_with chunk) made desk watch v, (chunk, kept) ∷ []) (front_place (spot setup chunk).page) (λ found. bit_and found mask)
       (λ _. Serves (λ view. lets_go view chunk) (Service (hand_with chunk) made desk watch v, (chunk, kept) ∷ []))
   releases_by chunk mask None watch v there reads size sets keep = absurd (let no_ : false ≡ true = there in cc)
   releases_by chunk mask (Some body) watch v there reads size sets keep = releases_allowed chunk mask body watch v reads size sets keep

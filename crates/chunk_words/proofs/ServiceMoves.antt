@@ -19,7 +19,7 @@ use Rattle.chunk_plain.specs.Plain.{IsKept}
 use Rattle.chunk_plain.proofs.Owned.{looks_owned}
 use Rattle.chunk_plain.proofs.KeptService.{serviced_shown, header_reads, take_kept}
 use Rattle.chunk_words.specs.Knows.{Watch, Tale, Desk, Nothing, Full, Known, Lifted, Service, hand_with}
-use Rattle.chunk_words.specs.Places.{payload_start, payload_words}
+use Rattle.chunk_words.specs.Places.{front_place, payload_start, payload_words}
 use Rattle.chunk_words.specs.Rule.{Roll, IsIn, IsOf, IsRead, IsCompleteChunk, IsWatched, HasHeader, IsMade, IsTrue, IsManned, IsShared}
 use Rattle.chunk_words.specs.GoesOn.{GoesOn}
 use Rattle.chunk_words.specs.Told.{ShowsTold, TellsComplete}
@@ -33,7 +33,7 @@ use Rattle.chunk_words.proofs.WriterMoves.{Table, front_many, page_front, page_i
 use Rattle.chunk_words.proofs.WriterEnds.{words_loaded}
 use Rattle.chunk_words.proofs.ServiceFinds.{watch_holds, finds_by, watch_on, watch_on_true, tells_of}
 
-pub header_is : (setup : Setup) (s : Table) (r : IsShared setup s) (chunk : ℕ) → chunk < length setup.spots → get_or s.words (setup.pages + chunk) 0 ≡ header_word setup r.front chunk
+pub header_is : (setup : Setup) (s : Table) (r : IsShared setup s) (chunk : ℕ) → chunk < length setup.spots → get_or s.words (front_place (setup.pages + chunk)) 0 ≡ header_word setup r.front chunk
 header_is setup s r chunk inside = r.words.front_is (setup.pages + chunk) (omega arith)
 
 -- a service's hand that is empty has no slot
@@ -71,18 +71,18 @@ module _ (setup : Setup) (count id made : ℕ) (desk : Desk) where
   -- ---- look
 
   pub peeks_allowed : (chunk : ℕ) (watch : Watch) (v : ServiceView) → chunk < length setup.spots
-      → Allows (IsShared setup) count id (Service 0 made desk watch v, []) (spot setup chunk).page (λ found. found)
+      → Allows (IsShared setup) count id (Service 0 made desk watch v, []) (front_place (spot setup chunk).page) (λ found. found)
       (Peeks setup chunk (spot setup chunk).place (Service 0 made desk watch v, []))
   peeks_allowed chunk watch v inside s r deep at small =
       let f = r.manned.each id (Service 0 made desk watch v) at in
-      let found = get_or s.words (spot setup chunk).page 0 in
+      let found = get_or s.words (front_place (spot setup chunk).page) 0 in
       let state = subst (λ w. HasState w (spot setup chunk).place (state_of (status r.world chunk))) (sym (page_is setup s r chunk inside)) (r.kept.shown.page chunk inside).state in
       let seen = watch_for chunk found (spot setup chunk).place in (
         Service 0 made desk seen v,
         keeps,
         tt,
-        subst (λ z. IsShared setup (record { words = set s.words (spot setup chunk).page found; homes = s.homes; views = set s.views id (Service 0 made desk seen z) })) (sym f.0)
-            (serviced_allowed setup s r id (spot setup chunk).page made desk watch seen v r.world.service at r.kept (λ _. goes_same r.world.service) (λ i tale there true_. true_.1) (watch_holds setup r.world chunk found (spot setup chunk).place state)),
+        subst (λ z. IsShared setup (record { words = set s.words (front_place (spot setup chunk).page) found; homes = s.homes; views = set s.views id (Service 0 made desk seen z) })) (sym f.0)
+            (serviced_allowed setup s r id (front_place (spot setup chunk).page) made desk watch seen v r.world.service at r.kept (λ _. goes_same r.world.service) (λ i tale there true_. true_.1) (watch_holds setup r.world chunk found (spot setup chunk).place state)),
         record {
           new_is = refl;
           told = λ i id_ tale content there begun untaken.
@@ -92,19 +92,19 @@ module _ (setup : Setup) (count id made : ℕ) (desk : Desk) where
       )
 
   pub finds_allowed : (chunk word : ℕ) (v : ServiceView) → chunk < length setup.spots → TellsComplete setup chunk word v desk
-      → Allows (IsShared setup) count id (Service 0 made desk (watch_for chunk word (spot setup chunk).place) v, []) (setup.pages + chunk) (λ found. found)
+      → Allows (IsShared setup) count id (Service 0 made desk (watch_for chunk word (spot setup chunk).place) v, []) (front_place (setup.pages + chunk)) (λ found. found)
       (Looks setup chunk word (Service 0 made desk (watch_for chunk word (spot setup chunk).place) v, []))
   finds_allowed chunk word v inside told s r deep at small =
       let watch = watch_for chunk word (spot setup chunk).place in
       let f = r.manned.each id (Service 0 made desk watch v) at in
-      let header = get_or s.words (setup.pages + chunk) 0 in let is = header_is setup s r chunk inside in
+      let header = get_or s.words (front_place (setup.pages + chunk)) 0 in let is = header_is setup s r chunk inside in
       let finds = finds_by setup r.front r.slots r.world chunk word r.kept inside f.5 in
       let view = looks_at r.world.service chunk word (packed (unpacked header)) finds.found in
       let kept = serviced_shown setup r.front r.slots r.world view r.kept (looks_owned r.world chunk word (packed (unpacked header)) finds.found r.kept.owned finds.there) in (
         Service 0 made desk Nothing view,
         keeps,
         tt,
-        serviced_allowed setup s r id (setup.pages + chunk) made desk watch Nothing v view at kept (λ _. goes_look r.world.service chunk word (packed (unpacked header)) finds.found)
+        serviced_allowed setup s r id (front_place (setup.pages + chunk)) made desk watch Nothing v view at kept (λ _. goes_look r.world.service chunk word (packed (unpacked header)) finds.found)
             (look_shows setup r.world desk chunk word (packed (unpacked header)) finds.found r.kept.owned (λ i id_ tale content there begun untaken ready.
             let shows : IsHeader setup header tale.place id_ (head_of content)
             = subst (λ w. IsHeader setup w tale.place id_ (head_of content)) (sym is) (subst (λ t. ShowsHeader setup (header_word setup r.front chunk) t) ready (r.kept.shown.header chunk inside)) in (
@@ -144,17 +144,17 @@ module _ (setup : Setup) (count id made : ℕ) (desk : Desk) where
   -- ---- take: the header of a complete chunk, then the state
 
   pub knows_allowed : (chunk : ℕ) (v : ServiceView) → chunk < length setup.spots
-      → Allows (IsShared setup) count id (Service 0 made desk (Full chunk) v, []) (setup.pages + chunk) (λ found. found)
+      → Allows (IsShared setup) count id (Service 0 made desk (Full chunk) v, []) (front_place (setup.pages + chunk)) (λ found. found)
       (λ found new. new ≡ (Service 0 made desk (Known chunk found) v, []))
   knows_allowed chunk v inside s r deep at small =
       let f = r.manned.each id (Service 0 made desk (Full chunk) v) at in
-      let header = get_or s.words (setup.pages + chunk) 0 in
+      let header = get_or s.words (front_place (setup.pages + chunk)) 0 in
       let shows = subst (λ w. ShowsHeader setup w (status r.world chunk)) (sym (header_is setup s r chunk inside)) (r.kept.shown.header chunk inside) in (
         Service 0 made desk (Known chunk header) v,
         keeps,
         tt,
-        subst (λ z. IsShared setup (record { words = set s.words (setup.pages + chunk) header; homes = s.homes; views = set s.views id (Service 0 made desk (Known chunk header) z) })) (sym f.0)
-            (serviced_allowed setup s r id (setup.pages + chunk) made desk (Full chunk) (Known chunk header) v r.world.service at r.kept (λ _. goes_same r.world.service) (λ i tale there true_. true_.1) (full_header header (status r.world chunk) f.5 shows)),
+        subst (λ z. IsShared setup (record { words = set s.words (front_place (setup.pages + chunk)) header; homes = s.homes; views = set s.views id (Service 0 made desk (Known chunk header) z) })) (sym f.0)
+            (serviced_allowed setup s r id (front_place (setup.pages + chunk)) made desk (Full chunk) (Known chunk header) v r.world.service at r.kept (λ _. goes_same r.world.service) (λ i tale there true_. true_.1) (full_header header (status r.world chunk) f.5 shows)),
         refl,
       )
     where
@@ -203,10 +203,10 @@ module _ (setup : Setup) (count id made : ℕ) (desk : Desk) where
       → HasState word (spot setup chunk).place state.Complete → (unpacked header).writer_id ≡ place + 1 → (unpacked header).chunk_id ≡ (taken_of v place).count
       → ((found : ℕ) → found < 2 ^ 64 → HasState found (spot setup chunk).place state.Complete → SetsState found (bit_and found mask) (spot setup chunk).place state.BeingRead)
       → ((found : ℕ) → KeepsOthers found (bit_and found mask) (spot setup chunk).place)
-      → Allows (IsShared setup) count id (Service 0 made desk (Known chunk header) v, []) (spot setup chunk).page (λ found. bit_and found mask)
+      → Allows (IsShared setup) count id (Service 0 made desk (Known chunk header) v, []) (front_place (spot setup chunk).page) (λ found. bit_and found mask)
       (λ _. Takes place chunk (spot setup chunk).payload_size word (unpacked header) (Service 0 made desk (Known chunk header) v, []))
   takes_allowed place chunk word header mask v inside inside_w complete writer_is id_is sets keep s r deep at small =
-      let at_ = spot setup chunk in let found = get_or s.words at_.page 0 in let new = bit_and found mask in
+      let at_ = spot setup chunk in let found = get_or s.words (front_place at_.page) 0 in let new = bit_and found mask in
       let world = r.world in let f = r.manned.each id (Service 0 made desk (Known chunk header) v) at in
       let is = page_is setup s r chunk inside in let c_inside = chunk_inside setup s r chunk inside in
       let known = known_by world chunk header (status world chunk) refl f.5 in let content = known.content in

@@ -9,7 +9,7 @@ use Rattle.chunk_plain.specs.declared.setup.Spot.{Spot}
 use Rattle.chunk_plain.specs.Setup.{Setup, no_spot}
 use Rattle.chunk_plain.specs.Stored.{Stored, nothing_stored, stored_at}
 use Rattle.chunk_plain.proofs.Lists.{changed}
-use Rattle.chunk_words.specs.Places.{words_for, words_before, front_count, payload_start, payload_words, word_total}
+use Rattle.chunk_words.specs.Places.{words_for, words_before, front_place, front_count, payload_start, payload_words, word_total}
 use Rattle.chunk_words.specs.Rule.{HoldsWords}
 
 -- the payload words of a chunk end where those of a later one begin, or before
@@ -26,16 +26,16 @@ payload_inside setup chunk index inside less = let last = words_apart setup.spot
 
 -- a page word or a header word changes
 pub words_front : (setup : Setup) (words front : List ℕ) (slots : List Stored) (index value : ℕ) → index < front_count setup → length front ≡ front_count setup
-    → HoldsWords setup words front slots → HoldsWords setup (set words index value) (set front index value) slots
-words_front setup words front slots index value inside many holds = let total = holds.total in
+    → HoldsWords setup words front slots → HoldsWords setup (set words (front_place index) value) (set front index value) slots
+words_front setup words front slots index value inside many holds = let place = front_place index in let total = holds.total in
     record {
-      total = length-set words index value ∙ holds.total;
+      total = length-set words place value ∙ holds.total;
       front_is = λ i below. dite (ℕ_discrete i index)
-          (λ same. subst (λ j. get_or (set words index value) j 0 ≡ get_or (set front index value) j 0) (sym same)
-          (get_or-set_same words index value 0 (omega arith) ∙ sym (get_or-set_same front index value 0 (omega arith))))
-          (λ differs. get_or-set_other words index i value 0 differs ∙ (holds.front_is i below ∙ sym (get_or-set_other front index i value 0 differs)));
+          (λ same. subst (λ j. get_or (set words place value) (front_place j) 0 ≡ get_or (set front index value) j 0) (sym same)
+          (get_or-set_same words place value 0 (omega arith) ∙ sym (get_or-set_same front index value 0 (omega arith))))
+          (λ differs. get_or-set_other words place (front_place i) value 0 (λ e. differs (omega arith)) ∙ (holds.front_is i below ∙ sym (get_or-set_other front index i value 0 differs)));
       count = holds.count;
-      payload_is = λ chunk i inside_c below. get_or-set_other words index (payload_start setup chunk + i) value 0 (omega arith) ∙ holds.payload_is chunk i inside_c below;
+      payload_is = λ chunk i inside_c below. get_or-set_other words place (payload_start setup chunk + i) value 0 (omega arith) ∙ holds.payload_is chunk i inside_c below;
     }
 
 -- a payload word changes
@@ -49,7 +49,7 @@ words_payload setup words front slots chunk index value inside less many holds =
     let here : stored_at (set slots chunk slot) chunk ≡ slot = get_or-set_same slots chunk slot nothing_stored (omega arith) in
     record {
       total = length-set words at value ∙ holds.total;
-      front_is = λ i below. get_or-set_other words at i value 0 (omega arith) ∙ holds.front_is i below;
+      front_is = λ i below. get_or-set_other words at (front_place i) value 0 (omega arith) ∙ holds.front_is i below;
       count = λ d below. changed (λ (one : Stored). length one.words ≡ payload_words setup d) slots chunk d slot nothing_stored (omega arith)
           (λ same. length-set (stored_at slots chunk).words index value ∙ subst (λ e. length (stored_at slots chunk).words ≡ payload_words setup e) (sym same) (holds.count chunk inside))
           (λ differs. holds.count d below);

@@ -16,6 +16,7 @@ use Rattle.chunk_plain.specs.Shows.{content_of, page_word}
 use Rattle.chunk_plain.specs.Plain.{IsLent, StandsWhole, IsKept}
 use Rattle.chunk_plain.proofs.KeptWriter.{body_kept, held_status, held_chunk, complete_kept, call_kept}
 use Rattle.chunk_words.specs.Knows.{Writer, hand_with}
+use Rattle.chunk_words.specs.Places.{front_place}
 use Rattle.chunk_words.specs.Rule.{IsOf, HoldsWords, IsManned, IsShared}
 use Rattle.chunk_words.specs.Moves.{Fetches, Completes, Notes}
 use Rattle.chunk_words.proofs.Standing.{words_front, words_body}
@@ -61,10 +62,10 @@ pub completes_allowed : (setup : Setup) (count id k chunk i mask : ℕ) (body : 
     → StandsWhole (spot setup chunk).payload_size v i body
     → ((word : ℕ) → HasState word (spot setup chunk).place state.BeingWritten → SetsState word (bit_or word mask) (spot setup chunk).place state.Complete)
     → ((word : ℕ) → KeepsOthers word (bit_or word mask) (spot setup chunk).place)
-    → Allows (IsShared setup) count id (Writer k (hand_with chunk) v, (chunk, Some body) ∷ []) (spot setup chunk).page (λ found. bit_or found mask)
+    → Allows (IsShared setup) count id (Writer k (hand_with chunk) v, (chunk, Some body) ∷ []) (front_place (spot setup chunk).page) (λ found. bit_or found mask)
     (λ _. Completes chunk i body (Writer k (hand_with chunk) v, (chunk, Some body) ∷ []))
 completes_allowed setup count id k chunk i mask body v holding whole sets keep s r deep at small =
-    let at_ = spot setup chunk in let found = get_or s.words at_.page 0 in let new = bit_or found mask in
+    let at_ = spot setup chunk in let found = get_or s.words (front_place at_.page) 0 in let new = bit_or found mask in
     let world = r.world in let f = r.manned.each id (Writer k (hand_with chunk) v) at in
     let inside_w = writer_inside setup s r id k (hand_with chunk) v at in let w_inside = world_inside setup s r id k (hand_with chunk) v at in
     let holding' = subst (λ z. IsHolding z chunk i) f.0 holding in
@@ -136,7 +137,7 @@ pub completes_by : (setup : Setup) (count id k chunk i mask : ℕ) (kept : Optio
     → IfSome kept (λ body. StandsWhole (spot setup chunk).payload_size v i body)
     → ((word : ℕ) → HasState word (spot setup chunk).place state.BeingWritten → SetsState word (bit_or word mask) (spot setup chunk).place state.Complete)
     → ((word : ℕ) → KeepsOthers word (bit_or word mask) (spot setup chunk).place)
-    → Allows (IsShared setup) count id (Writer k (hand_with chunk) v, (chunk, kept) ∷ []) (spot setup chunk).page (λ found. bit_or found mask)
+    → Allows (IsShared setup) count id (Writer k (hand_with chunk) v, (chunk, kept) ∷ []) (front_place (spot setup chunk).page) (λ found. bit_or found mask)
     (λ _ new. IfSome kept (λ body. Completes chunk i body (Writer k (hand_with chunk) v, (chunk, kept) ∷ []) new))
 completes_by setup count id k chunk i mask None v there holding whole sets keep = absurd (let no_ : false ≡ true = there in cc)
 completes_by setup count id k chunk i mask (Some body) v there holding whole sets keep = completes_allowed setup count id k chunk i mask body v holding whole sets keep

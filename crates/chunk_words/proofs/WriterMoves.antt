@@ -22,7 +22,7 @@ use Rattle.chunk_plain.proofs.Kept.{claim_kept, claim_bit_free}
 use Rattle.chunk_plain.proofs.KeptWriter.{claimed_by, body_of_claimed, stamp_kept, begin_kept, body_kept, held_status, held_chunk, held_slot, header_kept, publish_kept}
 use Rattle.chunk_plain.proofs.Sealing.{word_bytes}
 use Rattle.chunk_words.specs.Knows.{Knows, Writer, hand_with}
-use Rattle.chunk_words.specs.Places.{front_count, payload_start, payload_words}
+use Rattle.chunk_words.specs.Places.{front_place, front_count, payload_start, payload_words}
 use Rattle.chunk_words.specs.Rule.{Roll, IsIn, IsOf, IsRead, IsManned, IsShared}
 use Rattle.chunk_words.specs.Moves.{is_clear, Claims, Stamps, Begins, SetsHeader, Publishes}
 use Rattle.chunk_words.proofs.Standing.{words_front, words_payload, words_body}
@@ -40,7 +40,7 @@ front_many setup s r = r.kept.shown.word_count
 pub page_front : (setup : Setup) (s : Table) (r : IsShared setup s) (chunk : ℕ) → chunk < length setup.spots → (spot setup chunk).page < front_count setup
 page_front setup s r chunk inside = let low = r.laid.page chunk inside in omega arith
 
-pub page_is : (setup : Setup) (s : Table) (r : IsShared setup s) (chunk : ℕ) → chunk < length setup.spots → get_or s.words (spot setup chunk).page 0 ≡ page_word setup r.front chunk
+pub page_is : (setup : Setup) (s : Table) (r : IsShared setup s) (chunk : ℕ) → chunk < length setup.spots → get_or s.words (front_place (spot setup chunk).page) 0 ≡ page_word setup r.front chunk
 page_is setup s r chunk inside = r.words.front_is (spot setup chunk).page (page_front setup s r chunk inside)
 
 pub writer_inside : (setup : Setup) (s : Table) (r : IsShared setup s) (seat place hand : ℕ) (view : WriterView) → At s.views seat (Writer place hand view) → place < length setup.writers
@@ -88,9 +88,9 @@ not_not false = refl
 
 pub claims_allowed : (setup : Setup) (count id k chunk mask : ℕ) (v : WriterView) → chunk < length setup.spots
     → ((word : ℕ) → ClaimsBit word (bit_or word mask) (spot setup chunk).place (spot setup chunk).layout) → ((word : ℕ) → KeepsOthers word (bit_or word mask) (spot setup chunk).place)
-    → Allows (IsShared setup) count id (Writer k 0 v, []) (spot setup chunk).page (λ found. bit_or found mask) (Claims chunk (spot setup chunk).place (Writer k 0 v, []))
+    → Allows (IsShared setup) count id (Writer k 0 v, []) (front_place (spot setup chunk).page) (λ found. bit_or found mask) (Claims chunk (spot setup chunk).place (Writer k 0 v, []))
 claims_allowed setup count id k chunk mask v inside sets keep s r deep at small =
-    let at_ = spot setup chunk in let found = get_or s.words at_.page 0 in let new = bit_or found mask in
+    let at_ = spot setup chunk in let found = get_or s.words (front_place at_.page) 0 in let new = bit_or found mask in
     let world = r.world in let f = r.manned.each id (Writer k 0 v) at in
     let claimed = bit_at found (32 + at_.place) == 1 in let won = is_clear found at_.place in
     let inside_w = writer_inside setup s r id k 0 v at in let w_inside = world_inside setup s r id k 0 v at in let c_inside = chunk_inside setup s r chunk inside in
@@ -126,7 +126,7 @@ claims_allowed setup count id k chunk mask v inside sets keep s r deep at small 
 
 pub stamps_allowed : (setup : Setup) (count id k chunk header : ℕ) (v : WriterView) → chunk < length setup.spots
     → 0 < times chunk v.claimed → v.stamped ≡ None → IsHeader setup header k (length v.begun) no_head
-    → Allows (IsShared setup) count id (Writer k 0 v, []) (setup.pages + chunk) (λ _. header) (λ _. Stamps chunk (spot setup chunk).payload_size (Writer k 0 v, []))
+    → Allows (IsShared setup) count id (Writer k 0 v, []) (front_place (setup.pages + chunk)) (λ _. header) (λ _. Stamps chunk (spot setup chunk).payload_size (Writer k 0 v, []))
 stamps_allowed setup count id k chunk header v inside mine unstamped is_header s r deep at small =
     let world = r.world in let f = r.manned.each id (Writer k 0 v) at in let size = (spot setup chunk).payload_size in
     let inside_w = writer_inside setup s r id k 0 v at in let w_inside = world_inside setup s r id k 0 v at in let c_inside = chunk_inside setup s r chunk inside in
@@ -168,10 +168,10 @@ pub begins_allowed : (setup : Setup) (count id k chunk mask : ℕ) (v : WriterVi
     → v.stamped ≡ Some (record { chunk = chunk; id = length v.begun })
     → ((word : ℕ) → HasState word (spot setup chunk).place state.Free → SetsState word (bit_or word mask) (spot setup chunk).place state.BeingWritten)
     → ((word : ℕ) → KeepsOthers word (bit_or word mask) (spot setup chunk).place)
-    → Allows (IsShared setup) count id (Writer k (hand_with chunk) v, (chunk, None) ∷ []) (spot setup chunk).page (λ found. bit_or found mask)
+    → Allows (IsShared setup) count id (Writer k (hand_with chunk) v, (chunk, None) ∷ []) (front_place (spot setup chunk).page) (λ found. bit_or found mask)
     (λ _. Begins chunk (spot setup chunk).payload_size (Writer k (hand_with chunk) v, (chunk, None) ∷ []))
 begins_allowed setup count id k chunk mask v inside stamped sets keep s r deep at small =
-    let at_ = spot setup chunk in let found = get_or s.words at_.page 0 in let new = bit_or found mask in
+    let at_ = spot setup chunk in let found = get_or s.words (front_place at_.page) 0 in let new = bit_or found mask in
     let world = r.world in let f = r.manned.each id (Writer k (hand_with chunk) v) at in
     let inside_w = writer_inside setup s r id k (hand_with chunk) v at in let w_inside = world_inside setup s r id k (hand_with chunk) v at in let c_inside = chunk_inside setup s r chunk inside in
     let is = page_is setup s r chunk inside in
@@ -202,7 +202,7 @@ begins_allowed setup count id k chunk mask v inside stamped sets keep s r deep a
         roll = roll;
         laid = r.laid;
         kept = kept';
-        words = words_body setup (set s.words at_.page new) front r.slots chunk None inside deep_slots
+        words = words_body setup (set s.words (front_place at_.page) new) front r.slots chunk None inside deep_slots
             (words_front setup s.words r.front r.slots at_.page new (page_front setup s r chunk inside) (front_many setup s r) r.words);
         bodies = bodies_back setup s.homes r.slots slots r.roll roll chunk None r.bodies inside (body_here r.slots chunk None (omega arith))
             (λ d differs. body_else r.slots chunk d None differs)
@@ -217,7 +217,7 @@ begins_allowed setup count id k chunk mask v inside stamped sets keep s r deep a
 pub heads_allowed : (setup : Setup) (count id k chunk i header : ℕ) (head : Head) (v : WriterView)
     → IsHolding v chunk i → IsHeader setup header k i head → MayFollow (head_at v i) head
     → HasFragments (published v i) (ends_by v i head.count) → sealed_to (ends_by v i head.count) ≤ (spot setup chunk).payload_size
-    → Allows (IsShared setup) count id (Writer k 0 v, []) (setup.pages + chunk) (λ _. header) (λ _. SetsHeader chunk i head (Writer k 0 v, []))
+    → Allows (IsShared setup) count id (Writer k 0 v, []) (front_place (setup.pages + chunk)) (λ _. header) (λ _. SetsHeader chunk i head (Writer k 0 v, []))
 heads_allowed setup count id k chunk i header head v holding is_header follows reads fits_in s r deep at small =
     let world = r.world in let f = r.manned.each id (Writer k 0 v) at in
     let inside_w = writer_inside setup s r id k 0 v at in let w_inside = world_inside setup s r id k 0 v at in

@@ -11,6 +11,7 @@ use Rattle.chunk_plain.specs.Owned.{held_count, IsOwned}
 use Rattle.chunk_words.specs.declared.host.HostTable.{HostTable}
 use Rattle.chunk_words.specs.declared.seats.WriterSeat.{WriterSeat}
 use Rattle.chunk_words.specs.Knows.{view_of}
+use Rattle.chunk_words.specs.Places.{front_place}
 use Rattle.chunk_words.specs.Sits.{Sits}
 
 -- a writer with nothing left to do: it has claimed and holds no chunk, and each one that it completed was taken
@@ -34,8 +35,8 @@ views_of seats = map (λ (seat : WriterSeat). view_of seat.seat.me.0) seats
 
 -- no chunk is used: its state is Free, and its claim bit is clear
 abbrev pub IsUnused : Setup → List ℕ → ℕ → Type 0
-IsUnused setup words chunk = HasState (slice_index_or words (spot setup chunk).page 0) (spot setup chunk).place Free
-    × (bit_at (slice_index_or words (spot setup chunk).page 0) (CLAIM_BIT + (spot setup chunk).place) ≡ 0)
+IsUnused setup words chunk = HasState (slice_index_or words (front_place (spot setup chunk).page) 0) (spot setup chunk).place Free
+    × (bit_at (slice_index_or words (front_place (spot setup chunk).page) 0) (CLAIM_BIT + (spot setup chunk).place) ≡ 0)
 
 -- The views that the seats had are those of one owned world: the account of all that was done.
 abbrev pub IsAccount : List WriterView → ServiceView → Type 0

@@ -1,8 +1,9 @@
--- Where the words of a table lie that threads share: the word of each page, then the header word of each chunk, then the payload words of the first
--- chunk, of the next one, and so on.
-use Rattle.std.specs.Prelude.{ℕ, zero, suc, ◌+◌, ◌/◌, List, length, slice_index_or}
+-- Where the words of a table lie that threads share: in front the word of each page, then the header word of each chunk, each on a cache line of its
+-- own; behind them the payload words of the first chunk, of the next one, and so on. The words between those in front are never stored.
+use Rattle.std.specs.Prelude.{ℕ, zero, suc, ◌+◌, ◌*◌, ◌/◌, List, length, slice_index_or}
 use Rattle.chunk_plain.specs.declared.setup.Spot.{Spot}
 use Rattle.chunk_plain.specs.Setup.{Setup, spot, no_spot}
+use Rattle.chunk_words.specs.declared.host.TheConstants.{LINE_WORDS}
 
 -- how many words hold a payload of this size
 abbrev pub words_for : ℕ → ℕ
@@ -13,13 +14,17 @@ abbrev pub words_before : List Spot → ℕ → ℕ
 words_before spots zero = 0
 words_before spots (suc n) = words_before spots n + words_for (slice_index_or spots n no_spot).payload_size
 
--- the words in front of all payload words
+-- where a word in front lies: the words between it and the next one fill its cache line
+abbrev pub front_place : ℕ → ℕ
+front_place index = LINE_WORDS * index
+
+-- how many words are in front: the page words, and the header words behind them
 abbrev pub front_count : Setup → ℕ
 front_count setup = setup.pages + length setup.spots
 
 -- the first payload word of a chunk
 abbrev pub payload_start : Setup → ℕ → ℕ
-payload_start setup chunk = front_count setup + words_before setup.spots chunk
+payload_start setup chunk = front_place (front_count setup) + words_before setup.spots chunk
 
 -- how many payload words a chunk has
 abbrev pub payload_words : Setup → ℕ → ℕ

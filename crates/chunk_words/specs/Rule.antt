@@ -15,12 +15,13 @@ use Rattle.chunk_plain.specs.Plain.{IsKept, first_world}
 use Rattle.chunk_words.specs.Knows.{Watch, Nothing, Started, Full, Known, Lifted, Stage, Unmade, Away, Here, Tale, Desk, first_desk, Knows, Spent, Writer, Service, Pass, Report, hand_with}
 use Rattle.chunk_words.specs.Told.{StaysCompleted, ShowsTold}
 use Rattle.chunk_words.specs.GoesOn.{GoesOn}
-use Rattle.chunk_words.specs.Places.{front_count, payload_start, payload_words, word_total}
+use Rattle.chunk_words.specs.Places.{front_place, front_count, payload_start, payload_words, word_total}
 
--- The words of the table are the page and header words in front, and behind them the payload words of each chunk.
+-- The words of the table are the page and header words in front, each at its place, and behind them the payload words of each chunk. Nothing is said
+-- of the words between those in front.
 pub record HoldsWords (setup : Setup) (words front : List ℕ) (slots : List Stored) : Type 0 where
   pub total : length words ≡ word_total setup
-  pub front_is : (index : ℕ) → index < front_count setup → slice_index_or words index 0 ≡ slice_index_or front index 0
+  pub front_is : (index : ℕ) → index < front_count setup → slice_index_or words (front_place index) 0 ≡ slice_index_or front index 0
   pub count : (chunk : ℕ) → chunk < length setup.spots → length (stored_at slots chunk).words ≡ payload_words setup chunk
   pub payload_is : (chunk index : ℕ) → chunk < length setup.spots → index < payload_words setup chunk
       → slice_index_or words (payload_start setup chunk + index) 0 ≡ slice_index_or (stored_at slots chunk).words index 0

@@ -2,13 +2,18 @@
 ghost use Rattle.std.specs.Prelude.{◌≡◌, ℕ, ◌+◌, ◌^◌, ◌<◌, ◌≤◌, length, vec_len, slice_index_or};
 ghost use Rattle.trace_base.specs.declared.limits.TheConstants.{MAX_WRITERS};
 ghost use Rattle.chunk_plain.specs.Setup.{IsLaid, spot};
-ghost use Rattle.chunk_words.specs.Places.{payload_start, payload_words, spare_place, word_total};
+ghost use Rattle.chunk_words.specs.Places.{front_place, payload_start, payload_words, spare_place, word_total};
 
 use crate::steps::{ChunkRule, Knowledge};
 use atomic_table::Table;
 use chunk_plain::Layout;
 use commit_body::CommitBody;
 use std::alloc::Global;
+
+/// The words of a cache line, which has 64 bytes. Page words and header words lie so far apart, since
+/// a store takes its line away from all other cores: on a line that they share, writers of different
+/// chunks would wait for each other. Words this far apart share none, wherever the table begins.
+pub(crate) const LINE_WORDS: usize = 8;
 
 /// A table that threads share. Each step on it is made with a seat.
 #[derive(Drop)]
@@ -30,6 +35,24 @@ pub struct HostTable {
 }
 
 impl HostTable {
+    /// The index of the page word of a page.
+    pub(crate) fn page_index(&self, page: u32) -> usize
+        requires { page < self.now.layout.pages }
+        ensures here { result ≡ front_place page }
+        ensures inside { result < self.now.table.shared.table_id.words }
+    {
+        page as usize * LINE_WORDS
+    }
+
+    /// The index of the header word of a chunk, behind the page words.
+    pub(crate) fn header_index(&self, chunk: u32) -> usize
+        requires { chunk < length self.now.layout.spots }
+        ensures here { result ≡ front_place (self.now.layout.pages + chunk) }
+        ensures inside { result < self.now.table.shared.table_id.words }
+    {
+        self.layout.header_index(chunk) * LINE_WORDS
+    }
+
     /// The index of a payload word of a chunk.
     pub(crate) fn payload_index(&self, chunk: u32, index: usize) -> usize
         requires chunk { chunk < length self.now.layout.spots }

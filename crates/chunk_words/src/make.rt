@@ -12,7 +12,7 @@ ghost use Rattle.chunk_words.specs.Places.{spare_place};
 ghost use Rattle.chunk_words.specs.Seats.{IsServiceIdle};
 ghost use Rattle.chunk_words.specs.Sits.{Attends, HasNoPass};
 
-use crate::host::HostTable;
+use crate::host::{HostTable, LINE_WORDS};
 use crate::seats::{ServiceSeat, WriterSeat};
 use crate::steps::{ChunkSeat, Knowledge};
 use arrayvec::ArrayVec;
@@ -127,7 +127,7 @@ fn payload_starts(alloc: Global, layout: &Layout) -> Result<(Vec<usize>, usize),
     ensures spare { IfOk result (λ made. made.1 ≡ spare_place layout.now) }
 {
     let mut starts = Vec::new(alloc);
-    let mut next = layout.word_count();
+    let mut next = layout.word_count() * LINE_WORDS;
     for spot in layout.spots() {
         starts.push(next)?;
         next += (spot.payload_size as usize + 7) / 8;

@@ -39,7 +39,12 @@ impl HostTable {
             place: spot.place,
         };
         let table = &self.table;
-        make_load(&table.shared, &mut seat.seat, spot.page as usize, &step)
+        make_load(
+            &table.shared,
+            &mut seat.seat,
+            self.page_index(spot.page),
+            &step,
+        )
     }
 
     /// Reads the header word of a chunk whose page word was found, and notes the look.
@@ -61,7 +66,7 @@ impl HostTable {
         make_load(
             &table.shared,
             &mut seat.seat,
-            self.layout.header_index(chunk),
+            self.header_index(chunk),
             &step,
         )
     }
@@ -79,7 +84,7 @@ impl HostTable {
         make_load(
             &table.shared,
             &mut seat.seat,
-            self.layout.header_index(chunk),
+            self.header_index(chunk),
             &Move::Know { chunk },
         )
     }
@@ -141,7 +146,7 @@ impl HostTable {
         make_and(
             &table.shared,
             &mut seat.seat,
-            spot.page as usize,
+            self.page_index(spot.page),
             take_mask(spot.place),
             &step,
         );
@@ -225,7 +230,7 @@ impl HostTable {
         make_and(
             &table.shared,
             &mut seat.seat,
-            spot.page as usize,
+            self.page_index(spot.page),
             release_mask(spot.place),
             &Move::Release { chunk },
         );

@@ -38,7 +38,12 @@ impl HostTable {
             place: spot.place,
         };
         let table = &self.table;
-        make_load(&table.shared, &mut seat.seat, spot.page as usize, &step)
+        make_load(
+            &table.shared,
+            &mut seat.seat,
+            self.page_index(spot.page),
+            &step,
+        )
     }
 
     /// Sets the claim bit of a chunk, and the layout of its page.
@@ -56,7 +61,7 @@ impl HostTable {
             chunk,
             place: spot.place,
         };
-        let at = spot.page as usize;
+        let at = self.page_index(spot.page);
         let table = &self.table;
         make_or(&table.shared, &mut seat.seat, at, mask, &step)
     }
@@ -90,7 +95,7 @@ impl HostTable {
         make_store(
             &table.shared,
             &mut seat.seat,
-            self.layout.header_index(chunk),
+            self.header_index(chunk),
             header.pack(),
             &step,
         );
@@ -119,7 +124,7 @@ impl HostTable {
         make_or(
             &table.shared,
             &mut seat.seat,
-            spot.page as usize,
+            self.page_index(spot.page),
             begin_mask(spot.place),
             &step,
         );
@@ -164,7 +169,7 @@ impl HostTable {
         make_store(
             &table.shared,
             &mut seat.seat,
-            self.layout.header_index(chunk),
+            self.header_index(chunk),
             header.pack(),
             &step,
         );
@@ -220,7 +225,7 @@ impl HostTable {
         make_load(
             &table.shared,
             &mut seat.seat,
-            self.layout.header_index(chunk),
+            self.header_index(chunk),
             &Move::Fetch { chunk },
         );
     }
@@ -243,7 +248,7 @@ impl HostTable {
         make_or(
             &table.shared,
             &mut seat.seat,
-            spot.page as usize,
+            self.page_index(spot.page),
             complete_mask(spot.place),
             &Move::Complete { chunk, id },
         );

@@ -16,5 +16,5 @@ make_store-requires-clause-allowed c =
       count_fits = let fits = c.requires.count_fits in omega arith;
       flags_fit = let fits = c.requires.flags_fit in omega arith;
     } in
-    rw (self.key, c.header_index.ensures, c.requires.idle)
+    rw (self.key, c.header_index.ensures.here, c.requires.idle)
     (heads_allowed self.layout _ seat.seat.id seat.place c.args.chunk c.args.id c.pack.result head (view_of seat.seat.me.0) c.requires.held is c.requires.follows c.requires.reads c.requires.inside)

@@ -8,6 +8,7 @@ use Rattle.chunk_plain.specs.declared.setup.Spot.{Spot}
 use Rattle.chunk_plain.specs.Setup.{spot}
 use Rattle.chunk_words.specs.Knows.{Service, Known, made_of, desk_of, service_of}
 use Rattle.chunk_words.specs.Moves.{Takes}
+use Rattle.chunk_words.specs.Places.{front_place}
 use Rattle.chunk_words.specs.Rule.{IsShared}
 use Rattle.chunk_words.proofs.ServiceMoves.{takes_allowed}
 use Rattle.chunk_words.proofs.host.HostTable.step_take.Goals as goal
@@ -20,6 +21,6 @@ make_and-requires-clause-allowed c =
     (ap (λ (h : ChunkHeader). h.writer_id) fields ∙ c.requires.writer_is) (ap (λ (h : ChunkHeader). h.chunk_id) fields ∙ c.requires.next)
     (subst (λ (s : Spot). (found : _) → found < 2 ^ 64 → HasState found s.place Complete → SetsState found (bit_and found mask) s.place BeingRead) c.spot-spot.ensures.spot c.take_mask.ensures.step)
     (subst (λ (s : Spot). (found : _) → KeepsOthers found (bit_and found mask) s.place) c.spot-spot.ensures.spot c.take_mask.ensures.others) in
-    rw (self.key, c.spot-spot.ensures.spot, c.requires.idle, c.requires.watch)
-    (subst (λ (h : ChunkHeader). Allows (IsShared self.layout) self.table.shared.table_id.slots seat.id (Service 0 (made_of k) (desk_of k) (Known c.args.chunk (packed header)) (service_of k), []) (spot self.layout c.args.chunk).page
+    rw (self.key, c.page_index.ensures.here, c.spot-spot.ensures.spot, c.requires.idle, c.requires.watch)
+    (subst (λ (h : ChunkHeader). Allows (IsShared self.layout) self.table.shared.table_id.slots seat.id (Service 0 (made_of k) (desk_of k) (Known c.args.chunk (packed header)) (service_of k), []) (front_place (spot self.layout c.args.chunk).page)
     (λ found. bit_and found mask) (λ _. Takes c.args.writer c.args.chunk (spot self.layout c.args.chunk).payload_size c.args.word h (Service 0 (made_of k) (desk_of k) (Known c.args.chunk (packed header)) (service_of k), []))) fields fact)
