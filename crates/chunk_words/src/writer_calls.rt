@@ -10,7 +10,7 @@ ghost use Rattle.chunk_plain.specs.Steps.{redrafts, with_head, completes, notes_
 ghost use Rattle.chunk_plain.specs.Words.{TriesClaim, HasClaimed, IsBegun, BeginsChunk};
 ghost use Rattle.chunk_plain.specs.Words.{KeepsSealed, IsPublished, PublishesBytes, completed_content, call_of};
 ghost use Rattle.chunk_words.specs.Knows.{view_of};
-ghost use Rattle.chunk_words.specs.Moves.{Stores};
+ghost use Rattle.chunk_words.specs.Moves.{Stores, StaysOutside};
 ghost use Rattle.chunk_words.specs.Seats.{IsIdle};
 ghost use Rattle.chunk_words.specs.Sits.{Sits};
 
@@ -97,6 +97,8 @@ impl HostTable {
         ensures held { held.new ≡ held.old }
         ensures view { PublishesBytes held.old.chunk held.old.id from to held.old.body.payload.items
             (view_of seat.old.seat.me.0) (view_of seat.new.seat.me.0) }
+        ensures others { StaysOutside from to (draft_at (view_of seat.old.seat.me.0) held.old.id).words
+            (draft_at (view_of seat.new.seat.me.0) held.old.id).words }
         ensures seat { Sits self.now seat.new }
         ensures place { seat.new.place ≡ seat.old.place }
     {

@@ -1,13 +1,15 @@
-use Rattle.std.proofs.Common.{◌/◌, ◌≤◌, List, ℕ, length, refl, ap, subst, arith}
+use Rattle.std.proofs.Common.{◌≡◌, ◌/◌, ◌≤◌, ◌∙◌, List, ℕ, length, refl, sym, ap, subst, arith}
 use Rattle.chunk_plain.specs.Payload.{StoredUpTo}
-use Rattle.chunk_plain.specs.Views.{Held}
+use Rattle.chunk_plain.specs.Views.{Held, Draft}
 use Rattle.chunk_plain.specs.Steps.{redrafts, with_words}
 use Rattle.chunk_plain.specs.Drafts.{draft_at}
+use Rattle.chunk_plain.proofs.Holding.{redrafts_draft}
 use Rattle.chunk_plain.proofs.Publishing.{published_range}
 use Rattle.chunk_plain.proofs.Resting.{entry_rest}
 use Rattle.chunk_words.specs.Knows.{view_of}
-use Rattle.chunk_words.specs.Moves.{Mine}
+use Rattle.chunk_words.specs.Moves.{Mine, StaysOutside}
 use Rattle.chunk_words.proofs.Rests.{sits_now, held_of_table}
+use Rattle.chunk_words.proofs.Storing.{stored_range}
 use Rattle.chunk_words.proofs.host.HostTable.publish.Goals as goal
 
 pub store_words-requires-clause-chunk : goal.store_words-requires-clause-chunk
@@ -27,6 +29,16 @@ returns-clause-view c =
           (subst (λ (l : List ℕ). StoredUpTo l (c.args.from / 8) c.word_end-end.result old.words stores.words) c.deref.ensures.value stores.stored);
       view = ap (λ (m : Mine). view_of m.0) stores.new_is;
     }
+
+pub returns-clause-others : goal.returns-clause-others
+returns-clause-others c =
+    let view = view_of c.args.seat.now.seat.me.0 in let chunk = c.args.held.now.chunk in let id = c.args.held.now.id in let stores = c.store_words.ensures.me in
+    let draft = with_words (draft_at view id) stores.words in
+    let now : draft_at (view_of c.store_words.new.seat.seat.me.0) id ≡ draft
+    = ap (λ (m : Mine). draft_at (view_of m.0) id) stores.new_is ∙ redrafts_draft view chunk id draft c.requires.held in
+    subst (λ (d : Draft). StaysOutside c.args.from c.args.to (draft_at view id).words d.words) (sym now)
+    (stored_range c.args.from c.args.to c.word_end-end.result (draft_at view id).words stores.words
+    (λ less. (c.word_end-end.ensures.some less).1) c.word_end-end.ensures.none stores.before stores.behind)
 
 pub returns-clause-seat : goal.returns-clause-seat
 returns-clause-seat c =
