@@ -30,9 +30,10 @@ payload_start setup chunk = front_place (front_count setup) + words_before setup
 abbrev pub payload_words : Setup → ℕ → ℕ
 payload_words setup chunk = words_for (spot setup chunk).payload_size
 
--- The last word is never stored: a seat that notes something loads it, and no other thread's steps are in its way.
+-- The last word is never stored: a seat that notes something loads it. It lies a cache line behind the payload words, so that no other thread's steps
+-- are in its way.
 abbrev pub spare_place : Setup → ℕ
-spare_place setup = payload_start setup (length setup.spots)
+spare_place setup = payload_start setup (length setup.spots) + LINE_WORDS
 
 -- all words
 abbrev pub word_total : Setup → ℕ

@@ -119,7 +119,7 @@ impl HostTable {
     }
 }
 
-/// The first payload word of each chunk, and the place behind the last payload word.
+/// The first payload word of each chunk, and the place of the word that notes load.
 fn payload_starts(alloc: Global, layout: &Layout) -> Result<(Vec<usize>, usize), AllocError>
     requires laid { IsLaid layout.now }
     requires pages { layout.now.pages < 2 ^ 32 }
@@ -132,7 +132,7 @@ fn payload_starts(alloc: Global, layout: &Layout) -> Result<(Vec<usize>, usize),
         starts.push(next)?;
         next += (spot.payload_size as usize + 7) / 8;
     }
-    Ok((starts, next))
+    Ok((starts, next + LINE_WORDS))
 }
 
 /// A body for each chunk, with room for its payload.

@@ -22,3 +22,12 @@ loop-spot-preserved c =
       next_is = ap (λ n. n + words_for (get_or c.spots-spot-items.result.now at no_spot).payload_size) c.loop-spot.invariant.next_is
           ∙ ap (λ (l : List Spot). payload_start layout at + words_for (get_or l at no_spot).payload_size) c.spots-spot-items.ensures ∙ sym (start_next layout at);
     }
+
+pub overflow_add-result : goal.overflow_add-result
+overflow_add-result c =
+    let layout = c.args.layout.now in let at = c.loop-spot.spot-index in
+    let count : length c.spots-spot-items.result.now ≡ length layout.spots = ap (λ (l : List Spot). length l) c.spots-spot-items.ensures in
+    let ended = c.loop-spot.auto.spot-index-end in
+    let low = few_before layout at c.requires.laid (omega (arith, ended, count)) in
+    let few = c.requires.laid.few in
+    omega (arith, low, few, c.loop-spot.invariant.next_is, c.requires.pages, ended, count)
