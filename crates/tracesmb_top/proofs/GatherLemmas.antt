@@ -85,6 +85,10 @@ stops_by scenario fault old new has =
 
 -- ---- what the trace behind an adapter took
 
+-- an adapter over a sink begins with what the sink has taken, where nothing waits
+pub lent_first : (loan : Loan) (first old : Intake) (waits : List ℕ) → first ≡ old → waits ≡ [] → lent_by loan (after_told first waits) ≡ lent_by loan (after_told old [])
+lent_first loan first old waits same none = ap (λ (bytes : List ℕ). lent_by loan (after_told first bytes)) none ∙ ap (λ (start : Intake). lent_by loan (after_told start [])) same
+
 -- where an adapter took all of some bytes, the sink that it was lent took them but for those that wait
 pub lent_all : (loan loan' : Loan) (old new : Intake) (waits bytes : List ℕ)
     → take (length loan'.start) (told_bytes new) ≡ loan'.start → loan.start ≡ told_bytes old

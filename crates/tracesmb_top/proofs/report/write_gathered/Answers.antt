@@ -2,7 +2,7 @@ use Rattle.std.proofs.Common.{◌≡◌, ◌∙◌, ℕ, List, [], ap, arith}
 use Rattle.std.proofs.lemmas.Grind.{common_steps}
 use Rattle.byte_io.specs.Bytes.{Intake, after_told, lent_by}
 use Rattle.byte_io.specs.Buffered.{buffered_loan, pending_bytes}
-use Rattle.tracesmb_top.proofs.GatherLemmas.{lent_whole, lent_front}
+use Rattle.tracesmb_top.proofs.GatherLemmas.{lent_first, lent_whole, lent_front}
 use Rattle.tracesmb_top.proofs.report.write_gathered.Goals as goal
 
 -- what was lent took the report, but for what waits
@@ -10,12 +10,11 @@ pub returns-clause-all : goal.returns-clause-all
 returns-clause-all g c =
     let loan = buffered_loan c.new-gathered.result in
     let old : Intake = g.O.Sink.taken c.args.text.now in
-    let first : Intake = g.O.Sink.taken c.new-gathered.result.inner.now in
+    let same : g.O.Sink.taken c.new-gathered.result.inner.now ≡ old = ap g.O.Sink.taken c.new-gathered.ensures.inner in
     let none : pending_bytes c.new-gathered.result.pending.now ≡ [] = ap pending_bytes c.new-gathered.ensures.pending ∙ c.requires.empty in
-    let same : first ≡ old = ap g.O.Sink.taken c.new-gathered.ensures.inner in
     let back = lent_whole c.put_report.result loan (buffered_loan c.put_report.new.out) _ old
     (g.O.Sink.taken c.put_report.new.out.inner.now) (pending_bytes c.put_report.new.out.pending.now) _
-    (ap (λ (waits : List ℕ). lent_by loan (after_told first waits)) none ∙ ap (λ (start : Intake). lent_by loan (after_told start [])) same)
+    (lent_first loan _ _ _ same none)
     c.put_report.new.out.grown c.new-gathered.ensures.start c.put_report.ensures.all in
     grind (arith, common_steps, c.deref.ensures.value, c.deref-2.ensures.value, c.deref-3.ensures.value, back)
 
@@ -24,11 +23,10 @@ pub returns-clause-part : goal.returns-clause-part
 returns-clause-part g c =
     let loan = buffered_loan c.new-gathered.result in
     let old : Intake = g.O.Sink.taken c.args.text.now in
-    let first : Intake = g.O.Sink.taken c.new-gathered.result.inner.now in
+    let same : g.O.Sink.taken c.new-gathered.result.inner.now ≡ old = ap g.O.Sink.taken c.new-gathered.ensures.inner in
     let none : pending_bytes c.new-gathered.result.pending.now ≡ [] = ap pending_bytes c.new-gathered.ensures.pending ∙ c.requires.empty in
-    let same : first ≡ old = ap g.O.Sink.taken c.new-gathered.ensures.inner in
     let back = lent_front c.put_report.result loan (buffered_loan c.put_report.new.out) _ old
     (g.O.Sink.taken c.put_report.new.out.inner.now) (pending_bytes c.put_report.new.out.pending.now) _
-    (ap (λ (waits : List ℕ). lent_by loan (after_told first waits)) none ∙ ap (λ (start : Intake). lent_by loan (after_told start [])) same)
+    (lent_first loan _ _ _ same none)
     c.put_report.new.out.grown c.new-gathered.ensures.start c.put_report.ensures.part in
     grind (arith, common_steps, c.deref.ensures.value, c.deref-2.ensures.value, c.deref-3.ensures.value, back)
