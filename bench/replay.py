@@ -3,7 +3,7 @@
 
     bench/replay.py OTHER [PROGRAM]      OTHER and PROGRAM are called as `PROGRAM replay`; ours is built where none is named
 
-What is played so far is a few packets in one chunk, so that a long input has little but lines that say nothing. The rows:
+Each row but the last plays nine packets, most of them among many lines that say nothing, so that the reading is timed. The rows:
 
     few        nine packets of nested fields, and nothing else: 1,000 runs, which is mostly the start of a process
     comments   the same, with 60 MB of comments of 80 bytes round the packets
