@@ -1,3 +1,4 @@
+pub mod Noted
 pub mod Reads
 pub mod Settled
 pub mod Runs

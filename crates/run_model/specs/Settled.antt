@@ -1,8 +1,9 @@
 -- A scenario that was run on threads, once all is settled: what its writers and its service did, by their views, in whatever order the threads came.
-use Rattle.std.specs.Prelude.{◌≡◌, ℕ, zero, suc, ◌<◌, true, false, List, [], ◌++◌, length}
+use Rattle.std.specs.Prelude.{◌≡◌, ℕ, zero, suc, ◌<◌, true, false, List, [], ◌∷◌, ◌++◌, length}
 use Rattle.std.specs.List.{flat_map}
 use Rattle.trace_base.specs.declared.policy.WriterPolicy.TheVariants.{Stalls}
 use Rattle.trace_model.specs.Buffers.{Buffer}
+use Rattle.trace_model.specs.Calls.{Flushed}
 use Rattle.trace_model.specs.Counts.{last_count}
 use Rattle.trace_model.specs.History as model
 use Rattle.trace_model.specs.History.{buffers_after}
@@ -26,14 +27,16 @@ use Rattle.replay_model.specs.Does.{is_shut}
 use Rattle.replay_model.specs.Played.{IsSetupOf, buffers_of}
 use Rattle.schedule_laws.specs.Resting.{IsBetweenCalls}
 use Rattle.thread_service.specs.Reading.{reads_among}
+use Rattle.run_model.specs.Noted.{done_calls}
 use Rattle.run_model.specs.Reads.{AreReadsOf}
 
 -- ---- a writer
 
--- The writer at this place has done its lines: it is between two calls, has noted what the lines ask of it, with packets lost and flushes between
--- packets, and holds no chunk. One that stalls has lost none.
+-- The writer at this place has done its lines: it is between two calls and holds no chunk, and what it has noted is just what the lines ask of it, and
+-- then the flush that ends its job. Packets may be lost on the way, but none of one that stalls.
 pub record HasDoneLines (setup : Setup) (lines : List NumberedLine) (place : ℕ) (view : WriterView) : Type 0 where
   pub between : IsBetweenCalls setup place view
+  pub asked : done_calls view.calls ≡ calls_asked (suc place) lines ++ Flushed ∷ []
   pub lose : Loses (calls_asked (suc place) lines) view.calls
   pub stalls : (spec_at setup.writers place).policy ≡ Stalls → lost_count (packets_of view.calls) ≡ 0
   pub none_held : held_count view.begun ≡ 0

@@ -38,6 +38,7 @@ use Rattle.thread_writer.specs.Writing.{core_of, view_in, Writes}
 use Rattle.thread_writer.proofs.Calls.{writes_back}
 use Rattle.thread_writer.proofs.Identity.{works_stay}
 use Rattle.thread_host.specs.Playing.{NeverRefuses, IsGoing, WasAsked}
+use Rattle.thread_host.proofs.Doing.{done_more, call_done}
 
 -- ---- a helper that never refuses
 
@@ -182,6 +183,8 @@ module _ {H : Type 0} (helps : H → ℕ → Bool → H → Type 0) (of_table : 
           writes = writes;
           place_is = place_stays ∙ going.place_is;
           going = called.going;
+          done = done_more asked (view_in writer).calls (view_in after).calls call (noted_as called.stopped (route_of core).spec.policy call) going.done notes
+              (call_done (account_of going.ready.asked).packets called.stopped (route_of core).spec.policy call going.ready.accepted.0 called.drops);
           lose = loses_more asked (view_in writer) (view_in after) call (noted_as called.stopped (route_of core).spec.policy call) going.lose notes notes_it;
           whole = whole;
           ready = ready_behind (payload_at (setup_in table.now) place) (view_in writer) (view_in after) call coming (noted_as called.stopped (route_of core).spec.policy call)

@@ -1,3 +1,4 @@
+pub mod Doing
 pub mod Telling
 pub mod Hosting
 pub mod Made

@@ -27,12 +27,14 @@ use Rattle.service_core.specs.Agreement.{spec_at}
 use Rattle.replay_model.proofs.ScrapedLemmas.{counted}
 use Rattle.replay_host.proofs.ReadyLemmas.{between_is, written_append}
 use Rattle.replay_host.proofs.WroteLemmas.{begun_many}
+use Rattle.run_model.specs.Noted.{done_calls}
 use Rattle.thread_writer.specs.declared.helper.Asks.{Asks}
 use Rattle.thread_writer.specs.declared.writer.TraceWriter.{TraceWriter}
 use Rattle.thread_writer.specs.Lent.{identity_of, lent}
 use Rattle.thread_writer.specs.Writing.{core_of, view_in, Writes, IsQuietCall}
 use Rattle.thread_host.specs.Hosts.{IsReady, HasPlayed}
 use Rattle.thread_host.specs.Playing.{NeverRefuses, IsGoing}
+use Rattle.thread_host.proofs.Doing.{done_more}
 use Rattle.thread_host.proofs.Going.{spec_is}
 
 -- ---- before its first line
@@ -53,6 +55,7 @@ begins helps of_table lines table place number help writer is ready of_this neve
   writes = ready.writes;
   place_is = ready.place_is;
   going = ready.going;
+  done = ap (λ (view : WriterView). done_calls view.calls) ready.fresh;
   lose = ap (λ (view : WriterView). written_calls view.calls) ready.fresh;
   whole = λ stalls. ap (λ (view : WriterView). lost_count (packets_of view.calls)) ready.fresh;
   ready = rw is ready.ready;
@@ -109,6 +112,8 @@ module _ {H : Type 0} (helps : H → ℕ → Bool → H → Type 0) (of_table : 
               writer = (core_of after).writer;
               agrees = subst (λ (p : ℕ). WriterAgrees (setup_in table.now) p (view_in after) (core_of after).writer) place_is writes.agrees;
             };
+            asked = subst (λ (n : ℕ). done_calls (view_in after).calls ≡ calls_asked n lines ++ Flushed ∷ []) is
+                (done_more (calls_asked number lines) (view_in writer).calls (view_in after).calls Flushed (Flushed ∷ []) going.done notes refl);
             lose = subst (λ (n : ℕ). Loses (calls_asked n lines) (view_in after).calls) is lose;
             stalls = λ stalls. flushed_loses (view_in writer) (view_in after) notes ∙ going.whole stalls;
             none_held = none_held (setup_in table.now) (core_of after).seat.place (view_in after) (core_of after).writer writes.agrees.writes none_held_now;

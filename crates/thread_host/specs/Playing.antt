@@ -17,6 +17,7 @@ use Rattle.scenario_text.specs.declared.scenario.LineKind.TheVariants as line
 use Rattle.scenario_text.specs.Accepted.{node_call}
 use Rattle.service_core.specs.Agreement.{spec_at}
 use Rattle.replay_host.specs.Asking.{IsReadyFor}
+use Rattle.run_model.specs.Noted.{done_calls}
 use Rattle.thread_writer.specs.declared.helper.Asks.{Asks}
 use Rattle.thread_writer.specs.declared.writer.TraceWriter.{TraceWriter}
 use Rattle.thread_writer.specs.Lent.{identity_of}
@@ -41,13 +42,14 @@ calls_in other = []
 abbrev pub NeverRefuses : {H : Type 0} → (H → ℕ → Bool → H → Type 0) → WriterPolicy → Type 0
 NeverRefuses {H} helps policy = policy ≡ Stalls → (helper : H) (producer : ℕ) (after : H) → helps helper producer false after → ⊥
 
--- The writer at this place has noted what was asked of it, with packets lost; one that stalls has lost none. It isn't stalled, it accepts what is to
--- come, and it has a helper of its table, which never refuses it.
+-- What the writer at this place has noted is just what was asked of it. Packets may be lost, but none of one that stalls. It isn't stalled, it accepts
+-- what is to come, and it has a helper of its table, which never refuses it.
 pub record IsGoing {H : Type 0} (helps : H → ℕ → Bool → H → Type 0) (of_table : H → TableId → Type 0) (table : HostTable) (place : ℕ)
     (asked coming : List Call) (help : Asks H) (writer : TraceWriter) : Type 0 where
   pub writes : Writes table writer
   pub place_is : (core_of writer).seat.place ≡ place
   pub going : is_stalled (core_of writer) ≡ false
+  pub done : done_calls (view_in writer).calls ≡ asked
   pub lose : Loses asked (view_in writer).calls
   pub whole : (spec_at (setup_in table).writers place).policy ≡ Stalls → lost_count (packets_of (view_in writer).calls) ≡ 0
   pub ready : IsReadyFor (payload_at (setup_in table) place) (view_in writer) coming
