@@ -193,9 +193,12 @@ module _ (scenario : Parts) (settled : Settled) (is : IsSettled scenario settled
         → ((place : ℕ) → place < length (setup_in settled.table).writers → slice_index_or done.sequences.items place no_counts
         ≡ packets_in (setup_in settled.table) final place (slice_index_or settled.counts.sequences.items place no_counts))
         → done.flushes.items ≡ []
-        → HasFinished scenario (setup_in settled.table) (known_by_pass settled.pass) before after done
+        → HasFinished scenario settled before after done
     has_finished done buffers long each flushes = record {
       world = world;
+      writers = refl;
+      service = record { closed = view_in closed; closes = closes; last = reads_out.last; reads = reads_out.reads };
+      account = account;
       run = run_is;
       more = reads_out.tells.more;
       records = records_are;

@@ -5,9 +5,9 @@ use Rattle.byte_io.specs.Bytes.{Intake, after_told}
 use Rattle.byte_io.proofs.Told.{after_told_again}
 use Rattle.trace_model.specs.Delivery.{Delivered, trace_of}
 use Rattle.trace_model.specs.History.{records_after}
-use Rattle.chunk_plain.specs.Setup.{Setup}
 use Rattle.chunk_plain.specs.Views.{Noted, ServiceView}
 use Rattle.chunk_plain.specs.Histories.{history_of, happened}
+use Rattle.chunk_words.specs.Sits.{setup_in, known_by_pass}
 use Rattle.loss_report.specs.declared.counts.Done.{Done}
 use Rattle.scenario_text.specs.declared.scenario.Scenario.{Scenario}
 use Rattle.scenario_text.specs.Scenario.{IsScenario, parts_of}
@@ -20,12 +20,17 @@ use Rattle.run_model.specs.Settled.{IsRun}
 use Rattle.thread_service.specs.Reading.{reads_among}
 use Rattle.thread_host.specs.Finishing.{HasFinished, HasRun}
 use Rattle.thread_host.specs.Jobs.{TellsLines}
+use Rattle.thread_host.specs.declared.settled.Settled.{Settled}
 
 module _ (faithful : EveryRunIsFaithful) (balanced : EveryRunIsBalanced) (counted : EveryRunCountsPackets) (complete : EveryEnoughRunIsComplete) where
-  pub has_run : (scenario : Scenario) (setup : Setup) (first known : ServiceView) (before between after : Intake) (done : Done) → IsScenario scenario
-      → first.events ≡ [] → TellsLines setup (buffers_of (parts_of scenario) setup) (parts_of scenario).lines first known before between
-      → HasFinished (parts_of scenario) setup known between after done → HasRun (parts_of scenario) before after done
-  has_run scenario setup first known before between after done is none tells finished =
+  pub has_run : (scenario : Scenario) (settled : Settled) (first : ServiceView) (before between after : Intake) (done : Done) → IsScenario scenario
+      → first.events ≡ []
+      → TellsLines (setup_in settled.table) (buffers_of (parts_of scenario) (setup_in settled.table)) (parts_of scenario).lines
+      first (known_by_pass settled.pass) before between
+      → HasFinished (parts_of scenario) settled between after done → HasRun (parts_of scenario) before after done
+  has_run scenario settled first before between after done is none tells finished =
+      let setup = setup_in settled.table in
+      let known = known_by_pass settled.pass in
       let playable = is_playable scenario is in
       let world = finished.world in
       let unread : reads_among first.events ≡ [] = ap (λ (notes : List Noted). reads_among notes) none in

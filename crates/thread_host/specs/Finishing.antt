@@ -10,6 +10,8 @@ use Rattle.chunk_plain.specs.Histories.{history_of}
 use Rattle.chunk_plain.specs.Setup.{Setup, producer_of}
 use Rattle.chunk_plain.specs.Views.{ServiceView}
 use Rattle.chunk_plain.specs.World.{World}
+use Rattle.chunk_words.specs.Closed.{IsAccount, views_of}
+use Rattle.chunk_words.specs.Sits.{setup_in, known_by_pass}
 use Rattle.loss_report.specs.declared.counts.Done.{Done}
 use Rattle.loss_report.specs.Report.{report_text}
 use Rattle.scenario_text.specs.Scenario.{Parts}
@@ -20,11 +22,12 @@ use Rattle.replay_host.specs.declared.fault.HostFault.TheVariants.{OutOfMemory, 
 use Rattle.replay_model.specs.Played.{buffers_of, records_in, packet_counts, report_of, AreBalanced}
 use Rattle.run_model.specs.Reads.{AreReadsOf}
 use Rattle.run_model.specs.Runs.{Runs}
-use Rattle.run_model.specs.Settled.{IsRun, ReadsTo}
+use Rattle.run_model.specs.Settled.{IsRun, ClosesTo, ReadsTo}
 use Rattle.thread_service.specs.declared.service.Service.{Service}
 use Rattle.thread_service.specs.Reading.{reads_among}
-use Rattle.thread_service.specs.Serving.{core_of}
+use Rattle.thread_service.specs.Serving.{core_of, view_in}
 use Rattle.thread_host.specs.Jobs.{TellsReads}
+use Rattle.thread_host.specs.declared.settled.Settled.{Settled}
 
 -- the sequences of the writers of the producers up to this number are closed
 abbrev pub AreClosedTo : Setup → (number : ℕ) → Service → Type 0
@@ -37,18 +40,31 @@ pub record ReadsOut (setup : Setup) (first : List Buffer) (number : ℕ) (old ne
   pub reads : ReadsTo setup first number last old new
   pub tells : TellsReads first last passed pass before after
 
--- There is a world that the threads led to. Where the pass knew the reads of the scenario's lines, and no others, the scenario was run. The sink took
--- exactly the records that the world's history writes behind those that the pass knew, and the counts are those of its report, where it counts each
--- packet once.
-pub record HasFinished (scenario : Parts) (setup : Setup) (known : ServiceView) (old new : Intake) (done : Done) : Type 0 where
+-- The service knows this view, once it has ended what was settled: from what it knew then all producers were closed in rising number, and then each
+-- buffer of the scenario read without limit. It knows nothing more.
+pub record HasEnded (scenario : Parts) (settled : Settled) (view : ServiceView) : Type 0 where
+  pub closed : ServiceView
+  pub closes : ClosesTo (setup_in settled.table) settled.producers (view_in settled.service) closed
+  pub last : List model.Event
+  pub reads : ReadsTo (setup_in settled.table) (buffers_of scenario (setup_in settled.table)) (length scenario.buffers) last closed view
+
+-- There is one owned world of what the seats that were settled know, and of what their service knows that has ended it. Where the pass knew the reads
+-- of the scenario's lines, and no others, the scenario was run. The sink took exactly the records that the world's history writes behind those that the
+-- pass knew, and the counts are those of its report, where it counts each packet once.
+pub record HasFinished (scenario : Parts) (settled : Settled) (old new : Intake) (done : Done) : Type 0 where
   pub world : World
-  pub run : (asked : List model.Event) → AreReadsOf setup scenario.lines asked → reads_among known.events ≡ flat_map noted_read asked
-      → IsRun scenario setup world
+  pub writers : world.writers ≡ views_of settled.seats.items
+  pub service : HasEnded scenario settled world.service
+  pub account : IsAccount world.writers world.service
+  pub run : (asked : List model.Event) → AreReadsOf (setup_in settled.table) scenario.lines asked
+      → reads_among (known_by_pass settled.pass).events ≡ flat_map noted_read asked
+      → IsRun scenario (setup_in settled.table) world
   pub more : List Delivered
-  pub records : records_in scenario setup world ≡ records_after (buffers_of scenario setup) (history_of known) ++ more
+  pub records : records_in scenario (setup_in settled.table) world
+      ≡ records_after (buffers_of scenario (setup_in settled.table)) (history_of (known_by_pass settled.pass)) ++ more
   pub taken : new ≡ after_told old (trace_of more)
-  pub report : AreBalanced (packet_counts scenario setup world)
-      → report_text done.buffers.items done.sequences.items done.flushes.items ≡ report_of scenario setup world []
+  pub report : AreBalanced (packet_counts scenario (setup_in settled.table) world)
+      → report_text done.buffers.items done.sequences.items done.flushes.items ≡ report_of scenario (setup_in settled.table) world []
 
 -- the scenario was run, and these are the counts of its report
 abbrev pub HasRun : Parts → (old new : Intake) → Done → Type 0

@@ -31,11 +31,12 @@ use trace_buffer::BufferCounts;
 
 impl Settled {
     /// Closes the producers in rising number, reads each buffer without limit, in rising number, and
-    /// counts what became of packets and chunks.
+    /// counts what became of packets and chunks. What it tells is the account of the seats and the
+    /// service that were settled.
     pub fn finish<T: Sink>(self, out: &mut T) -> Result<Done, WriteFault>
         requires settled { (scenario : Parts) × IsSettled scenario self }
         ensures done { (scenario : Parts) → IsSettled scenario self
-            → IfOk result (HasFinished scenario (setup_in self.table) (known_by_pass self.pass) (T.taken out.old) (T.taken out.new)) }
+            → IfOk result (HasFinished scenario self (T.taken out.old) (T.taken out.new)) }
         ensures stands { KeepsLoans (T.taken out.old) (T.taken out.new) }
         ensures count { CountsFaults (T.faults out.old) (T.faults out.new) result }
     {
