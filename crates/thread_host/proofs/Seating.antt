@@ -1,7 +1,7 @@
 -- What writers leave at their end, one behind another, and what the service has heard of them.
-use Rattle.std.proofs.Common.{◌≡◌, ◌∙◌, ℕ, zero, suc, ◌<◌, ◌≤◌, Some, List, [], ◌∷◌, ◌++◌, length, get_or, take, drop, refl, sym, ap, subst, arith}
+use Rattle.std.proofs.Common.{◌≡◌, ◌∙◌, ℕ, zero, suc, ◌<◌, ◌≤◌, Some, List, [], ◌∷◌, ◌++◌, length, get_or, map, take, drop, refl, sym, ap, subst, arith}
 use Rattle.std.specs.Prelude.{slice_get, slice_index_or, slice_set}
-use Rattle.std.proofs.lemmas.List.{get_or-set_same, get_or-set_other}
+use Rattle.std.proofs.lemmas.List.{get_or-set_same, get_or-set_other, map-append}
 use Rattle.std.proofs.lemmas.Option.{slice_get_within}
 use mathlib.Core.Option.{some-ne-none, some-injective}
 use Rattle.chunk_plain.specs.declared.tokens.TheConstants.{ID_LIMIT}
@@ -148,6 +148,15 @@ done_all lines table seats seat sequences counts room before last =
     (sym (get_or-set_other sequences (length seats) place counts no_counts (λ same. absurd (omega (arith, same, inside)))))
     (before place other there))
     (subst (IsDoneSeat lines table (length seats) seat) (sym (get_or-set_same sequences (length seats) counts no_counts room)) last)
+
+-- what the seats know, behind those before them, is what their writers knew
+pub know_last : (seats : List WriterSeat) (gone : List TraceWriter) (seat : WriterSeat) (writer : TraceWriter) → views_of seats ≡ map view_in gone
+    → known_by seat ≡ view_in writer → views_of (seats ++ seat ∷ []) ≡ map view_in (gone ++ writer ∷ [])
+know_last seats gone seat writer before last =
+    map-append known_by seats (seat ∷ [])
+    ∙ ap (λ (views : List WriterView). views ++ known_by seat ∷ []) before
+    ∙ ap (λ (view : WriterView). map view_in gone ++ view ∷ []) last
+    ∙ sym (map-append view_in gone (writer ∷ []))
 
 -- ---- what is taken of what was heard
 

@@ -1,13 +1,15 @@
 //! A run, once its threads are done and all that its writers completed is taken.
-ghost use Rattle.std.specs.Prelude.{◌≡◌, ◌≤◌, false, List, [], length, vec_capacity};
+ghost use Rattle.std.specs.Prelude.{◌≡◌, ◌≤◌, false, List, [], length, map, vec_capacity, IfSome};
 ghost use Rattle.chunk_plain.specs.declared.tokens.TheConstants.{ID_LIMIT};
 ghost use Rattle.chunk_plain.specs.Histories.{completed_images};
 ghost use Rattle.chunk_words.specs.declared.host.HostTable.{HostTable};
+ghost use Rattle.chunk_words.specs.Closed.{views_of};
 ghost use Rattle.chunk_words.specs.Knows.{with_tale};
 ghost use Rattle.chunk_words.specs.Sits.{Sits, setup_in, known_by, known_by_pass};
 ghost use Rattle.scenario_text.specs.declared.scenario.NumberedLine.{NumberedLine};
 ghost use Rattle.scenario_text.specs.Scenario.{Parts};
 ghost use Rattle.trace_writer.specs.Core.{holds_chunk};
+ghost use Rattle.service_core.specs.Agreement.{KeepsRest};
 ghost use Rattle.thread_service.specs.Serving as serving;
 ghost use Rattle.thread_service.specs.Serving.{Serves, IsOnlySeat};
 ghost use Rattle.thread_writer.specs.Writing.{core_of, view_in, Writes};
@@ -33,11 +35,15 @@ pub struct Settled {
 }
 
 impl Host {
-    /// Has all taken that the writers completed.
+    /// Has all taken that the writers completed. Their seats know what they knew. How what the service
+    /// knows grows meanwhile is left open, but for all that it has taken in the end.
     pub fn settle(self, writers: Vec<TraceWriter>) -> Settled
         requires played { (scenario : Parts) × IsHost scenario self × HavePlayed scenario.lines self.table writers.items }
         ensures settled { (scenario : Parts) → IsHost scenario self → HavePlayed scenario.lines self.table writers.items
             → IsSettled scenario result }
+        ensures writers { views_of result.seats.items ≡ map view_in writers.items }
+        ensures service { IfSome self.service (λ before. KeepsRest (setup_in self.table)
+            (serving.core_of before) (serving.core_of result.service)) }
         ensures table { result.table ≡ self.table }
         ensures pass { known_by_pass result.pass ≡ known_by_pass self.pass }
     {
@@ -91,6 +97,7 @@ fn end_writers(
     ensures view { serving.view_in service.new ≡ serving.view_in service.old }
     ensures only { IsOnlySeat (serving.core_of service.old) (serving.core_of service.new) }
     ensures many { length seats.new.items ≡ length (setup_in table.now).writers }
+    ensures know { views_of seats.new.items ≡ map view_in writers.items }
     ensures heard { HasHeardAll (length (serving.view_in service.new).looks) (serving.desk_in service.new) seats.new.items }
     ensures done { (lines : List NumberedLine) → HavePlayed lines table.now writers.items
         → AreDoneSeats lines table.now seats.new.items sequences.new }

@@ -2,6 +2,7 @@
 use Rattle.std.proofs.Common.{◌≡◌, ◌∙◌, ℕ, ◌+◌, ◌<◌, Some, List, [], ◌∷◌, ◌++◌, length, length-append, length-set, append_assoc, sym, ap, subst, arith}
 use Rattle.std.specs.Prelude.{slice_get, slice_set}
 use Rattle.chunk_words.specs.declared.seats.WriterSeat.{WriterSeat}
+use Rattle.chunk_words.specs.Closed.{views_of}
 use Rattle.chunk_words.specs.Knows.{Desk}
 use Rattle.loss_report.specs.declared.counts.SequenceCounts.{SequenceCounts}
 use Rattle.thread_service.specs.Serving as serving
@@ -9,7 +10,7 @@ use Rattle.thread_writer.specs.declared.writer.TraceWriter.{TraceWriter}
 use Rattle.thread_writer.specs.Writing.{core_of, view_in}
 use Rattle.thread_host.specs.Ending.{AreDoneSeats, HasHeardAll}
 use Rattle.thread_host.specs.Hosts.{HasPlayed}
-use Rattle.thread_host.proofs.Seating.{left_first, get_seam, only_both, done_seat, heard_last, heard_all, done_all}
+use Rattle.thread_host.proofs.Seating.{left_first, get_seam, only_both, done_seat, heard_last, heard_all, done_all, know_last}
 use Rattle.thread_host.proofs.settled.end_writers.Goals as goal
 
 -- the writer that is taken out stands at its place among all of them
@@ -89,6 +90,7 @@ writers-preserved c =
       all = append_assoc i.gone (writer ∷ []) c.remove.new.self.items ∙ ap (λ (ws : List TraceWriter). i.gone ++ ws) (sym first) ∙ i.all;
       many = omega (arith, more, gone_is);
       seats_many = ap (λ (ss : List WriterSeat). length ss) items ∙ grown ∙ (let same : length seats + 1 ≡ c.writers.place + 1 = omega (arith, seats_is) in same);
+      know = ap views_of items ∙ know_last seats i.gone seat writer i.know ends.knows;
       room = omega (arith, room, capacity);
       sequences = length-set c.writers.sequences c.writers.place counts ∙ i.sequences;
       serves = ends.serves;

@@ -1,11 +1,13 @@
 -- The writers before this one have left their seats, and the service has heard of them.
-use Rattle.std.proofs.Common.{◌≡◌, ◌≤◌, List, ◌++◌, length}
+use Rattle.std.proofs.Common.{◌≡◌, ◌≤◌, List, ◌++◌, length, map}
 use Rattle.std.specs.Prelude.{vec_capacity}
+use Rattle.chunk_words.specs.Closed.{views_of}
 use Rattle.chunk_words.specs.Sits.{setup_in}
 use Rattle.scenario_text.specs.declared.scenario.NumberedLine.{NumberedLine}
 use Rattle.thread_service.specs.Serving as serving
 use Rattle.thread_service.specs.Serving.{Serves, IsOnlySeat}
 use Rattle.thread_writer.specs.declared.writer.TraceWriter.{TraceWriter}
+use Rattle.thread_writer.specs.Writing.{view_in}
 use Rattle.thread_host.specs.Ending.{AreDoneSeats, HasHeardAll}
 use Rattle.thread_host.specs.Hosts.{HavePlayed}
 use Rattle.thread_host.proofs.settled.end_writers.Given as goal
@@ -16,6 +18,7 @@ invariant-writers l = record {
   all : gone ++ l.left.items ≡ l.fn.writers.items;
   many : length gone ≡ l.place;
   seats_many : length l.seats.items ≡ l.place;
+  know : views_of l.seats.items ≡ map view_in gone;
   room : length (setup_in l.table).writers ≤ vec_capacity l.seats;
   sequences : length l.sequences ≡ length (setup_in l.table).writers;
   serves : Serves l.table l.service;
