@@ -26,9 +26,8 @@ use Rattle.service_core.specs.Taking.{noted_more}
 use Rattle.replay_model.specs.Does.{is_shut}
 use Rattle.replay_model.specs.Played.{IsSetupOf, buffers_of}
 use Rattle.schedule_laws.specs.Resting.{IsBetweenCalls}
-use Rattle.thread_service.specs.Reading.{reads_among}
 use Rattle.run_model.specs.Noted.{done_calls}
-use Rattle.run_model.specs.Reads.{AreReadsOf}
+use Rattle.run_model.specs.Reads.{GoesByReads}
 
 -- ---- a writer
 
@@ -60,8 +59,8 @@ ReadsTo setup first (suc number) reads old new =
 -- ---- all of it
 
 -- The scenario was run, and all is settled. Its writers and its service are those of one owned world. Each writer has done its lines, and all that it
--- completed was taken. What was noted on each sequence is in order. The reads are those of the read lines in their order, and then those of the end,
--- where each producer is closed and then each buffer read without limit.
+-- completed was taken. What was noted on each sequence is in order. The reads are those of the read lines in their order, each by what its buffer held
+-- when the line was played, and then those of the end, where each producer is closed and then each buffer read without limit.
 pub record IsRun (scenario : Parts) (setup : Setup) (world : World) : Type 0 where
   pub setup_is : IsSetupOf scenario setup
   pub many : length world.writers ≡ length setup.writers
@@ -78,8 +77,6 @@ pub record IsRun (scenario : Parts) (setup : Setup) (world : World) : Type 0 whe
   pub opened : (place : ℕ) → place < length setup.writers → is_shut (sequence_of place) settled.events ≡ false
   pub closes : ClosesTo setup (length setup.ranges) settled closed
   -- the reads of the lines, and those of the end
-  pub asked : List model.Event
+  pub asked : GoesByReads setup (buffers_of scenario setup) scenario.lines [] (history_of closed)
   pub last : List model.Event
-  pub are_asked : AreReadsOf setup scenario.lines asked
   pub reads : ReadsTo setup (buffers_of scenario setup) (length scenario.buffers) last closed world.service
-  pub all_reads : reads_among world.service.events ≡ flat_map noted_read asked ++ flat_map noted_read last

@@ -1,26 +1,30 @@
 -- What the end of a run leaves of what the service knew before, and what is read there.
-use Rattle.std.proofs.Common.{◌≡◌, ◌∙◌, ℕ, zero, suc, ◌≤◌, List, [], ◌∷◌, ◌++◌, length, refl, sym, ap, subst, arith}
-use Rattle.std.specs.List.{flat_map}
+use Rattle.std.proofs.Common.{◌≡◌, ◌∙◌, ℕ, zero, suc, ◌-◌, ◌≤◌, List, [], ◌∷◌, ◌++◌, length, refl, sym, ap, subst, append_assoc, append-nil, arith}
+use Rattle.std.specs.List.{All, flat_map}
+use Rattle.std.proofs.lemmas.List.{append_cancel_right}
+use Rattle.std.proofs.lemmas.List.Concat.{flat_map-append}
+use Rattle.std.proofs.lemmas.List.Elements.{All-nil, All-cons, All-append, All-head}
 use Rattle.byte_io.specs.Bytes.{Intake}
 use Rattle.trace_model.specs.Buffers.{Buffer}
 use Rattle.trace_model.specs.Counts.{last_count}
 use Rattle.trace_model.specs.History as model
-use Rattle.trace_model.specs.History.{buffers_after, records_after}
+use Rattle.trace_model.specs.History.{buffers_after, reads_of}
 use Rattle.chunk_plain.specs.Histories.{history_of}
 use Rattle.chunk_plain.specs.Setup.{Setup}
-use Rattle.chunk_plain.specs.Views.{ServiceView, taken_of}
+use Rattle.chunk_plain.specs.Views.{Noted, ServiceView, taken_of}
 use Rattle.service_core.specs.declared.service.ServiceCore.{ServiceCore}
 use Rattle.service_core.specs.Agreement.{first_of}
-use Rattle.service_core.specs.Reading.{NotesReads, ReadsAll, noted_read, reads_in}
+use Rattle.service_core.specs.Reading.{NotesReads, ReadsAll, noted_read, reads_in, sequences_to}
+use Rattle.service_core.specs.Routing.{buffer_at}
 use Rattle.service_core.specs.Taking.{Takes, places_of, noted_more}
 use Rattle.service_core.proofs.QuietLemmas.{places_below, long_still}
 use Rattle.service_core.proofs.RoomLemmas.{takes_grow}
 use Rattle.replay_host.proofs.TakenLemmas.{takes_own}
 use Rattle.run_model.specs.Settled.{ClosesTo, ReadsTo}
-use Rattle.thread_service.specs.Reading.{PassReads}
+use Rattle.thread_service.specs.Reading.{GoesUnread, PassReads}
 use Rattle.thread_host.specs.Finishing.{ReadsOut}
 use Rattle.thread_host.specs.Jobs.{TellsReads}
-use Rattle.thread_host.proofs.Telling.{none_tells, tells_both}
+use Rattle.thread_host.proofs.Telling.{none_tells, tells_both, read_tells}
 
 -- ---- no count falls
 
@@ -72,20 +76,67 @@ reads_own setup first zero reads old new is = ap (λ (v : ServiceView). v.commit
 reads_own setup first (suc number) reads old new is =
     ap (λ (v : ServiceView). v.commits) is.3.1 ∙ reads_own setup first number is.1 old is.0 is.2
 
+-- an event that is noted as a read
+abbrev pub IsNotedRead : model.Event → Type 0
+IsNotedRead event = noted_read event ≡ [] → ⊥
+
+all_noted : (sequences : List ℕ) (limit : ℕ) (buffer : Buffer) → All IsNotedRead (reads_of limit buffer sequences)
+all_noted [] limit buffer = All-nil IsNotedRead
+all_noted (sequence ∷ sequences) limit buffer =
+    All-cons IsNotedRead (model.Read sequence limit) (reads_of _ _ sequences)
+    (λ none. let long = ap (λ (notes : List Noted). length notes) none in absurd (omega (arith, long)))
+    (all_noted sequences _ _)
+
+pub reads_noted : (setup : Setup) (first : List Buffer) (number : ℕ) (reads : List model.Event) (old new : ServiceView) → ReadsTo setup first number reads old new
+    → All IsNotedRead reads
+reads_noted setup first zero reads old new is = subst (λ (es : List model.Event). All IsNotedRead es) (sym is.0) (All-nil IsNotedRead)
+reads_noted setup first (suc number) reads old new is =
+    let here = reads_in setup (buffers_after first (history_of is.0)) (suc number) last_count in
+    subst (λ (es : List model.Event). All IsNotedRead es) (sym is.3.0)
+    (All-append IsNotedRead is.1 here (reads_noted setup first number is.1 old is.0 is.2)
+    (all_noted (sequences_to (suc number) 0 setup.writers) last_count (buffer_at (buffers_after first (history_of is.0)) (suc number - 1))))
+
+abbrev tail_of : List model.Event → List model.Event
+tail_of [] = []
+tail_of (event ∷ events) = events
+
+abbrev head_or : model.Event → List model.Event → model.Event
+head_or other [] = other
+head_or other (event ∷ events) = event
+
+-- Two fronts of one history: where the same reads come behind both, and nothing else behind the second one, the first one goes on to the second one
+-- without a read.
+pub unread_front : (one behind other reads : List model.Event) → one ++ behind ≡ other ++ reads → All IsNotedRead reads
+    → flat_map noted_read behind ≡ flat_map noted_read reads → GoesUnread one other
+unread_front [] behind other reads same all noted = record {
+  others = other;
+  goes = refl;
+  unread = append_cancel_right (flat_map noted_read other) [] (flat_map noted_read reads)
+      (sym (flat_map-append noted_read other reads) ∙ ap (λ (es : List model.Event). flat_map noted_read es) (sym same) ∙ noted);
+}
+unread_front (event ∷ one) behind [] reads same all noted =
+    let front : List Noted = flat_map noted_read (event ∷ one) in
+    let none : front ≡ [] = append_cancel_right front [] (flat_map noted_read behind)
+    (sym (flat_map-append noted_read (event ∷ one) behind) ∙ ap (λ (es : List model.Event). flat_map noted_read es) same ∙ sym noted) in
+    let first : IsNotedRead event = All-head IsNotedRead event (one ++ behind) (subst (λ (es : List model.Event). All IsNotedRead es) (sym same) all) in
+    absurd (first (none_before (noted_read event) (flat_map noted_read one) none))
+  where
+    none_before : (xs ys : List Noted) → xs ++ ys ≡ [] → xs ≡ []
+    none_before [] ys none = refl
+    none_before (x ∷ xs) ys none = let long = ap (λ (notes : List Noted). length notes) none in absurd (omega (arith, long))
+unread_front (event ∷ one) behind (next ∷ other) reads same all noted =
+    let rest = unread_front one behind other reads (ap tail_of same) all noted in
+    record {
+      others = rest.others;
+      goes = ap (λ (e : model.Event). e ∷ other) (sym (ap (head_or event) same)) ∙ ap (λ (es : List model.Event). event ∷ es) rest.goes;
+      unread = rest.unread;
+    }
+
 -- none is read yet
 pub out_none : (setup : Setup) (first : List Buffer) (view pass : ServiceView) (taken : Intake) → ReadsOut setup first zero view view pass pass taken taken
-out_none setup first view pass taken = record { last = []; reads = (refl, refl); tells = none_tells setup first pass taken }
+out_none setup first view pass taken = record { last = []; reads = (refl, refl); history = sym (append-nil (history_of view)); tells = none_tells first pass taken }
 
 -- the reading of one more
-read_tells : {S : Type 0} (setup : Setup) (core : ServiceCore S) (number limit delivered : ℕ) (old new passed pass : ServiceView) (before after : Intake)
-    → ReadsAll setup core number limit old new before after delivered
-    → ((events : List model.Event) → NotesReads setup core events old new → PassReads setup core events passed pass)
-    → TellsReads (first_of setup core) (reads_in setup core.buffers.items number limit) passed pass before after
-read_tells setup core number limit delivered old new passed pass before after reads passes =
-    let events = reads_in setup core.buffers.items number limit in
-    let more = passes events reads.notes in
-    record { reads = more.reads; more = records_after core.buffers.items events; records = more.records; taken = reads.taken }
-
 pub out_more : {S : Type 0} (setup : Setup) (core : ServiceCore S) (first : List Buffer) (index number delivered : ℕ) (start old new passed between pass : ServiceView)
     (before mid after : Intake) → number ≡ suc index → first_of setup core ≡ first
     → core.buffers.items ≡ buffers_after (first_of setup core) (history_of old)
@@ -111,6 +162,9 @@ out_more setup core first index number delivered start old new passed between pa
     record {
       last = some.last ++ here;
       reads = subst (λ (n : ℕ). ReadsTo setup first n (some.last ++ here) start new) (sym next) done;
+      history = reads.notes.history
+          ∙ ap (λ (es : List model.Event). es ++ here) some.history
+          ∙ append_assoc (history_of start) some.last here;
       tells = tells_both first some.last here passed between pass before mid after some.tells
           (subst (λ (bs : List Buffer). TellsReads bs here between pass mid after) same told);
     }

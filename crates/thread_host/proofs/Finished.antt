@@ -1,8 +1,9 @@
 -- Once all is closed, read and taken apart, what the seats knew is a run of the scenario, and what was counted is its report.
-use Rattle.std.proofs.Common.{◌≡◌, ◌∙◌, ℕ, ◌<◌, ◌≤◌, Bool, true, List, [], ◌++◌, length, map, refl, sym, ap, subst, arith}
+use Rattle.std.proofs.Common.{◌≡◌, ◌∙◌, ℕ, ◌<◌, ◌≤◌, Bool, true, List, [], ◌++◌, length, map, refl, sym, ap, subst, append_assoc, append-nil, arith}
 use Rattle.std.specs.Prelude.{slice_index_or}
 use Rattle.std.specs.List.{flat_map}
 use Rattle.std.proofs.lemmas.List.{length-map}
+use Rattle.std.proofs.lemmas.List.Concat.{flat_map-append}
 use Rattle.std.proofs.lemmas.Option.{slice_get_within}
 use Rattle.byte_io.specs.Bytes.{Intake}
 use Rattle.trace_buffer.specs.Answers as answers
@@ -27,21 +28,22 @@ use Rattle.service_core.proofs.AgreeLemmas.{first_stays}
 use Rattle.service_core.proofs.QuietLemmas.{adds_quiet}
 use Rattle.replay_model.specs.Played.{buffers_of, records_in}
 use Rattle.replay_host.proofs.TakenLemmas.{open_is}
-use Rattle.run_model.specs.Reads.{AreReadsOf}
+use Rattle.run_model.specs.Reads.{GoesByReads}
 use Rattle.run_model.specs.Settled.{HasDoneLines, IsRun, ClosesTo}
 use Rattle.thread_service.specs.declared.service.Service.{Service}
-use Rattle.thread_service.specs.Reading.{reads_among, IsKnownWhole}
+use Rattle.thread_service.specs.Reading.{GoesUnread, IsKnownWhole}
 use Rattle.thread_service.specs.Serving.{core_of, view_in, Serves}
-use Rattle.thread_service.proofs.GoingOn.{goes_adds, goes_reads}
+use Rattle.thread_service.proofs.GoingOn.{goes_adds, goes_unread}
 use Rattle.thread_host.specs.Counting as counting
 use Rattle.thread_host.specs.Counting.{packets_in}
 use Rattle.thread_host.specs.Ending.{no_counts}
 use Rattle.thread_host.specs.Finishing.{AreClosedTo, HasFinished, ReadsOut}
 use Rattle.thread_host.specs.Hosts.{IsSettled}
 use Rattle.thread_host.specs.declared.settled.Settled.{Settled}
-use Rattle.thread_host.proofs.Closing.{closes_own, closes_rise, reads_own, reads_taken}
+use Rattle.thread_host.proofs.Closing.{closes_own, closes_rise, reads_noted, reads_own, reads_taken, unread_front}
 use Rattle.thread_host.proofs.Seating.{HasSeatAt, get_of, seat_at}
 use Rattle.thread_host.proofs.Tallying.{report_is}
+use Rattle.thread_host.proofs.Telling.{reads_further}
 
 none_committed : (view : ServiceView) (sequence : ℕ) → view.commits ≡ [] → NoneCommitted view sequence
 none_committed view sequence none place committed there =
@@ -157,11 +159,24 @@ module _ (scenario : Parts) (settled : Settled) (is : IsSettled scenario settled
         let same : (taken_of (view_in settled.service) place).count ≡ length (known_by here.seat).begun = omega (arith, least, rise, all) in
         subst (λ (v : WriterView). (taken_of (view_in settled.service) place).count ≡ length v.begun) (sym here.view) same
 
+    -- nothing was read behind the lines, before the end
+    none_read : GoesUnread (history_of (known_by_pass settled.pass)) (history_of (view_in closed))
+    none_read =
+        let told = reads_out.tells in
+        let behind = goes_unread (known_by_pass pass) view known goes in
+        unread_front (history_of (known_by_pass settled.pass)) (told.since ++ behind.others) (history_of (view_in closed)) reads_out.last
+        (sym (append_assoc (history_of (known_by_pass settled.pass)) told.since behind.others)
+        ∙ ap (λ (es : List model.Event). es ++ behind.others) (sym told.history)
+        ∙ sym behind.goes ∙ reads_out.history)
+        (reads_noted setup (buffers_of scenario setup) (length scenario.buffers) reads_out.last (view_in closed) view reads_out.reads)
+        (flat_map-append noted_read told.since behind.others
+        ∙ ap (λ (notes : List Noted). flat_map noted_read told.since ++ notes) behind.unread
+        ∙ append-nil (flat_map noted_read told.since) ∙ told.reads)
+
     -- the scenario was run
-    pub run_is : (asked : List model.Event) → AreReadsOf (setup_in settled.table) scenario.lines asked
-        → reads_among (known_by_pass settled.pass).events ≡ flat_map noted_read asked
+    pub run_is : GoesByReads (setup_in settled.table) (buffers_of scenario (setup_in settled.table)) scenario.lines [] (history_of (known_by_pass settled.pass))
         → IsRun scenario (setup_in settled.table) (record { chunks = []; writers = views_of settled.seats.items; service = view_in final })
-    run_is asked are told = record {
+    run_is asked = record {
       setup_is = is.laid;
       many = length-map settled.seats.items known_by ∙ is.many;
       owned = account;
@@ -174,19 +189,17 @@ module _ (scenario : Parts) (settled : Settled) (is : IsSettled scenario settled
       opened = λ place inside. open_is setup (view_in settled.service) (core_of settled.service) (producer_of setup place) is.served.serves.agrees is.served.own
           (λ other below same. is.served.opened other below) place inside refl;
       closes = subst (λ (n : ℕ). ClosesTo setup n (view_in settled.service) (view_in closed)) is.producers closes;
-      asked = asked;
+      asked = reads_further setup (buffers_of scenario setup) scenario.lines [] (history_of (known_by_pass settled.pass)) (history_of (view_in closed)) asked
+          none_read;
       last = reads_out.last;
-      are_asked = are;
       reads = reads_out.reads;
-      all_reads = goes_reads (known_by_pass pass) view goes ∙ reads_out.tells.reads
-          ∙ ap (λ (notes : List Noted). notes ++ flat_map noted_read reads_out.last) told;
     }
 
     -- and its records are those that the pass knew, and then those that the sink took
     pub records_are : records_in scenario (setup_in settled.table) (record { chunks = []; writers = views_of settled.seats.items; service = view_in final })
-        ≡ records_after (buffers_of scenario (setup_in settled.table)) (history_of (known_by_pass settled.pass)) ++ reads_out.tells.more
+        ≡ records_after (buffers_of scenario (setup_in settled.table)) (history_of (known_by_pass settled.pass)) ++ reads_out.tells.tells.more
     records_are =
-        adds_quiet (buffers_of scenario setup) (known_by_pass pass) view known (goes_adds (known_by_pass pass) view goes) ∙ reads_out.tells.records
+        adds_quiet (buffers_of scenario setup) (known_by_pass pass) view known (goes_adds (known_by_pass pass) view goes) ∙ reads_out.tells.tells.records
 
     pub has_finished : (done : Done) → done.buffers.items ≡ map answers.counts_of (counting.buffers_in (setup_in settled.table) final)
         → length done.sequences.items ≡ length (setup_in settled.table).writers
@@ -200,9 +213,9 @@ module _ (scenario : Parts) (settled : Settled) (is : IsSettled scenario settled
       service = record { closed = view_in closed; closes = closes; last = reads_out.last; reads = reads_out.reads };
       account = account;
       run = run_is;
-      more = reads_out.tells.more;
+      more = reads_out.tells.tells.more;
       records = records_are;
-      taken = reads_out.tells.taken;
+      taken = reads_out.tells.tells.taken;
       report = λ balanced.
           ap (λ all. report_text all done.sequences.items done.flushes.items) buffers
           ∙ ap (λ all. report_text (map answers.counts_of (counting.buffers_in setup final)) done.sequences.items all) flushes

@@ -1,57 +1,77 @@
 -- What lines tell, one behind another.
-use Rattle.std.proofs.Common.{◌≡◌, ℕ, List, [], ◌∷◌, ◌++◌, refl, sym, ap, ◌∙◌, subst, append_assoc, append-nil}
+use Rattle.std.proofs.Common.{◌≡◌, ◌⊎◌, inl, inr, ℕ, ◌-◌, Result, Ok, Err, IfOk, List, [], ◌∷◌, ◌++◌, length, refl, sym, ap, ◌∙◌, subst, append_assoc, append-nil, arith}
 use Rattle.std.specs.List.{flat_map}
 use Rattle.std.proofs.lemmas.List.Concat.{flat_map-append}
 use Rattle.byte_io.specs.Bytes.{Intake, told, untold, after_told}
+use Rattle.byte_io.specs.declared.put.WriteFault.{WriteFault}
 use Rattle.byte_io.proofs.Told.{after_told_again, after_told_nothing}
 use Rattle.trace_model.specs.Buffers.{Buffer}
 use Rattle.trace_model.specs.Delivery.{Delivered, trace_of}
 use Rattle.trace_model.specs.History as model
-use Rattle.trace_model.specs.History.{records_after}
+use Rattle.trace_model.specs.History.{buffers_after, records_after, reads_of}
 use Rattle.chunk_plain.specs.Histories.{history_of}
 use Rattle.chunk_plain.specs.Setup.{Setup}
 use Rattle.chunk_plain.specs.Views.{Noted, ServiceView}
 use Rattle.scenario_text.specs.declared.scenario.LineKind.{LineKind}
 use Rattle.scenario_text.specs.declared.scenario.LineKind.TheVariants.{Packet, Begin, Add, Nest, Unnest, End, Flush, Collect, Scrape, Close, Read, Request}
 use Rattle.scenario_text.specs.declared.scenario.NumberedLine.{NumberedLine}
-use Rattle.service_core.specs.Reading.{noted_read}
+use Rattle.service_core.specs.declared.service.ServiceCore.{ServiceCore}
+use Rattle.service_core.specs.Agreement.{first_of}
+use Rattle.service_core.specs.Reading.{NotesReads, ReadsAll, noted_read, reads_in, sequences_to}
+use Rattle.service_core.specs.Routing.{buffer_at}
 use Rattle.service_core.proofs.ReadingLemmas.{trace_append}
-use Rattle.thread_service.specs.Reading.{reads_among}
-use Rattle.run_model.specs.Reads.{AreReadsBy, AreReadsOf}
-use Rattle.thread_host.specs.Jobs.{loans_of, KeepsLoans, TellsReads, TellsLine, TellsLines}
+use Rattle.thread_service.specs.Reading.{GoesUnread, PassReads}
+use Rattle.thread_service.proofs.GoingOn.{unread_both}
+use Rattle.run_model.specs.Reads.{reads_by, GoesByReads}
+use Rattle.thread_host.specs.Jobs.{loans_of, KeepsLoans, TellsMore, TellsReads, TellsLine, TellsLines}
 
--- no line tells nothing
-pub none_tells : (setup : Setup) (first : List Buffer) (view : ServiceView) (taken : Intake) → TellsReads first [] view view taken taken
-none_tells setup first view taken = record {
-  reads = sym (append-nil (reads_among view.events));
+-- ---- histories that go on
+
+pub unread_none : (old : List model.Event) → GoesUnread old old
+unread_none old = record { others = []; goes = sym (append-nil old); unread = refl }
+
+pub unread_further : (old mid new : List model.Event) → GoesUnread old mid → GoesUnread mid new → GoesUnread old new
+unread_further old mid new one other = record {
+  others = one.others ++ other.others;
+  goes = other.goes ∙ ap (λ (es : List model.Event). es ++ other.others) one.goes ∙ append_assoc old one.others other.others;
+  unread = unread_both one.others other.others one.unread other.unread;
+}
+
+-- behind the reads of some lines
+pub reads_further : (setup : Setup) (first : List Buffer) (lines : List NumberedLine) (old mid new : List model.Event) → GoesByReads setup first lines old mid
+    → GoesUnread mid new → GoesByReads setup first lines old new
+reads_further setup first [] old mid new none goes = unread_further old mid new none goes
+reads_further setup first (next ∷ lines) old mid new some goes =
+    (some.0, some.1, reads_further setup first lines (some.0 ++ reads_by setup (buffers_after first some.0) next.what) mid new some.2 goes)
+
+-- those of one line more
+reads_behind : (setup : Setup) (first : List Buffer) (lines : List NumberedLine) (line : NumberedLine) (old mid here new : List model.Event)
+    → GoesByReads setup first lines old mid → GoesUnread mid here → new ≡ here ++ reads_by setup (buffers_after first here) line.what
+    → GoesByReads setup first (lines ++ line ∷ []) old new
+reads_behind setup first [] line old mid here new none goes is = (
+  here,
+  unread_further old mid here none goes,
+  subst (λ (es : List model.Event). GoesUnread (here ++ reads_by setup (buffers_after first here) line.what) es) (sym is)
+      (unread_none (here ++ reads_by setup (buffers_after first here) line.what)),
+)
+reads_behind setup first (next ∷ lines) line old mid here new some goes is = (
+  some.0,
+  some.1,
+  reads_behind setup first lines line (some.0 ++ reads_by setup (buffers_after first some.0) next.what) mid here new some.2 goes is,
+)
+
+-- ---- what the sink took
+
+tells_nothing : (first : List Buffer) (view : ServiceView) (taken : Intake) → TellsMore first view view taken taken
+tells_nothing first view taken = record {
   more = [];
   records = sym (append-nil (records_after first (history_of view)));
   taken = sym (after_told_nothing taken);
 }
 
-pub tells_none : (setup : Setup) (first : List Buffer) (view : ServiceView) (taken : Intake) → TellsLines setup first [] view view taken taken
-tells_none setup first view taken = record { events = []; are_of = refl; tells = none_tells setup first view taken }
-
-reads_behind : (setup : Setup) (lines : List NumberedLine) (line : NumberedLine) (events others : List model.Event) → AreReadsOf setup lines events
-    → AreReadsOf setup (line ∷ []) others → AreReadsOf setup (lines ++ line ∷ []) (events ++ others)
-reads_behind setup [] line events others none are = subst (λ (e : List model.Event). AreReadsOf setup (line ∷ []) (e ++ others)) (sym none) are
-reads_behind setup (next ∷ lines) line events others some are = (
-  some.0,
-  some.1 ++ others,
-  ap (λ (e : List model.Event). e ++ others) some.2 ∙ append_assoc some.0 some.1 others,
-  some.3,
-  reads_behind setup lines line some.1 others some.4 are,
-)
-
--- one behind another
-pub tells_both : (first : List Buffer) (firsts others : List model.Event) (old mid new : ServiceView) (before between after : Intake)
-    → TellsReads first firsts old mid before between → TellsReads first others mid new between after
-    → TellsReads first (firsts ++ others) old new before after
-tells_both first firsts others old mid new before between after one other = record {
-  reads = other.reads
-      ∙ ap (λ (notes : List Noted). notes ++ flat_map noted_read others) one.reads
-      ∙ append_assoc (reads_among old.events) (flat_map noted_read firsts) (flat_map noted_read others)
-      ∙ ap (λ (notes : List Noted). reads_among old.events ++ notes) (sym (flat_map-append noted_read firsts others));
+tells_again : (first : List Buffer) (old mid new : ServiceView) (before between after : Intake) → TellsMore first old mid before between
+    → TellsMore first mid new between after → TellsMore first old new before after
+tells_again first old mid new before between after one other = record {
   more = one.more ++ other.more;
   records = other.records
       ∙ ap (λ (records : List Delivered). records ++ other.more) one.records
@@ -62,34 +82,121 @@ tells_both first firsts others old mid new before between after one other = reco
       ∙ ap (after_told before) (sym (trace_append one.more other.more));
 }
 
+-- nothing was read
+pub none_tells : (first : List Buffer) (view : ServiceView) (taken : Intake) → TellsReads first [] view view taken taken
+none_tells first view taken = record {
+  since = [];
+  history = sym (append-nil (history_of view));
+  reads = refl;
+  tells = tells_nothing first view taken;
+}
+
+-- one behind another
+pub tells_both : (first : List Buffer) (firsts others : List model.Event) (old mid new : ServiceView) (before between after : Intake)
+    → TellsReads first firsts old mid before between → TellsReads first others mid new between after
+    → TellsReads first (firsts ++ others) old new before after
+tells_both first firsts others old mid new before between after one other = record {
+  since = one.since ++ other.since;
+  history = other.history
+      ∙ ap (λ (es : List model.Event). es ++ other.since) one.history
+      ∙ append_assoc (history_of old) one.since other.since;
+  reads = flat_map-append noted_read one.since other.since
+      ∙ ap (λ (notes : List Noted). notes ++ flat_map noted_read other.since) one.reads
+      ∙ ap (λ (notes : List Noted). flat_map noted_read firsts ++ notes) other.reads
+      ∙ sym (flat_map-append noted_read firsts others);
+  tells = tells_again first old mid new before between after one.tells other.tells;
+}
+
+-- no line tells nothing
+pub tells_none : (setup : Setup) (first : List Buffer) (view : ServiceView) (taken : Intake) → TellsLines setup first [] view view taken taken
+tells_none setup first view taken = record { reads = unread_none (history_of view); tells = tells_nothing first view taken }
+
 -- one line more
 pub tells_more : (setup : Setup) (first : List Buffer) (lines : List NumberedLine) (line : NumberedLine) (old mid new : ServiceView) (before between after : Intake)
     → TellsLines setup first lines old mid before between → TellsLine setup first line.what mid new between after
     → TellsLines setup first (lines ++ line ∷ []) old new before after
 tells_more setup first lines line old mid new before between after one other = record {
-  events = one.events ++ other.events;
-  are_of = reads_behind setup lines line one.events other.events one.are_of (other.events, [], sym (append-nil other.events), other.are_by, refl);
-  tells = tells_both first one.events other.events old mid new before between after one.tells other.tells;
+  reads = reads_behind setup first lines line (history_of old) (history_of mid) other.here (history_of new) one.reads other.goes other.reads;
+  tells = tells_again first old mid new before between after one.tells other.tells;
 }
 
--- a line that is no read tells nothing
-line_tells : (setup : Setup) (first : List Buffer) (line : LineKind) (view : ServiceView) (taken : Intake) → AreReadsBy setup line []
-    → TellsLine setup first line view view taken taken
-line_tells setup first line view taken none = record { events = []; are_by = none; tells = none_tells setup first view taken }
+-- ---- the reading of a buffer
 
-none_read : (setup : Setup) (line : LineKind) → ((buffer limit : ℕ) → line ≡ Read buffer limit → ⊥) → AreReadsBy setup line []
-none_read setup (Packet writer fields) not = refl
-none_read setup (Begin writer) not = refl
-none_read setup (Add writer fields) not = refl
-none_read setup (Nest writer field) not = refl
-none_read setup (Unnest writer) not = refl
-none_read setup (End writer) not = refl
-none_read setup (Flush writer) not = refl
-none_read setup (Collect producer) not = refl
-none_read setup (Scrape producer) not = refl
-none_read setup (Close producer) not = refl
-none_read setup (Read buffer limit) not = absurd (not buffer limit refl)
-none_read setup Request not = refl
+-- a buffer without sequences has no reads, whatever the buffers hold
+no_reads : (sequences : List ℕ) (limit : ℕ) (buffer other : Buffer) → reads_of limit buffer sequences ≡ [] → reads_of limit other sequences ≡ []
+no_reads [] limit buffer other none = refl
+no_reads (sequence ∷ sequences) limit buffer other none =
+    let long = ap (λ (es : List model.Event). length es) none in absurd (omega (arith, long))
+
+same_reads : (setup : Setup) (buffers others : List Buffer) (number limit : ℕ) → (reads_in setup buffers number limit ≡ []) ⊎ (buffers ≡ others)
+    → reads_in setup buffers number limit ≡ reads_in setup others number limit
+same_reads setup buffers others number limit (inl none) =
+    none ∙ sym (no_reads (sequences_to number 0 setup.writers) limit (buffer_at buffers (number - 1)) (buffer_at others (number - 1)) none)
+same_reads setup buffers others number limit (inr same) = ap (λ (bs : List Buffer). reads_in setup bs number limit) same
+
+-- it was read with the pass
+module _ {S : Type 0} (setup : Setup) (core : ServiceCore S) (number limit delivered : ℕ) (old new passed pass : ServiceView) (before after : Intake)
+    (reads : ReadsAll setup core number limit old new before after delivered)
+    (passes : (events : List model.Event) → NotesReads setup core events old new → PassReads setup core events passed pass) where
+  abbrev events : List model.Event
+  events = reads_in setup core.buffers.items number limit
+
+  known : PassReads setup core (reads_in setup core.buffers.items number limit) passed pass
+  known = passes events reads.notes
+
+  taken_more : TellsMore (first_of setup core) passed pass before after
+  taken_more = record { more = records_after core.buffers.items events; records = known.records; taken = reads.taken }
+
+  pub read_tells : TellsReads (first_of setup core) (reads_in setup core.buffers.items number limit) passed pass before after
+  read_tells = record {
+    since = known.goes.others ++ events;
+    history = known.history ∙ ap (λ (es : List model.Event). es ++ events) known.goes.goes ∙ append_assoc (history_of passed) known.goes.others events;
+    reads = flat_map-append noted_read known.goes.others events ∙ ap (λ (notes : List Noted). notes ++ flat_map noted_read events) known.goes.unread;
+    tells = taken_more;
+  }
+
+  pub line_read_tells : (first : List Buffer) → first_of setup core ≡ first → TellsLine setup first (Read number limit) passed pass before after
+  line_read_tells first same = subst (λ (bs : List Buffer). TellsLine setup bs (Read number limit) passed pass before after) same (record {
+    here = known.before;
+    goes = known.goes;
+    reads = known.history
+        ∙ ap (λ (es : List model.Event). known.before ++ es)
+        (same_reads setup core.buffers.items (buffers_after (first_of setup core) known.before) number limit known.buffers);
+    tells = taken_more;
+  })
+
+-- behind the lock, where no write failed
+pub locked_tells : {S : Type 0} (setup : Setup) (core : ServiceCore S) (number limit : ℕ) (old new passed pass : ServiceView) (before after : Intake) (first : List Buffer)
+    → first_of setup core ≡ first → (result : Result ℕ WriteFault) → IfOk result (λ delivered. ReadsAll setup core number limit old new before after delivered)
+    → ((events : List model.Event) → NotesReads setup core events old new → PassReads setup core events passed pass)
+    → IfOk result (λ _. TellsLine setup first (Read number limit) passed pass before after)
+locked_tells setup core number limit old new passed pass before after first same (Ok delivered) reads passes =
+    line_read_tells setup core number limit delivered old new passed pass before after reads passes first same
+locked_tells setup core number limit old new passed pass before after first same (Err fault) reads passes = tt
+
+-- ---- a line that is no read tells nothing
+line_tells : (setup : Setup) (first : List Buffer) (line : LineKind) (view : ServiceView) (taken : Intake) → ((buffers : List Buffer) → reads_by setup buffers line ≡ [])
+    → TellsLine setup first line view view taken taken
+line_tells setup first line view taken none = record {
+  here = history_of view;
+  goes = unread_none (history_of view);
+  reads = sym (append-nil (history_of view)) ∙ ap (λ (es : List model.Event). history_of view ++ es) (sym (none (buffers_after first (history_of view))));
+  tells = tells_nothing first view taken;
+}
+
+none_read : (setup : Setup) (line : LineKind) → ((buffer limit : ℕ) → line ≡ Read buffer limit → ⊥) → (buffers : List Buffer) → reads_by setup buffers line ≡ []
+none_read setup (Packet writer fields) not buffers = refl
+none_read setup (Begin writer) not buffers = refl
+none_read setup (Add writer fields) not buffers = refl
+none_read setup (Nest writer field) not buffers = refl
+none_read setup (Unnest writer) not buffers = refl
+none_read setup (End writer) not buffers = refl
+none_read setup (Flush writer) not buffers = refl
+none_read setup (Collect producer) not buffers = refl
+none_read setup (Scrape producer) not buffers = refl
+none_read setup (Close producer) not buffers = refl
+none_read setup (Read buffer limit) not buffers = absurd (not buffer limit refl)
+none_read setup Request not buffers = refl
 
 pub unread_tells : (setup : Setup) (first : List Buffer) (line : LineKind) (view : ServiceView) (taken : Intake)
     → ((buffer limit : ℕ) → line ≡ Read buffer limit → ⊥) → TellsLine setup first line view view taken taken
@@ -98,12 +205,12 @@ unread_tells setup first line view taken not = line_tells setup first line view 
 pub collect_tells : (setup : Setup) (first : List Buffer) (line : LineKind) (producer : ℕ) (view : ServiceView) (taken : Intake) → line ≡ Collect producer
     → TellsLine setup first line view view taken taken
 collect_tells setup first line producer view taken is =
-    line_tells setup first line view taken (subst (λ (l : LineKind). AreReadsBy setup l []) (sym is) refl)
+    line_tells setup first line view taken (λ buffers. ap (λ (l : LineKind). reads_by setup buffers l) is)
 
 pub scrape_tells : (setup : Setup) (first : List Buffer) (line : LineKind) (producer : ℕ) (view : ServiceView) (taken : Intake) → line ≡ Scrape producer
     → TellsLine setup first line view view taken taken
 scrape_tells setup first line producer view taken is =
-    line_tells setup first line view taken (subst (λ (l : LineKind). AreReadsBy setup l []) (sym is) refl)
+    line_tells setup first line view taken (λ buffers. ap (λ (l : LineKind). reads_by setup buffers l) is)
 
 -- ---- a sink hands its bytes on as before, whatever it took
 

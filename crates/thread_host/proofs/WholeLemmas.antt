@@ -1,9 +1,10 @@
 -- What the jobs told, and what was read and counted behind them, is a run of the scenario.
-use Rattle.std.proofs.Common.{◌≡◌, ◌∙◌, List, [], ◌++◌, sym, ap}
+use Rattle.std.proofs.Common.{◌≡◌, ◌∙◌, List, [], ◌++◌, sym, ap, subst}
 use Rattle.std.specs.List.{flat_map}
 use Rattle.byte_io.specs.Bytes.{Intake, after_told}
 use Rattle.byte_io.proofs.Told.{after_told_again}
 use Rattle.trace_model.specs.Delivery.{Delivered, trace_of}
+use Rattle.trace_model.specs.History as model
 use Rattle.trace_model.specs.History.{records_after}
 use Rattle.chunk_plain.specs.Views.{Noted, ServiceView}
 use Rattle.chunk_plain.specs.Histories.{history_of, happened}
@@ -11,13 +12,12 @@ use Rattle.chunk_words.specs.Sits.{setup_in, known_by_pass}
 use Rattle.loss_report.specs.declared.counts.Done.{Done}
 use Rattle.scenario_text.specs.declared.scenario.Scenario.{Scenario}
 use Rattle.scenario_text.specs.Scenario.{IsScenario, parts_of}
-use Rattle.service_core.specs.Reading.{noted_read}
 use Rattle.service_core.proofs.ReadingLemmas.{trace_append}
 use Rattle.replay_model.specs.Played.{buffers_of, records_in}
 use Rattle.replay_host.proofs.ReplayingLemmas.{is_playable}
 use Rattle.run_model.specs.Laws.{EveryRunIsFaithful, EveryRunIsBalanced, EveryRunCountsPackets, EveryEnoughRunIsComplete}
+use Rattle.run_model.specs.Reads.{GoesByReads}
 use Rattle.run_model.specs.Settled.{IsRun}
-use Rattle.thread_service.specs.Reading.{reads_among}
 use Rattle.thread_host.specs.Finishing.{HasFinished, HasRun}
 use Rattle.thread_host.specs.Jobs.{TellsLines}
 use Rattle.thread_host.specs.declared.settled.Settled.{Settled}
@@ -33,12 +33,12 @@ module _ (faithful : EveryRunIsFaithful) (balanced : EveryRunIsBalanced) (counte
       let known = known_by_pass settled.pass in
       let playable = is_playable scenario is in
       let world = finished.world in
-      let unread : reads_among first.events ≡ [] = ap (λ (notes : List Noted). reads_among notes) none in
-      let asked : reads_among known.events ≡ flat_map noted_read tells.events =
-      tells.tells.reads ∙ ap (λ (notes : List Noted). notes ++ flat_map noted_read tells.events) unread in
-      let run : IsRun (parts_of scenario) setup world = finished.run tells.events tells.are_of asked in
+      let unread : history_of first ≡ [] = ap (λ (notes : List Noted). flat_map (happened first) notes) none in
+      let run : IsRun (parts_of scenario) setup world = finished.run
+      (subst (λ (history : List model.Event). GoesByReads setup (buffers_of (parts_of scenario) setup) (parts_of scenario).lines history (history_of known))
+      unread tells.reads) in
       let nothing : records_after (buffers_of (parts_of scenario) setup) (history_of first) ≡ [] =
-      ap (λ (notes : List Noted). records_after (buffers_of (parts_of scenario) setup) (flat_map (happened first) notes)) none in
+      ap (λ (history : List model.Event). records_after (buffers_of (parts_of scenario) setup) history) unread in
       let records : records_in (parts_of scenario) setup world ≡ tells.tells.more ++ finished.more =
       finished.records
       ∙ ap (λ (records : List Delivered). records ++ finished.more)

@@ -1,6 +1,5 @@
 -- The end of a run, behind which all is read and counted.
 use Rattle.std.specs.Prelude.{◌≡◌, ℕ, ◌<◌, ◌≤◌, true, List, [], ◌++◌, length, Result, Ok, Err}
-use Rattle.std.specs.List.{flat_map}
 use Rattle.byte_io.specs.Bytes.{Intake, after_told}
 use Rattle.trace_model.specs.Buffers.{Buffer}
 use Rattle.trace_model.specs.Delivery.{Delivered, trace_of}
@@ -16,15 +15,13 @@ use Rattle.loss_report.specs.declared.counts.Done.{Done}
 use Rattle.loss_report.specs.Report.{report_text}
 use Rattle.scenario_text.specs.Scenario.{Parts}
 use Rattle.service_core.specs.Agreement.{is_closed}
-use Rattle.service_core.specs.Reading.{noted_read}
 use Rattle.replay_host.specs.declared.fault.HostFault.{HostFault}
 use Rattle.replay_host.specs.declared.fault.HostFault.TheVariants.{OutOfMemory, WriteFault, Stalled}
 use Rattle.replay_model.specs.Played.{buffers_of, records_in, packet_counts, report_of, AreBalanced}
-use Rattle.run_model.specs.Reads.{AreReadsOf}
+use Rattle.run_model.specs.Reads.{GoesByReads}
 use Rattle.run_model.specs.Runs.{Runs}
 use Rattle.run_model.specs.Settled.{IsRun, ClosesTo, ReadsTo}
 use Rattle.thread_service.specs.declared.service.Service.{Service}
-use Rattle.thread_service.specs.Reading.{reads_among}
 use Rattle.thread_service.specs.Serving.{core_of, view_in}
 use Rattle.thread_host.specs.Jobs.{TellsReads}
 use Rattle.thread_host.specs.declared.settled.Settled.{Settled}
@@ -34,10 +31,12 @@ abbrev pub AreClosedTo : Setup → (number : ℕ) → Service → Type 0
 AreClosedTo setup number service =
     (place : ℕ) → place < length setup.writers → producer_of setup place ≤ number → is_closed setup (core_of service) place ≡ true
 
--- The buffers up to this number were read in rising number, each without limit. The pass knows these reads more, and the sink took their records.
+-- The buffers up to this number were read in rising number, each without limit. The history is more by these reads and nothing else, the pass knows
+-- them more, and the sink took their records.
 pub record ReadsOut (setup : Setup) (first : List Buffer) (number : ℕ) (old new passed pass : ServiceView) (before after : Intake) : Type 0 where
   pub last : List model.Event
   pub reads : ReadsTo setup first number last old new
+  pub history : history_of new ≡ history_of old ++ last
   pub tells : TellsReads first last passed pass before after
 
 -- The service knows this view, once it has ended what was settled: from what it knew then all producers were closed in rising number, and then each
@@ -48,16 +47,15 @@ pub record HasEnded (scenario : Parts) (settled : Settled) (view : ServiceView) 
   pub last : List model.Event
   pub reads : ReadsTo (setup_in settled.table) (buffers_of scenario (setup_in settled.table)) (length scenario.buffers) last closed view
 
--- There is one owned world of what the seats that were settled know, and of what their service knows that has ended it. Where the pass knew the reads
--- of the scenario's lines, and no others, the scenario was run. The sink took exactly the records that the world's history writes behind those that the
--- pass knew, and the counts are those of its report, where it counts each packet once.
+-- There is one owned world of what the seats that were settled know, and of what their service knows that has ended it. Where the history that the pass
+-- knew went on by the reads of the scenario's lines, the scenario was run. The sink took exactly the records that the world's history writes behind
+-- those that the pass knew, and the counts are those of its report, where it counts each packet once.
 pub record HasFinished (scenario : Parts) (settled : Settled) (old new : Intake) (done : Done) : Type 0 where
   pub world : World
   pub writers : world.writers ≡ views_of settled.seats.items
   pub service : HasEnded scenario settled world.service
   pub account : IsAccount world.writers world.service
-  pub run : (asked : List model.Event) → AreReadsOf (setup_in settled.table) scenario.lines asked
-      → reads_among (known_by_pass settled.pass).events ≡ flat_map noted_read asked
+  pub run : GoesByReads (setup_in settled.table) (buffers_of scenario (setup_in settled.table)) scenario.lines [] (history_of (known_by_pass settled.pass))
       → IsRun scenario (setup_in settled.table) world
   pub more : List Delivered
   pub records : records_in scenario (setup_in settled.table) world

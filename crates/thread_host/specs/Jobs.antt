@@ -5,15 +5,15 @@ use Rattle.byte_io.specs.Bytes.{Loan, Intake, told, untold, after_told}
 use Rattle.trace_model.specs.Buffers.{Buffer}
 use Rattle.trace_model.specs.Delivery.{Delivered, trace_of}
 use Rattle.trace_model.specs.History as model
-use Rattle.trace_model.specs.History.{records_after}
+use Rattle.trace_model.specs.History.{buffers_after, records_after}
 use Rattle.chunk_plain.specs.Histories.{history_of}
 use Rattle.chunk_plain.specs.Setup.{Setup}
 use Rattle.chunk_plain.specs.Views.{ServiceView}
 use Rattle.scenario_text.specs.declared.scenario.LineKind.{LineKind}
 use Rattle.scenario_text.specs.declared.scenario.NumberedLine.{NumberedLine}
 use Rattle.service_core.specs.Reading.{noted_read}
-use Rattle.run_model.specs.Reads.{AreReadsBy, AreReadsOf}
-use Rattle.thread_service.specs.Reading.{reads_among}
+use Rattle.run_model.specs.Reads.{reads_by, GoesByReads}
+use Rattle.thread_service.specs.Reading.{GoesUnread}
 
 -- the loans on which a sink hands its bytes on
 abbrev pub loans_of : Intake → List Loan
@@ -24,21 +24,27 @@ loans_of (untold loans) = loans
 abbrev pub KeepsLoans : (before after : Intake) → Type 0
 KeepsLoans before after = loans_of after ≡ loans_of before
 
--- The pass knows these reads more, behind all those that it knew, and the sink took exactly the records that it knows more.
-pub record TellsReads (first : List Buffer) (events : List model.Event) (old new : ServiceView) (before after : Intake) : Type 0 where
-  pub reads : reads_among new.events ≡ reads_among old.events ++ flat_map noted_read events
+-- The sink took exactly the records that the pass knows more.
+pub record TellsMore (first : List Buffer) (old new : ServiceView) (before after : Intake) : Type 0 where
   pub more : List Delivered
   pub records : records_after first (history_of new) ≡ records_after first (history_of old) ++ more
   pub taken : after ≡ after_told before (trace_of more)
 
--- The reads of these lines were done with the pass, in their order, and nothing else was read.
-pub record TellsLines (setup : Setup) (first : List Buffer) (lines : List NumberedLine) (old new : ServiceView) (before after : Intake) : Type 0 where
-  pub events : List model.Event
-  pub are_of : AreReadsOf setup lines events
-  pub tells : TellsReads first events old new before after
+-- The history that the pass knew went on, and these are its reads since; the sink took their records.
+pub record TellsReads (first : List Buffer) (events : List model.Event) (old new : ServiceView) (before after : Intake) : Type 0 where
+  pub since : List model.Event
+  pub history : history_of new ≡ history_of old ++ since
+  pub reads : flat_map noted_read since ≡ flat_map noted_read events
+  pub tells : TellsMore first old new before after
 
--- The reads of one line were.
+-- The reads of these lines were done with the pass, in their order, and nothing else was read; the sink took their records.
+pub record TellsLines (setup : Setup) (first : List Buffer) (lines : List NumberedLine) (old new : ServiceView) (before after : Intake) : Type 0 where
+  pub reads : GoesByReads setup first lines (history_of old) (history_of new)
+  pub tells : TellsMore first old new before after
+
+-- The reads of one line were, and what the pass knows ends with them.
 pub record TellsLine (setup : Setup) (first : List Buffer) (line : LineKind) (old new : ServiceView) (before after : Intake) : Type 0 where
-  pub events : List model.Event
-  pub are_by : AreReadsBy setup line events
-  pub tells : TellsReads first events old new before after
+  pub here : List model.Event
+  pub goes : GoesUnread (history_of old) here
+  pub reads : history_of new ≡ here ++ reads_by setup (buffers_after first here) line
+  pub tells : TellsMore first old new before after

@@ -3,12 +3,13 @@ ghost use Rattle.std.specs.Prelude.{◌≡◌, List, IfOk, OnErr};
 ghost use Rattle.byte_io.specs.Bytes.{CountsFaults};
 ghost use Rattle.trace_model.specs.History as model;
 ghost use Rattle.chunk_words.specs.Sits.{Passes, known_by_pass};
-ghost use Rattle.service_core.specs.Reading.{NotesReads, ReadsAll, FailsAmong, reads_in};
+ghost use Rattle.scenario_text.specs.declared.scenario.LineKind.TheVariants as line;
+ghost use Rattle.service_core.specs.Reading.{NotesReads, ReadsAll, FailsAmong};
 ghost use Rattle.service_core.specs.Scraping.{TakesAndScrapes};
 ghost use Rattle.service_core.specs.Taking.{Takes, places_of};
 ghost use Rattle.thread_service.specs.Reading.{IsKnownWhole, PassReads};
 ghost use Rattle.thread_service.specs.Serving.{core_of, view_in};
-ghost use Rattle.thread_host.specs.Jobs.{TellsReads};
+ghost use Rattle.thread_host.specs.Jobs.{TellsLine};
 ghost use Rattle.thread_host.specs.Keeping.{IsNamed, ServesNamed, AllOpen, BeganWith, HasOwn};
 ghost use Rattle.thread_host.specs.Keeping.{serves_named_prop, began_prop, own_prop};
 
@@ -87,7 +88,7 @@ impl<N: HostName> Locked<N> {
         requires known { IsKnownWhole (known_by_pass pass.old) }
         ensures pass { Passes table.now pass.new }
         ensures known { IsKnownWhole (known_by_pass pass.new) }
-        ensures told { IfOk result (λ _. TellsReads N.first (reads_in N.setup (core_of self.old.service).buffers.items buffer limit)
+        ensures told { IfOk result (λ _. TellsLine N.setup N.first (line.Read buffer limit)
             (known_by_pass pass.old) (known_by_pass pass.new) (O.taken out.old) (O.taken out.new)) }
         ensures reads { IfOk result (λ delivered. ReadsAll N.setup (core_of self.old.service) buffer limit
             (view_in self.old.service) (view_in self.new.service) (O.taken out.old) (O.taken out.new) delivered) }

@@ -1,11 +1,12 @@
 -- A view that goes on from an earlier one, without a read: it knows what that one knew, and no read and no record is more.
-use Rattle.std.proofs.Common.{◌≡◌, ◌∙◌, ℕ, ◌-◌, Some, None, Result, Ok, Err, IfOk, IfErr, List, [], ◌∷◌, ◌++◌, refl, sym, ap, subst, append_assoc, append-nil}
+use Rattle.std.proofs.Common.{◌≡◌, ◌∙◌, ℕ, ◌-◌, Option, Some, None, Result, Ok, Err, IfOk, IfErr, List, [], ◌∷◌, ◌++◌, refl, sym, ap, subst, append_assoc, append-nil}
 use Rattle.std.specs.Prelude.{slice_get}
 use Rattle.std.specs.List.{All, flat_map}
 use Rattle.std.proofs.lemmas.List.{append_cancel_left}
 use Rattle.std.proofs.lemmas.List.Concat.{flat_map-append}
 use Rattle.std.proofs.lemmas.List.Elements.{All-nil, All-cons, All-head, All-tail}
 use Rattle.trace_model.specs.History as model
+use Rattle.trace_model.specs.Reading.{Reading, Fragments, Unreadable, reading_of}
 use Rattle.page_geometry.specs.declared.chunk_header.ChunkHeader.{ChunkHeader}
 use Rattle.page_geometry.specs.Header.{packed}
 use Rattle.chunk_plain.specs.declared.notes.ServiceEvent.{ServiceEvent}
@@ -14,18 +15,18 @@ use Rattle.chunk_plain.specs.declared.tokens.Taken.{Taken as TakenToken}
 use Rattle.chunk_plain.specs.declared.tokens.NotComplete.{NotComplete}
 use Rattle.chunk_plain.specs.Setup.{Setup}
 use Rattle.chunk_plain.specs.Words.{LooksAt, TakesChunk, FindsOther, IsReadEvent, event_of, taken_content}
-use Rattle.chunk_plain.specs.Views.{Noted, Arrive, Partial, Patched, Closed, Read, Commit, Committed, Look, ServiceView, taken_of}
-use Rattle.chunk_plain.specs.Histories.{found_among}
+use Rattle.chunk_plain.specs.Views.{Content, Found, Noted, Arrive, Partial, Patched, Closed, Read, Commit, Committed, Look, ServiceView, taken_of}
+use Rattle.chunk_plain.specs.Histories.{content_at, found_among, once_read, arrival_of, part_of, patches_of, commit_of, happened, history_of}
 use Rattle.chunk_plain.specs.Steps.{looks_at, takes_in, learns, lets_go, notes, notes_commit}
 use Rattle.chunk_words.specs.GoesOn.{IsFront, IsReadNote, GoesOn}
 use Rattle.chunk_words.proofs.Passing.{goes_same, goes_further, goes_look, goes_take, goes_learn, goes_free, goes_note, goes_commit, read_noted}
 use Rattle.service_core.specs.Agreement.{AreKnownNotes}
 use Rattle.service_core.specs.Reading.{noted_read}
 use Rattle.service_core.proofs.CloseLemmas.{noted_grows}
-use Rattle.service_core.proofs.HistoryLemmas.{Grows, all_known_grow, known_append, found_more, get_more}
+use Rattle.service_core.proofs.HistoryLemmas.{Grows, all_known_grow, history_stays, known_append, found_more, get_more}
 use Rattle.service_core.proofs.QuietLemmas.{AreSilent, Adds}
 use Rattle.thread_service.specs.Passing.{KnowsReads}
-use Rattle.thread_service.specs.Reading.{read_note, reads_among}
+use Rattle.thread_service.specs.Reading.{GoesUnread}
 
 -- no note is a read
 abbrev NoRead : Noted → Type 0
@@ -55,21 +56,71 @@ silent_of (Commit at ∷ all) none = silent_of all (All-tail NoRead (Commit at) 
 pub goes_adds : (old new : ServiceView) → GoesOn old new → Adds old new
 goes_adds old new goes = record { grows = goes_grows old new goes; notes = goes.rest; events = goes.events; silent = silent_of goes.rest goes.no_read }
 
-no_reads_among : (all : List Noted) → AreSilent all → reads_among all ≡ []
-no_reads_among [] silent = refl
-no_reads_among (Arrive q id ∷ all) silent = no_reads_among all silent
-no_reads_among (Partial q id count ∷ all) silent = no_reads_among all silent
-no_reads_among (Patched q id ∷ all) silent = no_reads_among all silent
-no_reads_among (Closed q ∷ all) silent = no_reads_among all silent
-no_reads_among (Read q limit ∷ all) silent = absurd silent
-no_reads_among (Commit at ∷ all) silent = no_reads_among all silent
+-- ---- and events that are no reads
 
-pub goes_reads : (old new : ServiceView) → GoesOn old new → reads_among new.events ≡ reads_among old.events
-goes_reads old new goes =
-    ap (λ (ns : List Noted). reads_among ns) goes.events
-    ∙ flat_map-append read_note old.events goes.rest
-    ∙ ap (λ (ns : List Noted). reads_among old.events ++ ns) (no_reads_among goes.rest (silent_of goes.rest goes.no_read))
-    ∙ append-nil (reads_among old.events)
+arrival_unread : (q id : ℕ) (content : Option Content) → flat_map noted_read (arrival_of q id content) ≡ []
+arrival_unread q id None = refl
+arrival_unread q id (Some content) = by_reading (reading_of content.image.count content.image.payload)
+  where
+    by_reading : (reading : Reading) → flat_map noted_read (once_read (λ chunk. model.Arrives q id chunk) content.image.flags reading) ≡ []
+    by_reading (Fragments fragments) = refl
+    by_reading (Unreadable number) = refl
+
+part_unread : (q id count : ℕ) (found : Option Found) → flat_map noted_read (part_of q id count found) ≡ []
+part_unread q id count None = refl
+part_unread q id count (Some found) = by_reading (reading_of count found.sealed)
+  where
+    by_reading : (reading : Reading) → flat_map noted_read (once_read (λ chunk. model.ArrivesInPart q id chunk) found.head.flags reading) ≡ []
+    by_reading (Fragments fragments) = refl
+    by_reading (Unreadable number) = refl
+
+patches_unread : (q : ℕ) (content : Option Content) → flat_map noted_read (patches_of q content) ≡ []
+patches_unread q None = refl
+patches_unread q (Some content) = refl
+
+commit_unread : (committed : Option Committed) → flat_map noted_read (commit_of committed) ≡ []
+commit_unread None = refl
+commit_unread (Some committed) = refl
+
+pub unread_both : (xs ys : List model.Event) → flat_map noted_read xs ≡ [] → flat_map noted_read ys ≡ [] → flat_map noted_read (xs ++ ys) ≡ []
+unread_both xs ys first second =
+    flat_map-append noted_read xs ys ∙ ap (λ (ns : List Noted). ns ++ flat_map noted_read ys) first ∙ second
+
+silent_unread : (view : ServiceView) (all : List Noted) → AreSilent all → flat_map noted_read (flat_map (happened view) all) ≡ []
+silent_unread view [] silent = refl
+silent_unread view (Arrive q id ∷ all) silent =
+    unread_both (happened view (Arrive q id)) (flat_map (happened view) all) (arrival_unread q id (content_at view q id)) (silent_unread view all silent)
+silent_unread view (Partial q id count ∷ all) silent =
+    unread_both (happened view (Partial q id count)) (flat_map (happened view) all) (part_unread q id count (found_among (q - 2) id count view.looks))
+    (silent_unread view all silent)
+silent_unread view (Patched q id ∷ all) silent =
+    unread_both (happened view (Patched q id)) (flat_map (happened view) all) (patches_unread q (content_at view q id)) (silent_unread view all silent)
+silent_unread view (Closed q ∷ all) silent = silent_unread view all silent
+silent_unread view (Read q limit ∷ all) silent = absurd silent
+silent_unread view (Commit at ∷ all) silent =
+    unread_both (happened view (Commit at)) (flat_map (happened view) all) (commit_unread (slice_get view.commits at)) (silent_unread view all silent)
+
+goes_events : (old new : ServiceView) → AreKnownNotes old old.events → (goes : GoesOn old new)
+    → history_of new ≡ history_of old ++ flat_map (happened new) goes.rest
+goes_events old new known goes =
+    ap (λ (ns : List Noted). flat_map (happened new) ns) goes.events
+    ∙ flat_map-append (happened new) old.events goes.rest
+    ∙ ap (λ (es : List model.Event). es ++ flat_map (happened new) goes.rest) (history_stays old new old.events (goes_grows old new goes) known)
+
+-- so its history goes on without a read
+pub goes_unread : (old new : ServiceView) → AreKnownNotes old old.events → GoesOn old new → GoesUnread (history_of old) (history_of new)
+goes_unread old new known goes = record {
+  others = flat_map (happened new) goes.rest;
+  goes = goes_events old new known goes;
+  unread = silent_unread new goes.rest (silent_of goes.rest goes.no_read);
+}
+
+-- and where nothing was noted, it is the same
+pub goes_same_history : (old new : ServiceView) → AreKnownNotes old old.events → (goes : GoesOn old new) → goes.rest ≡ [] → history_of new ≡ history_of old
+goes_same_history old new known goes none =
+    goes_events old new known goes
+    ∙ ap (λ (ns : List Noted). history_of old ++ flat_map (happened new) ns) none
+    ∙ append-nil (history_of old)
 
 -- ---- a view goes on by each call on the table
 
@@ -120,11 +171,11 @@ all_front [] ys all = All-nil IsReadNote
 all_front (x ∷ xs) ys all =
     All-cons IsReadNote x xs (All-head IsReadNote x (xs ++ ys) all) (all_front xs ys (All-tail IsReadNote x (xs ++ ys) all))
 
-all_back : (xs ys : List Noted) → All IsReadNote (xs ++ ys) → All IsReadNote ys
+pub all_back : (xs ys : List Noted) → All IsReadNote (xs ++ ys) → All IsReadNote ys
 all_back [] ys all = all
 all_back (x ∷ xs) ys all = all_back xs ys (All-tail IsReadNote x (xs ++ ys) all)
 
-none_of_both : (xs : List Noted) → All IsReadNote xs → All NoRead xs → xs ≡ []
+pub none_of_both : (xs : List Noted) → All IsReadNote xs → All NoRead xs → xs ≡ []
 none_of_both [] all none = refl
 none_of_both (x ∷ xs) all none = absurd (All-head NoRead x xs none (All-head IsReadNote x xs all))
 
@@ -136,15 +187,6 @@ noted_are_reads (model.Patched q patches ∷ events) = noted_are_reads events
 noted_are_reads (model.Committed image patches ∷ events) = noted_are_reads events
 noted_are_reads (model.Closed q ∷ events) = noted_are_reads events
 noted_are_reads (model.Read q limit ∷ events) = All-cons IsReadNote (Read q limit) (flat_map noted_read events) tt (noted_are_reads events)
-
-pub reads_of_reads : (events : List model.Event) → reads_among (flat_map noted_read events) ≡ flat_map noted_read events
-reads_of_reads [] = refl
-reads_of_reads (model.Arrives q id chunk ∷ events) = reads_of_reads events
-reads_of_reads (model.ArrivesInPart q id chunk ∷ events) = reads_of_reads events
-reads_of_reads (model.Patched q patches ∷ events) = reads_of_reads events
-reads_of_reads (model.Committed image patches ∷ events) = reads_of_reads events
-reads_of_reads (model.Closed q ∷ events) = reads_of_reads events
-reads_of_reads (model.Read q limit ∷ events) = ap (λ (ns : List Noted). Read q limit ∷ ns) (reads_of_reads events)
 
 -- ---- what is known where only reads were noted
 

@@ -1,15 +1,15 @@
 -- The reading pass goes through the calls on a lent table, and knows the reads behind them.
-use Rattle.std.proofs.Common.{◌≡◌, ◌∙◌, ◌⊎◌, inl, inr, ℕ, Result, Ok, Err, IfOk, OnErr, List, [], ◌∷◌, ◌++◌, sym, ap, subst, append_assoc, append-nil}
+use Rattle.std.proofs.Common.{◌≡◌, ◌∙◌, ◌⊎◌, inl, inr, ℕ, Result, Ok, Err, IfOk, OnErr, List, [], ◌∷◌, ◌++◌, refl, sym, ap, subst, append_assoc, append-nil}
 use Rattle.std.specs.List.{All, flat_map}
 use Rattle.std.proofs.lemmas.List.{append_cancel_left}
-use Rattle.std.proofs.lemmas.List.Concat.{flat_map-append}
 use Rattle.atomic_table.specs.Seated.{TableId}
 use Rattle.byte_io.specs.Bytes.{Intake}
 use Rattle.byte_io.specs.declared.put.WriteFault.{WriteFault}
 use Rattle.trace_model.specs.Delivery.{Delivered}
 use Rattle.trace_model.specs.History as model
-use Rattle.trace_model.specs.History.{records_after}
+use Rattle.trace_model.specs.History.{buffers_after, records_after}
 use Rattle.chunk_plain.specs.Setup.{Setup}
+use Rattle.chunk_plain.specs.Histories.{history_of}
 use Rattle.chunk_plain.specs.Steps.{notes}
 use Rattle.chunk_plain.specs.Views.{Noted, ServiceView}
 use Rattle.chunk_words.specs.declared.host.HostTable.{HostTable}
@@ -24,8 +24,8 @@ use Rattle.service_core.specs.Agreement.{first_of}
 use Rattle.service_core.specs.Reading.{noted_read, reads_in, NotesReads, ReadsAll, FailsAmong}
 use Rattle.service_core.proofs.QuietLemmas.{adds_quiet}
 use Rattle.thread_service.specs.Passing.{KnowsReads, NoneRead, SomeRead, PassesOn}
-use Rattle.thread_service.specs.Reading.{reads_among, read_note, records_of, IsKnownWhole, PassReads}
-use Rattle.thread_service.proofs.GoingOn.{goes_adds, goes_reads, all_front, noted_are_reads, reads_of_reads, knows_further, knows_read, none_more, some_more}
+use Rattle.thread_service.specs.Reading.{GoesUnread, records_of, IsKnownWhole, PassReads}
+use Rattle.thread_service.proofs.GoingOn.{goes_adds, goes_unread, goes_same_history, all_front, all_back, none_of_both, noted_are_reads, knows_further, knows_read, none_more, some_more}
 
 module _ (id : TableId) (passed before : ServiceView) (table : HostTable) where
   -- nothing is done yet
@@ -51,6 +51,7 @@ module _ (id : TableId) (passed before : ServiceView) (table : HostTable) where
         first = s.first;
         from_pass = s.from_pass;
         from_view = s.from_view;
+        further = s.further;
         knows = s.knows;
         goes = goes_further known view next s.goes goes;
       } in
@@ -72,10 +73,12 @@ module _ (id : TableId) (passed before : ServiceView) (table : HostTable) where
       let knows = knows_read before view note read on.knows in
       let goes_on = subst (λ (v : ServiceView). GoesOn v next) (sym known) (goes_same next) in
       let here = subst (λ (v : ServiceView). KnowsReads before v) (sym (known ∙ noted)) knows in
+      let behind_events : (known_by_pass behind).events ≡ view.events ++ note ∷ [] = ap (λ (v : ServiceView). v.events) (known ∙ noted) in
       let none : NoneRead passed before (known_by_pass pass) view → SomeRead passed before (known_by_pass behind) next = λ n. record {
         first = view;
         from_pass = subst (λ (v : ServiceView). GoesOn v view) n.same goes;
         from_view = n.goes;
+        further = record { rest = note ∷ []; is = behind_events };
         knows = here;
         goes = goes_on;
       } in
@@ -83,6 +86,13 @@ module _ (id : TableId) (passed before : ServiceView) (table : HostTable) where
         first = s.first;
         from_pass = s.from_pass;
         from_view = s.from_view;
+        further = record {
+          rest = s.further.rest ++ (s.goes.rest ++ note ∷ []);
+          is = behind_events ∙ ap (λ (ns : List Noted). ns ++ note ∷ []) s.goes.events
+              ∙ append_assoc (known_by_pass pass).events s.goes.rest (note ∷ [])
+              ∙ ap (λ (ns : List Noted). ns ++ (s.goes.rest ++ note ∷ [])) s.further.is
+              ∙ append_assoc s.first.events s.further.rest (s.goes.rest ++ note ∷ []);
+        };
         knows = here;
         goes = goes_on;
       } in
@@ -124,28 +134,59 @@ module _ {S : Type 0} (setup : Setup) (core : ServiceCore S) (events : List mode
   pub known_behind : IsKnownWhole passed → NoneRead passed before pass view ⊎ SomeRead passed before pass view → IsKnownWhole pass
   known_behind known since = elim since [ inl n ↦ subst IsKnownWhole (sym n.same) known | inr s ↦ known_some s ]
 
-  more_reads : reads_among view.events ≡ reads_among before.events ++ flat_map noted_read events
-  more_reads =
-      ap (λ (ns : List Noted). reads_among ns) more_noted
-      ∙ flat_map-append read_note before.events (flat_map noted_read events)
-      ∙ ap (λ (ns : List Noted). reads_among before.events ++ ns) (reads_of_reads events)
+  -- where the view went on without a read, there was none
+  none_noted : IsKnownWhole before → (goes : GoesOn before view) → events ≡ []
+  none_noted known goes =
+      let same = append_cancel_left before.events goes.rest (flat_map noted_read events) (sym goes.events ∙ more_noted) in
+      let none = none_of_both goes.rest (subst (λ (ns : List Noted). All IsReadNote ns) (sym same) (noted_are_reads events)) goes.no_read in
+      append_cancel_left (history_of before) events []
+      (sym notes_.history ∙ goes_same_history before view known goes none ∙ sym (append-nil (history_of before)))
+
+  all_reads : (some : SomeRead passed before pass view) → All IsReadNote (some.from_view.rest ++ (some.further.rest ++ some.goes.rest))
+  all_reads some =
+      let q = some.from_view.rest in let r = some.further.rest in let t = some.goes.rest in
+      let is : view.events ≡ before.events ++ (q ++ (r ++ t)) =
+      some.goes.events
+      ∙ ap (λ (ns : List Noted). ns ++ t) (some.further.is ∙ ap (λ (ns : List Noted). ns ++ r) some.from_view.events)
+      ∙ append_assoc (before.events ++ q) r t
+      ∙ append_assoc before.events q (r ++ t) in
+      let same = append_cancel_left before.events (q ++ (r ++ t)) (flat_map noted_read events) (sym is ∙ more_noted) in
+      subst (λ (ns : List Noted). All IsReadNote ns) (sym same) (noted_are_reads events)
+
+  -- at the first read the service had noted nothing more
+  first_history : IsKnownWhole before → (some : SomeRead passed before pass view) → history_of some.first ≡ history_of before
+  first_history known some = goes_same_history before some.first known some.from_view
+      (none_of_both some.from_view.rest (all_front some.from_view.rest (some.further.rest ++ some.goes.rest) (all_reads some)) some.from_view.no_read)
+
+  -- and nothing more since the last one
+  last_history : (some : SomeRead passed before pass view) → history_of view ≡ history_of pass
+  last_history some = goes_same_history pass view (known_some some) some.goes
+      (none_of_both some.goes.rest
+      (all_back some.further.rest some.goes.rest (all_back some.from_view.rest (some.further.rest ++ some.goes.rest) (all_reads some)))
+      some.goes.no_read)
 
   goes_records : (old new : ServiceView) → IsKnownWhole old → GoesOn old new → records_of setup core new ≡ records_of setup core old
   goes_records old new known goes = adds_quiet (first_of setup core) old new known (goes_adds old new goes)
 
   -- and it knows the reads more, with their records
-  pub pass_reads : IsKnownWhole passed → IsKnownWhole before → NoneRead passed before pass view ⊎ SomeRead passed before pass view → PassReads setup core events passed pass
-  pass_reads known_pass known_view since =
-      let reads : ServiceView → List Noted = λ v. reads_among v.events in
+  pub pass_reads : core.buffers.items ≡ buffers_after (first_of setup core) (history_of before) → IsKnownWhole passed → IsKnownWhole before → NoneRead passed before pass view ⊎ SomeRead passed before pass view → PassReads setup core events passed pass
+  pass_reads buffers known_pass known_view since =
       let records : ServiceView → List Delivered = λ v. records_of setup core v in
       let wrote = records_after core.buffers.items events in
       let none : NoneRead passed before pass view → PassReads setup core events passed pass = λ n. record {
-        reads = none_more reads passed before pass view (flat_map noted_read events) more_reads n.same (goes_reads before view n.goes);
+        before = history_of passed;
+        goes = record { others = []; goes = sym (append-nil (history_of passed)); unread = refl };
+        history = ap history_of n.same ∙ sym (append-nil (history_of passed))
+            ∙ ap (λ (es : List model.Event). history_of passed ++ es) (sym (none_noted known_view n.goes));
+        buffers = inl (none_noted known_view n.goes);
         records = none_more records passed before pass view wrote notes_.trace n.same (goes_records before view known_view n.goes);
       } in
       let some : SomeRead passed before pass view → PassReads setup core events passed pass = λ s. record {
-        reads = some_more reads passed before pass view (flat_map noted_read events) more_reads s.first (goes_reads passed s.first s.from_pass)
-            (goes_reads before s.first s.from_view) (goes_reads pass view s.goes);
+        before = history_of before;
+        goes = subst (λ (es : List model.Event). GoesUnread (history_of passed) es) (first_history known_view s)
+            (goes_unread passed s.first known_pass s.from_pass);
+        history = sym (last_history s) ∙ notes_.history;
+        buffers = inr buffers;
         records = some_more records passed before pass view wrote notes_.trace s.first (goes_records passed s.first known_pass s.from_pass)
             (goes_records before s.first known_view s.from_view) (goes_records pass view (known_some s) s.goes);
       } in

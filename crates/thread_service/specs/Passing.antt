@@ -6,7 +6,7 @@ use Rattle.chunk_plain.specs.Views.{Noted, ServiceView}
 use Rattle.chunk_words.specs.declared.host.HostTable.{HostTable}
 use Rattle.chunk_words.specs.declared.seats.ServiceSeat.{ServiceSeat}
 use Rattle.chunk_words.specs.declared.seats.ReadPass.{ReadPass}
-use Rattle.chunk_words.specs.GoesOn.{GoesOn, IsReadNote}
+use Rattle.chunk_words.specs.GoesOn.{GoesOn, IsFront, IsReadNote}
 use Rattle.chunk_words.specs.Named.{identity_of}
 use Rattle.chunk_words.specs.Sits.{Attends, Passes, known_by_service, known_by_pass}
 use Rattle.service_core.specs.Agreement.{AreKnownNotes}
@@ -22,11 +22,13 @@ pub record NoneRead (passed before pass view : ServiceView) : Type 0 where
   pub same : pass ≡ passed
   pub goes : GoesOn before view
 
--- Reads were noted: at the first one the service's view had gone on, from the earlier one and from what the pass knew, and the pass knows all of them.
+-- Reads were noted: at the first one the service's view had gone on, from the earlier one and from what the pass knew, and the pass knows all that was
+-- noted up to the last one.
 pub record SomeRead (passed before pass view : ServiceView) : Type 0 where
   pub first : ServiceView
   pub from_pass : GoesOn passed first
   pub from_view : GoesOn before first
+  pub further : IsFront first.events pass.events
   pub knows : KnowsReads before pass
   pub goes : GoesOn pass view
 

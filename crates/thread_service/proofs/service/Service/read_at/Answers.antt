@@ -38,5 +38,5 @@ returns-clause-passes g c events notes =
     let setup = setup_in c.args.table.now in let core = c.args.self.now.core in
     let passed = known_by_pass c.args.pass.now in let before = view_in c.args.self.now in
     let pass = known_by_pass c.read_buffer-read.new.table.pass in let view = view_in (record { core = c.read_buffer-read.new.self }) in
-    pass_reads setup core events passed before pass view notes c.requires.known c.requires.serves.agrees.known
+    pass_reads setup core events passed before pass view notes c.requires.serves.agrees.buffers c.requires.known c.requires.serves.agrees.known
     (since_back g.N.Start.passed g.N.Start.view pass view passed before c.requires.passed c.requires.view c.read_buffer-read.ensures.step.seat_stays.since)
