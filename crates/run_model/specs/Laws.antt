@@ -16,7 +16,8 @@ abbrev pub EveryRunIsFaithful : Type 0
 EveryRunIsFaithful = (scenario : Parts) (setup : Setup) (world : World) → IsRun scenario setup world
     → IsFaithful (emitted_in scenario) (records_in scenario setup world)
 
--- The report counts every packet once, where no more lines are there than a count can tell and each writer names a buffer.
+-- The report counts every packet once, where no more lines are there than a count can tell and the set-up is within its
+-- limits.
 abbrev pub EveryRunIsBalanced : Type 0
 EveryRunIsBalanced = (scenario : Parts) (setup : Setup) (world : World) → IsRun scenario setup world
     → length scenario.lines ≤ last_count → IsSetUp scenario.buffers scenario.producers scenario.writers

@@ -15,8 +15,8 @@ use scenario_text::{LineKind, LineList};
 use std::sync::{Mutex, Wait};
 
 /// Plays the service's lines, in their order: it collects, scrapes and reads, each with the lock
-/// taken once, and passes the gate before each. Of a line that asks for a flush it passes the gate alone.
-/// A write that fails ends it.
+/// taken once, and passes the gate before each and once behind the last. Of a line that asks for a flush
+/// it passes the gate alone. A write that fails ends it.
 pub fn service_job<N: HostName, R: Wait, G: Gate, O: Sink>(
     rt: &R,
     gate: &G,

@@ -1,6 +1,7 @@
 //! Tests that cross crates, and long tables of texts for the grammars: worked rows of the top call,
-//! with the statuses, traces and texts that are expected of them. `play` makes such a call over objects in memory; its contract says that
-//! a test sees what the top call's contract allows for the words and the input that it gives.
+//! with the statuses, traces and texts that are expected of them. `play` makes such a call over objects
+//! in memory; its contract says that a test sees what the top call's contract allows for the words and
+//! the input that it gives.
 #![tactic(auto)]
 
 #[cfg(test)]

@@ -102,7 +102,7 @@ pub fn say_stalled<O: Sink>(text: &mut O, writer: u16) -> u8
     6
 }
 
-/// Writes the report of what a replay left.
+/// Writes the report of what a replay or a run left.
 pub fn say_report<O: Sink>(alloc: Global, text: &mut O, done: &Done) -> u8
     ensures status { (result ≡ 0) ⊎ (result ≡ 5) }
     ensures all { result ≡ 0 → O.taken text.new ≡ after_told (O.taken text.old) (report_of done.now) }
