@@ -1,5 +1,6 @@
 pub mod Noted
 pub mod Reads
+pub mod Vain
 pub mod Settled
 pub mod Runs
 pub mod Laws

@@ -10,7 +10,7 @@ use Rattle.trace_model.specs.History.{buffers_after}
 use Rattle.trace_model.specs.Packets.{packets_of}
 use Rattle.model_laws.specs.ChunkCounts.{lost_count}
 use Rattle.model_laws.specs.Losses.{Loses}
-use Rattle.chunk_plain.specs.Setup.{Setup, sequence_of}
+use Rattle.chunk_plain.specs.Setup.{Setup, producer_of, sequence_of}
 use Rattle.chunk_plain.specs.Views.{ServiceView, WriterView, taken_of}
 use Rattle.chunk_plain.specs.World.{World, writer}
 use Rattle.chunk_plain.specs.Histories.{history_of}
@@ -28,15 +28,17 @@ use Rattle.replay_model.specs.Played.{IsSetupOf, buffers_of}
 use Rattle.schedule_laws.specs.Resting.{IsBetweenCalls}
 use Rattle.run_model.specs.Noted.{done_calls}
 use Rattle.run_model.specs.Reads.{GoesByReads}
+use Rattle.run_model.specs.Vain.{LosesInVain}
 
 -- ---- a writer
 
 -- The writer at this place has done its lines: it is between two calls and holds no chunk, and what it has noted is just what the lines ask of it, and
--- then the flush that ends its job. Packets may be lost on the way, but none of one that stalls.
+-- then the flush that ends its job. Packets may be lost on the way, each behind a round of claims in vain of its own, but none of one that stalls.
 pub record HasDoneLines (setup : Setup) (lines : List NumberedLine) (place : ℕ) (view : WriterView) : Type 0 where
   pub between : IsBetweenCalls setup place view
   pub asked : done_calls view.calls ≡ calls_asked (suc place) lines ++ Flushed ∷ []
   pub lose : Loses (calls_asked (suc place) lines) view.calls
+  pub vain : LosesInVain setup (producer_of setup place) view.asked view.calls
   pub stalls : (spec_at setup.writers place).policy ≡ Stalls → lost_count (packets_of view.calls) ≡ 0
   pub none_held : held_count view.begun ≡ 0
 

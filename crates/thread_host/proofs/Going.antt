@@ -11,7 +11,7 @@ use Rattle.trace_model.specs.Packets.{Packet, packets_of, account_of, with_more,
 use Rattle.model_laws.specs.ChunkCounts.{lost_count}
 use Rattle.field_tree.specs.Nodes.{Shown}
 use Rattle.scenario_text.specs.Accepted.{Accepts, node_call}
-use Rattle.chunk_plain.specs.Setup.{HasProducer, producer_of}
+use Rattle.chunk_plain.specs.Setup.{Setup, HasProducer, producer_of, range_of}
 use Rattle.chunk_plain.specs.Views.{WriterView}
 use Rattle.chunk_words.specs.declared.host.HostTable.{HostTable}
 use Rattle.chunk_words.specs.declared.shared.Shared.{Shared}
@@ -19,6 +19,7 @@ use Rattle.chunk_words.specs.declared.seats.WriterSeat.{WriterSeat}
 use Rattle.chunk_words.specs.contracts.shared.SharedWords.TheImpl.{ghosts as shared}
 use Rattle.chunk_words.specs.Sits.{setup_in, known_by}
 use Rattle.world_model.specs.FirstBuffers.{payload_at}
+use Rattle.claim_arbiter.specs.Claiming.{range_in}
 use Rattle.trace_writer.specs.declared.writer.WriterCore.{WriterCore}
 use Rattle.trace_writer.specs.Asked.{begun_as, written_as}
 use Rattle.trace_writer.specs.Core.{CoreAgrees, route_of}
@@ -39,6 +40,7 @@ use Rattle.thread_writer.proofs.Calls.{writes_back}
 use Rattle.thread_writer.proofs.Identity.{works_stay}
 use Rattle.thread_host.specs.Playing.{NeverRefuses, IsGoing, WasAsked}
 use Rattle.thread_host.proofs.Doing.{done_more, call_done}
+use Rattle.thread_host.proofs.InVain.{AsksOn, works_ask, vain_on}
 
 -- ---- a helper that never refuses
 
@@ -177,6 +179,18 @@ module _ {H : Type 0} (helps : H → ℕ → Bool → H → Type 0) (of_table : 
             (subst (λ (b : Bool). (view_in after).calls ≡ (view_in writer).calls ++ noted_as b (route_of core).spec.policy call) goes notes)
             ∙ going.whole stalls
 
+        range_here : range_of (setup_in table.now) (producer_of (setup_in table.now) place) ≡ range_in (route_of core).arbiter
+        range_here =
+            let setup : Setup = setup_in table.now in
+            subst (λ (c : WriterCore WriterSeat). range_of setup (producer_of setup place) ≡ range_in (route_of c).arbiter) (sym is)
+            (subst (λ (p : ℕ). range_of setup (producer_of setup p) ≡ range_in (route_of (core_of writer)).arbiter) going.place_is going.writes.agrees.writes.route.range)
+
+        asks_on : AsksOn (route_of core).spec.policy (setup_in table.now) (producer_of (setup_in table.now) place) called.stopped (view_in writer) (view_in after)
+        asks_on =
+            subst (λ (c : WriterCore WriterSeat). AsksOn (route_of core).spec.policy (setup_in table.now) (producer_of (setup_in table.now) place) called.stopped
+            (known_by c.seat) (view_in after)) is
+            (works_ask helps (setup_in table.now) (producer_of (setup_in table.now) place) (route_of core) range_here called.works)
+
         -- it goes on behind it
         pub goes_on : IsGoing helps of_table table.now place (asked ++ call ∷ []) coming left after
         goes_on = record {
@@ -186,6 +200,8 @@ module _ {H : Type 0} (helps : H → ℕ → Bool → H → Type 0) (of_table : 
           done = done_more asked (view_in writer).calls (view_in after).calls call (noted_as called.stopped (route_of core).spec.policy call) going.done notes
               (call_done (account_of going.ready.asked).packets called.stopped (route_of core).spec.policy call going.ready.accepted.0 called.drops);
           lose = loses_more asked (view_in writer) (view_in after) call (noted_as called.stopped (route_of core).spec.policy call) going.lose notes notes_it;
+          vain = vain_on (setup_in table.now) (producer_of (setup_in table.now) place) (account_of going.ready.asked).packets called.stopped (route_of core).spec.policy call
+              (view_in writer) (view_in after) going.ready.accepted.0 called.drops asks_on notes going.vain;
           whole = whole;
           ready = ready_behind (payload_at (setup_in table.now) place) (view_in writer) (view_in after) call coming (noted_as called.stopped (route_of core).spec.policy call)
               going.ready notes notes_it;

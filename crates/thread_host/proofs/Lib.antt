@@ -1,4 +1,5 @@
 pub mod Doing
+pub mod InVain
 pub mod Telling
 pub mod Hosting
 pub mod Made

@@ -9,8 +9,8 @@ use Rattle.trace_model.specs.Packets.{packets_of}
 use Rattle.model_laws.specs.ChunkCounts.{lost_count}
 use Rattle.model_laws.specs.Losses.{Loses, written_calls}
 use Rattle.chunk_plain.specs.Owned.{held_count}
-use Rattle.chunk_plain.specs.Setup.{Setup}
-use Rattle.chunk_plain.specs.Views.{WriterView}
+use Rattle.chunk_plain.specs.Setup.{Setup, producer_of}
+use Rattle.chunk_plain.specs.Views.{Ask, WriterView}
 use Rattle.chunk_words.specs.declared.host.HostTable.{HostTable}
 use Rattle.chunk_words.specs.Sits.{setup_in}
 use Rattle.trace_writer.specs.declared.state.State.{State}
@@ -28,6 +28,7 @@ use Rattle.replay_model.proofs.ScrapedLemmas.{counted}
 use Rattle.replay_host.proofs.ReadyLemmas.{between_is, written_append}
 use Rattle.replay_host.proofs.WroteLemmas.{begun_many}
 use Rattle.run_model.specs.Noted.{done_calls}
+use Rattle.run_model.specs.Vain.{LosesInVain}
 use Rattle.thread_writer.specs.declared.helper.Asks.{Asks}
 use Rattle.thread_writer.specs.declared.writer.TraceWriter.{TraceWriter}
 use Rattle.thread_writer.specs.Lent.{identity_of, lent}
@@ -36,6 +37,7 @@ use Rattle.thread_host.specs.Hosts.{IsReady, HasPlayed}
 use Rattle.thread_host.specs.Playing.{NeverRefuses, IsGoing}
 use Rattle.thread_host.proofs.Doing.{done_more}
 use Rattle.thread_host.proofs.Going.{spec_is}
+use Rattle.thread_host.proofs.InVain.{vain_none, vain_plain}
 
 -- ---- before its first line
 
@@ -57,6 +59,8 @@ begins helps of_table lines table place number help writer is ready of_this neve
   going = ready.going;
   done = ap (λ (view : WriterView). done_calls view.calls) ready.fresh;
   lose = ap (λ (view : WriterView). written_calls view.calls) ready.fresh;
+  vain = subst (λ (view : WriterView). LosesInVain (setup_in table) (producer_of (setup_in table) place) view.asked view.calls) (sym ready.fresh)
+      (vain_none (setup_in table) (producer_of (setup_in table) place) []);
   whole = λ stalls. ap (λ (view : WriterView). lost_count (packets_of view.calls)) ready.fresh;
   ready = rw is ready.ready;
   of_this = of_this;
@@ -115,6 +119,11 @@ module _ {H : Type 0} (helps : H → ℕ → Bool → H → Type 0) (of_table : 
             asked = subst (λ (n : ℕ). done_calls (view_in after).calls ≡ calls_asked n lines ++ Flushed ∷ []) is
                 (done_more (calls_asked number lines) (view_in writer).calls (view_in after).calls Flushed (Flushed ∷ []) going.done notes refl);
             lose = subst (λ (n : ℕ). Loses (calls_asked n lines) (view_in after).calls) is lose;
+            vain =
+                let setup : Setup = setup_in table.now in
+                subst (λ (asks : List Ask). LosesInVain setup (producer_of setup place) asks (view_in after).calls) (sym flushed.quiet.asked)
+                (subst (LosesInVain setup (producer_of setup place) (view_in writer).asked) (sym notes)
+                (vain_plain setup (producer_of setup place) (view_in writer).asked (view_in writer).calls going.vain Flushed tt));
             stalls = λ stalls. flushed_loses (view_in writer) (view_in after) notes ∙ going.whole stalls;
             none_held = none_held (setup_in table.now) (core_of after).seat.place (view_in after) (core_of after).writer writes.agrees.writes none_held_now;
           };

@@ -8,6 +8,7 @@ use Rattle.trace_model.specs.Calls.{Call}
 use Rattle.trace_model.specs.Packets.{packets_of}
 use Rattle.model_laws.specs.ChunkCounts.{lost_count}
 use Rattle.model_laws.specs.Losses.{Loses}
+use Rattle.chunk_plain.specs.Setup.{producer_of}
 use Rattle.chunk_words.specs.declared.host.HostTable.{HostTable}
 use Rattle.chunk_words.specs.Sits.{setup_in}
 use Rattle.world_model.specs.FirstBuffers.{payload_at}
@@ -18,6 +19,7 @@ use Rattle.scenario_text.specs.Accepted.{node_call}
 use Rattle.service_core.specs.Agreement.{spec_at}
 use Rattle.replay_host.specs.Asking.{IsReadyFor}
 use Rattle.run_model.specs.Noted.{done_calls}
+use Rattle.run_model.specs.Vain.{LosesInVain}
 use Rattle.thread_writer.specs.declared.helper.Asks.{Asks}
 use Rattle.thread_writer.specs.declared.writer.TraceWriter.{TraceWriter}
 use Rattle.thread_writer.specs.Lent.{identity_of}
@@ -42,8 +44,8 @@ calls_in other = []
 abbrev pub NeverRefuses : {H : Type 0} → (H → ℕ → Bool → H → Type 0) → WriterPolicy → Type 0
 NeverRefuses {H} helps policy = policy ≡ Stalls → (helper : H) (producer : ℕ) (after : H) → helps helper producer false after → ⊥
 
--- What the writer at this place has noted is just what was asked of it. Packets may be lost, but none of one that stalls. It isn't stalled, it accepts
--- what is to come, and it has a helper of its table, which never refuses it.
+-- What the writer at this place has noted is just what was asked of it. Packets may be lost, each behind a round of claims in vain, but none of one that
+-- stalls. It isn't stalled, it accepts what is to come, and it has a helper of its table, which never refuses it.
 pub record IsGoing {H : Type 0} (helps : H → ℕ → Bool → H → Type 0) (of_table : H → TableId → Type 0) (table : HostTable) (place : ℕ)
     (asked coming : List Call) (help : Asks H) (writer : TraceWriter) : Type 0 where
   pub writes : Writes table writer
@@ -51,6 +53,7 @@ pub record IsGoing {H : Type 0} (helps : H → ℕ → Bool → H → Type 0) (o
   pub going : is_stalled (core_of writer) ≡ false
   pub done : done_calls (view_in writer).calls ≡ asked
   pub lose : Loses asked (view_in writer).calls
+  pub vain : LosesInVain (setup_in table) (producer_of (setup_in table) place) (view_in writer).asked (view_in writer).calls
   pub whole : (spec_at (setup_in table).writers place).policy ≡ Stalls → lost_count (packets_of (view_in writer).calls) ≡ 0
   pub ready : IsReadyFor (payload_at (setup_in table) place) (view_in writer) coming
   pub of_this : of_table help.help (identity_of table)
