@@ -1,8 +1,10 @@
 //! The host of threads: it plays a scenario with each writer on a thread of its own, beside the service's
 //! lines. The service stands behind a lock for so long, and a writer that stalls has a helper that takes
 //! it.
-//! A layer above may rely on this: where `run` answers Ok, the sink has taken exactly the records of the
-//! account that the threads led to, and the counts are that account's. No writer ends stalled.
+//! A layer above may rely on this: where `run` answers Ok, the sink has taken exactly the records of an
+//! account to which the scenario leads, and the counts are that account's. No writer ends stalled. The
+//! parts of `run` say whose account it is: the seats that are settled know what the writers knew whose
+//! lines were played, and at the end it is of these seats and of the service that was settled.
 #![tactic(auto)]
 
 mod asking;
