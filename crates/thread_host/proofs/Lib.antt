@@ -10,4 +10,5 @@ pub mod PlayedWriters
 pub mod Closing
 pub mod Finished
 pub mod Tallying
+pub mod Failing
 pub mod WholeLemmas

@@ -1,5 +1,5 @@
 -- What lines tell, one behind another.
-use Rattle.std.proofs.Common.{◌≡◌, ◌⊎◌, inl, inr, ℕ, ◌-◌, Result, Ok, Err, IfOk, List, [], ◌∷◌, ◌++◌, length, refl, sym, ap, ◌∙◌, subst, append_assoc, append-nil, arith}
+use Rattle.std.proofs.Common.{◌≡◌, ◌⊎◌, inl, inr, ℕ, ◌-◌, Result, Ok, Err, IfOk, OnErr, List, [], ◌∷◌, ◌++◌, length, refl, sym, ap, ◌∙◌, subst, append_assoc, append-nil, length-append, arith}
 use Rattle.std.specs.List.{flat_map}
 use Rattle.std.proofs.lemmas.List.Concat.{flat_map-append}
 use Rattle.byte_io.specs.Bytes.{Intake, told, untold, after_told}
@@ -17,13 +17,14 @@ use Rattle.scenario_text.specs.declared.scenario.LineKind.TheVariants.{Packet, B
 use Rattle.scenario_text.specs.declared.scenario.NumberedLine.{NumberedLine}
 use Rattle.service_core.specs.declared.service.ServiceCore.{ServiceCore}
 use Rattle.service_core.specs.Agreement.{first_of}
-use Rattle.service_core.specs.Reading.{NotesReads, ReadsAll, noted_read, reads_in, sequences_to}
+use Rattle.service_core.specs.Reading.{FailsAmong, FailsIn, NotesReads, ReadsAll, noted_read, reads_in, sequences_to}
 use Rattle.service_core.specs.Routing.{buffer_at}
-use Rattle.service_core.proofs.ReadingLemmas.{trace_append}
+use Rattle.service_core.proofs.ReadingLemmas.{records_append, trace_append}
+use Rattle.service_core.proofs.RouteLemmas.{buffers_append}
 use Rattle.thread_service.specs.Reading.{GoesUnread, PassReads}
 use Rattle.thread_service.proofs.GoingOn.{unread_both}
 use Rattle.run_model.specs.Reads.{reads_by, GoesByReads}
-use Rattle.thread_host.specs.Jobs.{loans_of, KeepsLoans, TellsMore, TellsReads, TellsLine, TellsLines}
+use Rattle.thread_host.specs.Jobs.{loans_of, KeepsLoans, FailsAt, FailsLine, FailsLines, TellsMore, TellsReads, TellsLine, TellsLines}
 
 -- ---- histories that go on
 
@@ -43,6 +44,22 @@ pub reads_further : (setup : Setup) (first : List Buffer) (lines : List Numbered
 reads_further setup first [] old mid new none goes = unread_further old mid new none goes
 reads_further setup first (next ∷ lines) old mid new some goes =
     (some.0, some.1, reads_further setup first lines (some.0 ++ reads_by setup (buffers_after first some.0) next.what) mid new some.2 goes)
+
+-- in front of the reads of some lines
+unread_before : (setup : Setup) (first : List Buffer) (lines : List NumberedLine) (old mid new : List model.Event) → GoesUnread old mid
+    → GoesByReads setup first lines mid new → GoesByReads setup first lines old new
+unread_before setup first [] old mid new goes none = unread_further old mid new goes none
+unread_before setup first (line ∷ lines) old mid new goes some = (some.0, unread_further old mid some.0 goes some.1, some.2)
+
+-- those of some lines, and then those of others
+pub reads_append : (setup : Setup) (first : List Buffer) (lines others : List NumberedLine) (old mid new : List model.Event)
+    → GoesByReads setup first lines old mid → GoesByReads setup first others mid new → GoesByReads setup first (lines ++ others) old new
+reads_append setup first [] others old mid new none some = unread_before setup first others old mid new none some
+reads_append setup first (line ∷ lines) others old mid new one some = (
+  one.0,
+  one.1,
+  reads_append setup first lines others (one.0 ++ reads_by setup (buffers_after first one.0) line.what) mid new one.2 some,
+)
 
 -- those of one line more
 reads_behind : (setup : Setup) (first : List Buffer) (lines : List NumberedLine) (line : NumberedLine) (old mid here new : List model.Event)
@@ -173,6 +190,116 @@ pub locked_tells : {S : Type 0} (setup : Setup) (core : ServiceCore S) (number l
 locked_tells setup core number limit old new passed pass before after first same (Ok delivered) reads passes =
     line_read_tells setup core number limit delivered old new passed pass before after reads passes first same
 locked_tells setup core number limit old new passed pass before after first same (Err fault) reads passes = tt
+
+-- ---- where a write failed
+
+-- what holds anyway
+pub on_err : {A E P : Type 0} (result : Result A E) → P → OnErr result P
+on_err (Ok value) holds = tt
+on_err (Err fault) holds = holds
+
+unread_records : (buffers : List Buffer) (events : List model.Event) → flat_map noted_read events ≡ [] → records_after buffers events ≡ []
+unread_records buffers [] none = refl
+unread_records buffers (model.Arrives q id chunk ∷ events) none = unread_records (buffers_after buffers (model.Arrives q id chunk ∷ [])) events none
+unread_records buffers (model.ArrivesInPart q id chunk ∷ events) none = unread_records (buffers_after buffers (model.ArrivesInPart q id chunk ∷ [])) events none
+unread_records buffers (model.Patched q patches ∷ events) none = unread_records (buffers_after buffers (model.Patched q patches ∷ [])) events none
+unread_records buffers (model.Committed image patches ∷ events) none = unread_records (buffers_after buffers (model.Committed image patches ∷ [])) events none
+unread_records buffers (model.Closed q ∷ events) none = unread_records (buffers_after buffers (model.Closed q ∷ [])) events none
+unread_records buffers (model.Read q limit ∷ events) none =
+    let long = ap (λ (notes : List Noted). length notes) none in absurd (omega (arith, long))
+
+-- a history that goes on without a read writes no further record
+same_records : (first : List Buffer) (old new : List model.Event) → GoesUnread old new → records_after first new ≡ records_after first old
+same_records first old new goes =
+    ap (records_after first) goes.goes
+    ∙ records_append first old goes.others
+    ∙ ap (λ (ds : List Delivered). records_after first old ++ ds) (unread_records (buffers_after first old) goes.others goes.unread)
+    ∙ append-nil (records_after first old)
+
+some_read : (firsts : List model.Event) (event : model.Event) → firsts ++ event ∷ [] ≡ [] → ⊥
+some_read firsts event none =
+    let long = ap (λ (es : List model.Event). length es) none in
+    let both = length-append firsts (event ∷ []) in
+    omega (arith, long, both)
+
+module _ {S : Type 0} (setup : Setup) (core : ServiceCore S) (number limit : ℕ) (old new passed pass : ServiceView) (before after : Intake)
+    (fails : FailsAmong setup core number limit old new before after)
+    (passes : (events : List model.Event) → NotesReads setup core events old new → PassReads setup core events passed pass) where
+  some_known : PassReads setup core (fails.firsts ++ model.Read fails.sequence fails.count ∷ []) passed pass
+  some_known = passes (fails.firsts ++ model.Read fails.sequence fails.count ∷ []) fails.notes
+
+  held : core.buffers.items ≡ buffers_after (first_of setup core) some_known.before
+  held = elim some_known.buffers [ inl none ↦ absurd (some_read fails.firsts (model.Read fails.sequence fails.count) none) | inr is ↦ is ]
+
+  pub line_read_fails : (first : List Buffer) → first_of setup core ≡ first
+      → FailsLine setup first (Read number limit) passed pass before after
+  line_read_fails first same =
+      let from = first_of setup core in
+      let here = some_known.before in
+      let wrote = records_after core.buffers.items fails.firsts in
+      subst (λ (bs : List Buffer). FailsLine setup bs (Read number limit) passed pass before after) same (record {
+        here = here;
+        goes = some_known.goes;
+        fails = record {
+          firsts = fails.firsts;
+          sequence = fails.sequence;
+          left = fails.left;
+          count = fails.count;
+          others = fails.others;
+          cut = ap (λ (bs : List Buffer). reads_in setup bs number limit) (sym held) ∙ fails.cut;
+          history = some_known.history;
+          more = wrote;
+          records = records_append from here fails.firsts
+              ∙ ap (λ (bs : List Buffer). records_after from here ++ records_after bs fails.firsts) (sym held)
+              ∙ ap (λ (ds : List Delivered). ds ++ wrote) (same_records from (history_of passed) here some_known.goes);
+          fails = subst (λ (bs : List Buffer). FailsIn bs fails.sequence fails.left fails.count (after_told before (trace_of wrote)) after)
+              (ap (λ (bs : List Buffer). buffers_after bs fails.firsts) held ∙ sym (buffers_append from here fails.firsts)) fails.fails;
+        };
+      })
+
+-- behind the lock
+pub locked_fails : {S : Type 0} (setup : Setup) (core : ServiceCore S) (number limit : ℕ) (old new passed pass : ServiceView) (before after : Intake) (first : List Buffer)
+    → first_of setup core ≡ first → (result : Result ℕ WriteFault) → OnErr result (FailsAmong setup core number limit old new before after)
+    → ((events : List model.Event) → NotesReads setup core events old new → PassReads setup core events passed pass)
+    → OnErr result (FailsLine setup first (Read number limit) passed pass before after)
+locked_fails setup core number limit old new passed pass before after first same (Ok delivered) fails passes = tt
+locked_fails setup core number limit old new passed pass before after first same (Err fault) fails passes =
+    line_read_fails setup core number limit old new passed pass before after fails passes first same
+
+-- behind records that the sink had taken
+pub fails_at_behind : (setup : Setup) (first : List Buffer) (line : LineKind) (here : List model.Event) (old mid new : ServiceView)
+    (before between after : Intake) → TellsMore first old mid before between → FailsAt setup first line here (history_of mid) (history_of new) between after
+    → FailsAt setup first line here (history_of old) (history_of new) before after
+fails_at_behind setup first line here old mid new before between after was at = record {
+  firsts = at.firsts;
+  sequence = at.sequence;
+  left = at.left;
+  count = at.count;
+  others = at.others;
+  cut = at.cut;
+  history = at.history;
+  more = was.more ++ at.more;
+  records = at.records ∙ ap (λ (ds : List Delivered). ds ++ at.more) was.records ∙ append_assoc (records_after first (history_of old)) was.more at.more;
+  fails = subst (λ (intake : Intake). FailsIn (buffers_after first (here ++ at.firsts)) at.sequence at.left at.count intake after)
+      (ap (λ (intake : Intake). after_told intake (trace_of at.more)) was.taken
+      ∙ after_told_again before (trace_of was.more) (trace_of at.more)
+      ∙ ap (after_told before) (sym (trace_append was.more at.more)))
+      at.fails;
+}
+
+-- behind lines that were done
+pub fails_behind : (setup : Setup) (first : List Buffer) (done : List NumberedLine) (line : NumberedLine) (later : List NumberedLine) (old mid new : ServiceView)
+    (before between after : Intake) → TellsLines setup first done old mid before between
+    → FailsLine setup first line.what mid new between after → FailsLines setup first (done ++ line ∷ later) old new before after
+fails_behind setup first done line later old mid new before between after tells one = record {
+  done = done;
+  line = line;
+  later = later;
+  all = refl;
+  here = one.here;
+  reads = reads_further setup first done (history_of old) (history_of mid) one.here tells.reads one.goes;
+  fails = fails_at_behind setup first line.what one.here old mid new before between after tells.tells one.fails;
+}
 
 -- ---- a line that is no read tells nothing
 line_tells : (setup : Setup) (first : List Buffer) (line : LineKind) (view : ServiceView) (taken : Intake) → ((buffers : List Buffer) → reads_by setup buffers line ≡ [])

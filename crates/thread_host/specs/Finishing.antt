@@ -1,29 +1,32 @@
 -- The end of a run, behind which all is read and counted.
-use Rattle.std.specs.Prelude.{◌≡◌, ℕ, ◌<◌, ◌≤◌, true, List, [], ◌++◌, length, Result, Ok, Err}
+use Rattle.std.specs.Prelude.{◌≡◌, ℕ, zero, suc, ◌<◌, ◌≤◌, true, List, [], ◌∷◌, ◌++◌, length, Result, Ok, Err}
 use Rattle.byte_io.specs.Bytes.{Intake, after_told}
 use Rattle.trace_model.specs.Buffers.{Buffer}
+use Rattle.trace_model.specs.Counts.{last_count}
 use Rattle.trace_model.specs.Delivery.{Delivered, trace_of}
 use Rattle.trace_model.specs.History as model
 use Rattle.trace_model.specs.History.{records_after}
 use Rattle.chunk_plain.specs.Histories.{history_of}
 use Rattle.chunk_plain.specs.Setup.{Setup, producer_of}
-use Rattle.chunk_plain.specs.Views.{ServiceView}
+use Rattle.chunk_plain.specs.Views.{ServiceView, newcomer_service}
 use Rattle.chunk_plain.specs.World.{World}
 use Rattle.chunk_words.specs.Closed.{IsAccount, views_of}
 use Rattle.chunk_words.specs.Sits.{setup_in, known_by_pass}
 use Rattle.loss_report.specs.declared.counts.Done.{Done}
 use Rattle.loss_report.specs.Report.{report_text}
+use Rattle.scenario_text.specs.declared.scenario.LineKind.TheVariants as line
+use Rattle.scenario_text.specs.declared.scenario.NumberedLine.{NumberedLine}
 use Rattle.scenario_text.specs.Scenario.{Parts}
 use Rattle.service_core.specs.Agreement.{is_closed}
 use Rattle.replay_host.specs.declared.fault.HostFault.{HostFault}
 use Rattle.replay_host.specs.declared.fault.HostFault.TheVariants.{OutOfMemory, WriteFault, Stalled}
-use Rattle.replay_model.specs.Played.{buffers_of, records_in, packet_counts, report_of, AreBalanced}
+use Rattle.replay_model.specs.Played.{IsSetupOf, buffers_of, records_in, packet_counts, report_of, AreBalanced}
 use Rattle.run_model.specs.Reads.{GoesByReads}
 use Rattle.run_model.specs.Runs.{Runs}
 use Rattle.run_model.specs.Settled.{IsRun, ClosesTo, ReadsTo}
 use Rattle.thread_service.specs.declared.service.Service.{Service}
 use Rattle.thread_service.specs.Serving.{core_of, view_in}
-use Rattle.thread_host.specs.Jobs.{TellsReads}
+use Rattle.thread_host.specs.Jobs.{FailsLines, TellsReads}
 use Rattle.thread_host.specs.declared.settled.Settled.{Settled}
 
 -- the sequences of the writers of the producers up to this number are closed
@@ -38,6 +41,11 @@ pub record ReadsOut (setup : Setup) (first : List Buffer) (number : ℕ) (old ne
   pub reads : ReadsTo setup first number last old new
   pub history : history_of new ≡ history_of old ++ last
   pub tells : TellsReads first last passed pass before after
+
+-- the reading of the buffers up to this number, each without limit, as lines
+abbrev pub end_lines : ℕ → List NumberedLine
+end_lines zero = []
+end_lines (suc number) = end_lines number ++ record { line = 0; what = line.Read (suc number) last_count } ∷ []
 
 -- The service knows this view, once it has ended what was settled: from what it knew then all producers were closed in rising number, and then each
 -- buffer of the scenario read without limit. It knows nothing more.
@@ -68,9 +76,17 @@ pub record HasFinished (scenario : Parts) (settled : Settled) (old new : Intake)
 abbrev pub HasRun : Parts → (old new : Intake) → Done → Type 0
 HasRun scenario old new done = Runs scenario old new (report_text done.buffers.items done.sequences.items done.flushes.items)
 
+-- A write failed, in the reads of the scenario's lines, or in those of the end behind them. The sink took the records of the reads that were done, each
+-- with what was left of its limit by what its buffer held, and then at most a front part of the next record; nothing behind that.
+pub record FailsRun (scenario : Parts) (old new : Intake) : Type 0 where
+  pub setup : Setup
+  pub setup_is : IsSetupOf scenario setup
+  pub known : ServiceView
+  pub fails : FailsLines setup (buffers_of scenario setup) (scenario.lines ++ end_lines (length scenario.buffers)) newcomer_service known old new
+
 -- How a run ends: whole, or where memory is too little, before anything is written, or where a write failed. No writer ends stalled.
 abbrev pub EndsRun : Parts → Result Done HostFault → (old new : Intake) → Type 0
 EndsRun scenario (Ok done) old new = HasRun scenario old new done
 EndsRun scenario (Err OutOfMemory) old new = new ≡ old
-EndsRun scenario (Err WriteFault) old new = Unit {0}
+EndsRun scenario (Err WriteFault) old new = FailsRun scenario old new
 EndsRun scenario (Err (Stalled writer)) old new = ⊥

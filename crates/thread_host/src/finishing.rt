@@ -1,22 +1,24 @@
 //! The end of a run: all sequences are closed, all buffers read, and all is counted.
-ghost use Rattle.std.specs.Prelude.{◌≡◌, ℕ, ◌<◌, ◌≤◌, length, map, slice_index_or, IfOk};
+ghost use Rattle.std.specs.Prelude.{◌≡◌, ℕ, ◌<◌, ◌≤◌, length, map, slice_index_or, IfOk, OnErr};
 ghost use Rattle.byte_io.specs.Bytes.{CountsFaults};
 ghost use Rattle.trace_base.specs.declared.limits.TheConstants.{MAX_BUFFERS};
 ghost use Rattle.trace_buffer.specs.Answers as answers;
+ghost use Rattle.chunk_plain.specs.Views.{ServiceView};
 ghost use Rattle.chunk_words.specs.declared.host.HostTable.{HostTable};
 ghost use Rattle.chunk_words.specs.Closed.{HasAllSeats, IsAccount, AllTaken, views_of};
 ghost use Rattle.chunk_words.specs.GoesOn.{GoesOn};
 ghost use Rattle.chunk_words.specs.Sits.{Passes, setup_in, known_by_pass};
 ghost use Rattle.scenario_text.specs.Scenario.{Parts};
 ghost use Rattle.service_core.specs.Agreement.{KeepsRest, first_of};
+ghost use Rattle.replay_model.specs.Played.{buffers_of};
 ghost use Rattle.run_model.specs.Settled.{ClosesTo};
 ghost use Rattle.thread_service.specs.Reading.{IsKnownWhole};
 ghost use Rattle.thread_service.specs.Serving.{core_of, view_in, Serves, IsServing};
 ghost use Rattle.thread_host.specs.Counting.{buffers_in, packets_in};
 ghost use Rattle.thread_host.specs.Ending.{no_counts};
-ghost use Rattle.thread_host.specs.Finishing.{AreClosedTo, ReadsOut, HasFinished};
+ghost use Rattle.thread_host.specs.Finishing.{AreClosedTo, ReadsOut, HasFinished, end_lines};
 ghost use Rattle.thread_host.specs.Hosts.{IsSettled};
-ghost use Rattle.thread_host.specs.Jobs.{KeepsLoans};
+ghost use Rattle.thread_host.specs.Jobs.{KeepsLoans, FailsLines};
 ghost use Rattle.thread_host.specs.Keeping.{AllOpen};
 
 use crate::settled::Settled;
@@ -37,6 +39,9 @@ impl Settled {
         requires settled { (scenario : Parts) × IsSettled scenario self }
         ensures done { (scenario : Parts) → IsSettled scenario self
             → IfOk result (HasFinished scenario self (T.taken out.old) (T.taken out.new)) }
+        ensures fails { (scenario : Parts) → IsSettled scenario self → OnErr result ((known : ServiceView)
+            × FailsLines (setup_in self.table) (buffers_of scenario (setup_in self.table)) (end_lines (length scenario.buffers))
+            (known_by_pass self.pass) known (T.taken out.old) (T.taken out.new)) }
         ensures stands { KeepsLoans (T.taken out.old) (T.taken out.new) }
         ensures count { CountsFaults (T.faults out.old) (T.faults out.new) result }
     {
@@ -91,6 +96,8 @@ fn read_all<T: Sink>(
     ensures keeps { KeepsRest (setup_in table.now) (core_of service.old) (core_of service.new) }
     ensures reads { IfOk result (λ _. ReadsOut (setup_in table.now) (first_of (setup_in table.now) (core_of service.old)) buffers
         (view_in service.old) (view_in service.new) (known_by_pass pass.old) (known_by_pass pass.new) (T.taken out.old) (T.taken out.new)) }
+    ensures fails { OnErr result (FailsLines (setup_in table.now) (first_of (setup_in table.now) (core_of service.old)) (end_lines buffers)
+        (known_by_pass pass.old) (known_by_pass pass.new) (T.taken out.old) (T.taken out.new)) }
     ensures stands { KeepsLoans (T.taken out.old) (T.taken out.new) }
     ensures count { CountsFaults (T.faults out.old) (T.faults out.new) result }
 {

@@ -1,11 +1,11 @@
 //! What runs a scenario on threads.
-ghost use Rattle.std.specs.Prelude.{◌≡◌, [], IfOk, OnOk};
+ghost use Rattle.std.specs.Prelude.{◌≡◌, [], IfOk, OnErr, OnOk};
 ghost use Rattle.byte_io.specs.Bytes.{CountsFaults};
 ghost use Rattle.chunk_words.specs.Sits.{setup_in, known_by_pass};
 ghost use Rattle.scenario_text.specs.Scenario.{IsScenario, parts_of};
 ghost use Rattle.replay_model.specs.Played.{buffers_of};
 ghost use Rattle.thread_host.specs.Hosts.{IsHost, AreReady, HavePlayed, ClosesNone};
-ghost use Rattle.thread_host.specs.Jobs.{KeepsLoans, TellsLines};
+ghost use Rattle.thread_host.specs.Jobs.{KeepsLoans, FailsLines, TellsLines};
 
 use crate::making::fill_writers;
 use crate::running::run_named;
@@ -87,6 +87,8 @@ impl Host {
         ensures table { self.new.table ≡ self.old.table }
         ensures played { HavePlayed scenario.now.lines self.new.table writers.new.items }
         ensures told { OnOk result (TellsLines (setup_in self.old.table) (buffers_of (parts_of scenario.now) (setup_in self.old.table))
+            scenario.now.lines (known_by_pass self.old.pass) (known_by_pass self.new.pass) (T.taken out.old) (T.taken out.new)) }
+        ensures fails { OnErr result (FailsLines (setup_in self.old.table) (buffers_of (parts_of scenario.now) (setup_in self.old.table))
             scenario.now.lines (known_by_pass self.old.pass) (known_by_pass self.new.pass) (T.taken out.old) (T.taken out.new)) }
         ensures stands { KeepsLoans (T.taken out.old) (T.taken out.new) }
         ensures count { CountsFaults (T.faults out.old) (T.faults out.new) result }

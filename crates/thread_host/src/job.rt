@@ -1,10 +1,10 @@
 //! The service's own job of a run.
-ghost use Rattle.std.specs.Prelude.{IfOk};
+ghost use Rattle.std.specs.Prelude.{IfOk, OnErr};
 ghost use Rattle.byte_io.specs.Bytes.{CountsFaults};
 ghost use Rattle.chunk_words.specs.Sits.{Passes, known_by_pass};
 ghost use Rattle.thread_service.specs.Reading.{IsKnownWhole};
 ghost use Rattle.thread_host.specs.Keeping.{IsNamed};
-ghost use Rattle.thread_host.specs.Jobs.{KeepsLoans, TellsLine, TellsLines};
+ghost use Rattle.thread_host.specs.Jobs.{KeepsLoans, FailsLine, FailsLines, TellsLine, TellsLines};
 
 use crate::locked::Locked;
 use crate::name::HostName;
@@ -32,6 +32,8 @@ pub fn service_job<N: HostName, R: Wait, G: Gate, O: Sink>(
     ensures pass { Passes table.now pass.new }
     ensures known { IsKnownWhole (known_by_pass pass.new) }
     ensures told { IfOk result (λ _. TellsLines N.setup N.first lines.now (known_by_pass pass.old) (known_by_pass pass.new)
+        (O.taken out.old) (O.taken out.new)) }
+    ensures fails { OnErr result (FailsLines N.setup N.first lines.now (known_by_pass pass.old) (known_by_pass pass.new)
         (O.taken out.old) (O.taken out.new)) }
     ensures stands { KeepsLoans (O.taken out.old) (O.taken out.new) }
     ensures count { CountsFaults (O.faults out.old) (O.faults out.new) result }
@@ -79,6 +81,8 @@ fn play_line<N: HostName, R: Wait, O: Sink>(
     ensures pass { Passes table.now pass.new }
     ensures known { IsKnownWhole (known_by_pass pass.new) }
     ensures told { IfOk result (λ _. TellsLine N.setup N.first line.now (known_by_pass pass.old) (known_by_pass pass.new)
+        (O.taken out.old) (O.taken out.new)) }
+    ensures fails { OnErr result (FailsLine N.setup N.first line.now (known_by_pass pass.old) (known_by_pass pass.new)
         (O.taken out.old) (O.taken out.new)) }
     ensures stands { KeepsLoans (O.taken out.old) (O.taken out.new) }
     ensures count { CountsFaults (O.faults out.old) (O.faults out.new) result }

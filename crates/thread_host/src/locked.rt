@@ -9,7 +9,7 @@ ghost use Rattle.service_core.specs.Scraping.{TakesAndScrapes};
 ghost use Rattle.service_core.specs.Taking.{Takes, places_of};
 ghost use Rattle.thread_service.specs.Reading.{IsKnownWhole, PassReads};
 ghost use Rattle.thread_service.specs.Serving.{core_of, view_in};
-ghost use Rattle.thread_host.specs.Jobs.{TellsLine};
+ghost use Rattle.thread_host.specs.Jobs.{FailsLine, TellsLine};
 ghost use Rattle.thread_host.specs.Keeping.{IsNamed, ServesNamed, AllOpen, BeganWith, HasOwn};
 ghost use Rattle.thread_host.specs.Keeping.{serves_named_prop, began_prop, own_prop};
 
@@ -92,6 +92,8 @@ impl<N: HostName> Locked<N> {
             (known_by_pass pass.old) (known_by_pass pass.new) (O.taken out.old) (O.taken out.new)) }
         ensures reads { IfOk result (λ delivered. ReadsAll N.setup (core_of self.old.service) buffer limit
             (view_in self.old.service) (view_in self.new.service) (O.taken out.old) (O.taken out.new) delivered) }
+        ensures torn { OnErr result (FailsLine N.setup N.first (line.Read buffer limit)
+            (known_by_pass pass.old) (known_by_pass pass.new) (O.taken out.old) (O.taken out.new)) }
         ensures fails { OnErr result (FailsAmong N.setup (core_of self.old.service) buffer limit
             (view_in self.old.service) (view_in self.new.service) (O.taken out.old) (O.taken out.new)) }
         ensures passes { (events : List model.Event)

@@ -1,10 +1,10 @@
 //! The jobs of a run, beside each other.
-ghost use Rattle.std.specs.Prelude.{ℕ, ◌<◌, length, IfOk};
+ghost use Rattle.std.specs.Prelude.{ℕ, ◌<◌, length, IfOk, OnErr};
 ghost use Rattle.byte_io.specs.Bytes.{CountsFaults};
 ghost use Rattle.chunk_words.specs.Sits.{Passes, known_by_pass};
 ghost use Rattle.thread_service.specs.Reading.{IsKnownWhole};
 ghost use Rattle.thread_host.specs.Hosts.{AreReadyFrom, HavePlayedFrom};
-ghost use Rattle.thread_host.specs.Jobs.{KeepsLoans, TellsLines};
+ghost use Rattle.thread_host.specs.Jobs.{KeepsLoans, FailsLines, TellsLines};
 ghost use Rattle.thread_host.specs.Keeping.{IsNamed, ServesNamed, AllOpen, BeganWith, HasOwn};
 
 use crate::job::service_job;
@@ -127,6 +127,8 @@ pub fn run_named<
     ensures pass { Passes table.now pass.new }
     ensures known { IsKnownWhole (known_by_pass pass.new) }
     ensures told { IfOk result.1 (λ _. TellsLines N.setup N.first lines.now (known_by_pass pass.old) (known_by_pass pass.new)
+        (O.taken out.old) (O.taken out.new)) }
+    ensures fails { OnErr result.1 (FailsLines N.setup N.first lines.now (known_by_pass pass.old) (known_by_pass pass.new)
         (O.taken out.old) (O.taken out.new)) }
     ensures stands { KeepsLoans (O.taken out.old) (O.taken out.new) }
     ensures count { CountsFaults (O.faults out.old) (O.faults out.new) result.1 }

@@ -1,18 +1,20 @@
 -- A run on threads whose trace gathers short writes into long ones: what the trace has taken in the end.
-use Rattle.std.proofs.Common.{◌≡◌, ◌∙◌, ℕ, List, [], ◌∷◌, length, take, refl, sym, subst, Result, Ok, Err}
+use Rattle.std.proofs.Common.{◌≡◌, ◌∙◌, inl, inr, ℕ, List, [], ◌∷◌, ◌++◌, length, take, refl, sym, subst, append-nil, Result, Ok, Err}
 use Rattle.byte_io.specs.Bytes.{Intake, Loan, told, untold, after_told, lent_by, told_bytes, TakesUpTo}
-use Rattle.byte_io.proofs.Lent.{lent_part}
-use Rattle.byte_io.proofs.Told.{after_told_nothing}
+use Rattle.byte_io.proofs.Lent.{handed_on, lent_part}
+use Rattle.byte_io.proofs.Told.{after_told_again, after_told_nothing}
 use Rattle.trace_model.specs.Delivery.{trace_of}
+use Rattle.trace_model.specs.History as model
+use Rattle.trace_model.specs.History.{buffers_after, records_at}
 use Rattle.scenario_text.specs.Scenario.{Parts}
 use Rattle.loss_report.specs.declared.counts.Done.{Done}
-use Rattle.replay_model.specs.Played.{records_in}
+use Rattle.replay_model.specs.Played.{buffers_of, records_in}
 use Rattle.replay_host.specs.declared.fault.HostFault.{HostFault}
 use Rattle.replay_host.specs.declared.fault.HostFault.TheVariants.{OutOfMemory, WriteFault, Stalled}
 use Rattle.run_model.specs.Runs.{Runs}
-use Rattle.thread_host.specs.Finishing.{HasRun, EndsRun}
+use Rattle.thread_host.specs.Finishing.{EndsRun, FailsRun, HasRun}
 use Rattle.thread_host.specs.Jobs.{KeepsLoans}
-use Rattle.tracesmb_top.specs.Ran.{GathersRun}
+use Rattle.tracesmb_top.specs.Ran.{GathersRun, TakesSomeRun}
 use Rattle.tracesmb_top.specs.Replayed.{report_of}
 use Rattle.tracesmb_top.proofs.GatherLemmas.{lent_all, none_part, up_to_all}
 
@@ -38,17 +40,74 @@ runs_again scenario old new start left report runs taken = record {
   complete = runs.complete;
 }
 
+-- what a run wrote that a write cut off, whatever the trace had taken before
+record FailsBy (scenario : Parts) (old new : Intake) : Type 0 where
+  bytes : List ℕ
+  took : new ≡ after_told old bytes
+  again : (start : Intake) → FailsRun scenario start (after_told start bytes)
+
+fails_by : (scenario : Parts) (old new : Intake) → FailsRun scenario old new → FailsBy scenario old new
+fails_by scenario old new run =
+    let lines = run.fails in let at = lines.fails in let one = at.fails in
+    let buffers = buffers_after (buffers_of scenario run.setup) (lines.here ++ at.firsts) in
+    let wrote = trace_of at.more in
+    let whole = trace_of (records_at buffers (model.Read at.sequence at.count)) in
+    let both : (start : Intake) → after_told (after_told (after_told start wrote) whole) one.part.part ≡ after_told start (wrote ++ (whole ++ one.part.part)) =
+    λ start. after_told_again (after_told start wrote) whole one.part.part ∙ after_told_again start wrote (whole ++ one.part.part) in
+    record {
+      bytes = wrote ++ (whole ++ one.part.part);
+      took = one.part.taken ∙ both old;
+      again = λ start. record {
+        setup = run.setup;
+        setup_is = run.setup_is;
+        known = run.known;
+        fails = record {
+          done = lines.done;
+          line = lines.line;
+          later = lines.later;
+          all = lines.all;
+          here = lines.here;
+          reads = lines.reads;
+          fails = record {
+            firsts = at.firsts;
+            sequence = at.sequence;
+            left = at.left;
+            count = at.count;
+            others = at.others;
+            cut = at.cut;
+            history = at.history;
+            more = at.more;
+            records = at.records;
+            fails = record {
+              failed = one.failed;
+              later = one.later;
+              due = one.due;
+              many = one.many;
+              part = record { part = one.part.part; rest = one.part.rest; cut = one.part.cut; taken = sym (both start) };
+            };
+          };
+        };
+      };
+    }
+
 run_gathered_of : (scenario : Parts) (result : Result Done HostFault) (loan loan' : Loan) (old new : Intake) (waits : List ℕ)
     → take (length loan'.start) (told_bytes new) ≡ loan'.start → loan.start ≡ told_bytes old
     → EndsRun scenario result (lent_by loan (after_told old [])) (lent_by loan' (after_told new waits)) → GathersRun scenario result old new waits
 run_gathered_of scenario (Ok done) loan loan' old new waits grown started runs =
     let handed = lent_all loan loan' old new waits _ grown started runs.trace in
-    runs_again scenario _ _ old (after_told new waits) (report_of done) runs handed.all
+    (runs_again scenario _ _ old (after_told new waits) (report_of done) runs handed.all, handed.grown)
 run_gathered_of scenario (Err OutOfMemory) loan loan' old new waits grown started ends =
     let lent = lent_by loan (after_told old []) in
     none_part old new (lent_part loan loan' old new waits [] started grown
     (record { part = []; rest = []; cut = refl; taken = ends ∙ sym (after_told_nothing lent) }))
-run_gathered_of scenario (Err WriteFault) loan loan' old new waits grown started ends = tt
+run_gathered_of scenario (Err WriteFault) loan loan' old new waits grown started ends =
+    let by = fails_by scenario (lent_by loan (after_told old [])) (lent_by loan' (after_told new waits)) ends in
+    record {
+      bytes = by.bytes;
+      would = inr (by.again old);
+      part = lent_part loan loan' old new waits by.bytes started grown
+          (record { part = by.bytes; rest = []; cut = sym (append-nil by.bytes); taken = by.took });
+    }
 run_gathered_of scenario (Err (Stalled writer)) loan loan' old new waits grown started ends = ends
 
 -- what was run into a sink that gathers was run into the sink that it was lent
@@ -64,4 +123,16 @@ run_gathered scenario result loan loan' lent old new waits is grown started ends
 pub passed_run : (scenario : Parts) (done : Done) (old new left : Intake) (waits rest : List ℕ)
     → GathersRun scenario (Ok done) old new waits → TakesUpTo new left waits rest → rest ≡ [] → HasRun scenario old left done
 passed_run scenario done old new left waits rest gathers passed none =
-    subst (λ (intake : Intake). HasRun scenario old intake done) (sym (up_to_all new left waits rest passed none)) gathers
+    subst (λ (intake : Intake). HasRun scenario old intake done) (sym (up_to_all new left waits rest passed none)) gathers.0
+
+-- only a part of it
+pub passed_run_part : (scenario : Parts) (done : Done) (old new left : Intake) (waits rest : List ℕ)
+    → GathersRun scenario (Ok done) old new waits → TakesUpTo new left waits rest → TakesSomeRun scenario old left
+passed_run_part scenario done old new left waits rest gathers passed =
+    let runs = gathers.0 in
+    let bytes = trace_of (records_in scenario runs.setup runs.world) in
+    record {
+      bytes = bytes;
+      would = inl (report_of done, runs_again scenario _ _ old (after_told old bytes) (report_of done) runs refl);
+      part = handed_on old new left bytes waits rest (record { all = runs.trace; grown = gathers.1 }) passed;
+    }

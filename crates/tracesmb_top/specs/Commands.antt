@@ -56,10 +56,10 @@ Wrote Replay given old new report = IsReplayed given old new report
 Wrote Run given old new report = IsRanBy given old new report
 Wrote other given old new report = WroteBytes other given old new × (report ≡ [])
 
--- A write of the trace failed, and it took a front part of what the command writes. Of `run` nothing is said but that its scenario is for threads.
+-- A write of the trace failed, and it took a front part of what the command writes.
 abbrev pub WrotePart : Command → (given : List ℕ) → (old new : Intake) → Type 0
 WrotePart Replay given old new = IsCutShort given old new
-WrotePart Run given old new = IsRanShort given
+WrotePart Run given old new = IsRanShort given old new
 WrotePart other given old new = WroteFront other given old new
 
 -- a writer stalled in the replay, and the trace took the records of the reads before

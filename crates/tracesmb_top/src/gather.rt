@@ -4,9 +4,8 @@ ghost use Rattle.std.specs.Prelude.{◌≡◌, ◌≤◌, [], MatchResult};
 ghost use Rattle.byte_io.specs.Buffered.{pending_bytes};
 ghost use Rattle.scenario_text.specs.Scenario.{IsScenario, parts_of};
 ghost use Rattle.replay_host.specs.Replaying.{CountsOne, CountsStop};
-ghost use Rattle.thread_host.specs.Finishing.{EndsRun};
 ghost use Rattle.thread_host.specs.Hosts.{ClosesNone};
-ghost use Rattle.tracesmb_top.specs.Ran.{GathersRun};
+ghost use Rattle.tracesmb_top.specs.Ran.{GathersRun, HandsRun};
 ghost use Rattle.tracesmb_top.specs.Replayed.{Gathers, HasPlayed};
 
 use byte_io::buffered::{BufferedSink, PendingBytes};
@@ -89,7 +88,7 @@ pub fn run<R: Threads + Wait + Sync, T: Sink + Send, G: Gate + Sync>(
 ) -> Result<Done, HostFault>
     requires scenario { IsScenario scenario.now }
     requires closes { ClosesNone scenario.now.lines }
-    ensures ends { EndsRun (parts_of scenario.now) result (T.taken trace.old) (T.taken trace.new) }
+    ensures ends { HandsRun (parts_of scenario.now) result (T.taken trace.old) (T.taken trace.new) }
     ensures count { CountsStop (T.faults trace.old) (T.faults trace.new) result }
 {
     let mut pending = match PendingBytes::new(alloc) {

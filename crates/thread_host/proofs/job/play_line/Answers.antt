@@ -19,6 +19,7 @@ returns g c = record {
   known = c.requires.known;
   told = unread_tells g.N.HostName.setup g.N.HostName.first c.args.line.now (known_by_pass c.args.pass.now) (g.O.Sink.taken c.args.out.now)
       c.in_default.not-Read;
+  fails = tt;
   stands = refl;
   count = refl;
 }

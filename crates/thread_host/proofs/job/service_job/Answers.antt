@@ -2,8 +2,8 @@
 use Rattle.std.proofs.Common.{◌≡◌, ◌∙◌, List, [], ◌∷◌, ◌++◌, refl, sym, ap, subst, append-nil, append_assoc}
 use Rattle.chunk_words.specs.Sits.{known_by_pass}
 use Rattle.scenario_text.specs.declared.scenario.NumberedLine.{NumberedLine}
-use Rattle.thread_host.specs.Jobs.{TellsLines}
-use Rattle.thread_host.proofs.Telling.{tells_none, tells_more}
+use Rattle.thread_host.specs.Jobs.{FailsLines, TellsLines}
+use Rattle.thread_host.proofs.Telling.{fails_behind, on_err, tells_none, tells_more}
 use Rattle.thread_host.proofs.job.service_job.Goals as goal
 
 pub lines-init : goal.lines-init
@@ -32,6 +32,20 @@ lines-preserved g c =
       stands = c.in_ok-play_line.ensures.stands ∙ c.lines.invariant.stands;
       steady = c.in_ok-play_line.ensures.count ∙ c.lines.invariant.steady;
     }
+
+pub returns-in_err-play_line-clause-fails : goal.returns-in_err-play_line-clause-fails
+returns-in_err-play_line-clause-fails g c =
+    let before : List NumberedLine = c.lines.invariant.before in
+    let line : NumberedLine = c.in-Some.line in
+    let old = known_by_pass c.args.pass.now in let mid = known_by_pass c.lines.pass in
+    let new = known_by_pass c.play_line.new.pass in
+    let all : before ++ line ∷ c.next.new.self ≡ c.args.lines.now =
+    ap (λ (ls : List NumberedLine). before ++ ls) (sym c.in-Some.ensures.first) ∙ c.lines.invariant.all in
+    on_err c.from_residual.result
+    (subst (λ (ls : List NumberedLine). FailsLines g.N.HostName.setup g.N.HostName.first ls old new
+    (g.O.Sink.taken c.args.out.now) (g.O.Sink.taken c.play_line.new.out)) all
+    (fails_behind g.N.HostName.setup g.N.HostName.first before line c.next.new.self old mid new (g.O.Sink.taken c.args.out.now)
+    (g.O.Sink.taken c.lines.out) (g.O.Sink.taken c.play_line.new.out) c.lines.invariant.told c.in_err-play_line.ensures.fails))
 
 pub returns-clause-told : goal.returns-clause-told
 returns-clause-told g c =

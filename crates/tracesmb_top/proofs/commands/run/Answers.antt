@@ -8,7 +8,11 @@ pub run-requires-clause-closes : goal.run-requires-clause-closes
 run-requires-clause-closes g c κs within = fit_closes_none c.in-Ok.scenario.lines (rw c.in_default.is at c.find_unfit.ensures.none)
 
 pub returns-in-Err-WriteFault-clause-ends : goal.returns-in-Err-WriteFault-clause-ends
-returns-in-Err-WriteFault-clause-ends g c = (
-  parts_of c.in-Ok.scenario,
-  record { scenario_is = ap scenario_of (sym c.deref.ensures.value) ∙ c.in-Ok.ensures.exact; fits = rw c.in_default.is at c.find_unfit.ensures.none },
-)
+returns-in-Err-WriteFault-clause-ends g c = record {
+  parts = parts_of c.in-Ok.scenario;
+  for_threads = record {
+    scenario_is = ap scenario_of (sym c.deref.ensures.value) ∙ c.in-Ok.ensures.exact;
+    fits = rw c.in_default.is at c.find_unfit.ensures.none;
+  };
+  takes = (rw c.in-Err-WriteFault.field-0-is at c.in-Err-WriteFault.ensures).ends;
+}

@@ -1,11 +1,11 @@
-use Rattle.std.proofs.Common.{◌∙◌, IfOk, ap, subst}
+use Rattle.std.proofs.Common.{◌∙◌, IfOk, OnErr, ap, subst}
 use Rattle.chunk_plain.specs.Setup.{Setup}
 use Rattle.chunk_words.specs.Sits.{setup_in, known_by_pass}
 use Rattle.scenario_text.specs.declared.scenario.LineKind.TheVariants as line
 use Rattle.service_core.specs.Agreement.{first_of}
 use Rattle.thread_service.specs.Serving.{core_of, view_in}
-use Rattle.thread_host.specs.Jobs.{TellsLine}
-use Rattle.thread_host.proofs.Telling.{locked_tells}
+use Rattle.thread_host.specs.Jobs.{FailsLine, TellsLine}
+use Rattle.thread_host.proofs.Telling.{locked_fails, locked_tells}
 use Rattle.thread_host.proofs.locked.Locked.read_passing.Goals as goal
 
 pub returns-clause-told : goal.returns-clause-told
@@ -19,3 +19,15 @@ returns-clause-told g c =
     (locked_tells (setup_in c.args.table.now) core c.args.buffer c.args.limit (view_in c.args.self.now.service) (view_in c.read_passing.new.self)
     passed pass before after g.N.HostName.first (ap (λ (setup : Setup). first_of setup core) setup_is ∙ c.args.self.now.began)
     c.read_passing.result c.read_passing.ensures.reads c.read_passing.ensures.passes)
+
+pub returns-clause-torn : goal.returns-clause-torn
+returns-clause-torn g c =
+    let setup_is = c.requires.table.setup_is in
+    let core = core_of c.args.self.now.service in
+    let passed = known_by_pass c.args.pass.now in let pass = known_by_pass c.read_passing.new.pass in
+    let before = g.O.Sink.taken c.args.out.now in let after = g.O.Sink.taken c.read_passing.new.out in
+    subst (λ (setup : Setup). OnErr c.read_passing.result
+    (FailsLine setup g.N.HostName.first (line.Read c.args.buffer c.args.limit) passed pass before after)) setup_is
+    (locked_fails (setup_in c.args.table.now) core c.args.buffer c.args.limit (view_in c.args.self.now.service) (view_in c.read_passing.new.self)
+    passed pass before after g.N.HostName.first (ap (λ (setup : Setup). first_of setup core) setup_is ∙ c.args.self.now.began)
+    c.read_passing.result c.read_passing.ensures.fails c.read_passing.ensures.passes)

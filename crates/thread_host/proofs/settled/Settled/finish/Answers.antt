@@ -1,21 +1,27 @@
 -- The end of a settled run is a run of the scenario.
-use Rattle.std.proofs.Common.{◌≡◌, ◌∙◌, List, length, sym, ap, arith}
+use Rattle.std.proofs.Common.{◌≡◌, ◌∙◌, ℕ, List, length, sym, ap, subst, arith}
 use Rattle.std.specs.Prelude.{slice_index_or}
 use Rattle.std.specs.Vec.{with_items}
 use Rattle.std.proofs.lemmas.List.{length-map, with_items_is}
 use Rattle.trace_buffer.specs.Answers as answers
 use Rattle.trace_buffer.specs.declared.answers.BufferCounts.{BufferCounts}
 use Rattle.trace_base.specs.declared.policy.WriterSpec.{WriterSpec}
-use Rattle.chunk_words.specs.Sits.{setup_in}
+use Rattle.trace_model.specs.Buffers.{Buffer}
+use Rattle.chunk_words.specs.Sits.{setup_in, known_by_pass}
 use Rattle.loss_report.specs.declared.counts.SequenceCounts.{SequenceCounts}
+use Rattle.service_core.specs.Agreement.{first_of}
 use Rattle.service_core.proofs.AgreeLemmas.{first_stays}
 use Rattle.replay_host.proofs.CountingLemmas.{specs_many}
+use Rattle.replay_model.specs.Played.{buffers_of}
 use Rattle.replay_model.proofs.PlayedLemmas.{setup_writers}
 use Rattle.thread_service.specs.Serving.{core_of}
 use Rattle.thread_host.specs.Counting.{buffers_in, packets_in}
 use Rattle.thread_host.specs.Ending.{no_counts}
+use Rattle.thread_host.specs.Finishing.{end_lines}
+use Rattle.thread_host.specs.Jobs.{FailsLines}
 use Rattle.thread_host.proofs.Finished.{has_all_seats, has_finished}
 use Rattle.thread_host.proofs.Tallying.{buffers_long}
+use Rattle.thread_host.proofs.Telling.{on_err}
 use Rattle.thread_host.proofs.settled.Settled.finish.Goals as goal
 
 pub read_all-requires-clause-few : goal.read_all-requires-clause-few
@@ -85,3 +91,17 @@ returns-clause-done g c scenario is =
     ∙ c.count_sequences.ensures.each table serves place (omega (arith, inside, wide, long))
     ∙ ap (λ (xs : List SequenceCounts). packets_in setup final place (slice_index_or xs place no_counts)) c.deref_mut-2.ensures.value)
     is.flushes
+
+pub returns-in_err-read_all-clause-fails : goal.returns-in_err-read_all-clause-fails
+returns-in_err-read_all-clause-fails g c scenario is =
+    let setup = setup_in c.args.self.table in
+    let began : first_of setup (core_of c.close_all.new.service) ≡ buffers_of scenario setup = c.close_all.ensures.first ∙ is.served.began in
+    let mid = known_by_pass c.args.self.pass in
+    let known = known_by_pass c.read_all.new.pass in
+    let before = g.T.Sink.taken c.args.out.now in let after = g.T.Sink.taken c.read_all.new.out in
+    on_err c.from_residual.result (
+      known,
+      subst (λ (first : List Buffer). FailsLines setup first (end_lines (length scenario.buffers)) mid known before after) began
+          (subst (λ (count : ℕ). FailsLines setup (first_of setup (core_of c.close_all.new.service)) (end_lines count) mid known before after)
+          (c.len.ensures ∙ is.buffers) c.in_err-read_all.ensures.fails),
+    )
