@@ -32,7 +32,7 @@ use trace_base::limits::MAX_INPUT;
 /// | 2 | the words ask for no command | the usage |
 /// | 3 | the input is refused, by its first fault | `line L: REASON`, `offset N: REASON` |
 /// | 4 | the input failed | `read fault` |
-/// | 5 | the trace failed, and holds a front part of what it would have, or under `run` some bytes; or the text failed in the report | `write fault`, maybe behind a front part of the report |
+/// | 5 | the trace failed, and holds a front part of what it would have; or the text failed in the report | `write fault`, maybe behind a front part of the report |
 /// | 6 | a writer of the replay stalled; the trace holds the records of the reads before | `stalled: writer W` |
 /// | 7 | the input has more than 67,108,864 bytes | `input too long` |
 #[tactic(auto, using(crate::proofs::WordLemmas::same_reads, crate::proofs::CommandLemmas::refused_reads, crate::proofs::CommandLemmas::report_reads, crate::proofs::CommandLemmas::replay_reports))]
@@ -88,7 +88,7 @@ pub fn trace_top<R: Threads + Wait + Sync, S: Source, T: Sink + Send, O: Sink, G
     ensures says_read { result ≡ 4 → Says (O.taken text.old) (O.taken text.new) (O.faults text.old) (O.faults text.new) read_line }
 
     // Status 5: only where the trace's faults rose, and always where they rose; or where the text's rose in the report. The trace
-    // holds a front part then (which of `run` isn't said), or else all that the command writes, and the text a front part of the report.
+    // holds a front part then, or else all that the command writes, and the text a front part of the report.
     ensures write_fault { result ≡ 5 → Faulted (T.faults trace.old) (T.faults trace.new) ⊎ Faulted (O.faults text.old) (O.faults text.new) }
     ensures write_alone { result ≡ 5 → (command : Command) → Ask (map string_bytes words.now) command → (LeavesReport command → ⊥)
         → Faulted (T.faults trace.old) (T.faults trace.new) }

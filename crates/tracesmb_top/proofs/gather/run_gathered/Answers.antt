@@ -1,6 +1,6 @@
-use Rattle.std.proofs.Common.{◌≡◌, ◌∙◌, List, [], ℕ, ap, arith}
+use Rattle.std.proofs.Common.{◌≡◌, ◌∙◌, [], ap, arith}
 use Rattle.std.proofs.lemmas.Grind.{common_steps}
-use Rattle.byte_io.specs.Bytes.{Intake, after_told, lent_by}
+use Rattle.byte_io.specs.Bytes.{Intake, after_told}
 use Rattle.byte_io.specs.Buffered.{buffered_loan, pending_bytes}
 use Rattle.scenario_text.specs.Scenario.{parts_of}
 use Rattle.tracesmb_top.proofs.GatherLemmas.{lent_first}
