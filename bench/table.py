@@ -61,11 +61,11 @@ def main():
         subprocess.run(['rt', 'run'], cwd=CRATE, stdin=lines, check=True, capture_output=True)
     cycle, payload = nanoseconds(b'cycle'), nanoseconds(b'payload')
     print(f'{cycle:.1f} ns a round; its payload alone takes {payload:.1f} ns')
-    print('compared with the same atomic steps in C, on the machine of docs/PROMISES.md: 275 to 300 ns, and 47 to 50 without payload')
+    print('compared with the same atomic steps in C, on the machine of docs/PROMISES.md: 234 to 274 ns, and 47 to 51 without payload')
     for kind, chunks in ((b'own', 'of their own'), (b'shared', 'that they share')):
         rate, share = packets(kind)
         print(f'{WRITERS} writers with chunks {chunks}: {rate / 1e6:.1f} million packets a second, {share:.0%} of those that were begun')
-    print('compared with LTTng-UST, on the machine of docs/PROMISES.md: 18 to 21 million events a second from four threads')
+    print('compared with LTTng-UST, on the machine of docs/PROMISES.md: 19 to 23 million events a second from four threads')
 
 
 if __name__ == '__main__':
