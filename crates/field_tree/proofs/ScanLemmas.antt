@@ -1,5 +1,5 @@
 -- What several bytes at once come to, from the steps at each.
-use Rattle.std.proofs.Common.{◌≡◌, ℕ, ◌+◌, ◌-◌, ◌*◌, ◌<◌, ◌≤◌, Bool, true, ◌&&◌, ◌==◌, nat_le, Option, Some, None, List, [], ◌∷◌, ◌++◌, refl, sym, ap, subst, arith, ◌∙◌, append_assoc, append-nil, take, drop, take-append-drop}
+use Rattle.std.proofs.Common.{◌≡◌, ℕ, ◌+◌, ◌-◌, ◌*◌, ◌<◌, ◌≤◌, Bool, true, ◌&&◌, ◌==◌, nat_le, Option, Some, None, List, [], ◌∷◌, ◌++◌, refl, sym, ap, subst, arith, ◌∙◌, append_assoc, append-nil, length, take, drop, take-append-drop}
 use Rattle.std.proofs.lemmas.Bool.{cond_both, cond-false, and_parts, leb-true, ne_eqb}
 use Rattle.std.specs.List.{AllByRecursion}
 use Rattle.trace_base.specs.declared.limits.TheConstants.{MAX_FIELD, MAX_PACKET_LEN}
@@ -9,7 +9,7 @@ use Rattle.field_tree.specs.declared.mode.Action.TheVariants.{Go, Keep}
 use Rattle.field_tree.specs.Nodes.{Shown}
 use Rattle.field_tree.specs.Grammar.{IsTextByte, is_digit}
 use Rattle.field_tree.specs.Machine.{TextReading, is_first_digit, grown, hex_value, go_on, act, settled, applied, next, run}
-use Rattle.field_tree.specs.Scanning.{reading_with, RunsOver, IsPair, TakesDigits}
+use Rattle.field_tree.specs.Scanning.{reading_with, RunsOver, IsPair, ArePairs, ReadsPairs, TakesDigits}
 use Rattle.field_tree.proofs.TestLemmas.{digit_range, first_digit_range}
 use Rattle.field_tree.proofs.Runs.{run_joins, run_next, no_pending, start_digit, field_digit, value_digit, digits_digit, star_digit, times_digit, text_step}
 
@@ -161,3 +161,33 @@ over_pair ns d f byte t bytes behind pair =
     (at_high ns d f pair.high pair.high_value t pair.high_is)
     (over_front pair.low (reading_with ns d t (Half f pair.high_value)) to to (pair.low ∷ behind) behind behind refl
     (at_low ns d f pair.high_value pair.low pair.low_value t pair.low_is) (stays_here to behind)))
+
+pub over_pairs : (ns : List Shown) (d f : ℕ) (t bytes said behind : List ℕ) → ArePairs bytes said behind
+    → RunsOver (reading_with ns d t (Pairs f)) bytes (reading_with ns d (t ++ said) (Pairs f)) behind
+over_pairs ns d f t bytes [] behind same = rw (same, append-nil t) (stays_here (reading_with ns d t (Pairs f)) behind)
+over_pairs ns d f t bytes (b ∷ said) behind pairs =
+    let more = over_pairs ns d f (t ++ b ∷ []) pairs.0 said behind pairs.2 in
+    over_both (reading_with ns d t (Pairs f)) (reading_with ns d (t ++ b ∷ []) (Pairs f)) (reading_with ns d (t ++ b ∷ said) (Pairs f)) bytes pairs.0 behind
+    (over_pair ns d f b t bytes pairs.0 pairs.1)
+    (subst (λ (w : List ℕ). RunsOver (reading_with ns d (t ++ b ∷ []) (Pairs f)) pairs.0 (reading_with ns d w (Pairs f)) behind) (append_assoc t (b ∷ []) said) more)
+
+-- from one text to another, and then to a third
+pub reads_on_pairs : (t via u bytes rest behind : List ℕ) → ReadsPairs t bytes via rest → ReadsPairs via rest u behind → ReadsPairs t bytes u behind
+reads_on_pairs t via u bytes rest behind first more =
+    λ ns d f. over_both (reading_with ns d t (Pairs f)) (reading_with ns d via (Pairs f)) (reading_with ns d u (Pairs f)) bytes rest behind (first ns d f) (more ns d f)
+
+pub pairs_length : (bytes said behind : List ℕ) → ArePairs bytes said behind → length bytes ≡ length said + length said + length behind
+pairs_length bytes [] behind same =
+    let long = ap length same in
+    omega (arith, long)
+pairs_length bytes (b ∷ said) behind pairs =
+    let cut = ap length pairs.1.cut in
+    let more = pairs_length pairs.0 said behind pairs.2 in
+    omega (arith, cut, more)
+
+-- a byte behind another, four times
+pub four_pushed : (t : List ℕ) (a b c d : ℕ) {first second third fourth : List ℕ} → first ≡ t ++ a ∷ [] → second ≡ first ++ b ∷ [] → third ≡ second ++ c ∷ []
+    → fourth ≡ third ++ d ∷ [] → fourth ≡ t ++ a ∷ b ∷ c ∷ d ∷ []
+four_pushed t a b c d is_first is_second is_third is_fourth =
+    rw (is_fourth, is_third, is_second, is_first)
+    (append_assoc ((t ++ a ∷ []) ++ b ∷ []) (c ∷ []) (d ∷ []) ∙ append_assoc (t ++ a ∷ []) (b ∷ []) (c ∷ d ∷ []) ∙ append_assoc t (a ∷ []) (b ∷ c ∷ d ∷ []))

@@ -1,6 +1,7 @@
 -- Reading several bytes at once: what the private calls do, in the words of the reading byte by byte.
 use Rattle.std.specs.Prelude.{◌≡◌, ℕ, ◌+◌, ◌*◌, ◌<◌, ◌≤◌, List, [], ◌∷◌, ◌++◌, Some}
 use Rattle.field_tree.specs.declared.mode.Mode.{Mode}
+use Rattle.field_tree.specs.declared.mode.Mode.TheVariants.{Pairs}
 use Rattle.field_tree.specs.declared.scan.Scanned.{Scanned}
 use Rattle.field_tree.specs.Nodes.{Shown}
 use Rattle.field_tree.specs.Machine.{TextReading, hex_value, next, run}
@@ -29,6 +30,16 @@ IsPair bytes byte behind = record {
   low_is : hex_value low ≡ Some low_value;
   byte_is : byte ≡ 16 * high_value + low_value;
 }
+
+-- pairs of digits in front say these bytes
+abbrev pub ArePairs : List ℕ → List ℕ → List ℕ → Type 0
+ArePairs bytes [] behind = bytes ≡ behind
+ArePairs bytes (byte ∷ more) behind = (rest : List ℕ) × IsPair bytes byte rest × ArePairs rest more behind
+
+-- pairs of digits in front lead from one text to another
+abbrev pub ReadsPairs : List ℕ → List ℕ → List ℕ → List ℕ → Type 0
+ReadsPairs old bytes new behind = (nodes : List Shown) (depth field : ℕ)
+    → RunsOver (reading_with nodes depth old (Pairs field)) bytes (reading_with nodes depth new (Pairs field)) behind
 
 -- what was read on, where no text was being read
 abbrev pub ScansFrom : Mode → List ℕ → Scanned → Type 0

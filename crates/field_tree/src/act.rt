@@ -1,5 +1,5 @@
 //! What the reading does at a byte, by where it stands.
-ghost use Rattle.std.specs.Prelude.{◌≡◌, ℕ, ◌==◌, ◌&&◌, if◌then◌else◌, ◌≤◌, ◌<◌, IfSome, length};
+ghost use Rattle.std.specs.Prelude.{◌≡◌, ℕ, ◌+◌, ◌*◌, ◌==◌, ◌&&◌, if◌then◌else◌, ◌≤◌, ◌<◌, IfSome, length};
 ghost use Rattle.field_tree.specs.Machine as machine;
 ghost use Rattle.field_tree.specs.Machine.{HalfFits};
 ghost use Rattle.field_tree.specs.Grammar as grammar;
@@ -70,11 +70,19 @@ const HEX_VALUES: [u16; 256] = [
 
 /// The value of a lower-case hexadecimal digit, and more than any pair of digits says for another byte.
 #[inline(always)]
-pub(crate) fn digit_or_more(byte: u8) -> u16
+fn digit_or_more(byte: u8) -> u16
     ensures value { result ≡ machine.digit_or_more byte }
     ensures within { result ≤ 256 }
 {
     HEX_VALUES[byte as usize]
+}
+
+/// What two hexadecimal digits say, and more than any pair of digits says where one isn't a digit.
+#[inline(always)]
+pub(crate) fn pair_or_more(high: u8, low: u8) -> u16
+    ensures { result ≡ 16 * machine.digit_or_more high + machine.digit_or_more low }
+{
+    16 * digit_or_more(high) + digit_or_more(low)
 }
 
 /// The value of a lower-case hexadecimal digit.

@@ -1,8 +1,8 @@
 //! Reading a text without recursion: what is read whole at once, and all else byte by byte.
-ghost use Rattle.std.specs.Prelude.{◌≡◌, ℕ, ◌+◌, ◌-◌, ◌<◌, ◌≤◌, ◌==◌, ◌||◌, length, List, [], drop, IfOk, IfSome, OnOk, Some, None, false};
+ghost use Rattle.std.specs.Prelude.{◌≡◌, ℕ, ◌+◌, ◌-◌, ◌/◌, ◌<◌, ◌≤◌, vec_len, vec_capacity, ◌==◌, ◌||◌, length, List, [], drop, IfOk, IfSome, OnOk, Some, None, false};
 ghost use Rattle.field_tree.specs.Machine.{IsValid, IsBetween, settled, before_byte, applied, next, finish, nodes_or_column, beginning};
 ghost use Rattle.field_tree.specs.declared.mode.Mode.TheVariants.{Pairs};
-ghost use Rattle.field_tree.specs.Scanning.{RunsOver};
+ghost use Rattle.field_tree.specs.Scanning.{RunsOver, ReadsPairs};
 ghost use Rattle.field_tree.specs.Views.{reading, text_read, AddsNode, AddsByte, AddsText, Takes, Keeps, Ends, GivesNodes, nodes_read};
 ghost use Rattle.field_tree.specs.Surveys.{IsSurvey};
 
@@ -10,7 +10,7 @@ use crate::act::{act, may_end, taken_back};
 use crate::fault::{FieldError, FieldFault};
 use crate::mode::{Action, Mode};
 use crate::node::FieldNode;
-use crate::scan::{first_byte, first_pair};
+use crate::scan::{first_byte, first_four_pairs, first_pair};
 use crate::survey::{Survey, begin_len, number_len, text_len};
 use crate::written::{push_begin, push_end, push_number, push_text};
 use std::alloc::{AllocError, Global};
@@ -53,6 +53,40 @@ fn make_room(bytes: &mut Vec<u8>) -> Result<(), AllocError>
         bytes.reserve(FIRST_BYTES)?;
     }
     Ok(())
+}
+
+/// Appends what the digits in front say, four bytes at a time while so many pairs stand there, and
+/// answers what stands behind these. There is room for all pairs that may stand there.
+#[inline(always)]
+fn take_four_pairs<'t>(text: &mut Vec<u8>, bytes: &'t [u8]) -> &'t [u8]
+    requires { vec_len text.old + length bytes.now / 2 ≤ vec_capacity text.old }
+    ensures taken { ReadsPairs text.old.items bytes.now text.new.items result.now }
+    ensures room { vec_len text.new + length result.now / 2 ≤ vec_capacity text.new }
+{
+    let mut rest = bytes;
+    'pairs: while let Some(four) = first_four_pairs(rest) {
+        text.push_reserved(four.first);
+        text.push_reserved(four.second);
+        text.push_reserved(four.third);
+        text.push_reserved(four.fourth);
+        rest = four.behind;
+    }
+    rest
+}
+
+/// Appends what the digits in front say, a byte at a time, and answers what stands behind them. There is
+/// room for all pairs that may stand there.
+#[inline(always)]
+fn take_pairs<'t>(text: &mut Vec<u8>, bytes: &'t [u8]) -> &'t [u8]
+    requires { vec_len text.old + length bytes.now / 2 ≤ vec_capacity text.old }
+    ensures { ReadsPairs text.old.items bytes.now text.new.items result.now }
+{
+    let mut rest = bytes;
+    'pairs: while let Some((byte, behind)) = first_pair(rest) {
+        text.push_reserved(byte);
+        rest = behind;
+    }
+    rest
 }
 
 impl Parser {
@@ -210,13 +244,10 @@ impl Parser {
     {
         let mut text = mem::try_take(&mut self.text)?;
         text.reserve(bytes.len() / 2)?;
-        let mut rest = bytes;
-        'pairs: while let Some((byte, behind)) = first_pair(rest) {
-            text.push_reserved(byte);
-            rest = behind;
-        }
+        let rest = take_four_pairs(&mut text, bytes);
+        let left = take_pairs(&mut text, rest);
         self.text = text;
-        Ok(rest)
+        Ok(left)
     }
 
     /// Ends the field that may end here, if one may.

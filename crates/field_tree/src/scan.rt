@@ -7,9 +7,9 @@ ghost use Rattle.field_tree.specs.Grammar.{IsTextByte};
 ghost use Rattle.field_tree.specs.Machine.{TextReading};
 ghost use Rattle.field_tree.specs.Machine as machine;
 ghost use Rattle.field_tree.specs.declared.mode.Mode.TheVariants.{Start, Value, Text, Quoted, Tick};
-ghost use Rattle.field_tree.specs.Scanning.{reading_with, RunsOver, IsPair, TakesDigits, ScansFrom};
+ghost use Rattle.field_tree.specs.Scanning.{reading_with, RunsOver, IsPair, ArePairs, TakesDigits, ScansFrom};
 
-use crate::act::{digit_or_more, grown, is_first_digit, is_text_byte};
+use crate::act::{grown, is_first_digit, is_text_byte, pair_or_more};
 use crate::mode::Mode;
 use trace_base::limits::{MAX_FIELD, MAX_PACKET_LEN};
 
@@ -74,9 +74,48 @@ pub(crate) fn first_pair(bytes: &[u8]) -> Option<(u8, &[u8])>
 {
     match bytes {
         [high, low, behind @ ..] => {
-            let value = 16 * digit_or_more(*high) + digit_or_more(*low);
+            let value = pair_or_more(*high, *low);
             if value < 256 {
                 Some((value as u8, behind))
+            } else {
+                None
+            }
+        }
+        _ => None,
+    }
+}
+
+/// Four bytes that are written in pairs of digits, and what stands behind these.
+#[derive(Clone, Copy)]
+pub(crate) struct FourPairs<'t> {
+    pub first: u8,
+    pub second: u8,
+    pub third: u8,
+    pub fourth: u8,
+    pub behind: &'t [u8],
+}
+
+/// The bytes that the eight hexadecimal digits in front say. One branch tells whether all are digits:
+/// each sum is below 256 then, and so is what has the bits of all four.
+#[tactic(auto, using(crate::proofs::HexLemmas::four_small))]
+#[inline(always)]
+pub(crate) fn first_four_pairs(bytes: &[u8]) -> Option<FourPairs<'_>>
+    ensures { IfSome result (λ found. ArePairs bytes.now (found.first ∷ found.second ∷ found.third ∷ found.fourth ∷ []) found.behind.now) }
+{
+    match bytes {
+        [a, b, c, d, e, f, g, h, behind @ ..] => {
+            let first = pair_or_more(*a, *b);
+            let second = pair_or_more(*c, *d);
+            let third = pair_or_more(*e, *f);
+            let fourth = pair_or_more(*g, *h);
+            if first | second | third | fourth < 256 {
+                Some(FourPairs {
+                    first: first as u8,
+                    second: second as u8,
+                    third: third as u8,
+                    fourth: fourth as u8,
+                    behind,
+                })
             } else {
                 None
             }

@@ -1,23 +1,17 @@
-use Rattle.std.proofs.Common.{◌≡◌, ◌+◌, arith, length, ◌∙◌, ap}
-use Rattle.field_tree.specs.declared.mode.Mode.TheVariants.{Pairs}
-use Rattle.field_tree.specs.Views.{nodes_read, text_read, reading}
-use Rattle.field_tree.proofs.ScanLemmas.{stays_here, over_both, over_pair}
+use Rattle.std.proofs.Common.{◌≡◌, ap, ◌∙◌}
+use Rattle.field_tree.specs.Views.{nodes_read, text_read}
+use Rattle.field_tree.specs.Scanning.{ReadsPairs}
+use Rattle.field_tree.proofs.ScanLemmas.{reads_on_pairs}
 use Rattle.field_tree.proofs.parser.Parser.scan_pairs.Goals as goal
 
-pub pairs-init : goal.pairs-init
-pairs-init c =
-    let same : c.reserve.new.self.items ≡ text_read c.args.self.now = c.reserve.ensures.items ∙ ap (λ v. v.items) c.in_ok-text.ensures.value in
-    ((λ field. rw same (stays_here (reading c.args.self.now (Pairs field)) c.args.bytes.now)), omega (arith, c.in_ok-reserve.ensures.ok))
-
-pub pairs-preserved : goal.pairs-preserved
-pairs-preserved c =
-    let nodes = nodes_read c.args.self.now in
-    let depth = c.args.self.now.depth in
-    let behind = c.in-Some.behind.now in
-    let cut : length c.pairs.rest.now ≡ length behind + 2 = ap length c.in-Some.ensures.cut ∙ (omega arith) in (
-      (λ field.
-          rw c.push_reserved.ensures.items
-          (over_both _ _ _ _ _ _ (c.pairs.invariant.0 field)
-          (over_pair nodes depth field c.in-Some.byte c.pairs.text.items c.pairs.rest.now behind c.in-Some.ensures))),
-      omega (arith, c.pairs.invariant.1, c.push_reserved.ensures.len, c.push_reserved.ensures.capacity, cut),
-    )
+pub returns-clause-over : goal.returns-clause-over
+returns-clause-over c =
+    let old = c.args.self.now in
+    let to = c.take_pairs-left.new.text.items in
+    let left = c.take_pairs-left.result.now in
+    let same : c.reserve.new.self.items ≡ text_read old = c.reserve.ensures.items ∙ ap (λ v. v.items) c.in_ok-text.ensures.value in
+    let reads : ReadsPairs c.reserve.new.self.items c.args.bytes.now to left =
+    reads_on_pairs c.reserve.new.self.items c.take_four_pairs-rest.new.text.items to c.args.bytes.now c.take_four_pairs-rest.result.now left
+    c.take_four_pairs-rest.ensures.taken c.take_pairs-left.ensures in
+    let from_old : ReadsPairs (text_read old) c.args.bytes.now to left = rw same at reads in
+    λ field. from_old (nodes_read old) old.depth field
