@@ -160,8 +160,8 @@ impl Parser {
 
     /// Adds the text that was being read.
     #[tactic(auto, unfolding(crate::specs::Judged::level), using(crate::proofs::ParserLemmas::node_shown))]
-    #[inline(never)]
-    pub fn push_kept(&mut self, field: u32, times: u32) -> Result<(), AllocError>
+    #[inline(always)]
+    fn push_kept(&mut self, field: u32, times: u32) -> Result<(), AllocError>
         requires kept { Keeps self.old }
         requires depth { self.old.depth < usize.MAX }
         ensures pushed { OnOk result (AddsNode (FieldNode.Bytes field times) (text_read self.old) self.old self.new) }
@@ -173,6 +173,28 @@ impl Parser {
             .add_node(self.depth, node, text_len(field, times, self.text.len()));
         self.text.clear();
         Ok(())
+    }
+
+    /// Adds it once, as most texts stand: what follows from how often it stands is known here.
+    #[inline(never)]
+    pub fn push_once(&mut self, field: u32) -> Result<(), AllocError>
+        requires kept { Keeps self.old }
+        requires depth { self.old.depth < usize.MAX }
+        ensures pushed { OnOk result (AddsNode (FieldNode.Bytes field 1) (text_read self.old) self.old self.new) }
+        ensures kept { OnOk result (Keeps self.new) }
+    {
+        self.push_kept(field, 1)
+    }
+
+    /// Adds it so many times over.
+    #[inline(never)]
+    fn push_times(&mut self, field: u32, times: u32) -> Result<(), AllocError>
+        requires kept { Keeps self.old }
+        requires depth { self.old.depth < usize.MAX }
+        ensures pushed { OnOk result (AddsNode (FieldNode.Bytes field times) (text_read self.old) self.old self.new) }
+        ensures kept { OnOk result (Keeps self.new) }
+    {
+        self.push_kept(field, times)
     }
 
     /// Begins a nested message.
@@ -264,9 +286,9 @@ impl Parser {
         match *mode {
             Mode::Zero { field } => self.push_number(field, 0)?,
             Mode::Digits { field, value } => self.push_number(field, value)?,
-            Mode::Quoted { field } => self.push_kept(field, 1)?,
-            Mode::Packed { field } => self.push_kept(field, 1)?,
-            Mode::Times { field, times } => self.push_kept(field, times)?,
+            Mode::Quoted { field } => self.push_once(field)?,
+            Mode::Packed { field } => self.push_once(field)?,
+            Mode::Times { field, times } => self.push_times(field, times)?,
             _ => return Ok(()),
         }
         *mode = Mode::After;

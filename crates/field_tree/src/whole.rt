@@ -140,7 +140,7 @@ impl Parser {
     {
         match first_byte(bytes) {
             Some((byte, behind)) if self.ends_here(byte) => {
-                self.push_kept(field, 1)?;
+                self.push_once(field)?;
                 Ok((self.end_field(byte)?, behind))
             }
             _ => Ok((Mode::Packed { field }, bytes)),

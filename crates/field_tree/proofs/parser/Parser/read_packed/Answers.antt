@@ -12,8 +12,8 @@ pub returns-in_ok-end_field-in-Some-clause-over : goal.returns-in_ok-end_field-i
 unfolding level
 returns-in_ok-end_field-in-Some-clause-over c =
     let old = c.args.self.now in
-    let mid = c.push_kept.new.self in
-    let pushed = c.in_ok-push_kept-in-Some.ensures.pushed in
+    let mid = c.push_once.new.self in
+    let pushed = c.in_ok-push_once-in-Some.ensures.pushed in
     let from = reading old (Packed c.args.field) in
     let to = reading c.end_field.new.self c.in_ok-end_field-in-Some.field-0 in
     let settles : reading mid After ≡ settled_as (Some (Bytes c.args.field 1)) from = rw (pushed.0, pushed.1, pushed.2) refl in
