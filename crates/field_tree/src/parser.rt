@@ -264,7 +264,8 @@ impl Parser {
         ensures depth { OnOk result (self.new.depth ≡ self.old.depth) }
         ensures kept { OnOk result (Keeps self.new) }
     {
-        let mut text = mem::try_take(&mut self.text)?;
+        let none = Vec::new(*self.text.allocator());
+        let mut text = mem::replace(&mut self.text, none);
         text.reserve(bytes.len() / 2)?;
         let rest = take_four_pairs(&mut text, bytes);
         let left = take_pairs(&mut text, rest);
