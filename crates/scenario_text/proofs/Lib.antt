@@ -21,5 +21,6 @@ pub mod PossibleLemmas
 pub mod ShortLemmas
 pub mod ChunksAskedLemmas
 pub mod PacketLemmas
+pub mod BehindLemmas
 mod KeptLemmas
 mod OwnLineLemmas

@@ -29,7 +29,7 @@ one_by_length p [] far = refl
 one_by_length p (b ∷ bytes) far = one_more p b bytes (p b) refl (one_by_length p bytes) far
 
 -- what an answer of `position` says of the place
-place_by : (found : Bool) (at n place : ℕ) → nat_lt place n ≡ found → cond found (Some place) None ≡ Some at
+pub place_by : (found : Bool) (at n place : ℕ) → nat_lt place n ≡ found → cond found (Some place) None ≡ Some at
     → (place ≡ at) × (place < n)
 place_by true at n place is answer = (cc, grind (arith, common_steps, is))
 place_by false at n place is answer = cc

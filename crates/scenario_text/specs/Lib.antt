@@ -18,6 +18,7 @@ pub mod Additions
 pub mod Texts
 pub mod Trees
 pub mod View
+pub mod Behind
 pub mod KeptLines
 pub mod PacketLines
 pub mod OwnLines

@@ -13,6 +13,7 @@ mod laws;
 mod line_fault;
 mod line_list;
 pub mod lines;
+mod lines_reader;
 mod number;
 pub mod numeral;
 mod open_packet;
@@ -26,6 +27,7 @@ pub mod reading;
 mod reason;
 mod refusals;
 mod scenario;
+mod scenario_reader;
 
 pub use laws::{
     scenarios_are_accepted, scenarios_are_in_reach, scenarios_are_set_up, scenarios_are_short,
@@ -37,3 +39,4 @@ pub use own_lines::{LinesByWriter, OwnWalk};
 pub use printing::refusal_line;
 pub use reason::{Reason, ScenarioFault};
 pub use scenario::{BufferLine, LineKind, NumberedLine, ProducerLine, Scenario};
+pub use scenario_reader::ScenarioReader;

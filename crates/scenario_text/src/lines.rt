@@ -4,10 +4,10 @@ ghost use Rattle.scenario_text.specs.Scenario.{scenario_of, GivesScenario, IsSce
 ghost use Rattle.scenario_text.specs.Grammar.{earlier, says_nothing};
 
 use crate::line_fault::LineFault;
+use crate::lines_reader::LinesReader;
 use crate::numeral::Numeral;
 use crate::open_packet::OpenPacket;
 use crate::packet_line::packet_line;
-use crate::pieces::next_piece;
 use crate::reader::Reader;
 use crate::reading::form;
 use crate::reason::{Reason, ScenarioFault};
@@ -58,7 +58,7 @@ impl Reader {
     /// A line that has its line feed.
     #[inline(always)]
     #[tactic(auto, using(crate::proofs::PacketLemmas::packet_form))]
-    fn read_line(
+    pub fn read_line(
         &mut self,
         parser: &mut FieldParser,
         number: u32,
@@ -122,7 +122,7 @@ impl Reader {
 
     /// What the lines have said, once all were read.
     #[tactic(auto, unfolding(crate::specs::Grammar::at_end, crate::specs::Grammar::unless_left, crate::specs::Scenario::said))]
-    fn finish(self) -> Result<Scenario, ScenarioFault>
+    pub fn finish(self) -> Result<Scenario, ScenarioFault>
         ensures { GivesScenario result (said (at_end (state_of self))) }
     {
         match self.first_left() {
@@ -136,38 +136,11 @@ impl Reader {
 }
 
 /// The scenario that a text says; or its first faulty line, and the first reason that holds there.
-#[tactic(auto, using(crate::proofs::ReadLemmas::scenario_starts, crate::proofs::ReadLemmas::scenario_goes, crate::proofs::ReadLemmas::scenario_stops, crate::proofs::ReadLemmas::scenario_unfinished, crate::proofs::ReadLemmas::scenario_ends, crate::proofs::ReadLemmas::is_scenario))]
+#[tactic(auto, using(crate::proofs::ReadLemmas::is_scenario))]
 pub fn read_scenario(alloc: Global, text: &[u8]) -> Result<Scenario, ScenarioFault>
     requires { length text.now ≤ MAX_INPUT }
     ensures exact { GivesScenario result (scenario_of text.now) }
     ensures scenario { IfOk result IsScenario }
 {
-    let mut reader = Reader::new(alloc);
-    let mut parser = FieldParser::new(alloc);
-    let mut number: u32 = 1;
-    let mut rest = text;
-    'lines: loop {
-        let (line, more) = next_piece(rest, b'\n');
-        let Some(behind) = more else {
-            if line.is_empty() {
-                return reader.finish();
-            }
-            return Err(ScenarioFault::Bad {
-                line: number,
-                reason: Reason::UnfinishedLine,
-            });
-        };
-        match reader.read_line(&mut parser, number, line) {
-            Ok(()) => {}
-            Err(LineFault::OutOfMemory) => return Err(ScenarioFault::OutOfMemory),
-            Err(LineFault::Refused(reason)) => {
-                return Err(ScenarioFault::Bad {
-                    line: number,
-                    reason,
-                });
-            }
-        }
-        number += 1;
-        rest = behind;
-    }
+    LinesReader::new(alloc).finish(text)
 }
