@@ -53,13 +53,24 @@ impl HostTable {
         self.layout.header_index(chunk) * LINE_WORDS
     }
 
-    /// The index of a payload word of a chunk.
-    pub(crate) fn payload_index(&self, chunk: u32, index: usize) -> usize
+    /// The index of the first payload word of a chunk.
+    pub(crate) fn first_index(&self, chunk: u32) -> usize
+        requires { chunk < length self.now.layout.spots }
+        ensures { result ≡ payload_start self.now.layout chunk }
+    {
+        self.starts[chunk as usize]
+    }
+
+    /// The index of a payload word of a chunk, whose first one has this index.
+    pub(crate) fn payload_index(&self, chunk: u32, start: usize, index: usize) -> usize
         requires chunk { chunk < length self.now.layout.spots }
+        requires start { start ≡ payload_start self.now.layout chunk }
         requires index { index < payload_words self.now.layout chunk }
         ensures here { result ≡ payload_start self.now.layout chunk + index }
         ensures inside { result < self.now.table.shared.table_id.words }
     {
-        self.starts[chunk as usize] + index
+        // The chunk is named for the proof alone.
+        let _ = chunk;
+        start + index
     }
 }

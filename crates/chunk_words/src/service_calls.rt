@@ -70,9 +70,17 @@ impl HostTable {
         ensures size { length into.new ≡ length into.old }
         ensures me { LoadsUpTo chunk ((length into.new + 7) / 8) (length into.new) into.new seat.old.seat.me seat.new.seat.me }
     {
-        for index in 0..(into.len() + 7) / 8 {
-            let word = self.step_load(seat, chunk, index);
-            put_word(into, index, word);
+        // Behind an atomic step all is read anew: so the loop reads no more than it has to.
+        let start = self.first_index(chunk);
+        let whole = into.len() / 8;
+        for index in 0..whole {
+            let word = self.step_load(seat, chunk, start, index);
+            put_bytes(into, 8 * index, word);
+        }
+        // The last word may have fewer bytes than eight.
+        if 8 * whole < into.len() {
+            let word = self.step_load(seat, chunk, start, whole);
+            put_rest(into, whole, word);
         }
     }
 
@@ -222,18 +230,15 @@ impl HostTable {
     }
 }
 
-/// Puts the bytes of a payload word into their places, as far as there are such.
-fn put_word(into: &mut [u8], index: usize, word: u64)
-    requires { 8 * index < length into.old }
+/// Puts the bytes of the last payload word into their places, as far as there are such.
+fn put_rest(into: &mut [u8], index: usize, word: u64)
+    requires some { 8 * index < length into.old }
+    requires few { length into.old < 8 * index + 8 }
     ensures size { length into.new ≡ length into.old }
     ensures here { (m : ℕ) → m < 8 → 8 * index + m < length into.new → byte_in into.new (8 * index + m) ≡ byte_of word m }
     ensures before { (j : ℕ) → j < 8 * index → byte_in into.new j ≡ byte_in into.old j }
 {
     let at = 8 * index;
-    if into.len() - at >= 8 {
-        put_bytes(into, at, word);
-        return;
-    }
     let bytes = word.to_le_bytes();
     for j in at..into.len() {
         into[j] = bytes[j - at];

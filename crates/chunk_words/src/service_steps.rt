@@ -10,7 +10,7 @@ ghost use Rattle.chunk_plain.specs.Steps.{looks_at, learns, lets_go, notes, note
 ghost use Rattle.chunk_plain.specs.Words.{IsReadEvent, event_of, committed_of};
 ghost use Rattle.chunk_words.specs.Knows.{Full, Known, Lifted, Unmade, desk_of, stage_of, watch_of, service_of};
 ghost use Rattle.chunk_words.specs.Moves.{watch_for, watched, body_in, Peeks, Looks, ReadsHeader, Serves, Takes, Loads, Lifts};
-ghost use Rattle.chunk_words.specs.Places.{payload_words};
+ghost use Rattle.chunk_words.specs.Places.{payload_start, payload_words};
 ghost use Rattle.chunk_words.specs.Told.{TellsComplete};
 ghost use Rattle.chunk_words.specs.Seats.{IsServiceIdle, IsService, HasLifted};
 
@@ -152,11 +152,18 @@ impl HostTable {
         );
     }
 
-    /// Loads a payload word of a chunk.
-    pub(crate) fn step_load(&self, seat: &mut ServiceSeat, chunk: u32, index: usize) -> u64
+    /// Loads a payload word of a chunk, whose first one has this index.
+    pub(crate) fn step_load(
+        &self,
+        seat: &mut ServiceSeat,
+        chunk: u32,
+        start: usize,
+        index: usize,
+    ) -> u64
         requires seat { seat.old.seat.table_id ≡ self.now.table.shared.table_id }
         requires service { IsService seat.old.seat.me }
         requires chunk { chunk < length self.now.layout.spots }
+        requires start { start ≡ payload_start self.now.layout chunk }
         requires index { index < payload_words self.now.layout chunk }
         ensures seat { seat.new.seat.table_id ≡ seat.old.seat.table_id }
         ensures me { Loads chunk index (spot self.now.layout chunk).payload_size seat.old.seat.me result seat.new.seat.me }
@@ -171,7 +178,7 @@ impl HostTable {
         make_load(
             &table.shared,
             &mut seat.seat,
-            self.payload_index(chunk, index),
+            self.payload_index(chunk, start, index),
             &step,
         )
     }

@@ -4,7 +4,7 @@ ghost use Rattle.trace_base.specs.declared.limits.TheConstants.{MAX_FRAGMENTS};
 ghost use Rattle.page_geometry.specs.declared.chunk_header.TheConstants.{MAX_FLAGS};
 ghost use Rattle.chunk_plain.specs.declared.tokens.TheConstants.{ID_LIMIT};
 ghost use Rattle.chunk_plain.specs.Setup.{spot, producer_of, IsChunkOf, id_at};
-ghost use Rattle.chunk_plain.specs.Payload.{sealed_to, HasFragments};
+ghost use Rattle.chunk_plain.specs.Payload.{byte_of, byte_in, sealed_to, HasFragments};
 ghost use Rattle.chunk_plain.specs.Drafts.{MayFollow, draft_at, head_at, published, ends_by, IsHolding};
 ghost use Rattle.chunk_plain.specs.Steps.{redrafts, with_head, completes, notes_call};
 ghost use Rattle.chunk_plain.specs.Words.{TriesClaim, HasClaimed, IsBegun, BeginsChunk};
@@ -129,9 +129,17 @@ impl HostTable {
         ensures place { seat.new.place ≡ seat.old.place }
         ensures me { Stores chunk id first end copy.now seat.old.seat.me seat.new.seat.me }
     {
-        for index in first..end {
-            let word = pack(copy, 8 * index);
-            self.step_publish(seat, chunk, id, index, word);
+        // Behind an atomic step all is read anew: so the loop reads no more than it has to.
+        let start = self.first_index(chunk);
+        let whole = end.min(copy.len() / 8).max(first);
+        for index in first..whole {
+            let word = whole_word(copy, index);
+            self.step_publish(seat, chunk, id, start, index, word);
+        }
+        // The last word may have fewer bytes than eight.
+        if whole < end {
+            let word = pack(copy, 8 * whole);
+            self.step_publish(seat, chunk, id, start, whole, word);
         }
     }
 
@@ -161,4 +169,15 @@ impl HostTable {
     {
         self.step_call(seat, call);
     }
+}
+
+/// The word with this number of the bytes, which has eight of them.
+fn whole_word(from: &[u8], index: usize) -> u64
+    requires { 8 * index + 8 ≤ length from.now }
+    ensures { (m : ℕ) → m < 8 → 8 * index + m < length from.now → byte_of result m ≡ byte_in from.now (8 * index + m) }
+{
+    let Some(eight) = from[8 * index..].first_chunk::<8>() else {
+        unreachable!()
+    };
+    u64::from_le_bytes(*eight)
 }

@@ -10,7 +10,7 @@ ghost use Rattle.chunk_plain.specs.Plain.{StandsWhole};
 ghost use Rattle.chunk_plain.specs.Words.{HasClaimed, call_of};
 ghost use Rattle.chunk_words.specs.Knows.{view_of};
 ghost use Rattle.chunk_words.specs.Moves.{Asks, Claims, Stamps, Begins, SetsHeader, Publishes, KeepsWord, Fetches, Completes, Notes, body_in};
-ghost use Rattle.chunk_words.specs.Places.{payload_words};
+ghost use Rattle.chunk_words.specs.Places.{payload_start, payload_words};
 ghost use Rattle.chunk_words.specs.Seats.{IsIdle, HasOut};
 
 use crate::host::HostTable;
@@ -175,18 +175,20 @@ impl HostTable {
         );
     }
 
-    /// Stores a payload word of a held chunk.
+    /// Stores a payload word of a held chunk, whose first one has this index.
     pub(crate) fn step_publish(
         &self,
         seat: &mut WriterSeat,
         chunk: u32,
         id: u32,
+        start: usize,
         index: usize,
         word: u64,
     )
         requires seat { seat.old.seat.table_id ≡ self.now.table.shared.table_id }
         requires idle { IsIdle seat.old.place seat.old.seat.me }
         requires chunk { chunk < length self.now.layout.spots }
+        requires start { start ≡ payload_start self.now.layout chunk }
         requires held { IsHolding (view_of seat.old.seat.me.0) chunk id }
         requires index { index < payload_words self.now.layout chunk }
         requires kept { KeepsWord (draft_at (view_of seat.old.seat.me.0) id) index word }
@@ -204,7 +206,7 @@ impl HostTable {
         make_store(
             &table.shared,
             &mut seat.seat,
-            self.payload_index(chunk, index),
+            self.payload_index(chunk, start, index),
             word,
             &step,
         );

@@ -1,5 +1,5 @@
-use Rattle.std.proofs.Common.{◌∙◌, length, refl, sym, subst}
-use Rattle.chunk_words.specs.Moves.{Loads}
+use Rattle.std.proofs.Common.{◌≡◌, ◌+◌, ◌/◌, ◌∙◌, length, refl, sym, subst, arith}
+use Rattle.chunk_words.specs.Moves.{Loads, LoadsUpTo}
 use Rattle.chunk_words.proofs.Loading.{loads_none, loads_next, between_service}
 use Rattle.chunk_words.proofs.host.HostTable.load_words.Goals as goal
 
@@ -14,8 +14,21 @@ loop-index-preserved c =
     let invariant = c.loop-index.invariant in let size = length c.args.into.now in
     record {
       seat = c.step_load-word.ensures.seat ∙ invariant.seat;
-      size = c.put_word.ensures.size ∙ invariant.size;
-      loads = loads_next c.args.chunk c.loop-index.index size c.step_load-word.result c.loop-index.into c.put_word.new.into c.args.seat.now.seat.me c.loop-index.seat.seat.me c.step_load-word.new.seat.seat.me
+      size = c.put_bytes.ensures.size ∙ invariant.size;
+      loads = loads_next c.args.chunk c.loop-index.index size c.step_load-word.result c.loop-index.into c.put_bytes.new.into c.args.seat.now.seat.me c.loop-index.seat.seat.me c.step_load-word.new.seat.seat.me
           invariant.loads (subst (λ n. Loads c.args.chunk c.loop-index.index n c.loop-index.seat.seat.me c.step_load-word.result c.step_load-word.new.seat.seat.me) (sym c.requires.size) c.step_load-word.ensures.me)
-          (record { size = c.put_word.ensures.size; here = c.put_word.ensures.here; before = c.put_word.ensures.before }) invariant.size;
+          (record { size = c.put_bytes.ensures.size; here = λ m below inside. c.put_bytes.ensures.here m below; before = c.put_bytes.ensures.before }) invariant.size;
     }
+
+pub returns-then-whole-into-clause-me : goal.returns-then-whole-into-clause-me
+returns-then-whole-into-clause-me c =
+    let size = length c.args.into.now in let whole = size / 8 in let old = c.args.seat.now.seat.me in let step = c.step_load-word-then-whole-into in
+    let over = c.loop-index-test.false in let ended = c.loop-index.auto.index-end in let more = c.if-whole-into.true in let many = c.loop-index.invariant.size in
+    let here : c.loop-index.index ≡ whole = omega arith in
+    let last : whole + 1 ≡ (size + 7) / 8 = omega arith in
+    let so_far = subst (λ n. LoadsUpTo c.args.chunk n size c.loop-index.into old c.loop-index.seat.seat.me) here c.loop-index.invariant.loads in
+    let all = loads_next c.args.chunk whole size step.result c.loop-index.into c.put_rest.new.into old c.loop-index.seat.seat.me step.new.seat.seat.me
+    so_far (subst (λ n. Loads c.args.chunk whole n c.loop-index.seat.seat.me step.result step.new.seat.seat.me) (sym c.requires.size) step.ensures.me)
+    (record { size = c.put_rest.ensures.size; here = c.put_rest.ensures.here; before = c.put_rest.ensures.before }) many in
+    subst (λ n. LoadsUpTo c.args.chunk ((n + 7) / 8) n c.put_rest.new.into old step.new.seat.seat.me) (sym (c.put_rest.ensures.size ∙ many))
+    (subst (λ n. LoadsUpTo c.args.chunk n size c.put_rest.new.into old step.new.seat.seat.me) last all)

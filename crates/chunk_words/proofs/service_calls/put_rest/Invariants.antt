@@ -1,6 +1,6 @@
 use Rattle.std.proofs.Common.{◌≡◌, ℕ, ◌+◌, ◌*◌, ◌<◌, length}
 use Rattle.chunk_plain.specs.Payload.{byte_of, byte_in}
-use Rattle.chunk_words.proofs.service_calls.put_word.Given as goal
+use Rattle.chunk_words.proofs.service_calls.put_rest.Given as goal
 
 abbrev pub invariant-loop-j : goal.invariant-loop-j
 invariant-loop-j l = record {
