@@ -1,5 +1,5 @@
 -- What a command did for what it was given: it isn't refused, and what follows for the words that ask for it.
-use Rattle.std.proofs.Common.{◌≡◌, ℕ, ◌≤◌, List, [], length, Option, Some, None, Ok, IfSome, subst, sym, ap, ◌∙◌}
+use Rattle.std.proofs.Common.{arith, ◌≡◌, ℕ, ◌<◌, ◌≤◌, List, [], length, Option, Some, None, Ok, IfSome, subst, sym, ap, ◌∙◌}
 use Rattle.byte_io.specs.Bytes.{Intake}
 use Rattle.trace_base.specs.declared.limits.TheConstants.{MAX_INPUT}
 use Rattle.trace_file.proofs.WholeLemmas.{traces_read_once}
@@ -90,6 +90,17 @@ reports_nothing Check given old new report other did = did.1
 reports_nothing (Gen number writers packets) given old new report other did = did.1
 
 -- ---- of words that ask for a command, and an input with so much left
+
+-- what was given was no longer than it may be
+pub never_long : (P : Type 0) (words : List (List ℕ)) (command other : Command) (left : Option (List ℕ)) (given : List ℕ)
+    → Ask words command → Ask words other → ReadsInput other → IsGiven command left given → length given ≤ MAX_INPUT
+    → IfSome left (λ told. MAX_INPUT < length told → P)
+never_long P words command other None given first second reads is_given short = tt
+never_long P words command other (Some told) given first second reads is_given short = λ long.
+    let same : other ≡ command = same_command words other command second first in
+    let is : given ≡ told = is_given (subst (λ (c : Command). ReadsInput c) same reads) in
+    let within : length told ≤ MAX_INPUT = subst (λ (g : List ℕ). length g ≤ MAX_INPUT) is short in
+    absurd (omega (arith, long, within))
 
 pub never_refused : (P : Type 0) (words : List (List ℕ)) (command other : Command) (left : Option (List ℕ)) (given : List ℕ) (old new : Intake)
     → Ask words command → Ask words other → IsGiven command left given → IsTried command given old new

@@ -5,3 +5,4 @@ pub mod Refusals
 pub mod Replayed
 pub mod Ran
 pub mod Words
+pub mod Given

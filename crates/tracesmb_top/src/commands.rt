@@ -1,10 +1,13 @@
 //! The commands, each over what it was given of the input.
-ghost use Rattle.std.specs.Prelude.{◌≡◌, ℕ, ◌≤◌, List, length, IfErr};
+ghost use Rattle.std.specs.Prelude.{◌≡◌, ℕ, ◌≤◌, List, length, IfErr, IfOk};
 ghost use Rattle.command_words.specs.Commands.{IsWithinLimits};
+ghost use Rattle.scenario_text.specs.Scenario.{scenario_of, GivesScenario, IsScenario};
 ghost use Rattle.tracesmb_top.specs.Commands.{CountsWrites, Ended};
+ghost use Rattle.tracesmb_top.specs.Given.{Suits, Tells};
 
 use crate::check::{CheckingFault, verdict_for, verdict_line};
 use crate::gather;
+use crate::input::Given;
 use crate::say::trace_fault_line;
 use crate::unfit::find_unfit;
 use arrayvec::ArrayVec;
@@ -13,7 +16,7 @@ use byte_io::traits::{Gate, Sink};
 use command_words::Command;
 use loss_report::Done;
 use replay_host::HostFault;
-use scenario_text::{ScenarioFault, read_scenario, refusal_line};
+use scenario_text::{Scenario, ScenarioFault, refusal_line};
 use std::alloc::Global;
 use std::sync::Wait;
 use std::thread::Threads;
@@ -31,19 +34,18 @@ pub enum CommandFault {
     Stalled { writer: u16 },
 }
 
-/// Plays a scenario, and writes its trace; its report is left to be written. The text is let go
-/// before the first line is played.
+/// Plays a scenario, and writes its trace; its report is left to be written.
 #[tactic(auto, unfolding(crate::specs::Refusals::refusal_of, crate::specs::Refusals::refusal_by))]
 pub fn replay<T: Sink>(
     alloc: Global,
-    text: Vec<u8>,
+    said: Result<Scenario, ScenarioFault>,
     trace: &mut T,
 ) -> Result<Option<Done>, CommandFault>
-    requires { length text.items ≤ MAX_INPUT }
-    ensures ends { Ended Command.Replay text.items result (T.taken trace.old) (T.taken trace.new) }
+    requires { IfOk said IsScenario }
+    ensures ends { (text : List ℕ) → GivesScenario said (scenario_of text) → Ended Command.Replay text result (T.taken trace.old) (T.taken trace.new) }
     ensures count { CountsWrites result (T.faults trace.old) (T.faults trace.new) }
 {
-    let scenario = match read_scenario(alloc, &text) {
+    let scenario = match said {
         Ok(scenario) => scenario,
         Err(ScenarioFault::OutOfMemory) => return Err(CommandFault::OutOfMemory),
         Err(ScenarioFault::Bad { line, reason }) => {
@@ -52,7 +54,6 @@ pub fn replay<T: Sink>(
             });
         }
     };
-    drop(text);
     match gather::play(alloc, &scenario, trace) {
         Ok(done) => Ok(Some(done)),
         Err(HostFault::OutOfMemory) => Err(CommandFault::OutOfMemory),
@@ -61,21 +62,20 @@ pub fn replay<T: Sink>(
     }
 }
 
-/// Runs a scenario on threads, and writes its trace; its report is left to be written. The text is let
-/// go before the threads begin.
+/// Runs a scenario on threads, and writes its trace; its report is left to be written.
 #[tactic(auto, unfolding(crate::specs::Ran::run_refusal_of, crate::specs::Ran::run_refusal_by), using(crate::proofs::UnfitLemmas::fit_closes_none))]
 pub fn run<R: Threads + Wait + Sync, T: Sink + Send, G: Gate + Sync>(
     rt: &R,
     alloc: Global,
-    text: Vec<u8>,
+    said: Result<Scenario, ScenarioFault>,
     trace: &mut T,
     gate: &G,
 ) -> Result<Option<Done>, CommandFault>
-    requires { length text.items ≤ MAX_INPUT }
-    ensures ends { Ended Command.Run text.items result (T.taken trace.old) (T.taken trace.new) }
+    requires { IfOk said IsScenario }
+    ensures ends { (text : List ℕ) → GivesScenario said (scenario_of text) → Ended Command.Run text result (T.taken trace.old) (T.taken trace.new) }
     ensures count { CountsWrites result (T.faults trace.old) (T.faults trace.new) }
 {
-    let scenario = match read_scenario(alloc, &text) {
+    let scenario = match said {
         Ok(scenario) => scenario,
         Err(ScenarioFault::OutOfMemory) => return Err(CommandFault::OutOfMemory),
         Err(ScenarioFault::Bad { line, reason }) => {
@@ -84,7 +84,6 @@ pub fn run<R: Threads + Wait + Sync, T: Sink + Send, G: Gate + Sync>(
             });
         }
     };
-    drop(text);
     if let Some(refusal) = find_unfit(&scenario.lines) {
         return Err(CommandFault::Refused { refusal });
     }
@@ -167,24 +166,30 @@ pub fn perform<R: Threads + Wait + Sync, T: Sink + Send, G: Gate + Sync>(
     rt: &R,
     alloc: Global,
     command: Command,
-    given: Vec<u8>,
+    given: Given,
     trace: &mut T,
     gate: &G,
 ) -> Result<Option<Done>, CommandFault>
     requires limits { IsWithinLimits command }
-    requires short { length given.items ≤ MAX_INPUT }
-    ensures ends { Ended command given.items result (T.taken trace.old) (T.taken trace.new) }
+    requires suits { Suits command given }
+    ensures ends { (text : List ℕ) → Tells given text → Ended command text result (T.taken trace.old) (T.taken trace.new) }
     ensures count { CountsWrites result (T.faults trace.old) (T.faults trace.new) }
 {
-    match command {
-        Command::Replay => replay(alloc, given, trace),
-        Command::Run => run(rt, alloc, given, trace, gate),
-        Command::Read => read(alloc, &given, trace),
-        Command::Gen {
-            number,
-            writers,
-            packets,
-        } => generate(number, writers, packets, trace),
-        Command::Check => check(alloc, &given, trace),
+    match given {
+        Given::Scenario(said) => match command {
+            Command::Replay => replay(alloc, said, trace),
+            Command::Run => run(rt, alloc, said, trace, gate),
+            _ => unreachable!(),
+        },
+        Given::Bytes(bytes) => match command {
+            Command::Read => read(alloc, &bytes, trace),
+            Command::Check => check(alloc, &bytes, trace),
+            Command::Gen {
+                number,
+                writers,
+                packets,
+            } => generate(number, writers, packets, trace),
+            _ => unreachable!(),
+        },
     }
 }

@@ -1,25 +1,35 @@
 //! What a command takes of the input.
-ghost use Rattle.std.specs.Prelude.{◌≡◌, ◌+◌, ◌<◌, ◌≤◌, [], length, vec_len, IfOk, IfSome, OnOk, OnErr, IsErrOf};
+ghost use Rattle.std.specs.Prelude.{◌≡◌, ◌+◌, ◌<◌, ◌≤◌, [], length, IfOk, IfSome, OnOk, OnErr, IsErrOf};
 ghost use Rattle.byte_io.specs.Bytes.{Faulted, GivesAtMost};
-ghost use Rattle.tracesmb_top.specs.Commands.{IsGiven};
 ghost use Rattle.tracesmb_top.specs.Words.{ReadsInput};
+ghost use Rattle.tracesmb_top.specs.Given.{IsTaken, Suits};
 
-use crate::words::reads_input;
 use byte_io::fill::{FillFault, fill_all};
 use byte_io::traits::Source;
 use command_words::Command;
+use scenario_input::take_scenario;
+use scenario_text::{Scenario, ScenarioFault};
 use std::alloc::Global;
 use trace_base::limits::MAX_INPUT;
+
+/// What a command is given of the input.
+#[derive(Drop)]
+pub enum Given {
+    /// Its bytes, for a command that reads no scenario alone.
+    Bytes(Vec<u8>),
+    /// The scenario that it says, or its first fault.
+    Scenario(Result<Scenario, ScenarioFault>),
+}
 
 /// Reads the whole input, up to the most bytes that it may have, for a command that reads it.
 pub fn take_input<S: Source>(
     alloc: Global,
     command: Command,
     input: &mut S,
-) -> Result<Vec<u8>, FillFault>
-    ensures given { IfOk result (λ given. IsGiven command (S.left input.old) given.items) }
+) -> Result<Given, FillFault>
+    ensures given { IfOk result (λ given. IsTaken command (S.left input.old) given) }
+    ensures suits { IfOk result (λ given. Suits command given) }
     ensures end { OnOk result (ReadsInput command → IfSome (S.left input.new) (λ left. left ≡ [])) }
-    ensures within { IfOk result (λ given. vec_len given ≤ MAX_INPUT) }
     ensures steady { OnOk result (S.faults input.new ≡ S.faults input.old) }
 
     // A command that reads nothing leaves the input alone.
@@ -33,9 +43,19 @@ pub fn take_input<S: Source>(
     ensures too_long { IsErrOf result FillFault.TooLong → IfSome (S.left input.old) (λ left. MAX_INPUT < length left) }
     ensures taken { GivesAtMost (MAX_INPUT + 1) (S.left input.old) (S.left input.new) }
 {
-    if reads_input(command) {
-        fill_all(alloc, input, MAX_INPUT)
-    } else {
-        Ok(Vec::new(alloc))
+    match command {
+        Command::Replay | Command::Run => match take_scenario(alloc, input) {
+            Ok(said) => Ok(Given::Scenario(said)),
+            Err(fault) => Err(fault),
+        },
+        Command::Read | Command::Check => match fill_all(alloc, input, MAX_INPUT) {
+            Ok(bytes) => Ok(Given::Bytes(bytes)),
+            Err(fault) => Err(fault),
+        },
+        Command::Gen {
+            number: _,
+            writers: _,
+            packets: _,
+        } => Ok(Given::Bytes(Vec::new(alloc))),
     }
 }

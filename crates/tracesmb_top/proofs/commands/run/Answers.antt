@@ -1,5 +1,4 @@
-use Rattle.std.proofs.Common.{ap, sym, ◌∙◌}
-use Rattle.scenario_text.specs.Scenario.{parts_of, scenario_of}
+use Rattle.scenario_text.specs.Scenario.{parts_of}
 use Rattle.tracesmb_top.proofs.UnfitLemmas.{fit_closes_none}
 use Rattle.tracesmb_top.proofs.commands.run.Goals as goal
 
@@ -8,10 +7,10 @@ pub run-requires-clause-closes : goal.run-requires-clause-closes
 run-requires-clause-closes g c κs within = fit_closes_none c.in-Ok.scenario.lines (rw c.in_default.is at c.find_unfit.ensures.none)
 
 pub returns-in-Err-WriteFault-clause-ends : goal.returns-in-Err-WriteFault-clause-ends
-returns-in-Err-WriteFault-clause-ends g c = record {
+returns-in-Err-WriteFault-clause-ends g c = λ text said. record {
   parts = parts_of c.in-Ok.scenario;
   for_threads = record {
-    scenario_is = ap scenario_of (sym c.deref.ensures.value) ∙ c.in-Ok.ensures.exact;
+    scenario_is = rw c.in-Ok.is at said;
     fits = rw c.in_default.is at c.find_unfit.ensures.none;
   };
   takes = (rw c.in-Err-WriteFault.field-0-is at c.in-Err-WriteFault.ensures).ends;

@@ -1,29 +1,54 @@
 use Rattle.std.proofs.Common.{[], map}
 use Rattle.std.specs.String.{string_bytes}
 use Rattle.tracesmb_top.specs.Replayed.{report_of}
-use Rattle.tracesmb_top.proofs.CommandLemmas.{never_refused, wrote, wrote_part, has_stalled}
+use Rattle.tracesmb_top.proofs.CommandLemmas.{never_long, never_refused, wrote, wrote_part, has_stalled}
 use Rattle.tracesmb_top.proofs.top.trace_top.Goals as goal
 
 pub returns-in-Ok-None-clause-refuses : goal.returns-in-Ok-None-clause-refuses
 returns-in-Ok-None-clause-refuses g c = λ command ask quiet.
     let done = rw c.in-Ok-None.field-0-is at c.in-Ok-None.ensures in
-    never_refused _ (map string_bytes c.args.words.now) c.in-Ok.command command _ c.in-Ok-take_input.given.items
-    (g.T.Sink.taken c.args.trace.now) (g.T.Sink.taken c.perform.new.trace) c.in-Ok.ensures.asked ask c.in-Ok-take_input.ensures.given (wrote [] done.ends)
+    never_refused _ (map string_bytes c.args.words.now) c.in-Ok.command command _ c.in-Ok-take_input.ensures.given.text
+    (g.T.Sink.taken c.args.trace.now) (g.T.Sink.taken c.perform.new.trace) c.in-Ok.ensures.asked ask c.in-Ok-take_input.ensures.given.all (wrote [] (done.ends c.in-Ok-take_input.ensures.given.text c.in-Ok-take_input.ensures.given.tells))
 
 pub returns-in-Ok-Some-clause-refuses : goal.returns-in-Ok-Some-clause-refuses
 returns-in-Ok-Some-clause-refuses g c = λ command ask quiet.
     let done = rw c.in-Ok-Some.field-0-is at c.in-Ok-Some.ensures in
-    never_refused _ (map string_bytes c.args.words.now) c.in-Ok.command command _ c.in-Ok-take_input.given.items
-    (g.T.Sink.taken c.args.trace.now) (g.T.Sink.taken c.perform.new.trace) c.in-Ok.ensures.asked ask c.in-Ok-take_input.ensures.given (wrote (report_of c.in-Ok-Some.done) done.ends.1)
+    never_refused _ (map string_bytes c.args.words.now) c.in-Ok.command command _ c.in-Ok-take_input.ensures.given.text
+    (g.T.Sink.taken c.args.trace.now) (g.T.Sink.taken c.perform.new.trace) c.in-Ok.ensures.asked ask c.in-Ok-take_input.ensures.given.all (wrote (report_of c.in-Ok-Some.done) (done.ends c.in-Ok-take_input.ensures.given.text c.in-Ok-take_input.ensures.given.tells).1)
 
 pub returns-in-Err-WriteFault-clause-refuses : goal.returns-in-Err-WriteFault-clause-refuses
 returns-in-Err-WriteFault-clause-refuses g c = λ command ask quiet.
     let done = rw c.in-Err-WriteFault.field-0-is at c.in-Err-WriteFault.ensures in
-    never_refused _ (map string_bytes c.args.words.now) c.in-Ok.command command _ c.in-Ok-take_input.given.items
-    (g.T.Sink.taken c.args.trace.now) (g.T.Sink.taken c.perform.new.trace) c.in-Ok.ensures.asked ask c.in-Ok-take_input.ensures.given (wrote_part done.ends)
+    never_refused _ (map string_bytes c.args.words.now) c.in-Ok.command command _ c.in-Ok-take_input.ensures.given.text
+    (g.T.Sink.taken c.args.trace.now) (g.T.Sink.taken c.perform.new.trace) c.in-Ok.ensures.asked ask c.in-Ok-take_input.ensures.given.all (wrote_part (done.ends c.in-Ok-take_input.ensures.given.text c.in-Ok-take_input.ensures.given.tells))
 
 pub returns-in-Err-Stalled-clause-refuses : goal.returns-in-Err-Stalled-clause-refuses
 returns-in-Err-Stalled-clause-refuses g c = λ command ask quiet.
     let done = rw c.in-Err-Stalled.field-0-is at c.in-Err-Stalled.ensures in
-    never_refused _ (map string_bytes c.args.words.now) c.in-Ok.command command _ c.in-Ok-take_input.given.items
-    (g.T.Sink.taken c.args.trace.now) (g.T.Sink.taken c.perform.new.trace) c.in-Ok.ensures.asked ask c.in-Ok-take_input.ensures.given (has_stalled c.in-Err-Stalled.writer done.ends)
+    never_refused _ (map string_bytes c.args.words.now) c.in-Ok.command command _ c.in-Ok-take_input.ensures.given.text
+    (g.T.Sink.taken c.args.trace.now) (g.T.Sink.taken c.perform.new.trace) c.in-Ok.ensures.asked ask c.in-Ok-take_input.ensures.given.all (has_stalled c.in-Err-Stalled.writer (done.ends c.in-Ok-take_input.ensures.given.text c.in-Ok-take_input.ensures.given.tells))
+
+pub returns-in-Ok-None-clause-long : goal.returns-in-Ok-None-clause-long
+returns-in-Ok-None-clause-long g c = λ command ask reads quiet.
+    let taken = c.in-Ok-take_input.ensures.given in
+    never_long _ (map string_bytes c.args.words.now) c.in-Ok.command command _ taken.text c.in-Ok.ensures.asked ask reads taken.all taken.short
+
+pub returns-in-Ok-Some-clause-long : goal.returns-in-Ok-Some-clause-long
+returns-in-Ok-Some-clause-long g c = λ command ask reads quiet.
+    let taken = c.in-Ok-take_input.ensures.given in
+    never_long _ (map string_bytes c.args.words.now) c.in-Ok.command command _ taken.text c.in-Ok.ensures.asked ask reads taken.all taken.short
+
+pub returns-in-Err-Refused-clause-long : goal.returns-in-Err-Refused-clause-long
+returns-in-Err-Refused-clause-long g c = λ command ask reads quiet.
+    let taken = c.in-Ok-take_input.ensures.given in
+    never_long _ (map string_bytes c.args.words.now) c.in-Ok.command command _ taken.text c.in-Ok.ensures.asked ask reads taken.all taken.short
+
+pub returns-in-Err-WriteFault-clause-long : goal.returns-in-Err-WriteFault-clause-long
+returns-in-Err-WriteFault-clause-long g c = λ command ask reads quiet.
+    let taken = c.in-Ok-take_input.ensures.given in
+    never_long _ (map string_bytes c.args.words.now) c.in-Ok.command command _ taken.text c.in-Ok.ensures.asked ask reads taken.all taken.short
+
+pub returns-in-Err-Stalled-clause-long : goal.returns-in-Err-Stalled-clause-long
+returns-in-Err-Stalled-clause-long g c = λ command ask reads quiet.
+    let taken = c.in-Ok-take_input.ensures.given in
+    never_long _ (map string_bytes c.args.words.now) c.in-Ok.command command _ taken.text c.in-Ok.ensures.asked ask reads taken.all taken.short
