@@ -61,7 +61,7 @@ def main():
         subprocess.run(['rt', 'run'], cwd=CRATE, stdin=lines, check=True, capture_output=True)
     cycle, payload = nanoseconds(b'cycle'), nanoseconds(b'payload')
     print(f'{cycle:.1f} ns a round; its payload alone takes {payload:.1f} ns')
-    print('compared with the same atomic steps in C, on the machine of docs/PROMISES.md: 234 to 274 ns, and 47 to 51 without payload')
+    print('compared with the same atomic steps in C, on the machine of docs/PROMISES.md: 322 to 336 ns, and 58 to 75 without payload')
     for kind, chunks in ((b'own', 'of their own'), (b'shared', 'that they share')):
         rate, share = packets(kind)
         print(f'{WRITERS} writers with chunks {chunks}: {rate / 1e6:.1f} million packets a second, {share:.0%} of those that were begun')
