@@ -13,8 +13,8 @@ pub struct SequenceCounts {
     pub cut: u64,
 }
 
-/// What a run leaves for its report. Sequences are those of the writers in their order, and flushes
-/// those that were answered, each by its number of chunks.
+/// What a replay or a run leaves for its report. Sequences are those of the writers in their order,
+/// and flushes those that were answered, each by its number of chunks.
 #[derive(Debug, Drop)]
 pub struct Done {
     pub buffers: Vec<BufferCounts>,

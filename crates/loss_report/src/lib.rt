@@ -1,5 +1,5 @@
-//! The report of a run: what each buffer counted, what became of the packets of each sequence, and
-//! which flush requests were answered.
+//! The report of a replay or a run: what each buffer counted, what became of the packets of each
+//! sequence, and which flush requests were answered.
 //! A layer above may rely on this: `put_report` writes the text that the definitions give for these
 //! counts, whole where it answers Ok and a front part of it where the sink failed, and answers a
 //! fault only where the sink's count of faults rose. No call takes memory.

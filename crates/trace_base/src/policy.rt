@@ -14,7 +14,7 @@ pub enum FullPolicy {
 pub enum WriterPolicy {
     /// It drops the packet, and marks the next one that it keeps.
     Drops,
-    /// It waits until a chunk is free.
+    /// It asks its helper to free one, and goes on once it has it.
     Stalls,
 }
 

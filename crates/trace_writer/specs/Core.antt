@@ -49,7 +49,7 @@ nested_fault view field = nested_refusal (newest_depth (packets_of view.calls)) 
 abbrev pub holds_chunk : {S : Type 0} → WriterCore S → Bool
 holds_chunk core = not (is_empty core.writer.state)
 
--- the writer waits for ever
+-- the writer has stalled
 abbrev pub is_stalled : {S : Type 0} → WriterCore S → Bool
 is_stalled core = is_stalled_state core.writer.state
 

@@ -1,4 +1,4 @@
--- States without a chunk, and the state of a writer that waits for ever.
+-- States without a chunk, and the state of a writer that has stalled.
 use Rattle.std.specs.Prelude.{Bool, true, false}
 use Rattle.trace_writer.specs.declared.state.State.{State}
 use Rattle.trace_writer.specs.declared.state.State.TheVariants.{Idle, Between, Writing, Dropping, Stalled}

@@ -26,7 +26,7 @@ pub record IsInPacket (site : Site) (view : WriterView) (pending : Pending) (fra
 abbrev pub with_loss : Packet → List Packet → Account
 with_loss packet older = record { packets = given_up_packet packet ∷ older; flushed = false }
 
--- No chunk is there for the rest of the newest packet: its writer gave it up, or waits for ever.
+-- No chunk is there for the rest of the newest packet: its writer gave it up, or has stalled.
 abbrev pub StopsAs : WriterPolicy → Site → Packet → List Packet → WriterView → Pending → Type 0
 StopsAs Drops site packet older view pending = IsIdle site (with_loss packet older) view pending
 StopsAs Stalls site packet older view pending = IsStuck site (packet ∷ older) view

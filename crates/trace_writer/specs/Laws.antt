@@ -17,7 +17,7 @@ abbrev pub AgreeingIsCut : Type 0
 AgreeingIsCut = (setup : Setup) (place : ℕ) (view : WriterView) (writer : Writer) → WriterAgrees setup place view writer
     → HasCut writer.route.payload_size (place + 2) view.calls (images_so_far place view writer) (patches_so_far view writer) (held_images place writer.state)
 
--- One that drops packets never waits for ever.
+-- One that drops packets never stalls.
 abbrev pub DropsNeverStall : Type 0
 DropsNeverStall = (setup : Setup) (place : ℕ) (view : WriterView) (writer : Writer) → WriterAgrees setup place view writer
     → writer.route.spec.policy ≡ Drops → is_stalled writer.state ≡ false

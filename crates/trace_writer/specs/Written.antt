@@ -10,8 +10,8 @@ use Rattle.trace_writer.specs.Agreement.{Agrees}
 use Rattle.trace_writer.specs.Asked.{IsAsked, written_as}
 use Rattle.trace_writer.specs.Empty.{is_stalled}
 
--- A call whose bytes the packet may have was written: the writer agrees with the view that its seat has then. A writer that waits for ever
--- answers so, and changes nothing. Another one did what was asked, and answers that it stalled exactly where it waits for ever now; it
+-- A call whose bytes the packet may have was written: the writer agrees with the view that its seat has then. A writer that has stalled
+-- answers so, and changes nothing. Another one did what was asked, and answers that it stalled exactly where it has stalled now; it
 -- stops only in a packet that wasn't lost before.
 pub record IsWritten {H T W S A : Type 0} (means : Meaning T W S) (needs : H → T → Type 0) (helps : H → T → ℕ → Bool → H → T → Type 0) (call : Call)
     (old : Writer) (helper : H) (table : T) (seat : W) (steps : ℕ) (answer : Result A CallFault) (new : Writer) (left : H) (behind : T) (after : W) (later : ℕ) : Type 0 where

@@ -20,7 +20,7 @@ pub enum CallFault {
     TooDeep,
     #[error("packet too long")]
     PacketTooLong,
-    /// No chunk was free, and the helper freed none: the writer waits for ever.
+    /// No chunk was free, and the helper freed none: the writer does nothing more.
     #[error("stalled")]
     Stalled,
 }

@@ -352,7 +352,7 @@ fn go_on<W: Words>(
 }
 
 /// Ends the innermost nested message, and puts its length in or keeps it as a patch. Where the writer
-/// waits for ever nothing changes.
+/// has stalled nothing changes.
 pub(crate) fn end_message<W: Words>(writer: &mut Writer, table: &mut W, seat: &mut W::Writer)
     requires seat { W.means.sits table.old seat.old }
     requires agrees { Agrees (W.means.setup table.old) (W.means.place seat.old) (W.means.view table.old seat.old) writer.old }

@@ -8,7 +8,7 @@ ghost use Rattle.trace_writer.specs.OwnSteps.{IsQuiet};
 use crate::state::{State, Writer, is_stalled, put_state, take_state};
 use chunk_plain::{Words, WriterCall};
 
-/// Ends a packet whose messages have all ended. Where the writer waits for ever nothing changes.
+/// Ends a packet whose messages have all ended. Where the writer has stalled nothing changes.
 pub(crate) fn finish<W: Words>(writer: &mut Writer, table: &mut W, seat: &mut W::Writer)
     requires seat { W.means.sits table.old seat.old }
     requires agrees { Agrees (W.means.setup table.old) (W.means.place seat.old) (W.means.view table.old seat.old) writer.old }
@@ -44,7 +44,7 @@ pub(crate) fn finish<W: Words>(writer: &mut Writer, table: &mut W, seat: &mut W:
     table.note_call(seat, WriterCall::Finished);
 }
 
-/// Completes the held chunk, where there is one. Where the writer waits for ever nothing changes.
+/// Completes the held chunk, where there is one. Where the writer has stalled nothing changes.
 pub(crate) fn flush<W: Words>(writer: &mut Writer, table: &mut W, seat: &mut W::Writer)
     requires seat { W.means.sits table.old seat.old }
     requires agrees { Agrees (W.means.setup table.old) (W.means.place seat.old) (W.means.view table.old seat.old) writer.old }

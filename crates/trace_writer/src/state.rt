@@ -38,7 +38,7 @@ pub(crate) struct Writer {
     pub dropped: u64,
 }
 
-/// Whether the writer waits for ever.
+/// Whether the writer has stalled: no chunk came, and none will.
 pub(crate) fn is_stalled(state: &State) -> bool
     ensures { result ≡ is_stalled_state state.now }
 {

@@ -1,4 +1,4 @@
--- A writer that drops packets never waits for ever.
+-- A writer that drops packets never stalls.
 use Rattle.std.proofs.Common.{◌≡◌, false, refl}
 use Rattle.trace_base.specs.declared.policy.WriterPolicy.TheVariants.{Drops}
 use Rattle.trace_model.specs.Packets.{Account, account_of}
