@@ -1,8 +1,9 @@
-//! The fields of a packet as a scenario's line spells them: `parse_fields` reads a text into a list
-//! of nodes, and refuses it for the first reason that it gives.
+//! The fields of a packet as a scenario's line spells them: a `FieldParser` reads one text after
+//! another into a list of nodes, which it lends, and refuses a text for the first reason that it
+//! gives; `parse_fields` reads one text, and gives its nodes away as a `FieldTree`.
 //! A layer above may rely on a text being accepted exactly where the grammar spells a tree of
-//! fields so, on the nodes being those of this one tree, on the column of a fault, and on
-//! `enc_len` being the length of the tree's encoding. A tree keeps its nodes as few bytes. The laws are functions with empty bodies.
+//! fields so, on the nodes being those of this one tree, on the column of a fault, and on the length
+//! of the tree's encoding. Nodes are kept as few bytes. The laws are functions with empty bodies.
 #![tactic(auto)]
 
 mod act;

@@ -32,7 +32,7 @@ impl Model for FieldTree {
 
 impl FieldTree {
     /// The tree of the nodes that these bytes say, whose encoding has this length. It takes no more
-    /// room than it needs: a scenario keeps the trees of all its lines.
+    /// room than it needs.
     pub(crate) fn from_parts(code: Vec<u8>, encoded: u32) -> Self
         requires { IsEncoded code.items encoded }
         ensures { result ≡ shown_in code.items }

@@ -1,6 +1,7 @@
 -- A text of which more is still to come: its first line is cut off, whatever comes.
-use Rattle.std.proofs.Common.{append_assoc, ◌≡◌, ℕ, suc, Result, Ok, Err, ◌+◌, ◌-◌, ◌<◌, length, Bool, true, false, not, cond, nat_eq, Some, None, List, [], ◌∷◌, ◌++◌, take, drop, refl, sym, ap, subst, arith, ◌∙◌}
-use Rattle.std.specs.List.{position_or_len, slice_split}
+use Rattle.std.proofs.Common.{append_assoc, ◌≡◌, ℕ, suc, Result, Ok, Err, ◌+◌, ◌-◌, ◌<◌, length, Bool, true, false, not, cond, nat_eq, Option, Some, None, List, [], ◌∷◌, ◌++◌, take, drop, refl, sym, ap, subst, arith, ◌∙◌}
+use Rattle.std.specs.Option.{is_some}
+use Rattle.std.specs.List.{onto_first, position_or_len, slice_split}
 use Rattle.std.proofs.lemmas.List.{append-nil, take_rest, take-append-le, drop-append-le}
 use Rattle.std.proofs.lemmas.List.Splits.{slice_split_first}
 use Rattle.std.proofs.lemmas.Grind.{common_steps}
@@ -15,8 +16,8 @@ use Rattle.scenario_text.specs.Grammar.{after_line, after_lines, at_end}
 use Rattle.scenario_text.specs.Scenario.{GivesScenario, Parts, said}
 use Rattle.scenario_text.specs.View.{state_of}
 use Rattle.scenario_text.specs.declared.scenario_reader.ScenarioReader.{ScenarioReader}
-use Rattle.scenario_text.specs.Behind.{says_after, says_behind, RefusedBy}
-use Rattle.scenario_text.proofs.PieceLemmas.{first_byte_is, one_piece, place_by}
+use Rattle.scenario_text.specs.Behind.{says_after, says_behind, waiting, IsOneLine, RefusedBy}
+use Rattle.scenario_text.proofs.PieceLemmas.{first_byte_is, has_piece, HasPiece, one_piece, place_by}
 use Rattle.scenario_text.proofs.ReadLemmas.{scenario_goes, scenario_stops, scenario_unfinished}
 
 front_more : (answer : Bool) (here there len : ℕ) → (here < len → there ≡ here) → cond (not answer) (1 + here) 0 < suc len
@@ -52,6 +53,25 @@ one_line bytes more at found =
 pub behind_line : (bytes : List ℕ) (at : ℕ) → at < length bytes
     → take (length bytes - (at + 1)) (drop (at + 1) bytes) ≡ drop (length (take at bytes) + 1) bytes
 behind_line bytes at inside = grind (arith, common_steps, take_rest bytes (at + 1))
+
+-- two parts of one line are a part of it too
+join_by : (b : ℕ) (bytes back : List ℕ) (answer : Bool) (all : List (List ℕ)) → HasPiece all → cond answer ([] ∷ all) (onto_first b all) ≡ (b ∷ bytes) ∷ []
+    → (all ≡ bytes ∷ [] → pieces 10 (bytes ++ back) ≡ (bytes ++ back) ∷ [])
+    → cond answer ([] ∷ pieces 10 (bytes ++ back)) (onto_first b (pieces 10 (bytes ++ back))) ≡ (b ∷ bytes ++ back) ∷ []
+join_by b bytes back true all some one again = cc
+join_by b bytes back false [] some one again = absurd (by_none some)
+  where
+    by_none : HasPiece [] → ⊥
+    by_none some = let are = some.are in cc
+join_by b bytes back false (first ∷ others) some one again =
+    let first_is : first ≡ bytes = cc in
+    let none : others ≡ [] = cc in
+    rw (again (rw first_is (rw none refl))) refl
+
+pub joined_line : (front back : List ℕ) → IsOneLine front → IsOneLine back → IsOneLine (front ++ back)
+joined_line [] back one other = other
+joined_line (b ∷ bytes) back one other =
+    join_by b bytes back (nat_eq b 10) (pieces 10 bytes) (has_piece 10 bytes) one (λ whole. joined_line bytes back whole other)
 
 -- ---- a reader of lines
 
@@ -119,6 +139,14 @@ pub piece_waits : (old new : ScenarioReader) (piece more : List ℕ) → new.lin
 unfolding says_behind
 piece_waits old new piece more lines all =
     one_text old new.pending.items piece more all ∙ ap (λ (l : LinesReader). says_after l (new.pending.items ++ more)) (sym lines)
+
+-- so that what waits is still one line
+pub one_line_waits : (old new : ScenarioReader) (piece : List ℕ) (found : Option ℕ) → IsFirstByte (is_byte 10) piece found → is_some found ≡ false
+    → new.pending.items ≡ old.pending.items ++ piece → IsOneLine (waiting old) → IsOneLine (waiting new)
+unfolding waiting
+one_line_waits old new piece None nowhere none all one =
+    subst IsOneLine (sym all) (joined_line old.pending.items piece one (no_line piece nowhere))
+one_line_waits old new piece (Some at) nowhere none all one = cc
 
 -- the lines of what came were read, and the rest waits
 pub lines_are_read : (old new : ScenarioReader) (bytes piece more : List ℕ) (count : ℕ) → bytes ≡ old.pending.items ++ piece

@@ -1,5 +1,5 @@
 -- A text that is read as it comes: what it says by the lines that were read and by what comes behind them.
-use Rattle.std.specs.Prelude.{◌≡◌, ℕ, ◌+◌, List, ◌++◌, length, Result, Err}
+use Rattle.std.specs.Prelude.{◌≡◌, ℕ, ◌+◌, List, [], ◌∷◌, ◌++◌, length, Result, Err}
 use Rattle.scenario_text.specs.declared.reason.Reason.{Reason}
 use Rattle.scenario_text.specs.declared.reason.ScenarioFault.{ScenarioFault}
 use Rattle.scenario_text.specs.declared.reason.ScenarioFault.TheVariants.{OutOfMemory, Bad}
@@ -21,6 +21,14 @@ next_line reader = reader.number
 -- what a text says of which this was read, where this comes behind it; or its first fault
 unfoldable pub says_behind : ScenarioReader → List ℕ → Result Parts (ℕ × Reason)
 says_behind reader more = says_after reader.lines (reader.pending.items ++ more)
+
+-- what came of the line that has begun
+unfoldable pub waiting : ScenarioReader → List ℕ
+waiting reader = reader.pending.items
+
+-- no line feed stands in these bytes
+abbrev pub IsOneLine : List ℕ → Type 0
+IsOneLine bytes = pieces 10 bytes ≡ bytes ∷ []
 
 -- no line of what was read has a number above this
 unfoldable pub line_bound : ScenarioReader → ℕ

@@ -1,4 +1,4 @@
-//! A scenario that is read as its text comes, so that the text never stands in memory as a whole.
+//! A scenario that is read as its text comes: no more of the text is kept than the line that has begun.
 
 use crate::lines_reader::LinesReader;
 use crate::reason::ScenarioFault;
@@ -18,13 +18,14 @@ pub struct ScenarioReader {
 impl ScenarioReader {
     ghost use Rattle.std.specs.Prelude.{◌≡◌, ℕ, ◌+◌, ◌≤◌, List, ◌++◌, [], length, drop, vec_len, IfErr, OnOk};
     ghost use Rattle.scenario_text.specs.Scenario.{scenario_of, GivesScenario};
-    ghost use Rattle.scenario_text.specs.Behind.{line_bound, next_line, says_behind, RefusedBy};
+    ghost use Rattle.scenario_text.specs.Behind.{line_bound, next_line, says_behind, waiting, IsOneLine, RefusedBy};
 
     /// At the start of a text.
-    #[tactic(auto, unfolding(crate::specs::Behind::says_behind, crate::specs::Behind::line_bound))]
+    #[tactic(auto, unfolding(crate::specs::Behind::says_behind, crate::specs::Behind::line_bound, crate::specs::Behind::waiting))]
     pub fn new(alloc: Global) -> Self
         ensures starts { (text : List ℕ) → says_behind result text ≡ scenario_of text }
         ensures bound { line_bound result ≡ 1 }
+        ensures waits { waiting result ≡ [] }
     {
         ScenarioReader {
             lines: LinesReader::new(alloc),
@@ -44,12 +45,14 @@ impl ScenarioReader {
     }
 
     /// Reads the bytes that come next. After a fault the reader is of no more use. A line is looked at
-    /// once its line feed has come, so that a long one isn't looked at again with each part of it.
+    /// once its line feed has come, so that a long one isn't looked at again with each part of it; and
+    /// no line waits whose line feed has come.
     pub fn take(&mut self, piece: &[u8]) -> Result<(), ScenarioFault>
         requires bound { line_bound self.old + length piece.now ≤ MAX_INPUT + 1 }
         ensures goes_on { OnOk result ((more : List ℕ) → says_behind self.old (piece.now ++ more) ≡ says_behind self.new more) }
         ensures refuses { IfErr result (λ fault. (more : List ℕ) → RefusedBy fault (says_behind self.old (piece.now ++ more))) }
         ensures bound { OnOk result (line_bound self.new ≤ line_bound self.old + length piece.now) }
+        ensures waits { OnOk result (IsOneLine (waiting self.old) → IsOneLine (waiting self.new)) }
     {
         match self.pending.extend_from_slice(piece) {
             Ok(()) => {}
