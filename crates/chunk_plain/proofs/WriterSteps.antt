@@ -71,7 +71,7 @@ claims_owned world place chunk found o inside_w inside_c free =
       level = q.level;
     }
     (λ i old at. at_longer v.asked (ask ∷ []) i old at)
-    (λ i old at. ⊎_elim (λ before. inl before) (λ new. inr (sym (ap (λ (a : Ask). a.chunk) new.1))) (at_more v.asked ask old i at))
+    (λ i old at. ⊎_elim (λ before. inl before) (λ new. inr (sym (ap (λ (a : Ask). a.won) new.1))) (at_more v.asked ask old i at))
     (won_here world place chunk (length v.asked) (claims v chunk found true) (Claimed place) ask inside_w (at_last v.asked ask (length v.asked) refl) refl)
     (λ about found there. record { entry = there.entry; at = there.at; has = there.has })
 
@@ -85,7 +85,7 @@ misses_owned world place chunk found o inside taken =
     (λ other p. record { claimed = p.claimed; stamp_is = p.stamp_is; stamped_is = p.stamped_is; held_is = p.held_is; writing_is = p.writing_is; completed_is = p.completed_is; ready_is = p.ready_is; reading_is = p.reading_is })
     record { wins = let same = wins_in-lost v.asked ask refl in omega (arith, same, q.wins); next = q.next; named = q.named; drafts = q.drafts; wholes = q.wholes; completed = q.completed; learnt = q.learnt; level = q.level }
     (λ i old at. at_longer v.asked (ask ∷ []) i old at)
-    (λ i old at. ⊎_elim (λ before. inl before) (λ new. inr (subst (λ (a : Ask). Won world a.chunk) new.1 (o.claimed_won chunk taken))) (at_more v.asked ask old i at))
+    (λ i old at. ⊎_elim (λ before. inl before) (λ new. inr (subst (λ (a : Ask). Won world a.chunk) new.1 (o.claimed_won chunk taken), omega (arith, new.0))) (at_more v.asked ask old i at))
     (λ about found there. record { entry = there.entry; at = there.at; has = there.has })
 
 -- a call is noted

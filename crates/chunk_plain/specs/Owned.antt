@@ -71,14 +71,18 @@ pub record Counts (taken : Taken) (place : ℕ) (view : WriterView) : Type 0 whe
 abbrev pub Won : World → ℕ → Type 0
 Won world chunk = (place i : ℕ) × (ask : Ask) × At (writer world place).asked i ask × (ask.won ≡ true) × (ask.chunk ≡ chunk)
 
+-- so did one that isn't behind this place of this writer's claims: another writer's, or its own at the place or before it
+abbrev pub WonBefore : World → (place i chunk : ℕ) → Type 0
+WonBefore world place i chunk = (other j : ℕ) × (ask : Ask) × At (writer world other).asked j ask × (ask.won ≡ true) × (ask.chunk ≡ chunk) × (other ≡ place → j ≤ i)
+
 -- each chunk is owned by exactly one, as a table keeps it between two steps
 pub record IsOwned (world : World) : Type 0 where
   pub owns : (place chunk : ℕ) → Owns (taken_of world.service place).count place (writer world place) chunk (status world chunk)
   pub counts : (place : ℕ) → Counts (taken_of world.service place) place (writer world place)
   pub reads : (chunk : ℕ) → times chunk world.service.reading ≡ reads_of (status world chunk)
-  -- a chunk that somebody has was won, and so was one that somebody claimed in vain
+  -- a chunk that somebody has was won, and so was one that somebody claimed in vain, and not by a later claim of the same writer
   pub claimed_won : (chunk : ℕ) → (status world chunk ≡ Unclaimed → ⊥) → Won world chunk
-  pub asked_won : (place i : ℕ) (ask : Ask) → At (writer world place).asked i ask → Won world ask.chunk
+  pub asked_won : (place i : ℕ) (ask : Ask) → At (writer world place).asked i ask → WonBefore world place i ask.chunk
   -- what the service found of a chunk that was being written is there still, taken or not
   pub looks : (n : ℕ) (look : Look) (found : Found) → At world.service.looks n look → look.found ≡ Some found
       → IsFound found × IsThere (writer world found.place) look.chunk found

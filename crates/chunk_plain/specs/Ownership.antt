@@ -9,7 +9,7 @@ use Rattle.chunk_plain.specs.Setup.{Setup, spot}
 use Rattle.chunk_plain.specs.Payload.{byte_at}
 use Rattle.chunk_plain.specs.Views.{At, Ask, Head, no_head, Draft, Content, Held, Completed, Look, Found, taken_of}
 use Rattle.chunk_plain.specs.World.{World, writer}
-use Rattle.chunk_plain.specs.Owned.{times, stamps_in, wins_in, Won}
+use Rattle.chunk_plain.specs.Owned.{times, stamps_in, wins_in, Won, WonBefore}
 use Rattle.chunk_plain.specs.Drafts.{MayFollow, IsDraft, HasFinished, BeginsAs, head_of}
 use Rattle.chunk_plain.specs.Stored.{Stored, stored_at}
 use Rattle.chunk_plain.specs.Shows.{IsSpare, ShowsLayout, IsHeader, HoldsPayload, IsBodyOf, page_word, header_word}
@@ -120,6 +120,6 @@ pub record Ownership (setup : Setup) (words : List ℕ) (slots : List Stored) (w
   pub untaken : (place chunk id : ℕ) (content : Content) → Completes world place chunk id content → (taken_of world.service place).count ≤ id
       → HasState (page_word setup words chunk) (spot setup chunk).place Complete
   pub won : (chunk : ℕ) → chunk < length setup.spots → bit_at (page_word setup words chunk) (CLAIM_BIT + (spot setup chunk).place) ≡ 1 → Won world chunk
-  pub asked : (place i : ℕ) (ask : Ask) → At (writer world place).asked i ask → Won world ask.chunk
+  pub asked : (place i : ℕ) (ask : Ask) → At (writer world place).asked i ask → WonBefore world place i ask.chunk
   pub wins : (place : ℕ) → wins_in (writer world place).asked
       ≡ length (writer world place).claimed + stamps_in (writer world place).stamped + length (writer world place).begun
