@@ -44,7 +44,9 @@ use Rattle.world_model.proofs.PartLemmas.{IsLooked, looked as as_looked}
 use Rattle.world_model.proofs.OwnLemmas.{image_at, elem_at}
 use Rattle.trace_writer.specs.Laws.{IsHeldImage}
 use Rattle.service_core.specs.Order.{Stage, IsFoundPart, LeadTo, beginning}
+use Rattle.service_core.specs.OrderLaws.{HasImages}
 use Rattle.replay_model.specs.Does.{Wrote, is_shut}
+use Rattle.replay_model.specs.Written.{HasWritten}
 use Rattle.replay_model.proofs.SortedLemmas.{at_stage, IsSorted}
 use Rattle.replay_model.proofs.ScrapedLemmas.{counted, one_held, two_held, few_held}
 use Rattle.replay_model.proofs.StandsLemmas.{Stands}
@@ -271,6 +273,15 @@ module _ (setup : Setup) (world : World) (owned : ∥ IsOwned world ∥₁) (pla
       let long : length image.payload ≡ size = ap (λ (i : Image). length i.payload) paged.is ∙ full.whole in
       let small = wrote.cut.small in
       omega (arith, long, small)
+
+  pub has_images : HasImages view images
+  has_images = record {
+    completed = image_of_completed;
+    held = λ id chunk draft at. let h = image_of_held id chunk draft at in (h.image, h.there, h.stands, small_image id h.image h.there);
+  }
+
+  abbrev pub has_written : HasWritten setup place view
+  has_written = record { held = wrote.held; cut = wrote.cut; images = has_images; begun = wrote.begun }
 
   -- what a look found of a chunk is there still
   still : (id : ℕ) (one : BegunChunk) → At begun id one → (n : ℕ) (look : Look) (found : Found) → At world.service.looks n look → look.found ≡ Some found

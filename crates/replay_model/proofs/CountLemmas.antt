@@ -32,7 +32,7 @@ use Rattle.service_core.specs.Routing.{buffer_at}
 use Rattle.replay_model.specs.Flushes.{FlushNote}
 use Rattle.replay_model.specs.Laws.{EveryReportCountsPackets}
 use Rattle.replay_model.specs.Played.{IsPlayed, buffers_of, buffers_in, first_buffer, CountsPackets}
-use Rattle.replay_model.proofs.AccountLemmas.{account_in}
+use Rattle.replay_model.proofs.AccountLemmas.{account_in, has_written}
 use Rattle.replay_model.proofs.BalanceLemmas as balance
 use Rattle.replay_model.proofs.BalanceLemmas.{count_at, each_is}
 use Rattle.replay_model.proofs.PlayedLemmas.{played_stands, writers_lose}
@@ -123,8 +123,7 @@ module _ (scenario : Parts) (setup : Setup) (world : World) (notes : List FlushN
       ∙ ap (λ (p : FullPolicy). counts_of p (writer world place).calls (sequence_in (state_after own history).sequences (place + 2))) (policy_stays history own) in
       let shape = losses_change_no_shape (calls_asked (suc place) scenario.lines) (writer world place).calls (writers_lose scenario setup world notes played place) in
       record {
-        pages = wrote.cut.cut.pages;
-        cut = wrote.cut.cut.cut;
+        wrote = has_written setup world h.1 place wrote;
         begun = ap (λ (c : PacketCounts). c.begun) same ∙ ap (λ (n : ℕ). raised 0 n) shape.begun;
         outcomes = subst (λ (b : Buffer). CountsOutcomes b.policy (packet_outcomes (fixed_after (sequence_of place) b history) (writer world place).calls wrote.cut.cut.pages) counts) (sym first_is)
             (subst (CountsOutcomes own.policy (packet_outcomes (fixed_after (place + 2) own history) (writer world place).calls wrote.cut.cut.pages)) (sym same) outcomes);

@@ -7,3 +7,4 @@ pub mod Laws
 pub mod Played
 pub mod Plays
 pub mod Schedule
+pub mod Written

@@ -8,11 +8,9 @@ use Rattle.trace_model.specs.Balance.{PacketCounts, IsBalanced, CountsOutcomes, 
 use Rattle.trace_model.specs.Buffers.{Buffer}
 use Rattle.trace_model.specs.Causes.{fixed_after}
 use Rattle.trace_model.specs.Counts.{raised}
-use Rattle.trace_model.specs.Cut.{CutsInto}
 use Rattle.trace_model.specs.Delivery.{Delivered, IsFaithful, IsComplete, trace_of}
 use Rattle.trace_model.specs.History.{buffers_after, records_after}
-use Rattle.trace_model.specs.Packets.{packets_of, emissions_of, begun_count}
-use Rattle.trace_model.specs.Pages.{Page}
+use Rattle.trace_model.specs.Packets.{emissions_of, begun_count}
 use Rattle.trace_model.specs.Sequences.{sequence_in}
 use Rattle.scenario_text.specs.declared.scenario.BufferLine.{BufferLine}
 use Rattle.scenario_text.specs.declared.scenario.ProducerLine.{ProducerLine}
@@ -25,7 +23,7 @@ use Rattle.chunk_plain.specs.Laying.{setup_of}
 use Rattle.chunk_plain.specs.Plain.{first_world}
 use Rattle.chunk_plain.specs.World.{World, writer}
 use Rattle.chunk_plain.specs.Histories.{history_of}
-use Rattle.world_model.specs.FirstBuffers.{BufferSpec, payload_at, first_buffers}
+use Rattle.world_model.specs.FirstBuffers.{BufferSpec, first_buffers}
 use Rattle.trace_buffer.specs.Answers as answers
 use Rattle.loss_report.specs.declared.counts.SequenceCounts.{SequenceCounts}
 use Rattle.loss_report.specs.Report.{report_text}
@@ -35,6 +33,7 @@ use Rattle.replay_model.specs.Enough.{HasEnough}
 use Rattle.replay_model.specs.Flushes.{FlushNote, flush_sums}
 use Rattle.replay_model.specs.Plays.{Plays}
 use Rattle.replay_model.specs.Schedule.{schedule_of}
+use Rattle.replay_model.specs.Written.{HasWritten}
 
 -- ---- the set-up
 
@@ -122,13 +121,12 @@ abbrev pub first_buffer : Parts → Setup → (place : ℕ) → Buffer
 first_buffer scenario setup place = buffer_at (buffers_of scenario setup) ((spec_at scenario.writers place).buffer - 1)
 
 -- The report's counts of the writer at this place are those of its packets' outcomes: each packet that the lines begin is delivered, or absent under
--- the one cause that the history fixed first.
+-- the one cause that the history fixed first. Where a packet stands is said by the pages of the writer's own chunks.
 pub record CountsPackets (scenario : Parts) (setup : Setup) (world : World) (place : ℕ) (counts : PacketCounts) : Type 0 where
-  pub pages : List Page
-  pub cut : CutsInto (payload_at setup place) (packets_of (writer world place).calls) pages
+  pub wrote : HasWritten setup place (writer world place)
   pub begun : counts.begun ≡ raised 0 (begun_count (calls_asked (suc place) scenario.lines))
   pub outcomes : CountsOutcomes (first_buffer scenario setup place).policy
-      (packet_outcomes (fixed_after (sequence_of place) (first_buffer scenario setup place) (history_of world.service)) (writer world place).calls pages) counts
+      (packet_outcomes (fixed_after (sequence_of place) (first_buffer scenario setup place) (history_of world.service)) (writer world place).calls wrote.cut.cut.pages) counts
 
 -- The scenario was replayed: there is a world that its lines lead to. The trace has taken that world's records and nothing else, and the text is its
 -- report. The records are faithful to what the scenario has its writers emit, and the report counts every packet once, under its cause. Where chunks

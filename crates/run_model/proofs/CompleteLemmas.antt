@@ -42,6 +42,7 @@ use Rattle.service_core.specs.Reading.{reads_in, noted_read, sequences_to}
 use Rattle.service_core.specs.Routing.{buffer_at}
 use Rattle.replay_model.specs.Enough.{HasEnough, IsPlayable, room_of}
 use Rattle.replay_model.specs.Played.{buffer_specs, buffers_of, records_in}
+use Rattle.replay_model.specs.Written.{HasWritten}
 use Rattle.replay_model.proofs.BalanceLemmas.{get_map, after_at}
 use Rattle.replay_model.proofs.BytesLemmas.{BelowAt, order_below, sheets_long, each_below, begun_of, wanted_few}
 use Rattle.replay_model.proofs.FinishLemmas.{HasRead, has_read_left, has_read_right}
@@ -49,7 +50,6 @@ use Rattle.replay_model.proofs.LostLemmas.{all_whole}
 use Rattle.replay_model.proofs.ReadOutLemmas.{told_few, emitted_few, begun_sum, IsFew, reads_has}
 use Rattle.replay_model.proofs.RoomLemmas.{payload_for, bytes_from, bytes_enough}
 use Rattle.schedule_laws.specs.ReportLaws.{buffer_named}
-use Rattle.schedule_laws.proofs.BetweenLemmas.{HasWritten}
 use Rattle.schedule_laws.proofs.EnoughLemmas.{pages_begun}
 use Rattle.run_model.specs.Laws.{EveryEnoughRunIsComplete}
 use Rattle.run_model.specs.Settled.{IsRun}

@@ -114,8 +114,7 @@ module _ (scenario : Parts) (setup : Setup) (world : World) (run : IsRun scenari
       let told = accounts_are_histories (payload_at setup place) (writer world place).calls own.cut.cut.pages sequences (place + 2) size history account begun_few in
       record {
         balanced = counts_are_balanced (payload_at setup place) (writer world place).calls own.cut.cut.pages made.size made.policy sequences (place + 2) size history told;
-        pages = own.cut.cut.pages;
-        cut = own.cut.cut.cut;
+        wrote = own;
         outcomes = counts_are_of_outcomes (payload_at setup place) (writer world place).calls own.cut.cut.pages made.size made.policy sequences (place + 2) size history told;
       }
 
@@ -128,12 +127,11 @@ module _ (scenario : Parts) (setup : Setup) (world : World) (run : IsRun scenari
       ap (λ (s : WriterSpec). buffer_at (buffers_of scenario setup) (s.buffer - 1)) (get_or_from_slice_get scenario.writers place spec no_writer get)
       ∙ begins_as scenario setup spec is_writer in
       record {
-        pages = once.pages;
-        cut = once.cut;
+        wrote = once.wrote;
         begun = ap (λ (c : PacketCounts). c.begun) same
             ∙ ap (λ (n : ℕ). raised 0 n) (shape scenario setup world run place (within scenario setup world run place spec get)).begun;
-        outcomes = subst (λ (b : Buffer). CountsOutcomes b.policy (packet_outcomes (fixed_after (sequence_of place) b history) (writer world place).calls once.pages) counts) (sym first_is)
-            (subst (CountsOutcomes first.policy (packet_outcomes (fixed_after (place + 2) first history) (writer world place).calls once.pages)) (sym same) once.outcomes);
+        outcomes = subst (λ (b : Buffer). CountsOutcomes b.policy (packet_outcomes (fixed_after (sequence_of place) b history) (writer world place).calls once.wrote.cut.cut.pages) counts) (sym first_is)
+            (subst (CountsOutcomes first.policy (packet_outcomes (fixed_after (place + 2) first history) (writer world place).calls once.wrote.cut.cut.pages)) (sym same) once.outcomes);
       }
 
 -- ---- the laws

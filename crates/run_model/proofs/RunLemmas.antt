@@ -28,7 +28,8 @@ use Rattle.scenario_text.specs.Accepted.{calls_asked}
 use Rattle.scenario_text.specs.Limits.{IsProducer, IsSetUp}
 use Rattle.service_core.specs.Agreement.{spec_at, no_writer}
 use Rattle.replay_model.specs.Played.{IsSpecOf, IsSetupOf}
-use Rattle.schedule_laws.proofs.BetweenLemmas.{HasWritten, has_written}
+use Rattle.replay_model.specs.Written.{HasWritten}
+use Rattle.schedule_laws.proofs.BetweenLemmas.{has_written}
 use Rattle.run_model.specs.Settled.{IsRun}
 use Rattle.run_model.proofs.OwnedLemmas.{named, learnt, finds, in_order}
 

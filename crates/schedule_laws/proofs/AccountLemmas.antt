@@ -16,11 +16,12 @@ use Rattle.world_model.specs.FirstBuffers.{payload_at}
 use Rattle.world_model.specs.Accounts.{all_images, HasCut, InOrder, IsAccount}
 use Rattle.world_model.proofs.FaithfulLemmas.{told_of, every_account_is_faithful}
 use Rattle.service_core.proofs.AccountLemmas.{leads_are_in_order}
+use Rattle.replay_model.specs.Written.{HasWritten}
 use Rattle.schedule_laws.specs.Moves.{Move}
 use Rattle.schedule_laws.specs.Schedules.{IsSchedule}
 use Rattle.schedule_laws.specs.Resting.{AreBetweenCalls, IsNotedInOrder, AreNotedInOrder}
 use Rattle.schedule_laws.specs.Laws.{SchedulesAreAccounts, EveryScheduleIsFaithful, EverySequenceIsTold, EveryServedScheduleIsFaithful}
-use Rattle.schedule_laws.proofs.BetweenLemmas.{HasWritten, has_written}
+use Rattle.schedule_laws.proofs.BetweenLemmas.{has_written}
 use Rattle.schedule_laws.proofs.CommitLemmas.{none_committed, serving_is_in_order}
 use Rattle.schedule_laws.proofs.ScheduleLemmas.{schedules_keep_ownership}
 

@@ -31,6 +31,7 @@ use Rattle.trace_writer.proofs.accounts.CutLaws.{agreeing_is_cut}
 use Rattle.trace_writer.proofs.holding.HeldLaws.{held_is_published}
 use Rattle.trace_writer.proofs.holding.KeptChunks.{shown_none_held}
 use Rattle.service_core.specs.OrderLaws.{HasImages}
+use Rattle.replay_model.specs.Written.{HasWritten}
 use Rattle.schedule_laws.specs.Resting.{IsBetweenCalls}
 
 -- ---- chunks that were begun
@@ -222,13 +223,6 @@ size_is setup place route laid is =
     let first : IsChunkOf setup (producer_of setup place) (range_of setup (producer_of setup place)).first = record { least = omega arith; below = omega arith } in
     sym (is.sizes (range_of setup (producer_of setup place)).first first)
     ∙ laid.sizes (producer_of setup place) (range_of setup (producer_of setup place)).first first
-
--- what a writer wrote, and what it holds
-pub record HasWritten (setup : Setup) (place : ℕ) (view : WriterView) : Type 0 where
-  pub held : List Image
-  pub cut : HasCut (payload_at setup place) place view held
-  pub images : HasImages view (all_images view held)
-  pub begun : length view.begun ≡ length (completed_images view.begun) + length held
 
 pub has_written : (setup : Setup) (place : ℕ) (view : WriterView) → IsLaid setup → IsBetweenCalls setup place view → HasWritten setup place view
 has_written setup place view laid between =

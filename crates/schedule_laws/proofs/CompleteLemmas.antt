@@ -31,12 +31,13 @@ use Rattle.world_model.proofs.FaithfulLemmas.{order_events}
 use Rattle.world_model.proofs.MakingLemmas.{set_at, known_range}
 use Rattle.world_model.proofs.ProjectLemmas.{Without, Once, once_writes}
 use Rattle.service_core.specs.Agreement.{spec_at}
+use Rattle.replay_model.specs.Written.{HasWritten}
 use Rattle.replay_model.proofs.BytesLemmas.{BelowAt, order_below, sheets_long, each_below, begun_of}
 use Rattle.replay_model.proofs.LostLemmas.{all_whole}
 use Rattle.schedule_laws.specs.Resting.{AreBetweenCalls, AreNotedInOrder}
 use Rattle.schedule_laws.specs.EnoughLaws.{HasChunksEnough, IsReadOut, EnoughMissesNothing, bytes_from}
 use Rattle.schedule_laws.proofs.AccountLemmas.{owned_behind, many_behind, in_order}
-use Rattle.schedule_laws.proofs.BetweenLemmas.{HasWritten, has_written}
+use Rattle.schedule_laws.proofs.BetweenLemmas.{has_written}
 use Rattle.schedule_laws.proofs.EnoughLemmas.{pages_begun, begun_few, none_is_lost}
 use Rattle.schedule_laws.proofs.ReportLemmas.{account_in}
 

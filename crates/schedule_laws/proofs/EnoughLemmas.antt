@@ -19,11 +19,12 @@ use Rattle.world_model.specs.FirstBuffers.{payload_at}
 use Rattle.world_model.proofs.OwnLemmas.{images_long}
 use Rattle.trace_writer.specs.Claims.{KeepsClaims}
 use Rattle.service_core.specs.Agreement.{spec_at}
+use Rattle.replay_model.specs.Written.{HasWritten}
 use Rattle.replay_model.proofs.PigeonLemmas.{ranges_apart, wins_on, range_wins, won_on, range_few, total, total_sum, total_less, total_least, many_wins, asked_at, own_ask, wins_are_begun}
 use Rattle.schedule_laws.specs.Resting.{AreBetweenCalls}
 use Rattle.schedule_laws.specs.EnoughLaws.{SetupsAreApart, HasChunksEnough, EnoughChunksLoseNothing, chunks_from}
 use Rattle.schedule_laws.proofs.AccountLemmas.{owned_behind, many_behind}
-use Rattle.schedule_laws.proofs.BetweenLemmas.{HasWritten, has_written, has_producer}
+use Rattle.schedule_laws.proofs.BetweenLemmas.{has_written, has_producer}
 
 pub setups_are_apart : SetupsAreApart
 setups_are_apart producers writers one other chunk has has_too of_one of_other =

@@ -5,6 +5,7 @@ use Rattle.std.proofs.lemmas.Option.{slice_get_within}
 use Rattle.page_geometry.specs.Sizes.{record_size}
 use Rattle.trace_model.specs.Calls.{Call}
 use Rattle.trace_model.specs.History.{Event}
+use Rattle.trace_model.specs.Pages.{Page}
 use Rattle.trace_model.specs.Sequences.{Sequence, fresh, sequence_in, is_known}
 use Rattle.delivery_laws.specs.DeliveryLaws.{IsAccountOf}
 use Rattle.delivery_laws.proofs.ReportLemmas.{accounts_are_histories}
@@ -16,10 +17,11 @@ use Rattle.chunk_plain.specs.Histories.{history_of}
 use Rattle.world_model.specs.FirstBuffers.{payload_at, sequences_from}
 use Rattle.world_model.proofs.FaithfulLemmas.{order_events}
 use Rattle.world_model.proofs.MakingLemmas.{set_at}
+use Rattle.replay_model.specs.Written.{HasWritten}
 use Rattle.schedule_laws.specs.Resting.{IsNotedInOrder}
 use Rattle.schedule_laws.specs.ReportLaws.{SequencesHaveAccounts, EveryPacketIsCounted}
 use Rattle.schedule_laws.proofs.AccountLemmas.{owned_behind, in_order}
-use Rattle.schedule_laws.proofs.BetweenLemmas.{HasWritten, has_written}
+use Rattle.schedule_laws.proofs.BetweenLemmas.{has_written}
 
 -- the pages of a writer's cut come in order in the history
 pub account_in : (setup : Setup) (world : World) (place : ℕ) → IsOwned world → (wrote : HasWritten setup place (writer world place)) → IsNotedInOrder world.service place
@@ -42,7 +44,7 @@ pub sequences_have_accounts : SequencesHaveAccounts
 sequences_have_accounts setup moves world laid schedule place inside between noted =
     let wrote = has_written setup place (writer world place) laid between in
     record {
-      pages = wrote.cut.cut.pages;
+      wrote = wrote;
       account = account_in setup world place (owned_behind setup moves world schedule) wrote noted;
     }
 
@@ -56,11 +58,11 @@ every_packet_is_counted setup moves world laid schedule place spec buffer get be
     let calls : List Call = (writer world place).calls in
     let events : List Event = history_of world.service in
     let size : ℕ = record_size (size_of setup spec.producer) in
+    let pages : List Page = has.wrote.cut.cut.pages in
     let account = has.account sequences size (set.known ∙ named) (set.start named) in
-    let history = accounts_are_histories (payload_at setup place) calls has.pages sequences (sequence_of place) size events account few in
+    let history = accounts_are_histories (payload_at setup place) calls pages sequences (sequence_of place) size events account few in
     record {
-      balanced = counts_are_balanced (payload_at setup place) calls has.pages buffer.size buffer.policy sequences (sequence_of place) size events history;
-      pages = has.pages;
-      cut = account.cut;
-      outcomes = counts_are_of_outcomes (payload_at setup place) calls has.pages buffer.size buffer.policy sequences (sequence_of place) size events history;
+      balanced = counts_are_balanced (payload_at setup place) calls pages buffer.size buffer.policy sequences (sequence_of place) size events history;
+      wrote = has.wrote;
+      outcomes = counts_are_of_outcomes (payload_at setup place) calls pages buffer.size buffer.policy sequences (sequence_of place) size events history;
     }

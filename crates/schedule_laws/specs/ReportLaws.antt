@@ -5,10 +5,8 @@ use Rattle.trace_model.specs.Balance.{PacketCounts, IsBalanced, CountsOutcomes, 
 use Rattle.trace_model.specs.Buffers.{Buffer, empty_buffer}
 use Rattle.trace_model.specs.Causes.{fixed_after}
 use Rattle.trace_model.specs.Counts.{last_count}
-use Rattle.trace_model.specs.Cut.{CutsInto}
 use Rattle.trace_model.specs.History.{state_after}
-use Rattle.trace_model.specs.Packets.{packets_of, begun_count}
-use Rattle.trace_model.specs.Pages.{Page}
+use Rattle.trace_model.specs.Packets.{begun_count}
 use Rattle.trace_model.specs.Sequences.{Sequence, fresh, sequence_in, is_known}
 use Rattle.delivery_laws.specs.DeliveryLaws.{IsAccountOf}
 use Rattle.chunk_plain.specs.Setup.{Setup, IsLaid, sequence_of}
@@ -16,17 +14,18 @@ use Rattle.chunk_plain.specs.World.{World, writer}
 use Rattle.chunk_plain.specs.Plain.{first_world}
 use Rattle.chunk_plain.specs.Histories.{history_of}
 use Rattle.world_model.specs.FirstBuffers.{BufferSpec, payload_at, sequences_from}
+use Rattle.replay_model.specs.Written.{HasWritten}
 use Rattle.schedule_laws.specs.Moves.{Move}
 use Rattle.schedule_laws.specs.Schedules.{IsSchedule}
 use Rattle.schedule_laws.specs.Resting.{IsBetweenCalls, IsNotedInOrder}
 
--- The history in a world is an account of the sequence of the writer at this place, in each buffer that has this sequence as a new one: so all that is
--- promised of accounts is so of it.
+-- The history in a world is an account of the sequence of the writer at this place and of the pages of its own chunks, in each buffer that has this
+-- sequence as a new one: so all that is promised of accounts is so of it.
 pub record HasAccount (setup : Setup) (world : World) (place : ℕ) : Type 0 where
-  pub pages : List Page
+  pub wrote : HasWritten setup place (writer world place)
   pub account : (sequences : List Sequence) (record_size : ℕ) → is_known sequences (sequence_of place) ≡ true
       → sequence_in sequences (sequence_of place) ≡ fresh (sequence_of place) record_size
-      → IsAccountOf (payload_at setup place) (writer world place).calls pages sequences (sequence_of place) record_size (history_of world.service)
+      → IsAccountOf (payload_at setup place) (writer world place).calls wrote.cut.cut.pages sequences (sequence_of place) record_size (history_of world.service)
 
 -- Of each sequence whose writer is between two calls, and on which was noted in order, whatever the other writers are in the middle of.
 abbrev pub SequencesHaveAccounts : Type 0
@@ -45,12 +44,12 @@ counts_at setup world place spec buffer =
     (sequence_in (state_after (buffer_named setup spec buffer) (history_of world.service)).sequences (sequence_of place))
 
 -- The report counts each packet that the writer began once: it is delivered, or absent under the one cause that the history fixed first. So the sum says.
+-- Where a packet stands is said by the pages of the writer's own chunks.
 pub record CountsOnce (setup : Setup) (world : World) (place : ℕ) (spec : WriterSpec) (buffer : BufferSpec) : Type 0 where
   pub balanced : IsBalanced (counts_at setup world place spec buffer)
-  pub pages : List Page
-  pub cut : CutsInto (payload_at setup place) (packets_of (writer world place).calls) pages
+  pub wrote : HasWritten setup place (writer world place)
   pub outcomes : CountsOutcomes buffer.policy
-      (packet_outcomes (fixed_after (sequence_of place) (buffer_named setup spec buffer) (history_of world.service)) (writer world place).calls pages)
+      (packet_outcomes (fixed_after (sequence_of place) (buffer_named setup spec buffer) (history_of world.service)) (writer world place).calls wrote.cut.cut.pages)
       (counts_at setup world place spec buffer)
 
 -- Of each such sequence, where no more packets were begun than a count can tell.
