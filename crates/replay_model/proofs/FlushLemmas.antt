@@ -53,7 +53,7 @@ use Rattle.replay_model.specs.Flushes.{FlushNote}
 use Rattle.replay_model.specs.FlushLaws.{begun_in, IsFlushRead, HasSettled, EveryFlushIsSettled}
 use Rattle.replay_model.specs.Plays.{Plays}
 use Rattle.replay_model.specs.Played.{IsSetupOf, buffer_specs, buffers_of, first_buffer}
-use Rattle.replay_model.proofs.AccountLemmas.{account_in, learnt, named, many_writers}
+use Rattle.replay_model.proofs.AccountLemmas.{account_in, has_written, learnt, named, many_writers}
 use Rattle.replay_model.proofs.BalanceLemmas.{first_at, after_at, first_long, each_is, get_map}
 use Rattle.replay_model.proofs.EndLemmas.{flush_done}
 use Rattle.replay_model.proofs.FinishLemmas.{HasRead}
@@ -389,8 +389,9 @@ module _ (scenario : Parts) (setup : Setup) (is_setup : IsSetupOf scenario setup
         ap (fixed_after (place + 2) first) (whole ∙ sym (append_assoc early (model.Read (place + 2) among.limit ∷ []) among.back))
         ∙ fixed_parts (place + 2) first (early ++ model.Read (place + 2) among.limit ∷ []) among.back in
         record {
+          wrote = has_written setup read flush.owned_now place now;
           pages = pages_then;
-          cut = cut_then;
+          flushed = is_flushed;
           settled = subst (λ (b : Buffer). AreSettled (fixed_after (sequence_of place) b history) (packets_of before) (chains_of pages_then)) (sym own_first)
               (subst (λ fs. AreSettled fs (packets_of before) (chains_of pages_then)) (sym fixed)
               (settled_still (fixed_after (place + 2) first (early ++ model.Read (place + 2) among.limit ∷ []))

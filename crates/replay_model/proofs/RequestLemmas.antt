@@ -7,10 +7,9 @@ use Rattle.trace_model.specs.Buffers.{Buffer}
 use Rattle.trace_model.specs.Calls.{Call, Flushed}
 use Rattle.trace_model.specs.Causes.{fixed_after}
 use Rattle.trace_model.specs.Counts.{last_count}
-use Rattle.trace_model.specs.Cut.{CutsInto}
 use Rattle.trace_model.specs.Pages.{Page}
 use Rattle.trace_model.specs.Written.{chains_of}
-use Rattle.delivery_laws.specs.FlushLaws.{AreSettled}
+use Rattle.delivery_laws.specs.FlushLaws.{IsFlushed, AreSettled}
 use Rattle.trace_model.specs.Enough.{most_chunks}
 use Rattle.trace_model.specs.Images.{Image}
 use Rattle.trace_model.specs.Packets.{Packet, packets_of, packet_encoding, is_writing, emissions_of, begun_count}
@@ -145,8 +144,9 @@ settled_same : (scenario : Parts) (setup : Setup) (place : ℕ) (asked other rea
 settled_same scenario setup place asked other read same settled =
     let calls : (writer other place).calls ≡ (writer asked place).calls = ap (λ (v : WriterView). v.calls) same in
     record {
+      wrote = settled.wrote;
       pages = settled.pages;
-      cut = subst (λ (cs : List Call). CutsInto (payload_at setup place) (packets_of cs) settled.pages) calls settled.cut;
+      flushed = subst (λ (cs : List Call). IsFlushed (payload_at setup place) (writer read place).calls settled.wrote.cut.cut.pages cs settled.pages) calls settled.flushed;
       settled = subst (λ (cs : List Call). AreSettled (fixed_after (sequence_of place) (first_buffer scenario setup place) (history_of read.service)) (packets_of cs) (chains_of settled.pages))
           calls settled.settled;
     }

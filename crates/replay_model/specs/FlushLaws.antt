@@ -5,12 +5,11 @@ use Rattle.trace_model.specs.Buffers.{Buffer}
 use Rattle.trace_model.specs.Calls.{Flushed}
 use Rattle.trace_model.specs.Causes.{fixed_after}
 use Rattle.trace_model.specs.Counts.{last_count}
-use Rattle.trace_model.specs.Cut.{CutsInto}
 use Rattle.trace_model.specs.Enough.{most_chunks}
 use Rattle.trace_model.specs.Packets.{packets_of, is_writing, emissions_of, begun_count}
 use Rattle.trace_model.specs.Pages.{Page}
 use Rattle.trace_model.specs.Written.{chains_of}
-use Rattle.delivery_laws.specs.FlushLaws.{AreSettled}
+use Rattle.delivery_laws.specs.FlushLaws.{IsFlushed, AreSettled}
 use Rattle.chunk_plain.specs.declared.tokens.TheConstants.{ID_LIMIT}
 use Rattle.chunk_plain.specs.Setup.{Setup, producer_of, sequence_of}
 use Rattle.chunk_plain.specs.Plain.{first_world}
@@ -31,6 +30,7 @@ use Rattle.replay_model.specs.Flushes.{FlushNote}
 use Rattle.replay_model.specs.Plays.{Plays}
 use Rattle.replay_model.specs.Played.{IsSetupOf, buffers_of, first_buffer}
 use Rattle.replay_model.specs.Schedule.{acts_from}
+use Rattle.replay_model.specs.Written.{HasWritten}
 
 -- the acts ask nothing of the writer at this place
 abbrev pub LeaveAlone : (place : ℕ) → List Act → Type 0
@@ -66,10 +66,12 @@ pub record IsFlushRead (setup : Setup) (buffers : List Buffer) (place : ℕ) (as
   pub owned_now : ∥ IsOwned read ∥₁
 
 -- In the world behind the read, the outcome is fixed of each packet that the writer had begun when it flushed, and it had finished all of them: the
--- packet is delivered, in a record of that world's history, or absent under one cause.
+-- packet is delivered, in a record of that world's history, or absent under one cause. Where a packet stands is said by the pages of the writer's own
+-- chunks: the first of them are those into which it had cut these packets.
 pub record HasSettled (scenario : Parts) (setup : Setup) (place : ℕ) (asked read : World) : Type 0 where
+  pub wrote : HasWritten setup place (writer read place)
   pub pages : List Page
-  pub cut : CutsInto (payload_at setup place) (packets_of (writer asked place).calls) pages
+  pub flushed : IsFlushed (payload_at setup place) (writer read place).calls wrote.cut.cut.pages (writer asked place).calls pages
   pub settled : AreSettled (fixed_after (sequence_of place) (first_buffer scenario setup place) (history_of read.service))
       (packets_of (writer asked place).calls) (chains_of pages)
 
