@@ -1,35 +1,29 @@
 -- A world that stands as it should is an account: its records are faithful to what its writers emitted.
 use Rattle.std.proofs.Common.{◌≡◌, ◌∙◌, ℕ, zero, suc, ◌+◌, ◌-◌, ◌<◌, ◌≤◌, ◌⊎◌, Bool, true, false, ◌&&◌, cond, All, List, [], ◌∷◌, ◌++◌, length, map, get_or, Option, Some, None, refl, sym, ap, subst, arith, inl, inr, length-append}
-use Rattle.std.specs.Prelude.{◌==◌, slice_get, MatchBool, option_map}
+use Rattle.std.specs.Prelude.{slice_get, option_map}
 use Rattle.std.proofs.Math.Logic.{∥∥₁_elim, ∥∥₁_map}
 use Rattle.std.proofs.Math.Nat.{ℕ_set}
-use Rattle.std.proofs.Math.Bool.{Bool-set}
-use mathlib.Core.Sum.{⊎_set}
-use mathlib.Core.List.{is_set as list_set}
-use Rattle.std.proofs.Math.Option.{is_set as option_set}
-use Rattle.std.proofs.lemmas.Bool.{cases_lt, false≢true, eqb-true, and_parts}
-use Rattle.std.specs.Coded.{le_prop}
+use Rattle.std.proofs.lemmas.Bool.{cases_lt}
 use Rattle.std.proofs.lemmas.List.{length-map}
 use Rattle.std.proofs.lemmas.Option.{same_Some, slice_get-map, slice_get-get_or, slice_get_within}
 use Rattle.trace_base.specs.declared.policy.WriterPolicy.TheVariants.{Drops}
 use Rattle.trace_base.specs.declared.policy.WriterSpec.{WriterSpec}
 use Rattle.trace_model.specs.Fragments.{drop_size}
-use Rattle.trace_model.specs.Images.{Image, Patch}
+use Rattle.trace_model.specs.Images.{Image}
 use Rattle.trace_model.specs.Packets.{packets_of, emissions_of}
 use Rattle.trace_model.specs.Sequences.{Sequence, fresh, sequence_in, is_known}
 use Rattle.trace_model.specs.Tells.{Tells}
 use Rattle.trace_model.specs.Delivery.{Delivered, IsFaithful, records_of}
 use Rattle.trace_model.specs.History.{records_after}
 use Rattle.chunk_plain.specs.Setup.{Setup, sequence_of}
-use Rattle.chunk_plain.specs.Drafts.{IsFound, IsThere, StillHas}
-use Rattle.chunk_plain.specs.Views.{At, BegunChunk, Held, Completed, Content, Draft, Found, Look, Noted, Arrive, Partial, Patched, Closed, Read, Commit, ServiceView, taken_of, WriterView, newcomer}
+use Rattle.chunk_plain.specs.Views.{At, BegunChunk, Held, Completed, Content, Draft, taken_of, WriterView, newcomer}
 use Rattle.chunk_plain.specs.World.{World, writer}
-use Rattle.chunk_plain.specs.Histories.{completed_images, content_at, found_among, is_scraped, history_of}
+use Rattle.chunk_plain.specs.Histories.{completed_images, history_of}
 use Rattle.chunk_plain.specs.Owned.{IsOwned, held_count}
 use Rattle.chunk_plain.proofs.Lists.{at_inside, at_one, at_some}
 use Rattle.world_model.specs.FirstBuffers.{BufferSpec, payload_at, first_buffers}
 use Rattle.world_model.specs.FrontLaws.{StandsInWords}
-use Rattle.world_model.specs.Accounts.{all_images, HasCut, IsScraped, InOrder, IsAccount}
+use Rattle.world_model.specs.Accounts.{all_images, HasCut, InOrder, IsAccount}
 use Rattle.trace_model.specs.Cut.{newest_goes_on}
 use Rattle.delivery_laws.specs.DeliveryLaws.{IsAccountOf}
 use Rattle.delivery_laws.specs.Orders as orders
@@ -39,82 +33,20 @@ use Rattle.delivery_laws.proofs.WrittenPackets.{are_full}
 use Rattle.world_model.proofs.ProjectLemmas.{all_mine}
 use Rattle.world_model.proofs.MakingLemmas.{only_writers}
 use Rattle.world_model.proofs.FaithfulLemmas.{told_of, order_events}
-use Rattle.world_model.proofs.FrontLemmas.{finds_are_fronts}
-use Rattle.world_model.proofs.PartLemmas.{IsLooked, looked as as_looked}
-use Rattle.world_model.proofs.OwnLemmas.{image_at, elem_at}
+use Rattle.world_model.proofs.OwnLemmas.{image_at, images_long, elem_at}
 use Rattle.trace_writer.specs.Laws.{IsHeldImage}
-use Rattle.service_core.specs.Order.{Stage, IsFoundPart, LeadTo, beginning}
 use Rattle.service_core.specs.OrderLaws.{HasImages}
+use Rattle.service_core.proofs.HistoryLemmas.{get_more}
 use Rattle.replay_model.specs.Does.{Wrote, is_shut}
 use Rattle.replay_model.specs.Written.{HasWritten}
+use Rattle.replay_model.proofs.OwnedLemmas.{owned_itself, named, learnt, finds, in_order}
 use Rattle.replay_model.proofs.SortedLemmas.{at_stage, IsSorted}
 use Rattle.replay_model.proofs.ScrapedLemmas.{counted, one_held, two_held, few_held}
 use Rattle.replay_model.proofs.StandsLemmas.{Stands}
 
--- ---- from the order of the service to that of an account
-
-content_set : IsSet Content
-content_set = hlevel (ℕ_set, Bool-set, ⊎_set, list_set, option_set)
-
-by_match : (b : Bool) (P Q R T : Type 0) → MatchBool b P Q → (P → R) → (Q → T) → MatchBool b R T
-by_match true P Q R T h same apart = same h
-by_match false P Q R T h same apart = apart h
-
--- notes that lead on are in order, where each part is a front of what its writer made of the chunk
-pub lead_in_order : (images : List Image) (view : ServiceView) (q : ℕ)
-    → ((id count : ℕ) → IsFoundPart view q id count → IsScraped images view q id count)
-    → (notes : List Noted) (stage last : Stage) → LeadTo view q stage notes last → last.due ≡ [] → InOrder images view q stage.come stage.closed stage.due notes
-lead_in_order images view q scraped [] stage last lead none = ap (λ (s : Stage). s.due) lead ∙ none
-lead_in_order images view q scraped (Arrive other id ∷ notes) stage last lead none = (
-  lead.0,
-  by_match (other == q) _ _ _ _ lead.1
-      (λ h. (
-        h.0,
-        h.1,
-        h.2,
-        subst (λ (i : ℕ). content_at view q i ≡ Some h.2) h.1 h.3,
-        lead_in_order images view q scraped notes (record { come = suc stage.come; closed = stage.closed; due = h.2.patches }) last h.4 none,
-      ))
-      (λ h. subst (λ (due : List Patch). InOrder images view q stage.come stage.closed due notes) lead.0 (lead_in_order images view q scraped notes stage last h none)),
-)
-lead_in_order images view q scraped (Partial other id count ∷ notes) stage last lead none = (
-  lead.0,
-  by_match (other == q) _ _ _ _ lead.1
-      (λ h. (
-        h.0,
-        h.1,
-        subst (λ (i : ℕ). IsScraped images view q i count) h.1 (scraped id count h.2),
-        subst (λ (due : List Patch). InOrder images view q stage.come stage.closed due notes) lead.0 (lead_in_order images view q scraped notes stage last h.3 none),
-      ))
-      (λ h. subst (λ (due : List Patch). InOrder images view q stage.come stage.closed due notes) lead.0 (lead_in_order images view q scraped notes stage last h none)),
-)
-lead_in_order images view q scraped (Patched other id ∷ notes) stage last lead none =
-    by_match (other == q) _ _ _ _ lead
-    (λ h. (h.0, h.1, h.2, lead_in_order images view q scraped notes (record stage { due = [] }) last h.3 none))
-    (λ h. (h.0, subst (λ (due : List Patch). InOrder images view q stage.come stage.closed due notes) h.0 (lead_in_order images view q scraped notes stage last h.1 none)))
-lead_in_order images view q scraped (Closed other ∷ notes) stage last lead none = (
-  lead.0,
-  by_match (other == q) _ _ _ _ lead.1
-      (λ h. (
-        h.0,
-        subst (λ (due : List Patch). InOrder images view q stage.come true due notes) lead.0
-            (lead_in_order images view q scraped notes (record stage { closed = true }) last h.1 none),
-      ))
-      (λ h. subst (λ (due : List Patch). InOrder images view q stage.come stage.closed due notes) lead.0 (lead_in_order images view q scraped notes stage last h none)),
-)
-lead_in_order images view q scraped (Read other limit ∷ notes) stage last lead none =
-    (lead.0, subst (λ (due : List Patch). InOrder images view q stage.come stage.closed due notes) lead.0 (lead_in_order images view q scraped notes stage last lead.1 none))
-lead_in_order images view q scraped (Commit place ∷ notes) stage last lead none =
-    (lead.0, lead.1, subst (λ (due : List Patch). InOrder images view q stage.come stage.closed due notes) lead.0 (lead_in_order images view q scraped notes stage last lead.2 none))
-
 -- ---- images of what was begun
 
-get_more : {A : Type 0} (xs ys : List A) (i : ℕ) (x : A) → slice_get xs i ≡ Some x → slice_get (xs ++ ys) i ≡ Some x
-get_more [] ys i x e = absurd (cc)
-get_more (y ∷ xs) ys zero x e = e
-get_more (y ∷ xs) ys (suc i) x e = get_more xs ys i x e
-
-get_seam : {A : Type 0} (xs : List A) (y : A) → slice_get (xs ++ y ∷ []) (length xs) ≡ Some y
+pub get_seam : {A : Type 0} (xs : List A) (y : A) → slice_get (xs ++ y ∷ []) (length xs) ≡ Some y
 get_seam [] y = refl
 get_seam (x ∷ xs) y = get_seam xs y
 
@@ -129,23 +61,14 @@ completed_there (Completed other one ∷ begun) zero chunk content at =
 completed_there (Completed other one ∷ begun) (suc i) chunk content at =
     let h = completed_there begun i chunk content at in (suc h.0, h.1)
 
--- what was found so is of this writer, under this id
-scraped_as : (p id count : ℕ) (looks : List Look) (found : Found) → found_among p id count looks ≡ Some found → (found.place ≡ p) × (found.id ≡ id)
-scraped_as p id count [] found e = absurd (cc)
-scraped_as p id count (look ∷ looks) found e = step (is_scraped p id count look.found) refl e (λ f. scraped_as p id count looks found f)
-  where
-    names : (o : Option Found) → is_scraped p id count o ≡ true → o ≡ Some found → (found.place ≡ p) × (found.id ≡ id)
-    names None s f = absurd (false≢true s)
-    names (Some one) s f =
-        let same : one ≡ found = cc in
-        let first = and_parts ((one.place == p) && (one.id == id)) (length one.ends == count) s in
-        let both = and_parts (one.place == p) (one.id == id) first.0 in
-        subst (λ (x : Found). (x.place ≡ p) × (x.id ≡ id)) same (eqb-true one.place p both.0, eqb-true one.id id both.1)
-
-    step : (b : Bool) → is_scraped p id count look.found ≡ b → cond b look.found (found_among p id count looks) ≡ Some found
-        → (found_among p id count looks ≡ Some found → (found.place ≡ p) × (found.id ≡ id)) → (found.place ≡ p) × (found.id ≡ id)
-    step true s f rest = names look.found s f
-    step false s f rest = rest f
+-- a writer has begun as many chunks as there are pages of its cut
+pub pages_begun : (setup : Setup) (place : ℕ) (view : WriterView) → (wrote : HasWritten setup place view) → length view.begun ≡ length wrote.cut.cut.pages
+pages_begun setup place view wrote =
+    let begun = wrote.begun in
+    let both = length-append (completed_images view.begun) wrote.held in
+    let images = ap (λ (xs : List Image). length xs) wrote.cut.cut.images_are in
+    let long = images_long (place + 2) 0 wrote.cut.cut.pages in
+    omega (arith, begun, both, images, long)
 
 module _ (setup : Setup) (world : World) (owned : ∥ IsOwned world ∥₁) (place : ℕ) (wrote : Wrote setup place (writer world place)) where
   abbrev view : WriterView
@@ -157,35 +80,6 @@ module _ (setup : Setup) (world : World) (owned : ∥ IsOwned world ∥₁) (pla
   abbrev images : List Image
   images = all_images (writer world place) wrote.held
 
-  pub named : (n chunk : ℕ) (content : Content) → At begun n (Completed chunk content) → content.image.chunk_id ≡ n
-  named n chunk content at = ∥∥₁_elim owned (ℕ_set _ _) (λ (is : IsOwned world). ((is.counts place).named n chunk content at).0)
-
-  -- what the service learnt was completed
-  pub learnt : (n : ℕ) (content : Content) → At (taken_of world.service place).contents n content → (chunk : ℕ) × At begun n (Completed chunk content)
-  learnt n content at = by_entry some.0 some.1
-    where
-      inside : n < length begun
-      inside = ∥∥₁_elim owned (hlevel le_prop) (λ (is : IsOwned world). let l = (is.counts place).learnt n content at in at_inside begun (Completed l.0 content) n l.1)
-
-      some : (one : BegunChunk) × At begun n one
-      some = at_some begun n inside
-
-      by_entry : (one : BegunChunk) → At begun n one → (chunk : ℕ) × At begun n (Completed chunk content)
-      by_entry (Held chunk draft) there =
-          absurd (∥∥₁_elim owned (hlevel le_prop) (λ (is : IsOwned world).
-          let l = (is.counts place).learnt n content at in
-          let same = at_one begun (Held chunk draft) (Completed l.0 content) n there l.1 in
-          let never : ⊥ = cc in never))
-      by_entry (Completed chunk one) there =
-          let same : one ≡ content = ∥∥₁_elim owned (content_set _ _) (λ (is : IsOwned world).
-          let l = (is.counts place).learnt n content at in
-          let equal = at_one begun (Completed chunk one) (Completed l.0 content) n there l.1 in
-          let contents : one ≡ content = cc in contents) in
-          (chunk, subst (λ (c : Content). At begun n (Completed chunk c)) same there)
-
-  pub finds : (n : ℕ) (look : Look) (found : Found) → At world.service.looks n look → look.found ≡ Some found → IsFound found
-  finds n look found at is = ∥∥₁_elim owned (hlevel (ℕ_set, le_prop)) (λ (o : IsOwned world). (o.looks n look found at is).0)
-
   -- the image of a completed chunk stands at its id
   image_of_completed : (id chunk : ℕ) (content : Content) → At begun id (Completed chunk content) → slice_get images id ≡ Some content.image
   image_of_completed id chunk content at =
@@ -193,7 +87,7 @@ module _ (setup : Setup) (world : World) (owned : ∥ IsOwned world ∥₁) (pla
       let there : slice_get images h.0 ≡ Some content.image = get_more (completed_images begun) wrote.held h.0 content.image h.1 in
       let paged = image_at (place + 2) 0 wrote.cut.cut.pages h.0 content.image (subst (λ (xs : List Image). slice_get xs h.0 ≡ Some content.image) wrote.cut.cut.images_are there) in
       let number = ap (λ (i : Image). i.chunk_id) paged.is in
-      let id_is = named id chunk content at in
+      let id_is = named world (owned_itself world owned) place id chunk content at in
       let same : h.0 ≡ id = omega (arith, number, id_is) in
       subst (λ (n : ℕ). slice_get images n ≡ Some content.image) same there
 
@@ -283,79 +177,23 @@ module _ (setup : Setup) (world : World) (owned : ∥ IsOwned world ∥₁) (pla
   abbrev pub has_written : HasWritten setup place view
   has_written = record { held = wrote.held; cut = wrote.cut; images = has_images; begun = wrote.begun }
 
-  -- what a look found of a chunk is there still
-  still : (id : ℕ) (one : BegunChunk) → At begun id one → (n : ℕ) (look : Look) (found : Found) → At world.service.looks n look → look.found ≡ Some found
-      → found.place ≡ place → found.id ≡ id → IsOwned world → StillHas look.chunk found one
-  still id one at n look found there is place_is id_is owns =
-      let thing : IsThere view look.chunk found = subst (λ (p : ℕ). IsThere (writer world p) look.chunk found) place_is (owns.looks n look found there is).1 in
-      let entry_at : At begun id thing.entry = subst (λ (i : ℕ). At begun i thing.entry) id_is thing.at in
-      subst (StillHas look.chunk found) (at_one begun thing.entry one id entry_at at) thing.has
-
-  -- a part that a look found is a front of its chunk's image
-  scraped : (id count : ℕ) → IsFoundPart world.service (sequence_of place) id count → IsScraped images world.service (sequence_of place) id count
-  scraped id count part = by_entry some.0 some.1
-    where
-      found : Found
-      found = part.found
-
-      looked_at : IsLooked world.service.looks count part.found
-      looked_at = as_looked (place + 2 - 2) id count world.service.looks part.found part.looked
-
-      named_so : (part.found.place ≡ place) × (part.found.id ≡ id)
-      named_so =
-          let both = scraped_as (place + 2 - 2) id count world.service.looks part.found part.looked in
-          let back : place + 2 - 2 ≡ place = omega arith in
-          (both.0 ∙ back, both.1)
-
-      inside : id < length begun
-      inside = ∥∥₁_elim owned (hlevel le_prop) (λ (is : IsOwned world).
-          let thing : IsThere view looked_at.look.chunk part.found =
-          subst (λ (p : ℕ). IsThere (writer world p) looked_at.look.chunk part.found) named_so.0 (is.looks looked_at.number looked_at.look part.found looked_at.at looked_at.found_is).1 in
-          at_inside begun thing.entry id (subst (λ (i : ℕ). At begun i thing.entry) named_so.1 thing.at))
-
-      some : (one : BegunChunk) × At begun id one
-      some = at_some begun id inside
-
-      by_entry : (one : BegunChunk) → At begun id one → IsScraped images world.service (sequence_of place) id count
-      by_entry (Completed chunk content) at = record {
-        found = part.found;
-        looked = part.looked;
-        image = content.image;
-        there = image_of_completed id chunk content at;
-        front = finds_are_fronts.completed looked_at.look.chunk chunk part.found content
-            (finds looked_at.number looked_at.look part.found looked_at.at looked_at.found_is)
-            (∥∥₁_elim owned (hlevel (ℕ_set, le_prop)) (still id (Completed chunk content) at looked_at.number looked_at.look part.found looked_at.at looked_at.found_is named_so.0 named_so.1))
-            part.some;
-      }
-      by_entry (Held chunk draft) at =
-          let h = image_of_held id chunk draft at in
-          record {
-            found = part.found;
-            looked = part.looked;
-            image = h.image;
-            there = h.there;
-            front = finds_are_fronts.held looked_at.look.chunk chunk part.found draft h.image
-                (finds looked_at.number looked_at.look part.found looked_at.at looked_at.found_is)
-                (∥∥₁_elim owned (hlevel (ℕ_set, le_prop)) (still id (Held chunk draft) at looked_at.number looked_at.look part.found looked_at.at looked_at.found_is named_so.0 named_so.1))
-                (∥∥₁_elim owned (hlevel (ℕ_set, le_prop)) (λ (is : IsOwned world). (is.counts place).drafts id chunk draft at))
-                h.stands (small_image id h.image h.there) part.some;
-          }
-
   pub order_of : IsSorted setup world.service → place < length setup.writers → InOrder images world.service (sequence_of place) 0 false [] world.service.events
   order_of sorted inside =
-      lead_in_order images world.service (sequence_of place) scraped world.service.events beginning
+      in_order world (owned_itself world owned) place images has_images
       (at_stage (taken_of world.service place).count (is_shut (sequence_of place) world.service.events)) (sorted.lead place inside) refl
 
   pub tells_of : IsSorted setup world.service → place < length setup.writers → (buffers : List BufferSpec) (spec : WriterSpec) → slice_get setup.writers place ≡ Some spec
       → Tells (emissions_of view.calls) (place + 2) (records_of (place + 2) (records_after (first_buffers setup 1 buffers) (history_of world.service)))
   tells_of sorted inside buffers spec get =
-      told_of (payload_at setup place) place view wrote.held wrote.cut world.service learnt named finds setup buffers spec get (order_of sorted inside)
+      told_of (payload_at setup place) place view wrote.held wrote.cut world.service (learnt world (owned_itself world owned) place)
+      (named world (owned_itself world owned) place) (finds world (owned_itself world owned) place) setup buffers spec get (order_of sorted inside)
 
   -- the pages come in order in the history
   pub history_in_order : IsSorted setup world.service → place < length setup.writers
       → orders.InOrder (sheets_of (newest_goes_on (packets_of view.calls)) wrote.cut.cut.pages) (place + 2) 0 false [] (history_of world.service)
   history_in_order sorted inside =
-      order_events (payload_at setup place) place view wrote.held wrote.cut world.service learnt named finds world.service.events 0 false [] (order_of sorted inside)
+      order_events (payload_at setup place) place view wrote.held wrote.cut world.service (learnt world (owned_itself world owned) place)
+      (named world (owned_itself world owned) place) (finds world (owned_itself world owned) place) world.service.events 0 false [] (order_of sorted inside)
 
   -- the account of the sequence, in a buffer that has it
   pub account_in : IsSorted setup world.service → place < length setup.writers → (sequences : List Sequence) (record_size : ℕ)
@@ -366,7 +204,7 @@ module _ (setup : Setup) (world : World) (owned : ∥ IsOwned world ∥₁) (pla
     cut = wrote.cut.cut.cut;
     known = known;
     start = start;
-    order = order_events (payload_at setup place) place view wrote.held wrote.cut world.service learnt named finds world.service.events 0 false [] (order_of sorted inside);
+    order = history_in_order sorted inside;
   }
 
 -- ---- the whole

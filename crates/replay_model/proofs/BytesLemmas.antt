@@ -23,6 +23,7 @@ use Rattle.scenario_text.specs.declared.scenario.ProducerLine.{ProducerLine}
 use Rattle.scenario_text.specs.declared.scenario.NumberedLine.{NumberedLine}
 use Rattle.scenario_text.specs.Accepted.{calls_asked}
 use Rattle.service_core.specs.Agreement.{spec_at}
+use Rattle.replay_model.proofs.FinishLemmas.{by_match}
 use Rattle.replay_model.proofs.RoomLemmas.{payload_for, bytes_from}
 
 -- ---- only so many chunks of each sequence come
@@ -36,10 +37,6 @@ BelowAt q n (Committed image patches ∷ events) = (image.sequence ≡ q → ima
 BelowAt q n (Patched sequence patches ∷ events) = BelowAt q n events
 BelowAt q n (Closed sequence ∷ events) = BelowAt q n events
 BelowAt q n (Read sequence limit ∷ events) = BelowAt q n events
-
-by_match : (b : Bool) (P Q R : Type 0) → MatchBool b P Q → (b ≡ true → P → R) → (b ≡ false → Q → R) → R
-by_match true P Q R h same apart = same refl h
-by_match false P Q R h same apart = apart refl h
 
 never : (one other : ℕ) → (one == other) ≡ false → one ≡ other → ⊥
 never one other apart same = false≢true (sym apart ∙ eq-eqb one other same)

@@ -65,6 +65,7 @@ use Rattle.replay_model.proofs.FinishLemmas.{HasRead, has_read_left, has_read_ri
 use Rattle.replay_model.proofs.FirstLemmas.{small_payload, first_stands}
 use Rattle.replay_model.proofs.LostLemmas.{all_whole}
 use Rattle.replay_model.proofs.NoneLostLemmas.{is_writer, there, within, spec_is, open_still, shape, rests, wrote, size_here, pages_begun, pages_few, spec_there, none_is_lost}
+use Rattle.replay_model.proofs.OwnedLemmas.{owned_itself, named, learnt}
 use Rattle.replay_model.proofs.PhaseLemmas.{IsReadOut, collect_phase, close_phase, closes_keep, read_phase}
 use Rattle.replay_model.proofs.PlayedLemmas.{plays_stand, played_stands, setup_writers}
 use Rattle.replay_model.proofs.ReadOutLemmas.{told_few, emitted_few, begun_sum, IsFew, reads_has}
@@ -92,7 +93,7 @@ none_behind setup place spec get n [] low = tt
 none_behind setup place spec get n (buffer ∷ buffers) low =
     ((set_at setup place spec get n).known ∙ ne_eqb spec.buffer n (λ e. omega (arith, e, low)), none_behind setup place spec get (suc n) buffers (omega (arith, low)))
 
-once_here : (setup : Setup) (place : ℕ) (spec : WriterSpec) (get : slice_get setup.writers place ≡ Some spec) (n : ℕ) (buffers : List BufferSpec) (i : ℕ) (made : BufferSpec)
+pub once_here : (setup : Setup) (place : ℕ) (spec : WriterSpec) (get : slice_get setup.writers place ≡ Some spec) (n : ℕ) (buffers : List BufferSpec) (i : ℕ) (made : BufferSpec)
     → slice_get buffers i ≡ Some made → spec.buffer ≡ n + i
     → Once (place + 2) (empty_buffer made.size made.policy (sequences_from setup spec.buffer 0 setup.writers)) (first_buffers setup n buffers)
 once_here setup place spec get n [] i made there is = absurd (cc)
@@ -343,9 +344,11 @@ module _ (scenario : Parts) (setup : Setup) (world : World) (notes : List FlushN
 
   finishes : Finishes (place + 2) (length own.cut.cut.pages) (begun_count (writer world place).calls) 0 false history
   finishes =
+      let last : Wrote setup place (writer closes_done.mid place) = behind_closes.0.wrote place low in
       subst (Finishes (place + 2) (length own.cut.cut.pages) (begun_count (writer world place).calls) 0 false) (sym read_out.history)
-      (lead_finishes setup closes_done.mid behind_closes.1 place (behind_closes.0.wrote place low) (begun_count (writer world place).calls) (length own.cut.cut.pages)
-      closes_done.mid.service.events beginning
+      (lead_finishes (payload_at setup place) place (writer closes_done.mid place) last.held last.cut closes_done.mid.service
+      (learnt closes_done.mid (owned_itself closes_done.mid behind_closes.1) place) (named closes_done.mid (owned_itself closes_done.mid behind_closes.1) place)
+      (begun_count (writer world place).calls) (length own.cut.cut.pages) closes_done.mid.service.events beginning
       (at_stage (taken_of closes_done.mid.service place).count (is_shut (sequence_of place) closes_done.mid.service.events))
       (behind_closes.0.sorted.lead place low) shut all_come read_out.events has_read)
 
@@ -407,12 +410,12 @@ module _ (scenario : Parts) (setup : Setup) (world : World) (notes : List FlushN
 
 -- ---- all writers
 
-record IsEmittedBy (lines : List NumberedLine) (first i : ℕ) (specs : List WriterSpec) (packets : List (List ℕ)) : Type 0 where
-  spec : WriterSpec
-  get : slice_get specs i ≡ Some spec
-  is : packets ≡ emissions_of (calls_asked (first + i) lines)
+pub record IsEmittedBy (lines : List NumberedLine) (first i : ℕ) (specs : List WriterSpec) (packets : List (List ℕ)) : Type 0 where
+  pub spec : WriterSpec
+  pub get : slice_get specs i ≡ Some spec
+  pub is : packets ≡ emissions_of (calls_asked (first + i) lines)
 
-emitted_at : (lines : List NumberedLine) (first : ℕ) (specs : List WriterSpec) (i : ℕ) (packets : List (List ℕ)) → slice_get (emitted_from lines first specs) i ≡ Some packets
+pub emitted_at : (lines : List NumberedLine) (first : ℕ) (specs : List WriterSpec) (i : ℕ) (packets : List (List ℕ)) → slice_get (emitted_from lines first specs) i ≡ Some packets
     → IsEmittedBy lines first i specs packets
 emitted_at lines first [] i packets get = absurd (cc)
 emitted_at lines first (spec ∷ specs) zero packets get =

@@ -220,13 +220,13 @@ pub record IsTakenWhole (world : World) (place : ℕ) : Type 0 where
   pub empty : held_count (writer world place).begun ≡ 0
   pub most : length (writer world place).begun ≤ (taken_of world.service place).count
 
-same_begun : (old new : World) (place : ℕ) → new.writers ≡ old.writers → (writer new place).begun ≡ (writer old place).begun
-same_begun old new place is = ap (λ (ws : List WriterView). (get_or ws place newcomer).begun) is
+pub begun_same : (old new : World) (place : ℕ) → new.writers ≡ old.writers → (writer new place).begun ≡ (writer old place).begun
+begun_same old new place is = ap (λ (ws : List WriterView). (get_or ws place newcomer).begun) is
 
 whole_still : (old new : World) (place : ℕ) → new.writers ≡ old.writers → (taken_of old.service place).count ≤ (taken_of new.service place).count
     → IsTakenWhole old place → IsTakenWhole new place
 whole_still old new place is grows whole =
-    let same = same_begun old new place is in
+    let same = begun_same old new place is in
     let long = ap (λ (xs : List BegunChunk). length xs) same in
     let most = whole.most in
     record { empty = ap held_count same ∙ whole.empty; most = omega (arith, long, grows, most) }
@@ -242,11 +242,6 @@ closes_whole setup producer place old new stands closes whole =
     (open_places_fit setup producer old.service closes.opened) closes.closes.takes place in
     let same : (taken_of new.service place).count ≡ (taken_of closes.closes.between place).count = ap (λ (v : ServiceView). (taken_of v place).count) closes.closes.view in
     whole_still old new place closes.writers (omega (arith, grows, same)) whole
-
-pub reads_whole : (setup : Setup) (buffers : List Buffer) (buffer limit place : ℕ) (old new : World) → Reads setup buffers buffer limit old new → IsTakenWhole old place → IsTakenWhole new place
-reads_whole setup buffers buffer limit place old new reads whole =
-    let same : (taken_of new.service place).count ≡ (taken_of old.service place).count = ap (λ (v : ServiceView). (taken_of v place).count) reads.notes in
-    whole_still old new place reads.writers (omega (arith, same)) whole
 
 -- the taking of its producer takes all of a writer that holds nothing
 pub collect_takes : (setup : Setup) (place : ℕ) (old new : World) → Stands setup new → ∥ IsOwned new ∥₁ → place < length setup.writers

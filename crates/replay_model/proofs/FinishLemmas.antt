@@ -3,7 +3,7 @@ use Rattle.std.proofs.Common.{◌≡◌, ◌∙◌, ℕ, suc, ◌+◌, ◌-◌, 
 use Rattle.std.specs.Prelude.{◌==◌, slice_get, MatchBool}
 use Rattle.std.specs.List.{flat_map}
 use Rattle.std.proofs.lemmas.Bool.{eq-eqb, eqb-true, false≢true}
-use Rattle.trace_model.specs.Images.{Chunk}
+use Rattle.trace_model.specs.Images.{Image, Chunk}
 use Rattle.trace_model.specs.Pages.{chunk_of}
 use Rattle.trace_model.specs.Reading.{Reading, Fragments, Unreadable, reading_of}
 use Rattle.trace_model.specs.History as model
@@ -11,17 +11,12 @@ use Rattle.trace_model.specs.History.{Event}
 use Rattle.delivery_laws.specs.Finishing.{Finishes}
 use Rattle.delivery_laws.proofs.CompleteLemmas.{full_at}
 use Rattle.delivery_laws.proofs.WrittenPackets.{are_full}
-use Rattle.chunk_plain.specs.Setup.{Setup}
-use Rattle.chunk_plain.specs.Views.{Content, Committed, Found, Noted, Arrive, Partial, Patched, Closed, Read, Commit, ServiceView, taken_of}
-use Rattle.chunk_plain.specs.World.{World, writer}
+use Rattle.chunk_plain.specs.Views.{At, Completed, Content, Committed, Found, Noted, Arrive, Partial, Patched, Closed, Read, Commit, ServiceView, WriterView, taken_of}
 use Rattle.chunk_plain.specs.Histories as histories
 use Rattle.chunk_plain.specs.Histories.{content_at, found_among, once_read, happened}
-use Rattle.chunk_plain.specs.Owned.{IsOwned}
-use Rattle.world_model.specs.FirstBuffers.{payload_at}
+use Rattle.world_model.specs.Accounts.{HasCut}
 use Rattle.world_model.proofs.OwnLemmas.{elem_at, page_of, page_arrives}
 use Rattle.service_core.specs.Order.{Stage, LeadTo}
-use Rattle.replay_model.specs.Does.{Wrote}
-use Rattle.replay_model.proofs.AccountLemmas.{named, learnt}
 use Rattle.replay_model.proofs.PhaseLemmas.{AreReads}
 
 -- among these reads is one of the sequence, of at least so many packets
@@ -81,106 +76,102 @@ lead_shut view q (Closed other ∷ notes) stage last lead shut =
 lead_shut view q (Read other limit ∷ notes) stage last lead shut = lead_shut view q notes stage last lead.1 shut
 lead_shut view q (Commit place ∷ notes) stage last lead shut = lead_shut view q notes stage last lead.2 shut
 
-module _ (setup : Setup) (world : World) (owned : ∥ IsOwned world ∥₁) (place : ℕ) (wrote : Wrote setup place (writer world place)) (packets chunks : ℕ) where
-  abbrev q : ℕ
-  q = place + 2
-
-  abbrev service : ServiceView
-  service = world.service
-
+-- What an arrival of the sequence of the writer at this place is, by the cut of the writer's packets.
+module _ (size place : ℕ) (view : WriterView) (held : List Image) (cut : HasCut size place view held) (service : ServiceView)
+    (learnt : (n : ℕ) (content : Content) → At (taken_of service place).contents n content → (chunk : ℕ) × At view.begun n (Completed chunk content))
+    (named : (n chunk : ℕ) (content : Content) → At view.begun n (Completed chunk content) → content.image.chunk_id ≡ n) where
   pub record IsArrival (id : ℕ) : Type 0 where
     pub chunk : Chunk
-    pub is : happened world.service (Arrive (place + 2) id) ≡ model.Arrives (place + 2) id chunk ∷ []
+    pub is : happened service (Arrive (place + 2) id) ≡ model.Arrives (place + 2) id chunk ∷ []
 
-  pub arrives_one : (id : ℕ) (content : Content) → content_at world.service (place + 2) id ≡ Some content → IsArrival id
+  pub arrives_one : (id : ℕ) (content : Content) → content_at service (place + 2) id ≡ Some content → IsArrival id
   arrives_one id content there =
       let back : place + 2 - 2 ≡ place = omega arith in
-      let got : slice_get (taken_of world.service place).contents id ≡ Some content = sym (ap (λ (p : ℕ). slice_get (taken_of world.service p).contents id) back) ∙ there in
-      let is = learnt setup world owned place wrote id content (elem_at (taken_of world.service place).contents id content got) in
-      let size : ℕ = payload_at setup place in
-      let own = page_of size place id is.0 (writer world place) wrote.held wrote.cut content is.1 (named setup world owned place wrote id is.0 content is.1) in
+      let got : slice_get (taken_of service place).contents id ≡ Some content = sym (ap (λ (p : ℕ). slice_get (taken_of service p).contents id) back) ∙ there in
+      let is = learnt id content (elem_at (taken_of service place).contents id content got) in
+      let own = page_of size place id is.0 view held cut content is.1 (named id is.0 content is.1) in
       record {
         chunk = chunk_of own.page;
         is = ap (histories.arrival_of (place + 2) id) there
-            ∙ page_arrives size (place + 2) id own.page content wrote.cut.small
-            (full_at size wrote.cut.cut.pages id own.page (are_full size wrote.cut.cut.pages wrote.cut.cut.cut.full) own.get) own.image;
+            ∙ page_arrives size (place + 2) id own.page content cut.small (full_at size cut.cut.pages id own.page (are_full size cut.cut.pages cut.cut.cut.full) own.get) own.image;
       }
 
-  abbrev Done : ℕ → Bool → List Event → Type 0
-  Done come closed events = Finishes (place + 2) chunks packets come closed events
+  module _ (packets chunks : ℕ) where
+    abbrev Done : ℕ → Bool → List Event → Type 0
+    Done come closed events = Finishes (place + 2) chunks packets come closed events
 
-  pass_arrival : (other id come : ℕ) (closed : Bool) (content : Option Content) (events : List Event) → (other == (place + 2)) ≡ false → Done come closed events
-      → Done come closed (histories.arrival_of other id content ++ events)
-  pass_arrival other id come closed None events apart done = done
-  pass_arrival other id come closed (Some content) events apart done = by_reading (reading_of content.image.count content.image.payload)
-    where
-      by_reading : (reading : Reading) → Done come closed (once_read (λ chunk. model.Arrives other id chunk) content.image.flags reading ++ events)
-      by_reading (Fragments fragments) = subst (λ (b : Bool). Done (cond b (suc come) come) closed events) (sym apart) done
-      by_reading (Unreadable number) = done
+    pass_arrival : (other id come : ℕ) (closed : Bool) (content : Option Content) (events : List Event) → (other == (place + 2)) ≡ false → Done come closed events
+        → Done come closed (histories.arrival_of other id content ++ events)
+    pass_arrival other id come closed None events apart done = done
+    pass_arrival other id come closed (Some content) events apart done = by_reading (reading_of content.image.count content.image.payload)
+      where
+        by_reading : (reading : Reading) → Done come closed (once_read (λ chunk. model.Arrives other id chunk) content.image.flags reading ++ events)
+        by_reading (Fragments fragments) = subst (λ (b : Bool). Done (cond b (suc come) come) closed events) (sym apart) done
+        by_reading (Unreadable number) = done
 
-  pass_part : (other id count come : ℕ) (closed : Bool) (found : Option Found) (events : List Event) → Done come closed events
-      → Done come closed (histories.part_of other id count found ++ events)
-  pass_part other id count come closed None events done = done
-  pass_part other id count come closed (Some found) events done = by_reading (reading_of count found.sealed)
-    where
-      by_reading : (reading : Reading) → Done come closed (once_read (λ chunk. model.ArrivesInPart other id chunk) found.head.flags reading ++ events)
-      by_reading (Fragments fragments) = done
-      by_reading (Unreadable number) = done
+    pass_part : (other id count come : ℕ) (closed : Bool) (found : Option Found) (events : List Event) → Done come closed events
+        → Done come closed (histories.part_of other id count found ++ events)
+    pass_part other id count come closed None events done = done
+    pass_part other id count come closed (Some found) events done = by_reading (reading_of count found.sealed)
+      where
+        by_reading : (reading : Reading) → Done come closed (once_read (λ chunk. model.ArrivesInPart other id chunk) found.head.flags reading ++ events)
+        by_reading (Fragments fragments) = done
+        by_reading (Unreadable number) = done
 
-  pass_patches : (other come : ℕ) (closed : Bool) (content : Option Content) (events : List Event) → Done come closed events
-      → Done come closed (histories.patches_of other content ++ events)
-  pass_patches other come closed None events done = done
-  pass_patches other come closed (Some content) events done = done
+    pass_patches : (other come : ℕ) (closed : Bool) (content : Option Content) (events : List Event) → Done come closed events
+        → Done come closed (histories.patches_of other content ++ events)
+    pass_patches other come closed None events done = done
+    pass_patches other come closed (Some content) events done = done
 
-  pass_commit : (come : ℕ) (closed : Bool) (commit : Option Committed) (events : List Event) → Done come closed events
-      → Done come closed (histories.commit_of commit ++ events)
-  pass_commit come closed None events done = done
-  pass_commit come closed (Some one) events done = done
+    pass_commit : (come : ℕ) (closed : Bool) (commit : Option Committed) (events : List Event) → Done come closed events
+        → Done come closed (histories.commit_of commit ++ events)
+    pass_commit come closed None events done = done
+    pass_commit come closed (Some one) events done = done
 
-  -- one event in front
-  behind : (come : ℕ) (closed : Bool) (xs ys zs : List Event) → Done come closed (xs ++ (ys ++ zs)) → Done come closed ((xs ++ ys) ++ zs)
-  behind come closed xs ys zs done = subst (Done come closed) (sym (append_assoc xs ys zs)) done
+    -- one event in front
+    behind : (come : ℕ) (closed : Bool) (xs ys zs : List Event) → Done come closed (xs ++ (ys ++ zs)) → Done come closed ((xs ++ ys) ++ zs)
+    behind come closed xs ys zs done = subst (Done come closed) (sym (append_assoc xs ys zs)) done
 
-  pub lead_finishes : (notes : List Noted) (stage last : Stage) → LeadTo world.service (place + 2) stage notes last → last.closed ≡ true → last.come ≡ chunks
-      → (events : List Event) → HasRead (place + 2) packets events → Done stage.come stage.closed (flat_map (happened world.service) notes ++ events)
-  lead_finishes [] stage last lead shut many events has =
-      subst (λ (b : Bool). Done stage.come b events) (sym (ap (λ (s : Stage). s.closed) lead ∙ shut)) (finishes_read (place + 2) chunks packets stage.come events has)
-  lead_finishes (Arrive other id ∷ notes) stage last lead shut many events has =
-      let more : List Event = flat_map (happened world.service) notes in
-      behind stage.come stage.closed (happened world.service (Arrive other id)) more events
-      (by_match (other == (place + 2)) _ _ (Done stage.come stage.closed (happened world.service (Arrive other id) ++ (more ++ events))) lead.1
-      (λ same h.
-      let one = arrives_one id h.2 h.3 in
-      let is : happened world.service (Arrive other id) ≡ model.Arrives (place + 2) id one.chunk ∷ [] =
-      ap (λ (s : ℕ). happened world.service (Arrive s id)) (eqb-true other (place + 2) same) ∙ one.is in
-      let rest = lead_finishes notes (record { come = suc stage.come; closed = stage.closed; due = h.2.patches }) last h.4 shut many events has in
-      subst (λ (es : List Event). Done stage.come stage.closed (es ++ (more ++ events))) (sym is)
-      (subst (λ (b : Bool). Done (cond b (suc stage.come) stage.come) stage.closed (more ++ events)) (sym (eq-eqb (place + 2) (place + 2) refl)) rest))
-      (λ apart h. pass_arrival other id stage.come stage.closed (content_at world.service other id) (more ++ events) apart (lead_finishes notes stage last h shut many events has)))
-  lead_finishes (Partial other id count ∷ notes) stage last lead shut many events has =
-      let more : List Event = flat_map (happened world.service) notes in
-      behind stage.come stage.closed (happened world.service (Partial other id count)) more events
-      (pass_part other id count stage.come stage.closed (found_among (other - 2) id count world.service.looks) (more ++ events)
-      (by_match (other == (place + 2)) _ _ (Done stage.come stage.closed (more ++ events)) lead.1
-      (λ same h. lead_finishes notes stage last h.3 shut many events has) (λ apart h. lead_finishes notes stage last h shut many events has)))
-  lead_finishes (Patched other id ∷ notes) stage last lead shut many events has =
-      let more : List Event = flat_map (happened world.service) notes in
-      behind stage.come stage.closed (happened world.service (Patched other id)) more events
-      (pass_patches other stage.come stage.closed (content_at world.service other id) (more ++ events)
-      (by_match (other == (place + 2)) _ _ (Done stage.come stage.closed (more ++ events)) lead
-      (λ same h. lead_finishes notes (record stage { due = [] }) last h.3 shut many events has) (λ apart h. lead_finishes notes stage last h.1 shut many events has)))
-  lead_finishes (Closed other ∷ notes) stage last lead shut many events has =
-      let more : List Event = flat_map (happened world.service) notes in
-      by_match (other == (place + 2)) _ _ (Done stage.come stage.closed (model.Closed other ∷ (more ++ events))) lead.1
-      (λ same h.
-      let come_is = lead_shut world.service (place + 2) notes (record stage { closed = true }) last h.1 refl in
-      subst (λ (b : Bool). MatchBool b ((stage.come ≡ chunks) × Done stage.come true (more ++ events)) (Done stage.come stage.closed (more ++ events))) (sym same)
-      (come_is ∙ many, lead_finishes notes (record stage { closed = true }) last h.1 shut many events has))
-      (λ apart h.
-      subst (λ (b : Bool). MatchBool b ((stage.come ≡ chunks) × Done stage.come true (more ++ events)) (Done stage.come stage.closed (more ++ events))) (sym apart)
-      (lead_finishes notes stage last h shut many events has))
-  lead_finishes (Read other limit ∷ notes) stage last lead shut many events has = inr (lead_finishes notes stage last lead.1 shut many events has)
-  lead_finishes (Commit at ∷ notes) stage last lead shut many events has =
-      let more : List Event = flat_map (happened world.service) notes in
-      behind stage.come stage.closed (happened world.service (Commit at)) more events
-      (pass_commit stage.come stage.closed (slice_get world.service.commits at) (more ++ events) (lead_finishes notes stage last lead.2 shut many events has))
+    pub lead_finishes : (notes : List Noted) (stage last : Stage) → LeadTo service (place + 2) stage notes last → last.closed ≡ true → last.come ≡ chunks
+        → (events : List Event) → HasRead (place + 2) packets events → Done stage.come stage.closed (flat_map (happened service) notes ++ events)
+    lead_finishes [] stage last lead shut many events has =
+        subst (λ (b : Bool). Done stage.come b events) (sym (ap (λ (s : Stage). s.closed) lead ∙ shut)) (finishes_read (place + 2) chunks packets stage.come events has)
+    lead_finishes (Arrive other id ∷ notes) stage last lead shut many events has =
+        let more : List Event = flat_map (happened service) notes in
+        behind stage.come stage.closed (happened service (Arrive other id)) more events
+        (by_match (other == (place + 2)) _ _ (Done stage.come stage.closed (happened service (Arrive other id) ++ (more ++ events))) lead.1
+        (λ same h.
+        let one = arrives_one id h.2 h.3 in
+        let is : happened service (Arrive other id) ≡ model.Arrives (place + 2) id one.chunk ∷ [] =
+        ap (λ (s : ℕ). happened service (Arrive s id)) (eqb-true other (place + 2) same) ∙ one.is in
+        let rest = lead_finishes notes (record { come = suc stage.come; closed = stage.closed; due = h.2.patches }) last h.4 shut many events has in
+        subst (λ (es : List Event). Done stage.come stage.closed (es ++ (more ++ events))) (sym is)
+        (subst (λ (b : Bool). Done (cond b (suc stage.come) stage.come) stage.closed (more ++ events)) (sym (eq-eqb (place + 2) (place + 2) refl)) rest))
+        (λ apart h. pass_arrival other id stage.come stage.closed (content_at service other id) (more ++ events) apart (lead_finishes notes stage last h shut many events has)))
+    lead_finishes (Partial other id count ∷ notes) stage last lead shut many events has =
+        let more : List Event = flat_map (happened service) notes in
+        behind stage.come stage.closed (happened service (Partial other id count)) more events
+        (pass_part other id count stage.come stage.closed (found_among (other - 2) id count service.looks) (more ++ events)
+        (by_match (other == (place + 2)) _ _ (Done stage.come stage.closed (more ++ events)) lead.1
+        (λ same h. lead_finishes notes stage last h.3 shut many events has) (λ apart h. lead_finishes notes stage last h shut many events has)))
+    lead_finishes (Patched other id ∷ notes) stage last lead shut many events has =
+        let more : List Event = flat_map (happened service) notes in
+        behind stage.come stage.closed (happened service (Patched other id)) more events
+        (pass_patches other stage.come stage.closed (content_at service other id) (more ++ events)
+        (by_match (other == (place + 2)) _ _ (Done stage.come stage.closed (more ++ events)) lead
+        (λ same h. lead_finishes notes (record stage { due = [] }) last h.3 shut many events has) (λ apart h. lead_finishes notes stage last h.1 shut many events has)))
+    lead_finishes (Closed other ∷ notes) stage last lead shut many events has =
+        let more : List Event = flat_map (happened service) notes in
+        by_match (other == (place + 2)) _ _ (Done stage.come stage.closed (model.Closed other ∷ (more ++ events))) lead.1
+        (λ same h.
+        let come_is = lead_shut service (place + 2) notes (record stage { closed = true }) last h.1 refl in
+        subst (λ (b : Bool). MatchBool b ((stage.come ≡ chunks) × Done stage.come true (more ++ events)) (Done stage.come stage.closed (more ++ events))) (sym same)
+        (come_is ∙ many, lead_finishes notes (record stage { closed = true }) last h.1 shut many events has))
+        (λ apart h.
+        subst (λ (b : Bool). MatchBool b ((stage.come ≡ chunks) × Done stage.come true (more ++ events)) (Done stage.come stage.closed (more ++ events))) (sym apart)
+        (lead_finishes notes stage last h shut many events has))
+    lead_finishes (Read other limit ∷ notes) stage last lead shut many events has = inr (lead_finishes notes stage last lead.1 shut many events has)
+    lead_finishes (Commit at ∷ notes) stage last lead shut many events has =
+        let more : List Event = flat_map (happened service) notes in
+        behind stage.come stage.closed (happened service (Commit at)) more events
+        (pass_commit stage.come stage.closed (slice_get service.commits at) (more ++ events) (lead_finishes notes stage last lead.2 shut many events has))

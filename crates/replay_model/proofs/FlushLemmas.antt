@@ -53,11 +53,12 @@ use Rattle.replay_model.specs.Flushes.{FlushNote}
 use Rattle.replay_model.specs.FlushLaws.{begun_in, IsFlushRead, HasSettled, EveryFlushIsSettled}
 use Rattle.replay_model.specs.Plays.{Plays}
 use Rattle.replay_model.specs.Played.{IsSetupOf, buffer_specs, buffers_of, first_buffer}
-use Rattle.replay_model.proofs.AccountLemmas.{account_in, has_written, learnt, named, many_writers}
+use Rattle.replay_model.proofs.AccountLemmas.{account_in, has_written, many_writers}
 use Rattle.replay_model.proofs.BalanceLemmas.{first_at, after_at, first_long, each_is, get_map}
 use Rattle.replay_model.proofs.EndLemmas.{flush_done}
 use Rattle.replay_model.proofs.FinishLemmas.{HasRead}
 use Rattle.replay_model.proofs.FirstLemmas.{small_payload, first_stands}
+use Rattle.replay_model.proofs.OwnedLemmas.{owned_itself, learnt, named}
 use Rattle.replay_model.proofs.PageLemmas.{pages_same, begins_as}
 use Rattle.replay_model.proofs.PhaseLemmas.{history_read}
 use Rattle.replay_model.proofs.PlayedLemmas.{plays_stand, setup_writers}
@@ -235,14 +236,14 @@ module _ (scenario : Parts) (setup : Setup) (is_setup : IsSetupOf scenario setup
       let low = slice_get_within pages_then i page get in
       let come = come_then in
       let content = get_there (taken_of flush.taken.service place).contents i (omega (arith, low, come)) in
-      let was = learnt setup flush.taken at_taken.1 place (at_taken.0.wrote place inside) i content.0 (elem_at (taken_of flush.taken.service place).contents i content.0 content.1) in
+      let was = learnt flush.taken (owned_itself flush.taken at_taken.1) place i content.0 (elem_at (taken_of flush.taken.service place).contents i content.0 content.1) in
       let was_there : At (writer flush.answered place).begun i (Completed was.0 content.0) =
       subst (λ (v : WriterView). At v.begun i (Completed was.0 content.0)) view_same was.1 in
       let own = page_of size place i was.0 (writer flush.answered place) then.held then.cut content.0 was_there
-      (named setup flush.answered flush.owned_then place then i was.0 content.0 was_there) in
+      (named flush.answered (owned_itself flush.answered flush.owned_then) place i was.0 content.0 was_there) in
       let kept = stays read.service grows_to_read i content.0 content.1 in
-      let is = learnt setup read flush.owned_now place now i content.0 (elem_at (taken_of read.service place).contents i content.0 kept) in
-      let later = page_of size place i is.0 (writer read place) now.held now.cut content.0 is.1 (named setup read flush.owned_now place now i is.0 content.0 is.1) in
+      let is = learnt read (owned_itself read flush.owned_now) place i content.0 (elem_at (taken_of read.service place).contents i content.0 kept) in
+      let later = page_of size place i is.0 (writer read place) now.held now.cut content.0 is.1 (named read (owned_itself read flush.owned_now) place i is.0 content.0 is.1) in
       let first : own.page ≡ page = same_Some own.page page (sym own.get ∙ get) in
       let same : later.page ≡ own.page =
       pages_same size (place + 2) i later.page own.page now.cut.small

@@ -10,6 +10,7 @@ pub mod FlushLemmas
 pub mod LosesLemmas
 pub mod LostLemmas
 pub mod NoneLostLemmas
+pub mod OwnedLemmas
 pub mod PageLemmas
 pub mod PhaseLemmas
 pub mod PigeonLemmas

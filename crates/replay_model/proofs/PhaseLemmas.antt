@@ -24,14 +24,11 @@ use Rattle.replay_model.specs.Does.{Collects, Closes, Reads, is_shut}
 use Rattle.replay_model.specs.Flushes.{FlushNote}
 use Rattle.replay_model.specs.Plays.{Plays}
 use Rattle.replay_model.specs.Schedule.{reads_from}
-use Rattle.replay_model.proofs.EndLemmas.{IsTakenWhole, collects_whole, closes_whole, collect_takes, closes_shut, closes_shut_still}
+use Rattle.replay_model.proofs.EndLemmas.{begun_same, IsTakenWhole, collects_whole, closes_whole, collect_takes, closes_shut, closes_shut_still}
 use Rattle.replay_model.proofs.SortedLemmas.{Among}
 use Rattle.replay_model.proofs.StandsLemmas.{Stands, stands_does}
 
 -- ---- collects
-
-begun_same : (old new : World) (place : ℕ) → new.writers ≡ old.writers → (writer new place).begun ≡ (writer old place).begun
-begun_same old new place is = ap (λ (ws : List WriterView). (get_or ws place newcomer).begun) is
 
 collects_keep : (setup : Setup) (buffers : List Buffer) (producers : List ℕ) (place : ℕ) (old new : World) (notes : List FlushNote)
     → Plays setup buffers (map Collect producers) old new notes → Stands setup old → IsTakenWhole old place → IsTakenWhole new place

@@ -16,9 +16,6 @@ use Rattle.service_core.specs.Agreement.{spec_at}
 
 -- ---- ranges are apart
 
-no_range : ChunkRange
-no_range = record { first = 0; count = 0 }
-
 range_from : (first : ℕ) (producers : List ProducerSpec) (i c : ℕ) → (get_or (ranges_of first producers) i (record { first = 0; count = 0 })).first ≤ c
     → c < (get_or (ranges_of first producers) i (record { first = 0; count = 0 })).first + (get_or (ranges_of first producers) i (record { first = 0; count = 0 })).count
     → first ≤ c

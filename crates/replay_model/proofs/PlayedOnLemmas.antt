@@ -16,6 +16,7 @@ use Rattle.chunk_plain.specs.World.{World, writer}
 use Rattle.chunk_plain.specs.Histories as histories
 use Rattle.chunk_plain.specs.Histories.{content_at, found_among, once_read, happened, history_of}
 use Rattle.chunk_plain.specs.Owned.{IsOwned}
+use Rattle.world_model.specs.FirstBuffers.{payload_at}
 use Rattle.service_core.specs.Order.{Stage, LeadTo}
 use Rattle.service_core.specs.Reading.{noted_read, reads_in}
 use Rattle.service_core.specs.Closing.{closes_of}
@@ -30,6 +31,7 @@ use Rattle.replay_model.specs.Flushes.{FlushNote}
 use Rattle.replay_model.specs.FlushLaws.{LeaveAlone}
 use Rattle.replay_model.specs.Plays.{Plays}
 use Rattle.replay_model.proofs.FinishLemmas.{by_match, arrives_one}
+use Rattle.replay_model.proofs.OwnedLemmas.{owned_itself, named, learnt}
 use Rattle.replay_model.proofs.SortedLemmas.{IsSorted, Among, sorted_took, shut_took, open_places_fit}
 use Rattle.replay_model.proofs.StandsLemmas.{Stands, stands_does, sorted_collects, works_others}
 
@@ -237,7 +239,8 @@ module _ (setup : Setup) (world : World) (owned : ∥ IsOwned world ∥₁) (pla
   lead_arrivals (Arrive other id ∷ notes) stage last lead =
       by_match (other == (place + 2)) _ _ (stage.come + arrivals_of (place + 2) (behind (Arrive other id) notes) ≡ last.come) lead.1
       (λ same h.
-      let one = arrives_one setup world owned place wrote 0 0 id h.2 h.3 in
+      let one = arrives_one (payload_at setup place) place (writer world place) wrote.held wrote.cut world.service (learnt world (owned_itself world owned) place)
+      (named world (owned_itself world owned) place) id h.2 h.3 in
       let is : happened world.service (Arrive other id) ≡ model.Arrives (place + 2) id one.chunk ∷ [] =
       ap (λ (s : ℕ). happened world.service (Arrive s id)) (eqb-true other (place + 2) same) ∙ one.is in
       let both = arrivals_parts (place + 2) (happened world.service (Arrive other id)) (flat_map (happened world.service) notes) in

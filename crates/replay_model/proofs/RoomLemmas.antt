@@ -16,6 +16,7 @@ use Rattle.scenario_text.specs.declared.scenario.NumberedLine.{NumberedLine}
 use Rattle.scenario_text.specs.Accepted.{calls_asked, is_closed_by}
 use Rattle.replay_model.specs.Enough.{closed_from, room_of, loads_from}
 use Rattle.replay_model.specs.Played.{IsSpecOf}
+use Rattle.replay_model.proofs.BalanceLemmas.{get_map}
 
 -- ---- from lists to their elements
 
@@ -30,11 +31,6 @@ all_at test n (y ∷ xs) zero x all get =
 all_at test n (y ∷ xs) (suc i) x all get =
     let both = and_parts (test n y) (list_all (λ one. test one.0 one.1) (enumerate_from (n + 1) xs)) all in
     subst (λ (m : ℕ). test m x ≡ true) (let at : n + 1 + i ≡ n + suc i = omega arith in at) (all_at test (n + 1) xs i x both.1 get)
-
-get_map : {A B : Type 0} (f : A → B) (xs : List A) (i : ℕ) (x : A) → slice_get xs i ≡ Some x → slice_get (map f xs) i ≡ Some (f x)
-get_map f [] i x get = absurd (cc)
-get_map f (y ∷ xs) zero x get = let same : y ≡ x = cc in ap (λ a. Some (f a)) same
-get_map f (y ∷ xs) (suc i) x get = get_map f xs i x get
 
 -- ---- sums over the loads
 

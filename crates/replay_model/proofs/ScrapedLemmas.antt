@@ -14,7 +14,7 @@ use Rattle.service_core.specs.Agreement.{AreKnownNotes}
 use Rattle.service_core.specs.Order.{IsFoundPart, LeadTo}
 use Rattle.service_core.specs.Taking.{places_of, looked, noted_more}
 use Rattle.service_core.proofs.HistoryLemmas.{Grows, found_more}
-use Rattle.service_core.proofs.OrderLemmas.{lead_both}
+use Rattle.service_core.proofs.OrderLemmas.{match_true, match_false, lead_both}
 use Rattle.service_core.specs.Scraping.{part_of_entry, part_held, parts_held}
 use Rattle.replay_model.specs.Does.{Scrapes, Wrote, is_shut}
 use Rattle.replay_model.proofs.SortedLemmas.{at_stage, IsSorted, Among, or_none, shut_append, sorted_more, sorted_takes, open_places_fit}
@@ -77,12 +77,6 @@ part_is place id (Held chunk draft) = step (nat_lt 1 draft.head.count) refl
         })
 
 -- ---- all parts of a scrape
-
-match_true : (b : Bool) (P Q : Type 0) → b ≡ true → P → MatchBool b P Q
-match_true b P Q is h = subst (λ (x : Bool). MatchBool x P Q) (sym is) h
-
-match_false : (b : Bool) (P Q : Type 0) → b ≡ false → Q → MatchBool b P Q
-match_false b P Q is h = subst (λ (x : Bool). MatchBool x P Q) (sym is) h
 
 -- the writer's notes are none, or one part that fits where this sequence stands
 abbrev Fits : ServiceView → (target come : ℕ) → Bool → (place : ℕ) → List Noted → Type 0

@@ -16,8 +16,10 @@ use Rattle.service_core.specs.Closing.{closes_of}
 use Rattle.service_core.specs.Order.{Stage, beginning, LeadTo}
 use Rattle.service_core.specs.Reading.{noted_read}
 use Rattle.service_core.specs.Taking.{patched_where, takings, taken_more, took, noted_more, TakesOf, Takes, places_of}
+use Rattle.service_core.proofs.ChainLemmas.{get_behind}
+use Rattle.service_core.proofs.CloseLemmas.{noted_grows}
 use Rattle.service_core.proofs.HistoryLemmas.{Grows, known_append, all_known_grow}
-use Rattle.service_core.proofs.OrderLemmas.{lead_both, lead_grows}
+use Rattle.service_core.proofs.OrderLemmas.{match_true, match_false, lead_both, lead_grows}
 use Rattle.service_core.proofs.TakingLemmas.{taken_here, taken_other, took_grows}
 use Rattle.replay_model.specs.Does.{AreOpen, is_close_of, is_shut}
 
@@ -56,12 +58,6 @@ pub shut_append : (q : ℕ) (xs ys : List Noted) → is_shut q (xs ++ ys) ≡ (i
 shut_append q [] ys = refl
 shut_append q (x ∷ xs) ys =
     ap (λ (b : Bool). is_close_of q x || b) (shut_append q xs ys) ∙ or_assoc (is_close_of q x) (is_shut q xs) (is_shut q ys)
-
-match_true : (b : Bool) (P Q : Type 0) → b ≡ true → P → MatchBool b P Q
-match_true b P Q is h = subst (λ (x : Bool). MatchBool x P Q) (sym is) h
-
-match_false : (b : Bool) (P Q : Type 0) → b ≡ false → Q → MatchBool b P Q
-match_false b P Q is h = subst (λ (x : Bool). MatchBool x P Q) (sym is) h
 
 -- ---- more notes
 
@@ -155,12 +151,6 @@ known_takings view q id (content ∷ contents) there =
     behind : (patches : List Patch) → content_at view q id ≡ Some content → AreKnownNotes view (patched_where patches q id)
     behind [] is = tt
     behind (patch ∷ patches) is = ((content, is), tt)
-
-get_behind : {T : Type 0} → (xs ys : List T) (n : ℕ) (y : T) → slice_get ys n ≡ Some y → slice_get (xs ++ ys) (length xs + n) ≡ Some y
-get_behind xs ys n y is =
-    let low = slice_get_within ys n y is in
-    let long = length-append xs ys in
-    slice_get-get_or (xs ++ ys) (length xs + n) y (omega (arith, low, long)) ∙ ap (λ x. Some x) (get_or-append-add xs ys n y ∙ get_or_from_slice_get ys n y y is)
 
 -- the contents of what was taken are there
 taken_there : (view : ServiceView) (place : ℕ) (looks : List Look) (contents : List Content) → place < length view.taken
@@ -363,9 +353,6 @@ lead_closes view target come closed low (place ∷ places) rising opened =
 known_closes : (view : ServiceView) (places : List ℕ) → AreKnownNotes view (closes_of places)
 known_closes view [] = tt
 known_closes view (place ∷ places) = (tt, known_closes view places)
-
-noted_grows : (view : ServiceView) (notes : List Noted) → Grows view (noted_more view notes)
-noted_grows view notes = record { contents = λ s i content is. is; looks = λ p i n found is. is; commits = λ k committed is. is }
 
 pub sorted_closes : (setup : Setup) (producer : ℕ) (view : ServiceView) → IsSorted setup view → AreOpen setup producer view
     → IsSorted setup (noted_more view (closes_of (places_of producer 0 setup.writers)))

@@ -43,49 +43,24 @@ use Rattle.service_core.specs.Routing.{buffer_at}
 use Rattle.replay_model.specs.Enough.{HasEnough, IsPlayable, room_of}
 use Rattle.replay_model.specs.Played.{buffer_specs, buffers_of, records_in}
 use Rattle.replay_model.specs.Written.{HasWritten}
+use Rattle.replay_model.proofs.AccountLemmas.{pages_begun}
 use Rattle.replay_model.proofs.BalanceLemmas.{get_map, after_at}
 use Rattle.replay_model.proofs.BytesLemmas.{BelowAt, order_below, sheets_long, each_below, begun_of, wanted_few}
-use Rattle.replay_model.proofs.FinishLemmas.{HasRead, has_read_left, has_read_right}
+use Rattle.replay_model.proofs.CompleteLemmas.{once_here, emitted_at}
+use Rattle.replay_model.proofs.FinishLemmas.{HasRead, has_read_left, has_read_right, lead_finishes}
 use Rattle.replay_model.proofs.LostLemmas.{all_whole}
+use Rattle.replay_model.proofs.OwnedLemmas.{named, learnt}
+use Rattle.replay_model.proofs.PlayedLemmas.{setup_writers}
 use Rattle.replay_model.proofs.ReadOutLemmas.{told_few, emitted_few, begun_sum, IsFew, reads_has}
 use Rattle.replay_model.proofs.RoomLemmas.{payload_for, bytes_from, bytes_enough}
 use Rattle.schedule_laws.specs.ReportLaws.{buffer_named}
-use Rattle.schedule_laws.proofs.EnoughLemmas.{pages_begun}
 use Rattle.run_model.specs.Laws.{EveryEnoughRunIsComplete}
 use Rattle.run_model.specs.Settled.{IsRun}
-use Rattle.run_model.proofs.OwnedLemmas.{named, learnt}
-use Rattle.run_model.proofs.RunLemmas.{laid_out, setup_writers, there, within, spec_is, spec_there, shape, wrote, history_in_order, account_in}
+use Rattle.run_model.proofs.RunLemmas.{laid_out, there, within, spec_is, spec_there, shape, wrote, history_in_order, account_in}
 use Rattle.run_model.proofs.CountLemmas.{made_of, made_there, begins_as, buffer_inside}
-use Rattle.run_model.proofs.FaithfulLemmas.{emitted_at}
-use Rattle.run_model.proofs.FinishLemmas.{lead_finishes, before_reads}
+use Rattle.run_model.proofs.FinishLemmas.{before_reads}
 use Rattle.run_model.proofs.LossLemmas.{is_writer, rests, size_here, begun_few, none_is_lost}
 use Rattle.run_model.proofs.ReadLemmas.{IsReadOut, read_out, history_before}
-
--- ---- one buffer has a writer's sequence
-
-none_behind : (setup : Setup) (place : ℕ) (spec : WriterSpec) (get : slice_get setup.writers place ≡ Some spec) (n : ℕ) (buffers : List BufferSpec) → spec.buffer < n
-    → Without (place + 2) (first_buffers setup n buffers)
-none_behind setup place spec get n [] low = tt
-none_behind setup place spec get n (buffer ∷ buffers) low =
-    ((set_at setup place spec get n).known ∙ ne_eqb spec.buffer n (λ e. omega (arith, e, low)), none_behind setup place spec get (suc n) buffers (omega (arith, low)))
-
-once_here : (setup : Setup) (place : ℕ) (spec : WriterSpec) (get : slice_get setup.writers place ≡ Some spec) (n : ℕ) (buffers : List BufferSpec) (i : ℕ) (made : BufferSpec)
-    → slice_get buffers i ≡ Some made → spec.buffer ≡ n + i → Once (place + 2) (buffer_named setup spec made) (first_buffers setup n buffers)
-once_here setup place spec get n [] i made got is = absurd (cc)
-once_here setup place spec get n (one ∷ buffers) zero made got is =
-    let same : one ≡ made = cc in
-    let number : n ≡ spec.buffer = omega (arith, is) in
-    inl (
-      ap (λ (b : BufferSpec). empty_buffer b.size b.policy (sequences_from setup n 0 setup.writers)) same
-          ∙ ap (λ (m : ℕ). empty_buffer made.size made.policy (sequences_from setup m 0 setup.writers)) number,
-      (set_at setup place spec get spec.buffer).known ∙ eq-eqb spec.buffer spec.buffer refl,
-      none_behind setup place spec get (suc n) buffers (omega (arith, number)),
-    )
-once_here setup place spec get n (one ∷ buffers) (suc i) made got is =
-    inr (
-      (set_at setup place spec get n).known ∙ ne_eqb spec.buffer n (λ e. omega (arith, e, is)),
-      once_here setup place spec get (suc n) buffers i made got (omega (arith, is)),
-    )
 
 -- ---- one writer
 

@@ -23,29 +23,14 @@ use Rattle.trace_writer.specs.Outcomes.{held_images, held_patches}
 use Rattle.trace_writer.proofs.accounts.CutLaws.{agreeing_is_cut}
 use Rattle.service_core.specs.OrderLaws.{HasImages}
 use Rattle.replay_model.specs.Played.{buffer_specs, buffers_of, emitted_from, emitted_in, records_in}
+use Rattle.replay_model.proofs.CompleteLemmas.{emitted_at}
+use Rattle.replay_model.proofs.OwnedLemmas.{named, learnt, finds, in_order}
+use Rattle.replay_model.proofs.PlayedLemmas.{setup_writers}
 use Rattle.run_model.specs.Laws.{EveryRunIsFaithful}
 use Rattle.run_model.specs.Settled.{IsRun}
-use Rattle.run_model.proofs.OwnedLemmas.{named, learnt, finds, in_order}
-use Rattle.run_model.proofs.RunLemmas.{setup_writers, there, within, shape}
+use Rattle.run_model.proofs.RunLemmas.{there, within, shape}
 
 -- ---- what the lines have each writer emit
-
-pub record IsEmittedBy (lines : List NumberedLine) (first i : ℕ) (specs : List WriterSpec) (packets : List (List ℕ)) : Type 0 where
-  pub spec : WriterSpec
-  pub get : slice_get specs i ≡ Some spec
-  pub is : packets ≡ emissions_of (calls_asked (first + i) lines)
-
-pub emitted_at : (lines : List NumberedLine) (first : ℕ) (specs : List WriterSpec) (i : ℕ) (packets : List (List ℕ)) → slice_get (emitted_from lines first specs) i ≡ Some packets
-    → IsEmittedBy lines first i specs packets
-emitted_at lines first [] i packets get = absurd (cc)
-emitted_at lines first (spec ∷ specs) zero packets get =
-    let same : emissions_of (calls_asked first lines) ≡ packets = cc in
-    let at : first ≡ first + 0 = omega arith in
-    record { spec = spec; get = refl; is = sym same ∙ ap (λ (n : ℕ). emissions_of (calls_asked n lines)) at }
-emitted_at lines first (spec ∷ specs) (suc i) packets get =
-    let h = emitted_at lines (suc first) specs i packets get in
-    let at : suc first + i ≡ first + suc i = omega arith in
-    record { spec = h.spec; get = h.get; is = h.is ∙ ap (λ (n : ℕ). emissions_of (calls_asked n lines)) at }
 
 emitted_long : (lines : List NumberedLine) (first : ℕ) (specs : List WriterSpec) → length (emitted_from lines first specs) ≡ length specs
 emitted_long lines first [] = refl

@@ -3,6 +3,5 @@ pub mod CountLemmas
 pub mod FaithfulLemmas
 pub mod FinishLemmas
 pub mod LossLemmas
-pub mod OwnedLemmas
 pub mod ReadLemmas
 pub mod RunLemmas

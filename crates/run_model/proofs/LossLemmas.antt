@@ -26,16 +26,18 @@ use Rattle.scenario_text.specs.Limits.{IsWriter}
 use Rattle.trace_writer.specs.Claims.{KeepsClaims}
 use Rattle.service_core.specs.Agreement.{spec_at}
 use Rattle.replay_model.specs.Enough.{HasEnough, IsPlayable}
+use Rattle.replay_model.proofs.AccountLemmas.{pages_begun}
 use Rattle.replay_model.proofs.BalanceLemmas.{each_is}
 use Rattle.replay_model.proofs.NoneLostLemmas.{large_sizes, as_many}
+use Rattle.replay_model.proofs.OwnedLemmas.{with_chunks, by_owned}
 use Rattle.replay_model.proofs.PigeonLemmas.{wins_on, range_wins, won_on, range_few, total, total_sum, total_less, total_least, many_wins, asked_at, own_ask, wins_are_begun}
+use Rattle.replay_model.proofs.PlayedLemmas.{setup_writers}
 use Rattle.replay_model.proofs.RoomLemmas.{most_from, chunks_enough, none_closed, size_is, count_is}
 use Rattle.schedule_laws.specs.EnoughLaws.{AreApart}
 use Rattle.schedule_laws.proofs.BetweenLemmas.{has_producer}
-use Rattle.schedule_laws.proofs.EnoughLemmas.{setups_are_apart, pages_begun}
+use Rattle.schedule_laws.proofs.EnoughLemmas.{setups_are_apart}
 use Rattle.run_model.specs.Settled.{IsRun}
-use Rattle.run_model.proofs.OwnedLemmas.{with_chunks, by_owned}
-use Rattle.run_model.proofs.RunLemmas.{setup_writers, within, spec_is, spec_there, shape, wrote}
+use Rattle.run_model.proofs.RunLemmas.{within, spec_is, spec_there, shape, wrote}
 
 module _ (scenario : Parts) (setup : Setup) (world : World) (run : IsRun scenario setup world) (laid : IsLaid setup) (playable : IsPlayable scenario)
     (enough : HasEnough scenario) where

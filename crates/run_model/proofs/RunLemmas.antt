@@ -29,9 +29,10 @@ use Rattle.scenario_text.specs.Limits.{IsProducer, IsSetUp}
 use Rattle.service_core.specs.Agreement.{spec_at, no_writer}
 use Rattle.replay_model.specs.Played.{IsSpecOf, IsSetupOf}
 use Rattle.replay_model.specs.Written.{HasWritten}
+use Rattle.replay_model.proofs.OwnedLemmas.{named, learnt, finds, in_order}
+use Rattle.replay_model.proofs.PlayedLemmas.{setup_writers}
 use Rattle.schedule_laws.proofs.BetweenLemmas.{has_written}
 use Rattle.run_model.specs.Settled.{IsRun}
-use Rattle.run_model.proofs.OwnedLemmas.{named, learnt, finds, in_order}
 
 -- ---- the set-up
 
@@ -65,9 +66,6 @@ laid_out scenario setup is set_up =
     subst IsLaid (sym is.laid)
     (setup_laid is.specs scenario.writers (omega (arith, long, few)) (some_page scenario.producers is.specs set_up.are_producers is.made)
     (few_pages scenario.producers is.specs set_up.are_producers is.made))
-
-pub setup_writers : (scenario : Parts) (setup : Setup) → IsSetupOf scenario setup → setup.writers ≡ scenario.writers
-setup_writers scenario setup is = ap (λ (s : Setup). s.writers) is.laid
 
 -- ---- one writer
 

@@ -31,19 +31,12 @@ use Rattle.trace_writer.proofs.accounts.CutLaws.{agreeing_is_cut}
 use Rattle.trace_writer.proofs.holding.HeldLaws.{held_is_published}
 use Rattle.trace_writer.proofs.holding.KeptChunks.{shown_none_held}
 use Rattle.service_core.specs.OrderLaws.{HasImages}
+use Rattle.service_core.proofs.HistoryLemmas.{get_more}
 use Rattle.replay_model.specs.Written.{HasWritten}
+use Rattle.replay_model.proofs.AccountLemmas.{get_seam}
 use Rattle.schedule_laws.specs.Resting.{IsBetweenCalls}
 
 -- ---- chunks that were begun
-
-get_more : {A : Type 0} (xs ys : List A) (i : ℕ) (x : A) → slice_get xs i ≡ Some x → slice_get (xs ++ ys) i ≡ Some x
-get_more [] ys i x e = absurd (cc)
-get_more (y ∷ xs) ys zero x e = e
-get_more (y ∷ xs) ys (suc i) x e = get_more xs ys i x e
-
-get_seam : {A : Type 0} (xs : List A) (y : A) → slice_get (xs ++ y ∷ []) (length xs) ≡ Some y
-get_seam [] y = refl
-get_seam (x ∷ xs) y = get_seam xs y
 
 -- where none is held, each has its image under its own id
 completed_there : (begun : List BegunChunk) (id chunk : ℕ) (content : Content) → NoneHeld begun → At begun id (Completed chunk content)

@@ -32,41 +32,16 @@ use Rattle.world_model.proofs.MakingLemmas.{set_at, known_range}
 use Rattle.world_model.proofs.ProjectLemmas.{Without, Once, once_writes}
 use Rattle.service_core.specs.Agreement.{spec_at}
 use Rattle.replay_model.specs.Written.{HasWritten}
+use Rattle.replay_model.proofs.AccountLemmas.{pages_begun}
 use Rattle.replay_model.proofs.BytesLemmas.{BelowAt, order_below, sheets_long, each_below, begun_of}
+use Rattle.replay_model.proofs.CompleteLemmas.{once_here}
 use Rattle.replay_model.proofs.LostLemmas.{all_whole}
 use Rattle.schedule_laws.specs.Resting.{AreBetweenCalls, AreNotedInOrder}
 use Rattle.schedule_laws.specs.EnoughLaws.{HasChunksEnough, IsReadOut, EnoughMissesNothing, bytes_from}
 use Rattle.schedule_laws.proofs.AccountLemmas.{owned_behind, many_behind, in_order}
 use Rattle.schedule_laws.proofs.BetweenLemmas.{has_written}
-use Rattle.schedule_laws.proofs.EnoughLemmas.{pages_begun, begun_few, none_is_lost}
+use Rattle.schedule_laws.proofs.EnoughLemmas.{begun_few, none_is_lost}
 use Rattle.schedule_laws.proofs.ReportLemmas.{account_in}
-
--- ---- one buffer has a writer's sequence
-
-none_behind : (setup : Setup) (place : ℕ) (spec : WriterSpec) (get : slice_get setup.writers place ≡ Some spec) (n : ℕ) (buffers : List BufferSpec) → spec.buffer < n
-    → Without (place + 2) (first_buffers setup n buffers)
-none_behind setup place spec get n [] low = tt
-none_behind setup place spec get n (buffer ∷ buffers) low =
-    ((set_at setup place spec get n).known ∙ ne_eqb spec.buffer n (λ e. omega (arith, e, low)), none_behind setup place spec get (suc n) buffers (omega (arith, low)))
-
-once_here : (setup : Setup) (place : ℕ) (spec : WriterSpec) (get : slice_get setup.writers place ≡ Some spec) (n : ℕ) (buffers : List BufferSpec) (i : ℕ) (made : BufferSpec)
-    → slice_get buffers i ≡ Some made → spec.buffer ≡ n + i
-    → Once (place + 2) (empty_buffer made.size made.policy (sequences_from setup spec.buffer 0 setup.writers)) (first_buffers setup n buffers)
-once_here setup place spec get n [] i made there is = absurd (cc)
-once_here setup place spec get n (one ∷ buffers) zero made there is =
-    let same : one ≡ made = cc in
-    let number : n ≡ spec.buffer = omega (arith, is) in
-    inl (
-      ap (λ (b : BufferSpec). empty_buffer b.size b.policy (sequences_from setup n 0 setup.writers)) same
-          ∙ ap (λ (m : ℕ). empty_buffer made.size made.policy (sequences_from setup m 0 setup.writers)) number,
-      (set_at setup place spec get spec.buffer).known ∙ eq-eqb spec.buffer spec.buffer refl,
-      none_behind setup place spec get (suc n) buffers (omega (arith, number)),
-    )
-once_here setup place spec get n (one ∷ buffers) (suc i) made there is =
-    inr (
-      (set_at setup place spec get n).known ∙ ne_eqb spec.buffer n (λ e. omega (arith, e, is)),
-      once_here setup place spec get (suc n) buffers i made there (omega (arith, is)),
-    )
 
 -- ---- the bytes of what writers began
 

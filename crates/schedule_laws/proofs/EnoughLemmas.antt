@@ -19,7 +19,7 @@ use Rattle.world_model.specs.FirstBuffers.{payload_at}
 use Rattle.world_model.proofs.OwnLemmas.{images_long}
 use Rattle.trace_writer.specs.Claims.{KeepsClaims}
 use Rattle.service_core.specs.Agreement.{spec_at}
-use Rattle.replay_model.specs.Written.{HasWritten}
+use Rattle.replay_model.proofs.AccountLemmas.{pages_begun}
 use Rattle.replay_model.proofs.PigeonLemmas.{ranges_apart, wins_on, range_wins, won_on, range_few, total, total_sum, total_less, total_least, many_wins, asked_at, own_ask, wins_are_begun}
 use Rattle.schedule_laws.specs.Resting.{AreBetweenCalls}
 use Rattle.schedule_laws.specs.EnoughLaws.{SetupsAreApart, HasChunksEnough, EnoughChunksLoseNothing, chunks_from}
@@ -42,15 +42,6 @@ large_payload setup producer laid has =
     let size = laid.sizes producer (range_of setup producer).first first in
     let large = laid.least (range_of setup producer).first (omega (arith, some, inside)) in
     omega (arith, size, large)
-
--- a writer has begun as many chunks as there are pages of its cut
-pub pages_begun : (setup : Setup) (place : ℕ) (view : WriterView) → (wrote : HasWritten setup place view) → length view.begun ≡ length wrote.cut.cut.pages
-pages_begun setup place view wrote =
-    let begun = wrote.begun in
-    let both = length-append (completed_images view.begun) wrote.held in
-    let images = ap (λ (xs : List Image). length xs) wrote.cut.cut.images_are in
-    let long = images_long (place + 2) 0 wrote.cut.cut.pages in
-    omega (arith, begun, both, images, long)
 
 module _ (setup : Setup) (world : World) (laid : IsLaid setup) (owned : IsOwned world) (many : length world.writers ≡ length setup.writers)
     (between : AreBetweenCalls setup world) (enough : HasChunksEnough setup world) where

@@ -78,7 +78,7 @@ none_due : (images : List Image) (view : ServiceView) (q come : ℕ) (closed : B
     → InOrder images view q come closed [] notes
 none_due images view q come closed due notes none order = subst (λ (ps : List Patch). InOrder images view q come closed ps notes) none order
 
-order_from : (images : List Image) (view : ServiceView) (q : ℕ) → ((id count : ℕ) → IsFoundPart view q id count → IsScraped images view q id count)
+pub order_from : (images : List Image) (view : ServiceView) (q : ℕ) → ((id count : ℕ) → IsFoundPart view q id count → IsScraped images view q id count)
     → (notes : List Noted) (stage last : Stage) → LeadTo view q stage notes last → last.due ≡ [] → InOrder images view q stage.come stage.closed stage.due notes
 order_from images view q parts [] stage last lead none = ap (λ (s : Stage). s.due) lead ∙ none
 order_from images view q parts (Arrive other id ∷ notes) stage last lead none = (

@@ -11,14 +11,14 @@ use Rattle.service_core.specs.Taking.{patched_where, takings}
 use Rattle.service_core.specs.Order.{Stage, IsFoundPart, LeadTo}
 use Rattle.service_core.proofs.HistoryLemmas.{Grows}
 
-match_map : (b : Bool) (P Q R T : Type 0) → MatchBool b P Q → (P → R) → (Q → T) → MatchBool b R T
+pub match_map : (b : Bool) (P Q R T : Type 0) → MatchBool b P Q → (P → R) → (Q → T) → MatchBool b R T
 match_map true P Q R T h same apart = same h
 match_map false P Q R T h same apart = apart h
 
-match_true : (b : Bool) (P Q : Type 0) → b ≡ true → P → MatchBool b P Q
+pub match_true : (b : Bool) (P Q : Type 0) → b ≡ true → P → MatchBool b P Q
 match_true b P Q is h = subst (λ (x : Bool). MatchBool x P Q) (sym is) h
 
-match_false : (b : Bool) (P Q : Type 0) → b ≡ false → Q → MatchBool b P Q
+pub match_false : (b : Bool) (P Q : Type 0) → b ≡ false → Q → MatchBool b P Q
 match_false b P Q is h = subst (λ (x : Bool). MatchBool x P Q) (sym is) h
 
 -- one list of notes behind another

@@ -1,7 +1,7 @@
--- What the views of a run keep, since they are those of some owned world: the notes on each sequence are in order, as an account asks it.
+-- What views keep that are those of some owned world: the notes on each sequence are in order, as an account asks it.
 use Rattle.std.proofs.Common.{◌≡◌, ◌∙◌, ℕ, ◌+◌, ◌-◌, ◌<◌, Bool, true, false, ◌&&◌, cond, List, [], ◌∷◌, length, Option, Some, None, refl, subst, arith}
 use Rattle.std.specs.Prelude.{◌==◌}
-use Rattle.std.proofs.Math.Logic.{∥∥₁_elim}
+use Rattle.std.proofs.Math.Logic.{∥∥₁_elim, ∥∥₁_map}
 use Rattle.std.proofs.Math.Nat.{ℕ_set}
 use Rattle.std.proofs.Math.Bool.{Bool-set}
 use mathlib.Core.Sum.{⊎_set}
@@ -22,7 +22,7 @@ use Rattle.world_model.proofs.FrontLemmas.{finds_are_fronts}
 use Rattle.world_model.proofs.PartLemmas.{IsLooked, looked}
 use Rattle.service_core.specs.Order.{Stage, IsFoundPart, LeadTo, beginning}
 use Rattle.service_core.specs.OrderLaws.{HasImages}
-use Rattle.replay_model.proofs.AccountLemmas.{lead_in_order}
+use Rattle.service_core.proofs.AccountLemmas.{order_from}
 
 content_set : IsSet Content
 content_set = hlevel (ℕ_set, Bool-set, ⊎_set, list_set, option_set)
@@ -46,6 +46,10 @@ owned_with world other owned writers_are service_is =
 -- so a fact of which there is one proof follows from ownership
 pub by_owned : (world : World) (P : Type 0) → HasOwned world → IsProp P → ((chunks : List Status) → IsOwned (with_chunks world chunks) → P) → P
 by_owned world P owned one_proof follows = ∥∥₁_elim owned one_proof (λ h. follows h.0.chunks (owned_with world h.0 h.1 h.2 h.3))
+
+-- an owned world is such a one itself
+pub owned_itself : (world : World) → ∥ IsOwned world ∥₁ → HasOwned world
+owned_itself world owned = ∥∥₁_map owned (λ (is : IsOwned world). (world, is, refl, refl))
 
 -- ---- what a look found
 
@@ -165,8 +169,4 @@ module _ (world : World) (owned : HasOwned world) (place : ℕ) where
     -- notes that lead on to where no patches are due are in order
     pub in_order : (last : Stage) → LeadTo world.service (sequence_of place) beginning world.service.events last → last.due ≡ []
         → InOrder images world.service (sequence_of place) 0 false [] world.service.events
-    in_order last lead none = lead_in_order images world.service (sequence_of place) scraped world.service.events beginning last lead none
-
--- as many writers were taken of as there are
-pub many_taken : (world : World) → HasOwned world → length world.service.taken ≡ length world.writers
-many_taken world owned = by_owned world (length world.service.taken ≡ length world.writers) owned (ℕ_set _ _) (λ chunks is. is.all_taken)
+    in_order last lead none = order_from images world.service (sequence_of place) scraped world.service.events beginning last lead none
