@@ -1,5 +1,5 @@
 -- A world that stands as it should is an account: its records are faithful to what its writers emitted.
-use Rattle.std.proofs.Common.{◌≡◌, ◌∙◌, ℕ, zero, suc, ◌+◌, ◌-◌, ◌<◌, ◌≤◌, ◌⊎◌, Bool, true, false, ◌&&◌, cond, All, List, [], ◌∷◌, ◌++◌, length, map, get_or, Option, Some, None, refl, sym, ap, subst, arith, inl, inr, length-append}
+use Rattle.std.proofs.Common.{◌≡◌, ◌∙◌, ℕ, zero, suc, ◌+◌, ◌<◌, ◌≤◌, ◌⊎◌, true, false, All, List, [], ◌∷◌, ◌++◌, length, map, get_or, Some, refl, sym, ap, subst, arith, inl, inr, length-append}
 use Rattle.std.specs.Prelude.{slice_get, option_map}
 use Rattle.std.proofs.Math.Logic.{∥∥₁_elim, ∥∥₁_map}
 use Rattle.std.proofs.Math.Nat.{ℕ_set}
@@ -20,7 +20,7 @@ use Rattle.chunk_plain.specs.Views.{At, BegunChunk, Held, Completed, Content, Dr
 use Rattle.chunk_plain.specs.World.{World, writer}
 use Rattle.chunk_plain.specs.Histories.{completed_images, history_of}
 use Rattle.chunk_plain.specs.Owned.{IsOwned, held_count}
-use Rattle.chunk_plain.proofs.Lists.{at_inside, at_one, at_some}
+use Rattle.chunk_plain.proofs.Lists.{at_inside, at_one}
 use Rattle.world_model.specs.FirstBuffers.{BufferSpec, payload_at, first_buffers}
 use Rattle.world_model.specs.FrontLaws.{StandsInWords}
 use Rattle.world_model.specs.Accounts.{all_images, HasCut, InOrder, IsAccount}

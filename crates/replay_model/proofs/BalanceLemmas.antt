@@ -16,7 +16,6 @@ use Rattle.trace_model.specs.Balance.{PacketCounts, IsBalanced, counts_of}
 use Rattle.trace_model.specs.Buffers.{Buffer, empty_buffer}
 use Rattle.trace_model.specs.History.{Event, state_after, buffers_after}
 use Rattle.trace_model.specs.Sequences.{Sequence, sequence_in}
-use Rattle.model_laws.proofs.LossLemmas.{losses_change_no_shape}
 use Rattle.model_laws.proofs.ReportLemmas.{counts_are_balanced}
 use Rattle.delivery_laws.proofs.ReportLemmas.{accounts_are_histories}
 use Rattle.field_tree.specs.declared.node.FieldNode.TheVariants as node
@@ -32,13 +31,11 @@ use Rattle.scenario_text.specs.declared.scenario.LineKind.{LineKind}
 use Rattle.scenario_text.specs.declared.scenario.LineKind.TheVariants as line
 use Rattle.scenario_text.specs.Scenario.{Parts}
 use Rattle.scenario_text.specs.Accepted.{line_calls, calls_asked, node_call}
-use Rattle.scenario_text.specs.Limits.{IsWriter}
+use Rattle.scenario_text.specs.Limits.{IsWriter, IsSetUp}
 use Rattle.service_core.specs.Routing.{buffer_at}
-use Rattle.replay_model.specs.Flushes.{FlushNote}
-use Rattle.replay_model.specs.Played.{IsPlayed, buffer_specs, buffers_of, buffers_in, counts_from}
+use Rattle.replay_model.specs.Played.{buffer_specs, buffers_of, buffers_in, counts_from, packet_counts, AreBalanced}
 use Rattle.replay_model.specs.Laws.{EveryReportIsBalanced}
-use Rattle.replay_model.proofs.AccountLemmas.{account_in}
-use Rattle.replay_model.proofs.PlayedLemmas.{played_stands, setup_writers, writers_lose}
+use Rattle.replay_model.proofs.DoneLemmas.{IsDone, played_done, there, within, account_of}
 
 -- ---- how many packets the lines begin
 
@@ -201,7 +198,7 @@ get_map f [] i x get = absurd (cc)
 get_map f (y ∷ xs) zero x get = let same : y ≡ x = cc in ap (λ a. Some (f a)) same
 get_map f (y ∷ xs) (suc i) x get = get_map f xs i x get
 
-module _ (scenario : Parts) (setup : Setup) (world : World) (notes : List FlushNote) (played : IsPlayed scenario setup world notes)
+module _ (scenario : Parts) (setup : Setup) (world : World) (done : IsDone scenario setup world)
     (few : length scenario.lines ≤ last_count) (place : ℕ) (spec : WriterSpec) (get : slice_get scenario.writers place ≡ Some spec)
     (is_writer : IsWriter scenario.buffers scenario.producers spec) where
   abbrev pub index : ℕ
@@ -213,45 +210,37 @@ module _ (scenario : Parts) (setup : Setup) (world : World) (notes : List FlushN
   abbrev pub first : Buffer
   first = empty_buffer made.size made.policy (sequences_from setup spec.buffer 0 setup.writers)
 
-  pub there : slice_get (buffer_specs scenario) index ≡ Some made
-  there = get_map (λ (line : BufferLine). record { size = line.kb * 1024; policy = line.policy }) scenario.buffers index is_writer.into_buffer is_writer.buffer_is
+  pub made_there : slice_get (buffer_specs scenario) index ≡ Some made
+  made_there = get_map (λ (line : BufferLine). record { size = line.kb * 1024; policy = line.policy }) scenario.buffers index is_writer.into_buffer is_writer.buffer_is
 
   pub begins_as : buffer_at (buffers_of scenario setup) index ≡ first
   begins_as =
       let least = is_writer.counts_buffer in
       let number : 1 + index ≡ spec.buffer = omega (arith, least) in
-      first_at setup 1 (buffer_specs scenario) index made there
+      first_at setup 1 (buffer_specs scenario) index made made_there
       ∙ ap (λ (m : ℕ). empty_buffer made.size made.policy (sequences_from setup m 0 setup.writers)) number
 
   pub inside : index < length (buffers_of scenario setup)
   inside =
-      let low = slice_get_within (buffer_specs scenario) index made there in
+      let low = slice_get_within (buffer_specs scenario) index made made_there in
       let long = first_long setup 1 (buffer_specs scenario) in
       omega (arith, low, long)
 
   pub becomes : buffer_at (buffers_in scenario setup world) index ≡ state_after first (history_of world.service)
   becomes = after_at (buffers_of scenario setup) (history_of world.service) index inside ∙ ap (λ (b : Buffer). state_after b (history_of world.service)) begins_as
 
-  pub writer_there : slice_get setup.writers place ≡ Some spec
-  writer_there = ap (λ (specs : List WriterSpec). slice_get specs place) (setup_writers scenario setup played.setup_is) ∙ get
-
-  pub within : place < length setup.writers
-  within = slice_get_within setup.writers place spec writer_there
-
   pub begun_few : begun_count (writer world place).calls ≤ last_count
   begun_few =
-      let same = (losses_change_no_shape (calls_asked (suc place) scenario.lines) (writer world place).calls (writers_lose scenario setup world notes played place)).begun in
+      let same = (done.shape place (within scenario setup world done place spec get)).begun in
       let asked = asked_few (suc place) scenario.lines in
       omega (arith, same, asked, few)
 
   balanced : IsBalanced (counts_of (buffer_at (buffers_in scenario setup world) index).policy (writer world place).calls
       (sequence_in (buffer_at (buffers_in scenario setup world) index).sequences (sequence_of place)))
   balanced =
-      let h = played_stands scenario setup world notes played in
-      let wrote = h.0.wrote place within in
-      let is = set_at setup place spec writer_there spec.buffer in
+      let is = set_at setup place spec (there scenario setup world done place spec get) spec.buffer in
       let named = eq-eqb spec.buffer spec.buffer refl in
-      let own = account_in setup world h.1 place wrote h.0.sorted within (sequences_from setup spec.buffer 0 setup.writers)
+      let own = account_of scenario setup world done place (within scenario setup world done place spec get) (sequences_from setup spec.buffer 0 setup.writers)
       (record_size (size_of setup spec.producer)) (is.known ∙ named) (is.start named) in
       let history = accounts_are_histories _ (writer world place).calls _ (sequences_from setup spec.buffer 0 setup.writers) (place + 2)
       (record_size (size_of setup spec.producer)) (history_of world.service) own begun_few in
@@ -262,12 +251,16 @@ module _ (scenario : Parts) (setup : Setup) (world : World) (notes : List FlushN
       (balanced_under made.policy (state_after first (history_of world.service)).policy (writer world place).calls
       (sequence_in (state_after first (history_of world.service)).sequences (place + 2)) here)
 
-pub every_report_is_balanced : EveryReportIsBalanced
-every_report_is_balanced scenario setup world notes played few is_set_up place counts get =
+pub done_is_balanced : (scenario : Parts) (setup : Setup) (world : World) → IsDone scenario setup world → length scenario.lines ≤ last_count
+    → IsSetUp scenario.buffers scenario.producers scenario.writers → AreBalanced (packet_counts scenario setup world)
+done_is_balanced scenario setup world done few is_set_up place counts get =
     let count = count_at (buffers_in scenario setup world) world 0 scenario.writers place counts get in
     let is_writer = each_is (IsWriter scenario.buffers scenario.producers) scenario.writers place count.spec is_set_up.are_writers count.get in
     let at : place ≡ 0 + place = omega arith in
     subst IsBalanced (sym count.is)
     (subst (λ (p : ℕ). IsBalanced (counts_of (buffer_at (buffers_in scenario setup world) (count.spec.buffer - 1)).policy (writer world p).calls
     (sequence_in (buffer_at (buffers_in scenario setup world) (count.spec.buffer - 1)).sequences (sequence_of p)))) at
-    (balanced scenario setup world notes played few place count.spec count.get is_writer))
+    (balanced scenario setup world done few place count.spec count.get is_writer))
+
+pub every_report_is_balanced : EveryReportIsBalanced
+every_report_is_balanced scenario setup world notes played = done_is_balanced scenario setup world (played_done scenario setup world notes played)

@@ -1,5 +1,5 @@
 -- The report of a replay counts the outcomes of its packets.
-use Rattle.std.proofs.Common.{◌≡◌, ◌∙◌, ℕ, suc, ◌+◌, ◌-◌, ◌≤◌, Bool, true, false, List, [], ◌∷◌, length, Some, refl, sym, ap, subst, arith, cond}
+use Rattle.std.proofs.Common.{◌≡◌, ◌∙◌, ℕ, ◌+◌, ◌-◌, ◌≤◌, Bool, true, false, List, [], ◌∷◌, length, Some, refl, sym, ap, subst, arith, cond}
 use Rattle.std.specs.Prelude.{slice_get}
 use Rattle.std.proofs.lemmas.Bool.{eq-eqb}
 use Rattle.std.proofs.lemmas.Option.{get_or_from_slice_get}
@@ -16,7 +16,6 @@ use Rattle.trace_model.specs.Images.{Image, Chunk, Patch, complete_chunk, partia
 use Rattle.trace_model.specs.Patches.{with_patch, with_patches, closed_buffer}
 use Rattle.trace_model.specs.Reading.{Reading, Fragments, Unreadable, reading_of}
 use Rattle.trace_model.specs.Sequences.{Sequence, sequence_in, is_known}
-use Rattle.model_laws.proofs.LossLemmas.{losses_change_no_shape}
 use Rattle.model_laws.proofs.ReportLemmas.{counts_are_of_outcomes}
 use Rattle.delivery_laws.proofs.ReportLemmas.{accounts_are_histories}
 use Rattle.chunk_plain.specs.Setup.{Setup, sequence_of, size_of}
@@ -25,17 +24,14 @@ use Rattle.chunk_plain.specs.Histories.{history_of}
 use Rattle.world_model.specs.FirstBuffers.{sequences_from}
 use Rattle.world_model.proofs.MakingLemmas.{set_at}
 use Rattle.scenario_text.specs.Scenario.{Parts}
-use Rattle.scenario_text.specs.Accepted.{calls_asked}
-use Rattle.scenario_text.specs.Limits.{IsWriter}
+use Rattle.scenario_text.specs.Limits.{IsWriter, IsSetUp}
 use Rattle.service_core.specs.Agreement.{no_writer}
 use Rattle.service_core.specs.Routing.{buffer_at}
-use Rattle.replay_model.specs.Flushes.{FlushNote}
 use Rattle.replay_model.specs.Laws.{EveryReportCountsPackets}
-use Rattle.replay_model.specs.Played.{IsPlayed, buffers_of, buffers_in, first_buffer, CountsPackets}
-use Rattle.replay_model.proofs.AccountLemmas.{account_in, has_written}
+use Rattle.replay_model.specs.Played.{buffers_of, buffers_in, packet_counts, first_buffer, CountsPackets}
 use Rattle.replay_model.proofs.BalanceLemmas as balance
 use Rattle.replay_model.proofs.BalanceLemmas.{count_at, each_is}
-use Rattle.replay_model.proofs.PlayedLemmas.{played_stands, writers_lose}
+use Rattle.replay_model.proofs.DoneLemmas.{IsDone, played_done, there, within, account_of}
 
 -- ---- a buffer keeps its policy
 
@@ -87,53 +83,56 @@ policy_stays (event ∷ events) b = policy_stays events (buffer_after b event) �
 
 -- ---- the counts of one writer
 
-module _ (scenario : Parts) (setup : Setup) (world : World) (notes : List FlushNote) (played : IsPlayed scenario setup world notes)
+module _ (scenario : Parts) (setup : Setup) (world : World) (done : IsDone scenario setup world)
     (few : length scenario.lines ≤ last_count) (place : ℕ) (spec : WriterSpec) (get : slice_get scenario.writers place ≡ Some spec)
     (is_writer : IsWriter scenario.buffers scenario.producers spec) where
   abbrev own : Buffer
-  own = balance.first scenario setup world notes played few place spec get is_writer
+  own = balance.first scenario setup world done few place spec get is_writer
 
   first_is : first_buffer scenario setup place ≡ own
   first_is =
       ap (λ (s : WriterSpec). buffer_at (buffers_of scenario setup) (s.buffer - 1)) (get_or_from_slice_get scenario.writers place spec no_writer get)
-      ∙ balance.begins_as scenario setup world notes played few place spec get is_writer
+      ∙ balance.begins_as scenario setup world done few place spec get is_writer
 
   counted : (counts : PacketCounts)
       → counts ≡ counts_of (buffer_at (buffers_in scenario setup world) (spec.buffer - 1)).policy (writer world place).calls
       (sequence_in (buffer_at (buffers_in scenario setup world) (spec.buffer - 1)).sequences (sequence_of place))
       → CountsPackets scenario setup world place counts
   counted counts is =
-      let h = played_stands scenario setup world notes played in
-      let inside = balance.within scenario setup world notes played few place spec get is_writer in
-      let wrote = h.0.wrote place inside in
-      let there = balance.writer_there scenario setup world notes played few place spec get is_writer in
-      let set = set_at setup place spec there spec.buffer in
+      let inside = within scenario setup world done place spec get in
+      let wrote = done.wrote place inside in
+      let set = set_at setup place spec (there scenario setup world done place spec get) spec.buffer in
       let named = eq-eqb spec.buffer spec.buffer refl in
       let sequences : List Sequence = sequences_from setup spec.buffer 0 setup.writers in
       let size : ℕ = record_size (size_of setup spec.producer) in
       let history : List Event = history_of world.service in
-      let account = account_in setup world h.1 place wrote h.0.sorted inside sequences size (set.known ∙ named) (set.start named) in
+      let account = account_of scenario setup world done place inside sequences size (set.known ∙ named) (set.start named) in
       let histories = accounts_are_histories _ (writer world place).calls wrote.cut.cut.pages sequences (place + 2) size history account
-      (balance.begun_few scenario setup world notes played few place spec get is_writer) in
+      (balance.begun_few scenario setup world done few place spec get is_writer) in
       let outcomes = counts_are_of_outcomes _ (writer world place).calls wrote.cut.cut.pages own.room own.policy sequences (place + 2) size history histories in
-      let becomes = balance.becomes scenario setup world notes played few place spec get is_writer in
+      let becomes = balance.becomes scenario setup world done few place spec get is_writer in
       let same : counts ≡ counts_of own.policy (writer world place).calls (sequence_in (state_after own history).sequences (place + 2)) =
       is
       ∙ ap (λ (b : Buffer). counts_of b.policy (writer world place).calls (sequence_in b.sequences (sequence_of place))) becomes
       ∙ ap (λ (p : FullPolicy). counts_of p (writer world place).calls (sequence_in (state_after own history).sequences (place + 2))) (policy_stays history own) in
-      let shape = losses_change_no_shape (calls_asked (suc place) scenario.lines) (writer world place).calls (writers_lose scenario setup world notes played place) in
+      let shape = done.shape place inside in
       record {
-        wrote = has_written setup world h.1 place wrote;
+        wrote = wrote;
         begun = ap (λ (c : PacketCounts). c.begun) same ∙ ap (λ (n : ℕ). raised 0 n) shape.begun;
         outcomes = subst (λ (b : Buffer). CountsOutcomes b.policy (packet_outcomes (fixed_after (sequence_of place) b history) (writer world place).calls wrote.cut.cut.pages) counts) (sym first_is)
             (subst (CountsOutcomes own.policy (packet_outcomes (fixed_after (place + 2) own history) (writer world place).calls wrote.cut.cut.pages)) (sym same) outcomes);
       }
 
-pub every_report_counts_packets : EveryReportCountsPackets
-every_report_counts_packets scenario setup world notes played few is_set_up place counts get =
+pub done_counts : (scenario : Parts) (setup : Setup) (world : World) → IsDone scenario setup world → length scenario.lines ≤ last_count
+    → IsSetUp scenario.buffers scenario.producers scenario.writers → (place : ℕ) (counts : PacketCounts) → slice_get (packet_counts scenario setup world) place ≡ Some counts
+    → CountsPackets scenario setup world place counts
+done_counts scenario setup world done few is_set_up place counts get =
     let count = count_at (buffers_in scenario setup world) world 0 scenario.writers place counts get in
     let is_writer = each_is (IsWriter scenario.buffers scenario.producers) scenario.writers place count.spec is_set_up.are_writers count.get in
     let at : 0 + place ≡ place = omega arith in
-    counted scenario setup world notes played few place count.spec count.get is_writer counts
+    counted scenario setup world done few place count.spec count.get is_writer counts
     (count.is ∙ ap (λ (p : ℕ). counts_of (buffer_at (buffers_in scenario setup world) (count.spec.buffer - 1)).policy (writer world p).calls
     (sequence_in (buffer_at (buffers_in scenario setup world) (count.spec.buffer - 1)).sequences (sequence_of p))) at)
+
+pub every_report_counts_packets : EveryReportCountsPackets
+every_report_counts_packets scenario setup world notes played = done_counts scenario setup world (played_done scenario setup world notes played)

@@ -27,7 +27,7 @@ use Rattle.service_core.specs.Taking.{TakesOf, Takes, places_of}
 use Rattle.service_core.proofs.TakingLemmas.{taken_here, taken_other}
 use Rattle.replay_model.specs.Acts.{Act, Ask}
 use Rattle.service_core.specs.Told.{NoneLeft}
-use Rattle.replay_model.specs.Does.{Collects, Closes, Reads, Asks, Notes, Wrote, is_shut}
+use Rattle.replay_model.specs.Does.{Collects, Closes, Asks, Notes, Wrote, is_shut}
 use Rattle.replay_model.specs.Flushes.{FlushNote, flush_notes}
 use Rattle.replay_model.specs.Plays.{Plays}
 use Rattle.replay_model.specs.Schedule.{open_places, open_producers}

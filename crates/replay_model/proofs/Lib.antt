@@ -3,6 +3,7 @@ pub mod BalanceLemmas
 pub mod BytesLemmas
 pub mod CompleteLemmas
 pub mod CountLemmas
+pub mod DoneLemmas
 pub mod EndLemmas
 pub mod FinishLemmas
 pub mod FirstLemmas
@@ -24,3 +25,4 @@ pub mod RoomLemmas
 pub mod ScrapedLemmas
 pub mod SortedLemmas
 pub mod StandsLemmas
+pub mod WholeLemmas

@@ -5,7 +5,6 @@ use Rattle.std.proofs.lemmas.Bool.{cases_eq, eq-eqb, ne_eqb, eqb-true}
 use Rattle.trace_base.specs.declared.policy.WriterSpec.{WriterSpec}
 use Rattle.trace_model.specs.Counts.{one_if}
 use Rattle.chunk_plain.specs.declared.setup.ProducerSpec.{ProducerSpec}
-use Rattle.chunk_plain.specs.declared.setup.ChunkRange.{ChunkRange}
 use Rattle.chunk_plain.specs.Laying.{ranges_of, chunks_in}
 use Rattle.chunk_plain.specs.Setup.{Setup, IsChunkOf}
 use Rattle.chunk_plain.specs.Views.{At, Ask}

@@ -13,7 +13,7 @@ use Rattle.replay_model.specs.Enough.{IsPlayable}
 use Rattle.replay_model.specs.Flushes.{FlushNote}
 use Rattle.replay_model.specs.Played.{IsPlayed, Replays, records_in, report_of}
 use Rattle.replay_model.proofs.BalanceLemmas.{every_report_is_balanced}
-use Rattle.replay_model.proofs.CompleteLemmas.{every_enough_replay_is_complete}
+use Rattle.replay_model.proofs.WholeLemmas.{every_enough_replay_is_complete}
 use Rattle.replay_model.proofs.CountLemmas.{every_report_counts_packets}
 use Rattle.replay_model.proofs.PlayedLemmas.{every_replay_is_faithful}
 

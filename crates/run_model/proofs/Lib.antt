@@ -2,6 +2,5 @@ pub mod CompleteLemmas
 pub mod CountLemmas
 pub mod FaithfulLemmas
 pub mod FinishLemmas
-pub mod LossLemmas
 pub mod ReadLemmas
 pub mod RunLemmas

@@ -1,17 +1,18 @@
 -- What a run's writers wrote and its service noted: an account of each sequence.
-use Rattle.std.proofs.Common.{◌≡◌, ◌∙◌, ℕ, suc, ◌+◌, ◌<◌, ◌≤◌, true, false, All, List, [], ◌∷◌, length, Some, refl, sym, ap, subst, arith}
+use Rattle.std.proofs.Common.{◌≡◌, ◌∙◌, ℕ, suc, ◌+◌, ◌<◌, ◌≤◌, false, All, List, [], ◌∷◌, length, Some, refl, sym, ap, subst, arith}
 use Rattle.std.specs.Prelude.{slice_get}
 use Rattle.std.specs.List.{AllByRecursion, AllZip}
 use Rattle.std.proofs.lemmas.List.Elements.{All-nil, All-cons}
-use Rattle.std.proofs.lemmas.Option.{slice_get_within, get_or_from_slice_get, slice_get-get_or}
+use Rattle.std.proofs.lemmas.Option.{slice_get_within}
 use Rattle.trace_base.specs.declared.limits.TheConstants.{MAX_PAGES}
+use Rattle.trace_base.specs.declared.policy.WriterPolicy.{WriterPolicy}
+use Rattle.trace_base.specs.declared.policy.WriterPolicy.TheVariants.{Drops, Stalls}
 use Rattle.trace_base.specs.declared.policy.WriterSpec.{WriterSpec}
 use Rattle.trace_model.specs.Packets.{packets_of}
 use Rattle.trace_model.specs.Cut.{newest_goes_on}
-use Rattle.trace_model.specs.Sequences.{Sequence, fresh, sequence_in, is_known}
+use Rattle.model_laws.specs.ChunkCounts.{lost_count}
 use Rattle.model_laws.specs.Losses.{HasShapeOf}
 use Rattle.model_laws.proofs.LossLemmas.{losses_change_no_shape}
-use Rattle.delivery_laws.specs.DeliveryLaws.{IsAccountOf}
 use Rattle.delivery_laws.specs.Orders as orders
 use Rattle.delivery_laws.specs.WriterSheets.{sheets_of}
 use Rattle.chunk_plain.specs.declared.setup.ProducerSpec.{ProducerSpec}
@@ -26,9 +27,10 @@ use Rattle.scenario_text.specs.declared.scenario.ProducerLine.{ProducerLine}
 use Rattle.scenario_text.specs.Scenario.{Parts}
 use Rattle.scenario_text.specs.Accepted.{calls_asked}
 use Rattle.scenario_text.specs.Limits.{IsProducer, IsSetUp}
-use Rattle.service_core.specs.Agreement.{spec_at, no_writer}
+use Rattle.service_core.specs.Agreement.{spec_at}
 use Rattle.replay_model.specs.Played.{IsSpecOf, IsSetupOf}
 use Rattle.replay_model.specs.Written.{HasWritten}
+use Rattle.replay_model.proofs.DoneLemmas.{IsDone}
 use Rattle.replay_model.proofs.OwnedLemmas.{named, learnt, finds, in_order}
 use Rattle.replay_model.proofs.PlayedLemmas.{setup_writers}
 use Rattle.schedule_laws.proofs.BetweenLemmas.{has_written}
@@ -76,14 +78,6 @@ module _ (scenario : Parts) (setup : Setup) (world : World) (run : IsRun scenari
   pub within : (place : ℕ) (spec : WriterSpec) → slice_get scenario.writers place ≡ Some spec → place < length setup.writers
   within place spec get = slice_get_within setup.writers place spec (there place spec get)
 
-  pub spec_is : (place : ℕ) (spec : WriterSpec) → slice_get scenario.writers place ≡ Some spec → spec_at setup.writers place ≡ spec
-  spec_is place spec get = get_or_from_slice_get setup.writers place spec no_writer (there place spec get)
-
-  pub spec_there : (place : ℕ) → place < length setup.writers → slice_get scenario.writers place ≡ Some (spec_at setup.writers place)
-  spec_there place inside =
-      ap (λ (specs : List WriterSpec). slice_get specs place) (sym (setup_writers scenario setup run.setup_is))
-      ∙ slice_get-get_or setup.writers place no_writer inside
-
   -- its calls are what the lines ask, but for losses and flushes
   pub shape : (place : ℕ) → place < length setup.writers → HasShapeOf (calls_asked (suc place) scenario.lines) (writer world place).calls
   shape place inside = losses_change_no_shape (calls_asked (suc place) scenario.lines) (writer world place).calls (run.writers place inside).lose
@@ -101,7 +95,25 @@ module _ (scenario : Parts) (setup : Setup) (world : World) (run : IsRun scenari
         order_events (payload_at setup place) place (writer world place) wrote.held wrote.cut world.service (learnt world run.owned place) (named world run.owned place)
         (finds world run.owned place) world.service.events 0 false [] ordered
 
-    pub account_in : (sequences : List Sequence) (record_size : ℕ) → is_known sequences (place + 2) ≡ true → sequence_in sequences (place + 2) ≡ fresh (place + 2) record_size
-        → IsAccountOf (payload_at setup place) (writer world place).calls wrote.cut.cut.pages sequences (place + 2) record_size (history_of world.service)
-    account_in sequences record_size known start =
-        record { possible = wrote.cut.possible; cut = wrote.cut.cut.cut; known = known; start = start; order = history_in_order }
+-- ---- all of them
+
+-- only one that drops loses a packet
+drops_lose : (scenario : Parts) (setup : Setup) (world : World) → IsRun scenario setup world → (place : ℕ) → place < length setup.writers
+    → 0 < lost_count (packets_of (writer world place).calls) → (spec_at setup.writers place).policy ≡ Drops
+drops_lose scenario setup world run place inside some = by_policy (spec_at setup.writers place).policy refl
+  where
+    by_policy : (policy : WriterPolicy) → (spec_at setup.writers place).policy ≡ policy → (spec_at setup.writers place).policy ≡ Drops
+    by_policy Drops is = is
+    by_policy Stalls is = let none = (run.writers place inside).stalls is in absurd (omega (arith, none, some))
+
+pub run_done : (scenario : Parts) (setup : Setup) (world : World) → IsRun scenario setup world → IsLaid setup → IsDone scenario setup world
+run_done scenario setup world run laid = record {
+  setup_is = run.setup_is;
+  many = run.many;
+  owned = run.owned;
+  shape = shape scenario setup world run;
+  drops = drops_lose scenario setup world run;
+  claims = λ place inside. (run.writers place inside).between.agrees.claims;
+  wrote = wrote scenario setup world run laid;
+  order = history_in_order scenario setup world run laid;
+}

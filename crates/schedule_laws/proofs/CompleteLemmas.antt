@@ -1,8 +1,8 @@
 -- Where chunks and bytes are enough, and all has come and was read, no packet is missing.
-use Rattle.std.proofs.Common.{◌≡◌, ◌∙◌, ℕ, zero, suc, ◌+◌, ◌-◌, ◌*◌, ◌<◌, ◌≤◌, Bool, true, false, List, [], ◌∷◌, length, Some, refl, sym, ap, subst, arith, inl, inr, cond}
+use Rattle.std.proofs.Common.{◌≡◌, ◌∙◌, ℕ, suc, ◌+◌, ◌-◌, ◌*◌, ◌<◌, ◌≤◌, Bool, true, false, List, [], ◌∷◌, length, Some, refl, sym, ap, subst, arith, cond}
 use Rattle.std.specs.Prelude.{◌==◌, slice_get}
 use Rattle.std.proofs.Math.Nat.{mul-le-mul_right}
-use Rattle.std.proofs.lemmas.Bool.{eq-eqb, ne_eqb}
+use Rattle.std.proofs.lemmas.Bool.{eq-eqb}
 use Rattle.std.proofs.lemmas.List.{length-map}
 use Rattle.std.proofs.lemmas.Option.{slice_get_within}
 use Rattle.trace_base.specs.declared.policy.WriterSpec.{WriterSpec}
@@ -29,7 +29,7 @@ use Rattle.chunk_plain.specs.Owned.{IsOwned}
 use Rattle.world_model.specs.FirstBuffers.{BufferSpec, payload_at, sequences_from, first_buffers}
 use Rattle.world_model.proofs.FaithfulLemmas.{order_events}
 use Rattle.world_model.proofs.MakingLemmas.{set_at, known_range}
-use Rattle.world_model.proofs.ProjectLemmas.{Without, Once, once_writes}
+use Rattle.world_model.proofs.ProjectLemmas.{once_writes}
 use Rattle.service_core.specs.Agreement.{spec_at}
 use Rattle.replay_model.specs.Written.{HasWritten}
 use Rattle.replay_model.proofs.AccountLemmas.{pages_begun}

@@ -1,11 +1,10 @@
 -- Where chunks are enough no writer has lost a packet.
-use Rattle.std.proofs.Common.{◌≡◌, ℕ, suc, ◌+◌, ◌-◌, ◌<◌, ◌≤◌, ◌⊎◌, List, [], ◌∷◌, length, refl, sym, ap, subst, arith, inl, inr, cond, length-append}
+use Rattle.std.proofs.Common.{◌≡◌, ℕ, suc, ◌+◌, ◌-◌, ◌<◌, ◌≤◌, ◌⊎◌, List, [], ◌∷◌, length, refl, sym, ap, subst, arith, inl, inr, cond}
 use Rattle.std.specs.Prelude.{◌==◌}
 use Rattle.std.proofs.lemmas.Bool.{cases_eq, cases_lt}
 use Rattle.std.proofs.lemmas.List.{get_or_past}
 use Rattle.trace_base.specs.declared.policy.WriterSpec.{WriterSpec}
 use Rattle.trace_model.specs.Enough.{most_chunks}
-use Rattle.trace_model.specs.Images.{Image}
 use Rattle.trace_model.specs.Packets.{packets_of, emissions_of}
 use Rattle.model_laws.specs.ChunkCounts.{lost_count}
 use Rattle.model_laws.proofs.ChunkCountLemmas.{every_page_is_counted}
@@ -13,10 +12,8 @@ use Rattle.chunk_plain.specs.declared.setup.ChunkRange.{ChunkRange}
 use Rattle.chunk_plain.specs.Setup.{Setup, IsLaid, HasProducer, IsChunkOf, range_of, size_of, producer_of}
 use Rattle.chunk_plain.specs.Views.{At, WriterView, newcomer}
 use Rattle.chunk_plain.specs.World.{World, writer}
-use Rattle.chunk_plain.specs.Histories.{completed_images}
 use Rattle.chunk_plain.specs.Owned.{IsOwned, Won, stamps_in}
 use Rattle.world_model.specs.FirstBuffers.{payload_at}
-use Rattle.world_model.proofs.OwnLemmas.{images_long}
 use Rattle.trace_writer.specs.Claims.{KeepsClaims}
 use Rattle.service_core.specs.Agreement.{spec_at}
 use Rattle.replay_model.proofs.AccountLemmas.{pages_begun}
