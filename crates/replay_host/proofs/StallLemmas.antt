@@ -247,10 +247,13 @@ module _ {T W S : Type 0} (means : Meaning T W S) (laws : AreLaws means) (call :
         asking = to.2.asking;
         kept = to.2.kept;
         works = to.2.works;
+        owned_asking = to.2.owned_asking;
         full = to.2.full;
         collects = to.2.help.0;
         none = to.2.help.1;
+        owned_kept = to.2.owned_kept;
         own = to.2.own;
+        owned = owned_new;
         stuck = others_write (means.setup old) (producer_of (means.setup old) place) place to.0 stuck;
       },
     )

@@ -9,6 +9,7 @@ use Rattle.trace_model.specs.Delivery.{trace_of}
 use Rattle.trace_model.specs.History.{buffers_after, records_after}
 use Rattle.chunk_plain.specs.Histories.{history_of}
 use Rattle.chunk_plain.specs.Meaning.{Meaning}
+use Rattle.chunk_plain.specs.Owned.{IsOwned}
 use Rattle.chunk_plain.specs.Setup.{Setup, IsChunkOf, producer_of}
 use Rattle.chunk_plain.specs.Views.{Draft, ServiceView}
 use Rattle.chunk_plain.specs.World.{World, Writing, status}
@@ -33,17 +34,21 @@ AreOthers setup producer place world = (chunk : ℕ) → IsChunkOf setup produce
     → (other id : ℕ) × (draft : Draft) × (status world chunk ≡ Writing other id draft) × (other ≢ place)
 
 -- The writer stalls in the call that it was asked for: it has the policy to, and asks for a last help where no chunk of its producer is free. The
--- help takes nothing, and each of these chunks is being written by other writers then.
+-- help takes nothing, and each of these chunks is being written by other writers then. Each chunk is owned by exactly one in each of these worlds;
+-- since the views of other writers are those of before, a chunk that one of them writes then it wrote before the call.
 pub record StallsIn (setup : Setup) (place : ℕ) (call : Call) (old new : World) : Type 0 where
   pub may : MayStall call
   pub policy_is : policy_of setup place ≡ policies.Stalls
   pub asking : World
   pub kept : World
   pub works : Works setup place old asking
+  pub owned_asking : ∥ IsOwned asking ∥₁
   pub full : HasNoFreeChunk setup (producer_of setup place) asking
   pub collects : Collects setup (producer_of setup place) asking kept
   pub none : collects.taken ≡ 0
+  pub owned_kept : ∥ IsOwned kept ∥₁
   pub own : LeavesRest place kept new
+  pub owned : ∥ IsOwned new ∥₁
   pub stuck : AreOthers setup (producer_of setup place) place new
 
 -- the writer at this place stalled in a call: the fault says so, and no record was written
