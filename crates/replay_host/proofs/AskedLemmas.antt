@@ -32,7 +32,7 @@ use Rattle.replay_host.specs.Standing.{IsSeated, Stands}
 use Rattle.replay_host.proofs.KeepLemmas.{works_keep}
 use Rattle.replay_host.proofs.ReadyLemmas.{NotesFor, loses_more, ready_behind, ready_still, notes_begun, notes_number, notes_bytes, notes_nested}
 use Rattle.replay_host.proofs.RowLemmas.{AreLaws, AllSit, row_is}
-use Rattle.replay_host.proofs.WorkLemmas.{WorksTo, works_world}
+use Rattle.replay_host.proofs.WorkLemmas.{Begins, WorksTo, none_between, quiet_world, works_world}
 use Rattle.replay_host.proofs.WroteLemmas.{wrote}
 
 -- ---- one of a list is replaced
@@ -216,17 +216,26 @@ module _ {T W S : Type 0} (means : Meaning T W S) (laws : AreLaws means) (call :
       },
     )
       where
-        work : (is : World) × (means.told new ≡ Some is) × WorksTo (means.setup old) place (route_of core).spec.policy called.stopped was is
-        work = works_world means laws (means.setup old) place (route_of core) seated.agrees.writes.route.range (ap (λ (s : WriterSpec). s.producer) spec_is)
-            (ap (λ (s : WriterSpec). s.policy) spec_is) _ (λ table seat next moved quiet. quiet) called.works
-            (refuses_none (route_of core).spec.policy called.stopped called.drops)
-            (record {
-              setup_is = refl;
-              place_is = place_is;
-              sit = all_sit means old cores helper.service core stands;
-              serves = stands.served.serves;
-              producer = producer_is;
-            }) was told_was
+        begins : Begins means (means.setup old) place (route_of core) helper old core.seat
+        begins = record {
+          setup_is = refl;
+          place_is = place_is;
+          sit = all_sit means old cores helper.service core stands;
+          serves = stands.served.serves;
+          producer = producer_is;
+          none_out = none_between (means.setup old) place (means.view old core.seat) seated.agrees.claims;
+        }
+
+        work : (is : World) × (means.told new ≡ Some is) × WorksTo (means.setup old) place call (route_of core).spec.policy called.stopped was is
+        work = elim called.asks [
+          | inl may ↦
+              works_world means laws (means.setup old) place (route_of core) call may seated.agrees.writes.route.range
+              (ap (λ (s : WriterSpec). s.producer) spec_is) (ap (λ (s : WriterSpec). s.policy) spec_is) _ (λ table seat next moved quiet. quiet) called.works
+              (refuses_none (route_of core).spec.policy called.stopped called.drops) begins was told_was
+          | inr quiet ↦
+              quiet_world means laws (means.setup old) place (route_of core) call helper old core.seat called.stopped new after.seat quiet.1 quiet.0
+              begins was told_was
+        ]
 
         row_old : writer was place ≡ means.view old core.seat
         row_old = row_is means laws old was told_was place core.seat seated.sits place_is

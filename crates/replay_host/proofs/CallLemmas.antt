@@ -1,5 +1,5 @@
 -- What a writer's call did, in one form for all calls.
-use Rattle.std.proofs.Common.{◌≡◌, ◌∙◌, ℕ, ◌+◌, ◌<◌, ◌≤◌, Bool, true, false, List, ◌∷◌, ◌++◌, length, refl, sym, ap, subst, arith, length-append}
+use Rattle.std.proofs.Common.{◌≡◌, ◌∙◌, ℕ, ◌+◌, ◌<◌, ◌≤◌, Bool, true, false, List, ◌∷◌, ◌++◌, length, refl, sym, ap, subst, arith, length-append, inl, inr}
 use Rattle.trace_base.specs.declared.policy.WriterPolicy.{WriterPolicy}
 use Rattle.trace_base.specs.declared.policy.WriterPolicy.TheVariants.{Drops, Stalls}
 use Rattle.trace_model.specs.Calls.{Call, Begun}
@@ -23,7 +23,8 @@ use Rattle.trace_writer.specs.Helping.{LeavesWriters, Works, Done, refuses}
 use Rattle.trace_writer.specs.Outcomes.{held_images, images_so_far, patches_so_far}
 use Rattle.trace_writer.specs.OwnSteps.{IsQuiet, IsSilent, GetsChunk, IsOutNow}
 use Rattle.trace_writer.proofs.accounts.CutLaws.{agreeing_is_cut}
-use Rattle.replay_host.specs.Asking.{IsReadyFor, IsCalled, MayStall, IsStalledCall, noted_as}
+use Rattle.replay_model.specs.Does.{MayNeedChunk}
+use Rattle.replay_host.specs.Asking.{IsReadyFor, IsCalled, IsStalledCall, noted_as}
 use Rattle.replay_host.proofs.ReadyLemmas.{between_is}
 use Rattle.replay_host.proofs.WroteLemmas.{begun_many}
 
@@ -35,17 +36,18 @@ drops_by Stalls stopped none is = absurd (let never : true ≡ false = sym is �
 -- a call that may have asked for chunks
 pub asked_called : {H T W S : Type 0} (means : Meaning T W S) (needs : H → T → Type 0) (helps : H → T → ℕ → Bool → H → T → Type 0)
     (call : Call) (helper : H) (old : T) (core : WriterCore W) (steps : ℕ) (stopped : Bool) (noted : List Call) (left : H) (new : T) (after : WriterCore W) (later : ℕ)
-    → IsAsked means needs helps (route_of core) helper old core.seat steps stopped noted (is_stalled after) left new after.seat later
+    → MayNeedChunk call → IsAsked means needs helps (route_of core) helper old core.seat steps stopped noted (is_stalled after) left new after.seat later
     → CoreAgrees (means.setup old) (means.place core.seat) (means.view new after.seat) after → is_stalled after ≡ false
     → noted ≡ noted_as stopped (route_of core).spec.policy call
     → IsCalled means needs helps call helper old core left new after
-asked_called means needs helps call helper old core steps stopped noted left new after later asked agrees going is = record {
+asked_called means needs helps call helper old core steps stopped noted left new after later may asked agrees going is = record {
   agrees = agrees;
   going = going;
   needed = asked.needed;
   others = asked.others;
   stopped = stopped;
   drops = drops_by (route_of core).spec.policy stopped (sym asked.stalls ∙ going);
+  asks = inl may;
   works = asked.works;
   notes = asked.notes ∙ ap (λ (cs : List Call). (means.view old core.seat).calls ++ cs) is;
 }
@@ -58,7 +60,7 @@ stalls_by Stalls stopped is = (refl, is)
 -- a call in which its writer stalled
 pub asked_stalled : {H T W S : Type 0} (means : Meaning T W S) (needs : H → T → Type 0) (helps : H → T → ℕ → Bool → H → T → Type 0)
     (call : Call) (helper : H) (old : T) (core : WriterCore W) (steps : ℕ) (stopped : Bool) (noted : List Call) (left : H) (new : T) (after : WriterCore W) (later : ℕ)
-    → MayStall call → IsAsked means needs helps (route_of core) helper old core.seat steps stopped noted (is_stalled after) left new after.seat later
+    → MayNeedChunk call → IsAsked means needs helps (route_of core) helper old core.seat steps stopped noted (is_stalled after) left new after.seat later
     → CoreAgrees (means.setup old) (means.place core.seat) (means.view new after.seat) after → is_stalled after ≡ true
     → IsStalledCall means needs helps call helper old core left new after
 asked_stalled means needs helps call helper old core steps stopped noted left new after later may asked agrees halted =
@@ -93,6 +95,7 @@ quiet_called means needs helps call helper old core new after quiet agrees going
   };
   stopped = false;
   drops = λ never. absurd (let wrong : false ≡ true = never in cc);
+  asks = inr (refl, quiet);
   works = Done helper old core.seat new after.seat quiet;
   notes = notes;
 }

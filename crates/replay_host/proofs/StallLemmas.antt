@@ -23,7 +23,7 @@ use Rattle.service_core.proofs.AnswerLemmas.{LeavesTaken, takes_nothing}
 use Rattle.service_core.specs.Agreement.{spec_at}
 use Rattle.service_core.specs.Taking.{places_of}
 use Rattle.replay_model.specs.Does as acts
-use Rattle.replay_model.specs.Does.{LeavesRest, HasNoFreeChunk, Collects, policy_of}
+use Rattle.replay_model.specs.Does.{LeavesRest, MayNeedChunk, IsOut, Collects, policy_of}
 use Rattle.replay_host.specs.declared.helper.Collecting.{Collecting}
 use Rattle.replay_host.specs.Asking.{IsStalledCall, KeepsService}
 use Rattle.replay_host.specs.Helping.{MayHelp, Helps}
@@ -34,7 +34,7 @@ use Rattle.replay_host.proofs.AskedLemmas.{all_sit, route_is, set_here, set_ther
 use Rattle.replay_host.proofs.KeepLemmas.{works_keep}
 use Rattle.replay_host.proofs.RowLemmas.{AreLaws, row_is}
 use Rattle.replay_host.proofs.StuckLemmas.{IsTidy, tidy_is, stalled_holds_none, IsStuck, others_write, none_freed, none_left_still}
-use Rattle.replay_host.proofs.WorkLemmas.{Begins, begins_after, begins_helped, own_first, own_leaves, full_is, helped_world, collects_world}
+use Rattle.replay_host.proofs.WorkLemmas.{Begins, none_between, begins_quiet, begins_gets, begins_out, begins_helped, out_is, own_first, own_leaves, helped_world, collects_world}
 
 -- a help that takes nothing
 abbrev pub TakesNothing : Setup → (producer : ℕ) → (old new : World) → Type 0
@@ -42,33 +42,31 @@ TakesNothing setup producer old new = (collects : Collects setup producer old ne
 
 -- What a work in which the writer stalls comes to in the worlds that are told: a last help takes nothing, and then it does its own last
 -- steps.
-pub record StallsTo (setup : Setup) (place : ℕ) (was is : World) : Type 0 where
+pub record StallsTo (setup : Setup) (place : ℕ) (call : Call) (was is : World) : Type 0 where
   pub asking : World
   pub kept : World
-  pub works : acts.Works setup place was asking
-  pub full : HasNoFreeChunk setup (producer_of setup place) asking
+  pub works : acts.Works setup place call was asking
+  pub out : IsOut setup place asking
   pub help : TakesNothing setup (producer_of setup place) asking kept
   pub own : LeavesRest place kept is
   pub frees : (chunk : ℕ) → status is chunk ≡ Unclaimed → status kept chunk ≡ Unclaimed
   pub idle : asking.service.reading ≡ []
-  pub owned_asking : ∥ IsOwned asking ∥₁
   pub owned_kept : ∥ IsOwned kept ∥₁
   pub chunks : KeepsChunks (writer kept place).begun (writer is place).begun
   pub held : NoneHeld (writer kept place).begun
 
 -- the same behind what came before
-stalls_from : (setup : Setup) (place : ℕ) (was mid is : World) (to : StallsTo setup place mid is) → acts.Works setup place was to.asking
-    → StallsTo setup place was is
-stalls_from setup place was mid is to works = record {
+stalls_from : (setup : Setup) (place : ℕ) (call : Call) (was mid is : World) (to : StallsTo setup place call mid is)
+    → acts.Works setup place call was to.asking → StallsTo setup place call was is
+stalls_from setup place call was mid is to works = record {
   asking = to.asking;
   kept = to.kept;
   works = works;
-  full = to.full;
+  out = to.out;
   help = to.help;
   own = to.own;
   frees = to.frees;
   idle = to.idle;
-  owned_asking = to.owned_asking;
   owned_kept = to.owned_kept;
   chunks = to.chunks;
   held = to.held;
@@ -80,7 +78,7 @@ none_taken taken is = elim (cases_eq taken 0) [
   | inr some ↦ (let never : false ≡ true = is ∙ ap not (ne_eqb taken 0 some) in absurd cc)
 ]
 
-pub stalls_world : {T W S : Type 0} (means : Meaning T W S) → AreLaws means → (setup : Setup) (place : ℕ) (route : Route)
+pub stalls_world : {T W S : Type 0} (means : Meaning T W S) → AreLaws means → (setup : Setup) (place : ℕ) (route : Route) (call : Call) → MayNeedChunk call
     → range_of setup (producer_of setup place) ≡ range_in route.arbiter → route.spec.producer ≡ producer_of setup place
     → route.spec.policy ≡ policy_of setup place
     → route.spec.policy ≡ Stalls
@@ -89,51 +87,51 @@ pub stalls_world : {T W S : Type 0} (means : Meaning T W S) → AreLaws means �
     (λ asked table answer behind freed. Helps means asked table route.spec.producer answer behind freed × LeavesWriters means table freed)
     helper old seat stopped left new after
     → stopped ≡ true → Begins means setup place route helper old seat
-    → (was : World) → means.told old ≡ Some was → (is : World) × (means.told new ≡ Some is) × StallsTo setup place was is
-stalls_world means laws setup place route range producer policy stalls (Done helper old seat new after ends) halted begins was told =
+    → (was : World) → means.told old ≡ Some was → (is : World) × (means.told new ≡ Some is) × StallsTo setup place call was is
+stalls_world means laws setup place route call may range producer policy stalls (Done helper old seat new after ends) halted begins was told =
     absurd (let never : false ≡ true = halted in cc)
-stalls_world means laws setup place route range producer policy stalls
+stalls_world means laws setup place route call may range producer policy stalls
     (Silent helper old seat next moved stopped left new after silent works) halted begins was told =
     let mid = silent.quiet.frees_none was told in
-    let rest = stalls_world means laws setup place route range producer policy stalls works halted
-    (begins_after means setup place route helper old seat next moved silent.quiet.step begins) mid.0 mid.1 in (
+    let rest = stalls_world means laws setup place route call may range producer policy stalls works halted
+    (begins_quiet means setup place route helper old seat next moved silent.quiet begins) mid.0 mid.1 in (
       rest.0,
       rest.1,
-      stalls_from setup place was mid.0 rest.0 rest.2 (own_first setup place was
+      stalls_from setup place call was mid.0 rest.0 rest.2 (own_first setup place was
           (own_leaves means laws setup place route helper old seat next moved silent.quiet.step begins was mid.0 told mid.1) rest.2.works),
     )
-stalls_world means laws setup place route range producer policy stalls (Gets helper old seat next moved stopped left new after gets works)
+stalls_world means laws setup place route call may range producer policy stalls (Gets helper old seat next moved stopped left new after gets works)
     halted begins was told =
     let mid = gets.frees_none was told in
-    let rest = stalls_world means laws setup place route range producer policy stalls works halted
-    (begins_after means setup place route helper old seat next moved gets.step begins) mid.0 mid.1 in (
+    let rest = stalls_world means laws setup place route call may range producer policy stalls works halted
+    (begins_gets means setup place route helper old seat next moved range gets begins) mid.0 mid.1 in (
       rest.0,
       rest.1,
-      stalls_from setup place was mid.0 rest.0 rest.2 (own_first setup place was
+      stalls_from setup place call was mid.0 rest.0 rest.2 (own_first setup place was
           (own_leaves means laws setup place route helper old seat next moved gets.step begins was mid.0 told mid.1) rest.2.works),
     )
-stalls_world means laws setup place route range producer policy stalls
+stalls_world means laws setup place route call may range producer policy stalls
     (Helped helper old seat asking asker helped freed stopped left new after waits out helps works) halted begins was told =
     let mid = out.none_free was told in
-    let asked = begins_after means setup place route helper old seat asking asker out.step begins in
+    let asked = begins_out means setup place route helper old seat asking asker out begins in
     let help = helped_world means laws helper helped asking freed route.spec.producer helps.0 (sym begins.producer) mid.0 mid.1 in
-    let rest = stalls_world means laws setup place route range producer policy stalls works halted
-    (begins_helped means setup place route helper helped asking freed asker true asked helps.0 helps.1) help.0 help.1 in (
+    let rest = stalls_world means laws setup place route call may range producer policy stalls works halted
+    (begins_helped means setup place route helper helped asking freed asker true out.step.seat_stays asked helps.0 helps.1) help.0 help.1 in (
       rest.0,
       rest.1,
-      stalls_from setup place was help.0 rest.0 rest.2 (acts.Helped was mid.0 help.0 rest.2.asking (sym policy ∙ stalls)
+      stalls_from setup place call was help.0 rest.0 rest.2 (acts.Helped was mid.0 help.0 rest.2.asking may (sym policy ∙ stalls)
           (own_leaves means laws setup place route helper old seat asking asker out.step begins was mid.0 told mid.1)
-          (full_is setup place route mid.0 range mid.2)
+          (out_is means laws setup place route helper old seat asking asker range out asked mid.0 mid.1 mid.2)
           (subst (λ (p : ℕ). Collects setup p mid.0 help.0) producer
           (subst (λ (s : Setup). Collects s route.spec.producer mid.0 help.0) asked.setup_is help.2))
-          help.3 rest.2.works),
+          (laws.told_owned freed help.0 help.1) help.3 rest.2.works),
     )
-stalls_world means laws setup place route range producer policy stalls
+stalls_world means laws setup place route call may range producer policy stalls
     (Refused helper old seat asking asker left kept new after waits out helps ends) halted begins was told =
     let mid = out.none_free was told in
-    let asked = begins_after means setup place route helper old seat asking asker out.step begins in
+    let asked = begins_out means setup place route helper old seat asking asker out begins in
     let help = collects_world means laws helper left asking kept route.spec.producer false helps.0 (sym begins.producer) mid.0 mid.1 in
-    let behind = begins_helped means setup place route helper left asking kept asker false asked helps.0 helps.1 in
+    let behind = begins_helped means setup place route helper left asking kept asker false out.step.seat_stays asked helps.0 helps.1 in
     let last = ends.frees_none help.0 help.1 in
     let stays = helps.1.writers_stay asker out.step.seat_stays in
     let row_kept = row_is means laws kept help.0 help.1 place asker stays.0 asked.place_is in
@@ -145,7 +143,7 @@ stalls_world means laws setup place route range producer policy stalls
         kept = help.0;
         works = acts.Alone was mid.0 (own_leaves means laws setup place route helper old seat asking asker out.step begins was mid.0 told
             mid.1);
-        full = full_is setup place route mid.0 range mid.2;
+        out = out_is means laws setup place route helper old seat asking asker range out asked mid.0 mid.1 mid.2;
         help = subst (λ (p : ℕ). TakesNothing setup p mid.0 help.0) producer
             (subst (λ (s : Setup). TakesNothing s route.spec.producer mid.0 help.0) asked.setup_is (help.2, none_taken help.2.taken help.3));
         own = own_leaves means laws setup place route left kept asker new after ends.step behind help.0 last.0 help.1 last.1;
@@ -153,14 +151,13 @@ stalls_world means laws setup place route range producer policy stalls
         idle = ap (λ (v : ServiceView). v.reading) (sym
             (laws.told_service_view asking helper.service.seat mid.0 mid.1 helps.0.may.served.serves))
             ∙ helps.0.may.served.agrees.none_read;
-        owned_asking = laws.told_owned asking mid.0 mid.1;
         owned_kept = laws.told_owned kept help.0 help.1;
         chunks = subst (λ (v : WriterView). KeepsChunks v.begun (writer last.0 place).begun) (sym row_kept)
             (subst (λ (v : WriterView). KeepsChunks (means.view kept asker).begun v.begun) (sym row_new) ends.chunks);
         held = subst (λ (v : WriterView). NoneHeld v.begun) (sym (row_kept ∙ stays.1)) out.none_held;
       },
     )
-stalls_world means laws setup place route range producer policy stalls (Lost helper old seat mid between new after drops out ends) halted
+stalls_world means laws setup place route call may range producer policy stalls (Lost helper old seat mid between new after drops out ends) halted
     begins was told =
     absurd (let never : Stalls ≡ Drops = sym stalls ∙ drops in cc)
 
@@ -247,8 +244,7 @@ module _ {T W S : Type 0} (means : Meaning T W S) (laws : AreLaws means) (call :
         asking = to.2.asking;
         kept = to.2.kept;
         works = to.2.works;
-        owned_asking = to.2.owned_asking;
-        full = to.2.full;
+        out = to.2.out;
         collects = to.2.help.0;
         none = to.2.help.1;
         owned_kept = to.2.owned_kept;
@@ -258,8 +254,8 @@ module _ {T W S : Type 0} (means : Meaning T W S) (laws : AreLaws means) (call :
       },
     )
       where
-        to : (is : World) × (means.told new ≡ Some is) × StallsTo (means.setup old) place was is
-        to = stalls_world means laws (means.setup old) place (route_of core) seated.agrees.writes.route.range
+        to : (is : World) × (means.told new ≡ Some is) × StallsTo (means.setup old) place call was is
+        to = stalls_world means laws (means.setup old) place (route_of core) call stalled.may seated.agrees.writes.route.range
             (ap (λ (s : WriterSpec). s.producer) spec_is)
             (ap (λ (s : WriterSpec). s.policy) spec_is) stalled.policy_is stalled.works refl
             (record {
@@ -268,6 +264,7 @@ module _ {T W S : Type 0} (means : Meaning T W S) (laws : AreLaws means) (call :
               sit = all_sit means old cores helper.service core stands;
               serves = stands.served.serves;
               producer = producer_is;
+              none_out = none_between (means.setup old) place (means.view old core.seat) seated.agrees.claims;
             }) was told_was
 
         nothing : LeavesTaken to.2.asking.service to.2.kept.service
@@ -283,9 +280,9 @@ module _ {T W S : Type 0} (means : Meaning T W S) (laws : AreLaws means) (call :
           owned = owned_new;
           many = laws.told_writers new to.0 to.1 ∙ ap (λ (s : Setup). length s.writers) stalled.others.setup_stays;
           tidy = tidy_all fits to.0 to.1;
-          full = λ chunk least inside free. none_freed to.2.asking to.2.kept to.2.owned_asking to.2.owned_kept to.2.help.0.writers
+          full = λ chunk least inside free. none_freed to.2.asking to.2.kept to.2.out.owned to.2.owned_kept to.2.help.0.writers
               nothing.taken to.2.idle chunk
-              (to.2.frees chunk free) (to.2.full chunk least inside);
+              (to.2.frees chunk free) (to.2.out.none_free chunk least inside);
           none_left = none_left_still (means.setup old) (producer_of (means.setup old) place) place to.2.kept to.0 to.2.owned_kept owned_new
               to.2.own to.2.chunks to.2.held
               to.2.help.0.none_left;

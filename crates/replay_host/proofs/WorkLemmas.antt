@@ -1,24 +1,26 @@
 -- A writer's work, with the helps that it asks for, as steps over worlds.
-use Rattle.std.proofs.Common.{◌≡◌, ◌≢◌, ◌∙◌, ℕ, ◌+◌, sym, ap, subst, Bool, true, false, not, ◌==◌, Some}
+use Rattle.std.proofs.Common.{◌≡◌, ◌≢◌, ◌∙◌, ℕ, ◌+◌, refl, sym, ap, subst, arith, Bool, true, false, not, ◌==◌, Some, None, List, [], ◌∷◌, ◌++◌}
 use Rattle.trace_base.specs.declared.policy.WriterPolicy.{WriterPolicy}
+use Rattle.trace_model.specs.Calls.{Call}
 use Rattle.claim_arbiter.specs.Claiming.{NoneFree, range_in}
 use Rattle.chunk_plain.specs.declared.setup.ChunkRange.{ChunkRange}
-use Rattle.chunk_plain.specs.Setup.{Setup, range_of, producer_of}
-use Rattle.chunk_plain.specs.Views.{ServiceView}
+use Rattle.chunk_plain.specs.Setup.{Setup, IsChunkOf, range_of, producer_of}
+use Rattle.chunk_plain.specs.Views.{BegunChunk, Held, Completed, Draft, WriterView, ServiceView, fresh}
 use Rattle.chunk_plain.specs.Meaning.{Meaning, IsWriterStep}
-use Rattle.chunk_plain.specs.World.{World, Unclaimed, status}
+use Rattle.chunk_plain.specs.World.{World, Unclaimed, status, writer}
 use Rattle.trace_writer.specs.declared.route.Route.{Route}
+use Rattle.trace_writer.specs.Claims.{AreOwnChunks, KeepsClaims}
 use Rattle.trace_writer.specs.Helping.{LeavesWriters, refuses, Works, Done, Silent, Gets, Helped, Refused, Lost}
-use Rattle.trace_writer.specs.OwnSteps.{IsQuiet, IsSilent, GetsChunk, IsOutNow}
+use Rattle.trace_writer.specs.OwnSteps.{KeepsChunks, NoneHeld, IsQuiet, IsSilent, GetsChunk, IsOutNow}
 use Rattle.service_core.specs.Taking.{Takes, places_of}
 use Rattle.service_core.specs.Told.{LeavesNone}
 use Rattle.replay_model.specs.Does as acts
-use Rattle.replay_model.specs.Does.{LeavesRest, HasNoFreeChunk, policy_of, AreOpen, Collects}
+use Rattle.replay_model.specs.Does.{LeavesRest, HasNoFreeChunk, MayNeedChunk, IsOut, policy_of, AreOpen, Collects}
 use Rattle.replay_host.specs.declared.helper.Collecting.{Collecting}
 use Rattle.replay_host.specs.Helping.{Helps, Collected}
 use Rattle.replay_host.proofs.TakenLemmas.{open_is}
 use Rattle.service_core.proofs.AnswerLemmas.{takes_something}
-use Rattle.replay_host.proofs.RowLemmas.{AreLaws, AllSit, sit_after, sit_helped, own_step}
+use Rattle.replay_host.proofs.RowLemmas.{AreLaws, AllSit, row_is, sit_after, sit_helped, own_step}
 
 -- own steps one behind another
 pub leaves_both : (place : ℕ) (old mid new : World) → LeavesRest place old mid → LeavesRest place mid new → LeavesRest place old new
@@ -28,10 +30,11 @@ leaves_both place old mid new first second = record {
 }
 
 -- own steps before a work
-pub own_first : (setup : Setup) (place : ℕ) (old : World) {mid new : World} → LeavesRest place old mid → acts.Works setup place mid new → acts.Works setup place old new
+pub own_first : (setup : Setup) (place : ℕ) {call : Call} (old : World) {mid new : World} → LeavesRest place old mid
+    → acts.Works setup place call mid new → acts.Works setup place call old new
 own_first setup place old first (acts.Alone mid new leaves) = acts.Alone old new (leaves_both place old mid new first leaves)
-own_first setup place old first (acts.Helped mid asking freed new stalls leaves full collects some works) =
-    acts.Helped old asking freed new stalls (leaves_both place old mid asking first leaves) full collects some works
+own_first setup place old first (acts.Helped mid asking freed new may stalls leaves out collects owned some works) =
+    acts.Helped old asking freed new may stalls (leaves_both place old mid asking first leaves) out collects owned some works
 
 -- where no chunk comes free, none is free behind it
 pub none_free_still : (first last : ℕ) (was is : World) → ((chunk : ℕ) → status is chunk ≡ Unclaimed → status was chunk ≡ Unclaimed)
@@ -88,9 +91,72 @@ helped_world means laws helper helped asking freed producer helps at was told_wa
     )
 
 -- what a work comes to in the worlds that are told
-pub record WorksTo (setup : Setup) (place : ℕ) (policy : WriterPolicy) (stopped : Bool) (was is : World) : Type 0 where
-  pub works : acts.Works setup place was is
+pub record WorksTo (setup : Setup) (place : ℕ) (call : Call) (policy : WriterPolicy) (stopped : Bool) (was is : World) : Type 0 where
+  pub works : acts.Works setup place call was is
   pub full : stopped ≡ true → HasNoFreeChunk setup (producer_of setup place) is
+
+-- ---- what a writer has out
+
+-- What its steps keep between two calls and within one: no claim is out, and all that it began are chunks of its producer.
+pub record NoneOut (setup : Setup) (place : ℕ) (view : WriterView) : Type 0 where
+  pub unclaimed : view.claimed ≡ []
+  pub unstamped : view.stamped ≡ None
+  pub own_chunks : AreOwnChunks setup (producer_of setup place) view.begun
+
+pub none_between : (setup : Setup) (place : ℕ) (view : WriterView) → KeepsClaims setup place view → NoneOut setup place view
+none_between setup place view claims = record { unclaimed = claims.unclaimed; unstamped = claims.unstamped; own_chunks = claims.own_chunks }
+
+-- chunks that are kept are those that were begun
+own_kept : (setup : Setup) (producer : ℕ) (old new : List BegunChunk) → KeepsChunks old new → AreOwnChunks setup producer old → AreOwnChunks setup producer new
+own_kept setup producer [] [] keeps own = tt
+own_kept setup producer [] (one ∷ new) keeps own = absurd keeps
+own_kept setup producer (one ∷ old) [] keeps own = absurd keeps
+own_kept setup producer (Held chunk draft ∷ old) (Held other next ∷ new) keeps own =
+    (subst (IsChunkOf setup producer) (sym keeps.0) own.0, own_kept setup producer old new keeps.1 own.1)
+own_kept setup producer (Held chunk draft ∷ old) (Completed other content ∷ new) keeps own =
+    (subst (IsChunkOf setup producer) (sym keeps.0) own.0, own_kept setup producer old new keeps.1 own.1)
+own_kept setup producer (Completed chunk content ∷ old) (Held other draft ∷ new) keeps own = absurd keeps
+own_kept setup producer (Completed chunk content ∷ old) (Completed other later ∷ new) keeps own =
+    (subst (IsChunkOf setup producer) (sym keeps.0) own.0, own_kept setup producer old new keeps.1 own.1)
+
+own_more : (setup : Setup) (producer chunk : ℕ) (draft : Draft) (begun : List BegunChunk) → IsChunkOf setup producer chunk → AreOwnChunks setup producer begun
+    → AreOwnChunks setup producer (begun ++ Held chunk draft ∷ [])
+own_more setup producer chunk draft [] own all = (own, tt)
+own_more setup producer chunk draft (Held about other ∷ begun) own all = (all.0, own_more setup producer chunk draft begun own all.1)
+own_more setup producer chunk draft (Completed about content ∷ begun) own all = (all.0, own_more setup producer chunk draft begun own all.1)
+
+module _ {T W S : Type 0} (means : Meaning T W S) (setup : Setup) (place : ℕ) where
+  none_quiet : (old : T) (seat : W) (new : T) (after : W) → IsQuiet means old seat new after → NoneOut setup place (means.view old seat)
+      → NoneOut setup place (means.view new after)
+  none_quiet old seat new after quiet none = record {
+    unclaimed = quiet.claimed ∙ none.unclaimed;
+    unstamped = quiet.stamped ∙ none.unstamped;
+    own_chunks = own_kept setup (producer_of setup place) (means.view old seat).begun (means.view new after).begun quiet.chunks none.own_chunks;
+  }
+
+  none_gets : (route : Route) (old : T) (seat : W) (new : T) (after : W) → range_of setup (producer_of setup place) ≡ range_in route.arbiter
+      → GetsChunk means route old seat new after → NoneOut setup place (means.view old seat) → NoneOut setup place (means.view new after)
+  none_gets route old seat new after range gets none =
+      let first : (range_of setup (producer_of setup place)).first ≡ route.arbiter.first = ap (λ (r : ChunkRange). r.first) range in
+      let count : (range_of setup (producer_of setup place)).count ≡ route.arbiter.chunks = ap (λ (r : ChunkRange). r.count) range in
+      let view = gets.claims.view in
+      record {
+        unclaimed = ap (λ (v : WriterView). v.claimed) view ∙ none.unclaimed;
+        unstamped = ap (λ (v : WriterView). v.stamped) view ∙ none.unstamped;
+        own_chunks = subst (AreOwnChunks setup (producer_of setup place)) (sym (ap (λ (v : WriterView). v.begun) view))
+            (own_more setup (producer_of setup place) gets.chunk (fresh gets.claims.payload) (means.view old seat).begun
+            (record { least = omega (arith, first, gets.claims.least); below = omega (arith, first, count, gets.claims.below) }) none.own_chunks);
+      }
+
+  none_now : (route : Route) (old : T) (seat : W) (new : T) (after : W) → IsOutNow means route old seat new after → NoneOut setup place (means.view old seat)
+      → NoneOut setup place (means.view new after)
+  none_now route old seat new after out none = record {
+    unclaimed = out.claimed ∙ none.unclaimed;
+    unstamped = out.stamped ∙ none.unstamped;
+    own_chunks = own_kept setup (producer_of setup place) (means.view old seat).begun (means.view new after).begun out.chunks none.own_chunks;
+  }
+
+-- ---- works
 
 -- what it begins with
 pub record Begins {T W S : Type 0} (means : Meaning T W S) (setup : Setup) (place : ℕ) (route : Route) (helper : Collecting S) (old : T) (seat : W) : Type 0 where
@@ -99,27 +165,64 @@ pub record Begins {T W S : Type 0} (means : Meaning T W S) (setup : Setup) (plac
   pub sit : AllSit means old
   pub serves : means.serves old helper.service.seat
   pub producer : helper.producer ≡ route.spec.producer
+  pub none_out : NoneOut setup place (means.view old seat)
 
-pub begins_after : {T W S : Type 0} (means : Meaning T W S) (setup : Setup) (place : ℕ) (route : Route) (helper : Collecting S) (old : T) (seat : W) (new : T) (after : W)
-    → IsWriterStep means old seat new after → Begins means setup place route helper old seat → Begins means setup place route helper new after
-begins_after means setup place route helper old seat new after step begins = record {
+begins_after : {T W S : Type 0} (means : Meaning T W S) (setup : Setup) (place : ℕ) (route : Route) (helper : Collecting S) (old : T) (seat : W) (new : T) (after : W)
+    → IsWriterStep means old seat new after → Begins means setup place route helper old seat → NoneOut setup place (means.view new after)
+    → Begins means setup place route helper new after
+begins_after means setup place route helper old seat new after step begins none_out = record {
   setup_is = step.setup_stays ∙ begins.setup_is;
   place_is = step.place_stays ∙ begins.place_is;
   sit = sit_after means old seat new after step begins.sit;
   serves = (step.service_stays helper.service.seat begins.serves).0;
   producer = begins.producer;
+  none_out = none_out;
 }
 
+pub begins_quiet : {T W S : Type 0} (means : Meaning T W S) (setup : Setup) (place : ℕ) (route : Route) (helper : Collecting S) (old : T) (seat : W) (new : T) (after : W)
+    → IsQuiet means old seat new after → Begins means setup place route helper old seat → Begins means setup place route helper new after
+begins_quiet means setup place route helper old seat new after quiet begins =
+    begins_after means setup place route helper old seat new after quiet.step begins (none_quiet means setup place old seat new after quiet begins.none_out)
+
+pub begins_gets : {T W S : Type 0} (means : Meaning T W S) (setup : Setup) (place : ℕ) (route : Route) (helper : Collecting S) (old : T) (seat : W) (new : T) (after : W)
+    → range_of setup (producer_of setup place) ≡ range_in route.arbiter → GetsChunk means route old seat new after
+    → Begins means setup place route helper old seat → Begins means setup place route helper new after
+begins_gets means setup place route helper old seat new after range gets begins =
+    begins_after means setup place route helper old seat new after gets.step begins (none_gets means setup place route old seat new after range gets begins.none_out)
+
+pub begins_out : {T W S : Type 0} (means : Meaning T W S) (setup : Setup) (place : ℕ) (route : Route) (helper : Collecting S) (old : T) (seat : W) (new : T) (after : W)
+    → IsOutNow means route old seat new after → Begins means setup place route helper old seat → Begins means setup place route helper new after
+begins_out means setup place route helper old seat new after out begins =
+    begins_after means setup place route helper old seat new after out.step begins (none_now means setup place route old seat new after out begins.none_out)
+
 pub begins_helped : {T W S : Type 0} (means : Meaning T W S) (setup : Setup) (place : ℕ) (route : Route) (helper helped : Collecting S) (asking freed : T) (asker : W)
-    (answer : Bool) → Begins means setup place route helper asking asker → Helps means helper asking route.spec.producer answer helped freed
-    → LeavesWriters means asking freed → Begins means setup place route helped freed asker
-begins_helped means setup place route helper helped asking freed asker answer asked helps leaves = record {
+    (answer : Bool) → means.sits asking asker → Begins means setup place route helper asking asker
+    → Helps means helper asking route.spec.producer answer helped freed → LeavesWriters means asking freed → Begins means setup place route helped freed asker
+begins_helped means setup place route helper helped asking freed asker answer sits asked helps leaves = record {
   setup_is = leaves.setup_stays ∙ asked.setup_is;
   place_is = asked.place_is;
   sit = sit_helped means asking freed leaves asked.sit;
   serves = helps.step.seat_stays;
   producer = helps.producer_is ∙ asked.producer;
+  none_out = subst (NoneOut setup place) (sym (leaves.writers_stay asker sits).1) asked.none_out;
 }
+
+-- the writer that asks is out of chunks in the world that is told
+pub out_is : {T W S : Type 0} (means : Meaning T W S) → AreLaws means → (setup : Setup) (place : ℕ) (route : Route) (helper : Collecting S)
+    (old : T) (seat : W) (asking : T) (asker : W) → range_of setup (producer_of setup place) ≡ range_in route.arbiter
+    → IsOutNow means route old seat asking asker → Begins means setup place route helper asking asker
+    → (world : World) → means.told asking ≡ Some world → NoneFree world route.arbiter.first (route.arbiter.first + route.arbiter.chunks)
+    → IsOut setup place world
+out_is means laws setup place route helper old seat asking asker range out asked world told none =
+    let row : writer world place ≡ means.view asking asker = row_is means laws asking world told place asker out.step.seat_stays asked.place_is in
+    record {
+      owned = laws.told_owned asking world told;
+      none_free = full_is setup place route world range none;
+      none_held = subst (λ (v : WriterView). NoneHeld v.begun) (sym row) out.none_held;
+      unclaimed = ap (λ (v : WriterView). v.claimed) row ∙ asked.none_out.unclaimed;
+      unstamped = ap (λ (v : WriterView). v.stamped) row ∙ asked.none_out.unstamped;
+      own_chunks = subst (λ (v : WriterView). AreOwnChunks setup (producer_of setup place) v.begun) (sym row) asked.none_out.own_chunks;
+    }
 
 pub own_leaves : {T W S : Type 0} (means : Meaning T W S) → AreLaws means → (setup : Setup) (place : ℕ) (route : Route) (helper : Collecting S)
     (old : T) (seat : W) (new : T) (after : W) → IsWriterStep means old seat new after → Begins means setup place route helper old seat
@@ -128,8 +231,23 @@ own_leaves means laws setup place route helper old seat new after step begins wa
     subst (λ (p : ℕ). LeavesRest p was is) begins.place_is
     (own_step means laws old seat new after helper.service.seat step begins.sit begins.serves was is told_was told_is)
 
--- A work that isn't refused leads from the one told world to the other.
-pub works_world : {T W S : Type 0} (means : Meaning T W S) → AreLaws means → (setup : Setup) (place : ℕ) (route : Route)
+-- Quiet steps lead from the one told world to the other, in whatever call.
+pub quiet_world : {T W S : Type 0} (means : Meaning T W S) → AreLaws means → (setup : Setup) (place : ℕ) (route : Route) (call : Call)
+    (helper : Collecting S) (old : T) (seat : W) (stopped : Bool) (new : T) (after : W) → IsQuiet means old seat new after → stopped ≡ false
+    → Begins means setup place route helper old seat → (was : World) → means.told old ≡ Some was
+    → (is : World) × (means.told new ≡ Some is) × WorksTo setup place call route.spec.policy stopped was is
+quiet_world means laws setup place route call helper old seat stopped new after quiet goes begins was told =
+    let next = quiet.frees_none was told in (
+      next.0,
+      next.1,
+      record {
+        works = acts.Alone was next.0 (own_leaves means laws setup place route helper old seat new after quiet.step begins was next.0 told next.1);
+        full = λ stops. absurd (let never : true ≡ false = sym stops ∙ goes in cc);
+      },
+    )
+
+-- A work that isn't refused, in a call that may need a chunk, leads from the one told world to the other.
+pub works_world : {T W S : Type 0} (means : Meaning T W S) → AreLaws means → (setup : Setup) (place : ℕ) (route : Route) (call : Call) → MayNeedChunk call
     → range_of setup (producer_of setup place) ≡ range_in route.arbiter → route.spec.producer ≡ producer_of setup place → route.spec.policy ≡ policy_of setup place
     → (last : T → W → T → W → Type 0) → ((old : T) (seat : W) (new : T) (after : W) → last old seat new after → IsQuiet means old seat new after)
     → {helper : Collecting S} {old : T} {seat : W} {stopped : Bool} {left : Collecting S} {new : T} {after : W}
@@ -138,21 +256,13 @@ pub works_world : {T W S : Type 0} (means : Meaning T W S) → AreLaws means →
     helper old seat stopped left new after
     → refuses route.spec.policy stopped ≡ false → Begins means setup place route helper old seat
     → (was : World) → means.told old ≡ Some was
-    → (is : World) × (means.told new ≡ Some is) × WorksTo setup place route.spec.policy stopped was is
-works_world means laws setup place route range producer policy last quiet (Done helper old seat new after ends) going begins was told =
-    let step = quiet old seat new after ends in
-    let next = step.frees_none was told in (
-      next.0,
-      next.1,
-      record {
-        works = acts.Alone was next.0 (own_leaves means laws setup place route helper old seat new after step.step begins was next.0 told next.1);
-        full = λ never. absurd (cc never);
-      },
-    )
-works_world means laws setup place route range producer policy last quiet (Silent helper old seat next moved stopped left new after silent works) going begins was told =
+    → (is : World) × (means.told new ≡ Some is) × WorksTo setup place call route.spec.policy stopped was is
+works_world means laws setup place route call may range producer policy last quiet (Done helper old seat new after ends) going begins was told =
+    quiet_world means laws setup place route call helper old seat false new after (quiet old seat new after ends) refl begins was told
+works_world means laws setup place route call may range producer policy last quiet (Silent helper old seat next moved stopped left new after silent works) going begins was told =
     let mid = silent.quiet.frees_none was told in
-    let rest = works_world means laws setup place route range producer policy last quiet works going
-    (begins_after means setup place route helper old seat next moved silent.quiet.step begins) mid.0 mid.1 in (
+    let rest = works_world means laws setup place route call may range producer policy last quiet works going
+    (begins_quiet means setup place route helper old seat next moved silent.quiet begins) mid.0 mid.1 in (
       rest.0,
       rest.1,
       record {
@@ -161,10 +271,10 @@ works_world means laws setup place route range producer policy last quiet (Silen
         full = rest.2.full;
       },
     )
-works_world means laws setup place route range producer policy last quiet (Gets helper old seat next moved stopped left new after gets works) going begins was told =
+works_world means laws setup place route call may range producer policy last quiet (Gets helper old seat next moved stopped left new after gets works) going begins was told =
     let mid = gets.frees_none was told in
-    let rest = works_world means laws setup place route range producer policy last quiet works going
-    (begins_after means setup place route helper old seat next moved gets.step begins) mid.0 mid.1 in (
+    let rest = works_world means laws setup place route call may range producer policy last quiet works going
+    (begins_gets means setup place route helper old seat next moved range gets begins) mid.0 mid.1 in (
       rest.0,
       rest.1,
       record {
@@ -173,26 +283,26 @@ works_world means laws setup place route range producer policy last quiet (Gets 
         full = rest.2.full;
       },
     )
-works_world means laws setup place route range producer policy last quiet (Helped helper old seat asking asker helped freed stopped left new after stalls out helps works) going begins was told =
+works_world means laws setup place route call may range producer policy last quiet (Helped helper old seat asking asker helped freed stopped left new after stalls out helps works) going begins was told =
     let mid = out.none_free was told in
-    let asked = begins_after means setup place route helper old seat asking asker out.step begins in
+    let asked = begins_out means setup place route helper old seat asking asker out begins in
     let help = helped_world means laws helper helped asking freed route.spec.producer helps.0 (sym begins.producer) mid.0 mid.1 in
-    let rest = works_world means laws setup place route range producer policy last quiet works going
-    (begins_helped means setup place route helper helped asking freed asker true asked helps.0 helps.1) help.0 help.1 in (
+    let rest = works_world means laws setup place route call may range producer policy last quiet works going
+    (begins_helped means setup place route helper helped asking freed asker true out.step.seat_stays asked helps.0 helps.1) help.0 help.1 in (
       rest.0,
       rest.1,
       record {
-        works = acts.Helped was mid.0 help.0 rest.0 (sym policy ∙ stalls)
+        works = acts.Helped was mid.0 help.0 rest.0 may (sym policy ∙ stalls)
             (own_leaves means laws setup place route helper old seat asking asker out.step begins was mid.0 told mid.1)
-            (full_is setup place route mid.0 range mid.2)
+            (out_is means laws setup place route helper old seat asking asker range out asked mid.0 mid.1 mid.2)
             (subst (λ (p : ℕ). Collects setup p mid.0 help.0) producer (subst (λ (s : Setup). Collects s route.spec.producer mid.0 help.0) asked.setup_is help.2))
-            help.3 rest.2.works;
+            (laws.told_owned freed help.0 help.1) help.3 rest.2.works;
         full = rest.2.full;
       },
     )
-works_world means laws setup place route range producer policy last quiet (Refused helper old seat asking asker left kept new after stalls out helps ends) going begins was told =
+works_world means laws setup place route call may range producer policy last quiet (Refused helper old seat asking asker left kept new after stalls out helps ends) going begins was told =
     absurd (let never : true ≡ false = ap (λ (p : WriterPolicy). refuses p true) (sym stalls) ∙ going in cc)
-works_world means laws setup place route range producer policy last quiet (Lost helper old seat mid between new after drops out ends) going begins was told =
+works_world means laws setup place route call may range producer policy last quiet (Lost helper old seat mid between new after drops out ends) going begins was told =
     let step = quiet mid between new after ends in
     let middle = out.none_free was told in
     let next = step.frees_none middle.0 middle.1 in (
@@ -202,7 +312,7 @@ works_world means laws setup place route range producer policy last quiet (Lost 
         works = own_first setup place was
             (own_leaves means laws setup place route helper old seat mid between out.step begins was middle.0 told middle.1)
             (acts.Alone middle.0 next.0 (own_leaves means laws setup place route helper mid between new after step.step
-            (begins_after means setup place route helper old seat mid between out.step begins) middle.0 next.0 middle.1 next.1));
+            (begins_out means setup place route helper old seat mid between out begins) middle.0 next.0 middle.1 next.1));
         full = λ is. none_free_range setup place route range middle.0 next.0 next.2 middle.2;
       },
     )

@@ -1,9 +1,9 @@
 -- What it takes to ask a writer for a call, and what that does.
-use Rattle.std.specs.Prelude.{◌≡◌, ℕ, ◌+◌, ◌≤◌, ◌==◌, Bool, true, false, List, ◌∷◌, ◌++◌, length, Some, slice_get, if◌then◌else◌}
+use Rattle.std.specs.Prelude.{◌≡◌, ℕ, ◌+◌, ◌≤◌, ◌⊎◌, ◌==◌, Bool, true, false, List, ◌∷◌, ◌++◌, length, Some, slice_get, if◌then◌else◌}
 use Rattle.trace_base.specs.declared.limits.TheConstants.{MAX_INPUT}
 use Rattle.trace_base.specs.declared.policy.WriterPolicy.{WriterPolicy}
 use Rattle.trace_base.specs.declared.policy.WriterPolicy.TheVariants.{Drops, Stalls}
-use Rattle.trace_model.specs.Calls.{Call, Begun, Number, Bytes, Nested}
+use Rattle.trace_model.specs.Calls.{Call, Begun, Bytes}
 use Rattle.trace_model.specs.Enough.{most_chunks}
 use Rattle.trace_model.specs.Buffers.{Buffer}
 use Rattle.trace_model.specs.History.{records_after}
@@ -24,7 +24,7 @@ use Rattle.trace_writer.specs.Helping.{LeavesOthers, LeavesWriters, Works}
 use Rattle.trace_writer.specs.OwnSteps.{IsQuiet, IsSilent, GetsChunk, IsOutNow}
 use Rattle.service_core.specs.declared.service.ServiceCore.{ServiceCore}
 use Rattle.service_core.specs.Agreement.{KeepsRest}
-use Rattle.replay_model.specs.Does.{Asks}
+use Rattle.replay_model.specs.Does.{MayNeedChunk, Asks}
 
 -- ---- what it takes
 
@@ -58,7 +58,8 @@ abbrev pub noted_as : Bool → WriterPolicy → Call → List Call
 noted_as stopped policy (Begun kept) = begun_as stopped policy
 noted_as stopped policy call = written_as stopped policy call
 
--- A call of a writer over any helper, after which it goes on: what it did, and that it noted the call, or that the packet was lost.
+-- A call of a writer over any helper, after which it goes on: what it did, and that it noted the call, or that the packet was lost. In a call
+-- that needs no chunk it asked for none, and for no help.
 pub record IsCalled {H T W S : Type 0} (means : Meaning T W S) (needs : H → T → Type 0) (helps : H → T → ℕ → Bool → H → T → Type 0)
     (call : Call) (helper : H) (old : T) (core : WriterCore W) (left : H) (new : T) (after : WriterCore W) : Type 0 where
   pub agrees : CoreAgrees (means.setup old) (means.place core.seat) (means.view new after.seat) after
@@ -67,23 +68,16 @@ pub record IsCalled {H T W S : Type 0} (means : Meaning T W S) (needs : H → T 
   pub others : LeavesOthers means old core.seat new after.seat
   pub stopped : Bool
   pub drops : stopped ≡ true → (route_of core).spec.policy ≡ Drops
+  pub asks : MayNeedChunk call ⊎ ((stopped ≡ false) × IsQuiet means old core.seat new after.seat)
   pub works : Works (route_of core).spec.policy (IsSilent means) (IsQuiet means) (GetsChunk means (route_of core)) (IsOutNow means (route_of core))
       (λ asked table answer behind freed. helps asked table (route_of core).spec.producer answer behind freed × LeavesWriters means table freed)
       helper old core.seat stopped left new after.seat
   pub notes : (means.view new after.seat).calls ≡ (means.view old core.seat).calls ++ noted_as stopped (route_of core).spec.policy call
 
--- the call may need a chunk, so that a writer may stall in it
-abbrev pub MayStall : Call → Type 0
-MayStall (Begun kept) = Unit {0}
-MayStall (Number field value) = Unit {0}
-MayStall (Bytes field text times) = Unit {0}
-MayStall (Nested field) = Unit {0}
-MayStall other = ⊥
-
 -- A call of a writer over any helper in which it stalls: what it did, up to a help that freed no chunk.
 pub record IsStalledCall {H T W S : Type 0} (means : Meaning T W S) (needs : H → T → Type 0) (helps : H → T → ℕ → Bool → H → T → Type 0)
     (call : Call) (helper : H) (old : T) (core : WriterCore W) (left : H) (new : T) (after : WriterCore W) : Type 0 where
-  pub may : MayStall call
+  pub may : MayNeedChunk call
   pub policy_is : (route_of core).spec.policy ≡ Stalls
   pub agrees : CoreAgrees (means.setup old) (means.place core.seat) (means.view new after.seat) after
   pub halted : is_stalled after ≡ true

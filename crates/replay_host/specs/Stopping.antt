@@ -17,13 +17,12 @@ use Rattle.service_core.specs.Agreement.{first_of}
 use Rattle.service_core.specs.Reading.{reads_in, noted_read}
 use Rattle.service_core.specs.Taking.{noted_more}
 use Rattle.replay_model.specs.Acts.{Act, Ask, ReadAll}
-use Rattle.replay_model.specs.Does.{Works, LeavesRest, HasNoFreeChunk, Collects, Reads, policy_of}
+use Rattle.replay_model.specs.Does.{MayNeedChunk, IsOut, Works, LeavesRest, Collects, Reads, policy_of}
 use Rattle.replay_model.specs.Flushes.{FlushNote}
 use Rattle.replay_model.specs.Plays.{Plays}
 use Rattle.replay_host.specs.declared.fault.HostFault.{HostFault}
 use Rattle.replay_host.specs.declared.fault.HostFault.TheVariants.{WriteFault, Stalled}
 use Rattle.replay_host.specs.declared.host.Host.{Host}
-use Rattle.replay_host.specs.Asking.{MayStall}
 use Rattle.replay_host.specs.Playing.{IsTraceOf}
 
 -- ---- a writer that stalls
@@ -33,17 +32,16 @@ abbrev pub AreOthers : Setup → (producer place : ℕ) → World → Type 0
 AreOthers setup producer place world = (chunk : ℕ) → IsChunkOf setup producer chunk
     → (other id : ℕ) × (draft : Draft) × (status world chunk ≡ Writing other id draft) × (other ≢ place)
 
--- The writer stalls in the call that it was asked for: it has the policy to, and asks for a last help where no chunk of its producer is free. The
--- help takes nothing, and each of these chunks is being written by other writers then. Each chunk is owned by exactly one in each of these worlds;
--- since the views of other writers are those of before, a chunk that one of them writes then it wrote before the call.
+-- The writer stalls in the call that it was asked for: it has the policy to, and asks for a last help where it is out of chunks. The
+-- help takes nothing, and each of its producer's chunks is being written by other writers then. Each chunk is owned by exactly one in each of these
+-- worlds; since the views of other writers are those of before, a chunk that one of them writes then it wrote before the call.
 pub record StallsIn (setup : Setup) (place : ℕ) (call : Call) (old new : World) : Type 0 where
-  pub may : MayStall call
+  pub may : MayNeedChunk call
   pub policy_is : policy_of setup place ≡ policies.Stalls
   pub asking : World
   pub kept : World
-  pub works : Works setup place old asking
-  pub owned_asking : ∥ IsOwned asking ∥₁
-  pub full : HasNoFreeChunk setup (producer_of setup place) asking
+  pub works : Works setup place call old asking
+  pub out : IsOut setup place asking
   pub collects : Collects setup (producer_of setup place) asking kept
   pub none : collects.taken ≡ 0
   pub owned_kept : ∥ IsOwned kept ∥₁
@@ -54,7 +52,7 @@ pub record StallsIn (setup : Setup) (place : ℕ) (call : Call) (old new : World
 -- the writer at this place stalled in a call: the fault says so, and no record was written
 pub record Stalls {T W S : Type 0} (means : Meaning T W S) (place : ℕ) (call : Call) (old new : Host T W S) (fault : HostFault) : Type 0 where
   pub fault_is : fault ≡ Stalled (suc place)
-  pub may : MayStall call
+  pub may : MayNeedChunk call
   pub serves : means.serves new.table new.helper.service.seat
   pub quiet : (buffers : List Buffer) → records_after buffers (history_of (means.service_view new.table new.helper.service.seat))
       ≡ records_after buffers (history_of (means.service_view old.table old.helper.service.seat))

@@ -66,9 +66,9 @@ collects_grow : (setup : Setup) (producer : ℕ) (old new : World) → IsSorted 
 collects_grow setup producer old new sorted collects =
     takes_grow setup (places_of producer 0 setup.writers) collects.taken old.service new.service sorted (open_places_fit setup producer old.service collects.opened) collects.takes
 
-works_grow : (setup : Setup) (place : ℕ) (old new : World) → Works setup place old new → IsSorted setup old.service → Grows old.service new.service
+works_grow : (setup : Setup) (place : ℕ) {call : Call} (old new : World) → Works setup place call old new → IsSorted setup old.service → Grows old.service new.service
 works_grow setup place old new (Alone _ _ leaves) sorted = subst (Grows old.service) (sym leaves.service) (grows_same old.service)
-works_grow setup place old new (Helped _ asking freed _ stalls leaves full collects some rest) sorted =
+works_grow setup place old new (Helped _ asking freed _ may stalls leaves out collects owned some rest) sorted =
     let asked : IsSorted setup asking.service = subst (IsSorted setup) (sym leaves.service) sorted in
     let one : Grows old.service freed.service =
     subst (λ (v : ServiceView). Grows v freed.service) leaves.service (collects_grow setup _ asking freed asked collects) in

@@ -30,16 +30,16 @@ sorted_closed setup producer old new sorted closes =
     subst (IsSorted setup) (sym closes.closes.view) (sorted_closes setup producer between mid.0 opened)
 
 -- a writer's work leaves the other writers, and the notes in order
-pub works_others : (setup : Setup) (place : ℕ) (old new : World) → Works setup place old new → (other : ℕ) → other ≢ place → writer new other ≡ writer old other
+pub works_others : (setup : Setup) (place : ℕ) {call : Call} (old new : World) → Works setup place call old new → (other : ℕ) → other ≢ place → writer new other ≡ writer old other
 works_others setup place old new (Alone _ _ leaves) other differs = leaves.writers other differs
-works_others setup place old new (Helped _ asking freed _ stalls leaves full collects some rest) other differs =
+works_others setup place old new (Helped _ asking freed _ may stalls leaves out collects owned some rest) other differs =
     works_others setup place freed new rest other differs
     ∙ ap (λ (ws : List WriterView). get_or ws other newcomer) collects.writers
     ∙ leaves.writers other differs
 
-pub works_sorted : (setup : Setup) (place : ℕ) (old new : World) → Works setup place old new → IsSorted setup old.service → IsSorted setup new.service
+pub works_sorted : (setup : Setup) (place : ℕ) {call : Call} (old new : World) → Works setup place call old new → IsSorted setup old.service → IsSorted setup new.service
 works_sorted setup place old new (Alone _ _ leaves) sorted = subst (IsSorted setup) (sym leaves.service) sorted
-works_sorted setup place old new (Helped _ asking freed _ stalls leaves full collects some rest) sorted =
+works_sorted setup place old new (Helped _ asking freed _ may stalls leaves out collects owned some rest) sorted =
     works_sorted setup place freed new rest
     (sorted_collects setup _ asking freed (subst (IsSorted setup) (sym leaves.service) sorted) collects)
 

@@ -1,13 +1,14 @@
 -- What each act makes of a world. Looks of the service are free, and what each chunk is used for follows from the views by ownership.
-use Rattle.std.specs.Prelude.{◌≡◌, ◌≢◌, ℕ, ◌+◌, ◌<◌, ◌⊎◌, ◌==◌, Bool, true, false, List, [], ◌∷◌, ◌++◌, length, MatchBool}
+use Rattle.std.specs.Prelude.{◌≡◌, ◌≢◌, ℕ, ◌+◌, ◌<◌, ◌⊎◌, ◌==◌, Bool, true, false, None, List, [], ◌∷◌, ◌++◌, length, MatchBool}
 use Rattle.std.specs.List.{flat_map, list_any}
 use Rattle.trace_base.specs.declared.policy.WriterPolicy.{WriterPolicy}
 use Rattle.trace_base.specs.declared.policy.WriterPolicy.TheVariants.{Drops, Stalls}
 use Rattle.trace_model.specs.Buffers.{Buffer}
-use Rattle.trace_model.specs.Calls.{Call, Begun, Flushed}
+use Rattle.trace_model.specs.Calls.{Call, Begun, Number, Bytes, Nested, Flushed}
 use Rattle.trace_model.specs.History.{buffers_after}
 use Rattle.trace_model.specs.Images.{Image}
 use Rattle.trace_model.specs.Packets.{packets_of, account_of, is_writing}
+use Rattle.chunk_plain.specs.Owned.{IsOwned}
 use Rattle.chunk_plain.specs.Setup.{Setup, range_of, producer_of, sequence_of}
 use Rattle.chunk_plain.specs.Views.{Look, Noted, Closed, ServiceView, WriterView}
 use Rattle.chunk_plain.specs.World.{World, writer}
@@ -16,9 +17,10 @@ use Rattle.claim_arbiter.specs.Claiming.{NoneFree}
 use Rattle.world_model.specs.FirstBuffers.{payload_at}
 use Rattle.world_model.specs.Accounts.{HasCut}
 use Rattle.trace_writer.specs.Asked.{begun_as, written_as}
-use Rattle.trace_writer.specs.Claims.{KeepsClaims}
+use Rattle.trace_writer.specs.Claims.{AreOwnChunks, KeepsClaims}
 use Rattle.trace_writer.specs.Core.{last_is_held, holds_newest}
 use Rattle.trace_writer.specs.Laws.{IsHeldImage}
+use Rattle.trace_writer.specs.OwnSteps.{NoneHeld}
 use Rattle.service_core.specs.Agreement.{spec_at, AreKnownNotes}
 use Rattle.service_core.specs.Closing.{TakesAndCloses}
 use Rattle.service_core.specs.Reading.{reads_in, noted_read}
@@ -92,12 +94,32 @@ pub record LeavesRest (place : ℕ) (old new : World) : Type 0 where
 abbrev pub HasNoFreeChunk : Setup → (producer : ℕ) → World → Type 0
 HasNoFreeChunk setup producer world = NoneFree world (range_of setup producer).first ((range_of setup producer).first + (range_of setup producer).count)
 
--- Steps of the writer and, where it is one that stalls and no chunk is free, the taking of its producer's complete chunks, which takes some.
-pub data Works (setup : Setup) (place : ℕ) : World → World → Type 0 where
-  Alone : (old new : World) → LeavesRest place old new → Works setup place old new
-  Helped : (old asking freed new : World) → policy_of setup place ≡ Stalls → LeavesRest place old asking
-      → HasNoFreeChunk setup (producer_of setup place) asking → Collects setup (producer_of setup place) asking freed
-      → freed.service.events ≢ asking.service.events → Works setup place freed new → Works setup place old new
+-- the call may need a chunk, so that its writer may ask for a help in it
+abbrev pub MayNeedChunk : Call → Type 0
+MayNeedChunk (Begun kept) = Unit {0}
+MayNeedChunk (Number field value) = Unit {0}
+MayNeedChunk (Bytes field text times) = Unit {0}
+MayNeedChunk (Nested field) = Unit {0}
+MayNeedChunk other = ⊥
+
+-- The writer at this place is out of chunks, in a world in which each chunk is owned by exactly one: no chunk of its producer is free, it holds
+-- none, and no claim of it is out; and all that it began are chunks of its producer. So each of these chunks is another writer's, or is one that
+-- it completed and that waits.
+pub record IsOut (setup : Setup) (place : ℕ) (world : World) : Type 0 where
+  pub owned : ∥ IsOwned world ∥₁
+  pub none_free : HasNoFreeChunk setup (producer_of setup place) world
+  pub none_held : NoneHeld (writer world place).begun
+  pub unclaimed : (writer world place).claimed ≡ []
+  pub unstamped : (writer world place).stamped ≡ None
+  pub own_chunks : AreOwnChunks setup (producer_of setup place) (writer world place).begun
+
+-- Steps of the writer and, in a call that may need a chunk, where the writer is one that stalls and is out of chunks, the taking of its producer's
+-- complete chunks, which takes some.
+pub data Works (setup : Setup) (place : ℕ) (call : Call) : World → World → Type 0 where
+  Alone : (old new : World) → LeavesRest place old new → Works setup place call old new
+  Helped : (old asking freed new : World) → MayNeedChunk call → policy_of setup place ≡ Stalls → LeavesRest place old asking
+      → IsOut setup place asking → Collects setup (producer_of setup place) asking freed → ∥ IsOwned freed ∥₁
+      → freed.service.events ≢ asking.service.events → Works setup place call freed new → Works setup place call old new
 
 -- what is noted where no chunk is free: the packet is dropped at its begin, or given up
 abbrev pub dropped_call : Call → List Call
@@ -124,7 +146,7 @@ pub record Wrote (setup : Setup) (place : ℕ) (view : WriterView) : Type 0 wher
 
 -- the writer at this place is asked for a call, and does it
 pub record Asks (setup : Setup) (place : ℕ) (call : Call) (old new : World) : Type 0 where
-  pub works : Works setup place old new
+  pub works : Works setup place call old new
   pub notes : Notes setup place call old new
   pub wrote : Wrote setup place (writer new place)
 

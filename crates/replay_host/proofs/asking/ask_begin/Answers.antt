@@ -1,7 +1,7 @@
 -- A packet may begin, and there are ids enough for it.
 use Rattle.std.proofs.Common.{true, refl}
 use Rattle.trace_model.specs.Calls.{Begun}
-use Rattle.replay_host.proofs.CallLemmas.{asked_stalled, ids_enough, none_refused}
+use Rattle.replay_host.proofs.CallLemmas.{asked_called, asked_stalled, ids_enough, none_refused}
 use Rattle.replay_host.proofs.ReadyLemmas.{between_is}
 use Rattle.replay_host.proofs.asking.ask_begin.Goals as goal
 
@@ -11,6 +11,12 @@ begin-requires-clause-none_begun g c = between_is c.requires.ready.1.asked (g.W.
 pub begin-requires-clause-ids : goal.begin-requires-clause-ids
 begin-requires-clause-ids g c =
     ids_enough (g.W.Words.means.setup c.args.table.now) (g.W.Words.means.place c.args.core.now.seat) (g.W.Words.means.view c.args.table.now c.args.core.now.seat) c.args.core.now.writer c.requires.ready.0 c.requires.agrees c.requires.ready.1
+
+pub returns-in-Ok-clause-called : goal.returns-in-Ok-clause-called
+returns-in-Ok-clause-called g c = λ _.
+    let none = none_refused c.args.core.now refl c.requires.going in
+    asked_called g.W.Words.means g.H.HelperOn.needs g.H.HelperOn.helps (Begun true) c.args.help.now c.args.table.now c.args.core.now c.args.steps.now _
+    _ c.begin.new.help c.begin.new.table c.begin.new.self c.begin.new.steps tt (c.in-Ok.ensures.done none) c.in-Ok.ensures.agrees (c.in-Ok.ensures.answers none) refl
 
 pub returns-in-Err-clause-stalled : goal.returns-in-Err-clause-stalled
 returns-in-Err-clause-stalled g c = λ _.

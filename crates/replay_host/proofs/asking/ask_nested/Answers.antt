@@ -13,7 +13,7 @@ returns-in-Ok-clause-called g c = λ _.
     let none = none_refused c.args.core.now (nested_accepted c.requires.ready.1.asked (g.W.Words.means.view c.args.table.now c.args.core.now.seat) c.requires.ready.1.loses c.args.field c.requires.ready.1.accepted.0.0 c.requires.ready.1.accepted.0.1) c.requires.going in
     let done = c.in-Ok.ensures.done none in
     asked_called g.W.Words.means g.H.HelperOn.needs g.H.HelperOn.helps (Nested c.args.field) c.args.help.now c.args.table.now c.args.core.now c.args.steps.now done.0
-    _ c.begin_nested.new.help c.begin_nested.new.table c.begin_nested.new.self c.begin_nested.new.steps done.1 c.in-Ok.ensures.agrees (c.in-Ok.ensures.answers none) refl
+    _ c.begin_nested.new.help c.begin_nested.new.table c.begin_nested.new.self c.begin_nested.new.steps tt done.1 c.in-Ok.ensures.agrees (c.in-Ok.ensures.answers none) refl
 
 pub returns-in-Err-clause-stalled : goal.returns-in-Err-clause-stalled
 returns-in-Err-clause-stalled g c = λ _.
