@@ -1,6 +1,6 @@
 -- What a call in which its writer stalls makes of the service and of the world.
 use Rattle.std.proofs.Common.{◌≡◌, ◌∙◌, ℕ, ◌<◌, ◌≤◌, ◌==◌, ◌⊎◌, inl, inr, Bool, true, false, not, Some, List, [], length, length-set, get_or, set, refl, sym, ap, subst, arith}
-use Rattle.std.specs.Prelude.{slice_get}
+use Rattle.std.specs.Prelude.{slice_get, slice_index_or}
 use Rattle.std.proofs.lemmas.Bool.{cases_eq, ne_eqb}
 use Rattle.std.proofs.lemmas.Option.{slice_get-get_or, slice_get_within}
 use Rattle.trace_base.specs.declared.policy.WriterPolicy.TheVariants.{Drops, Stalls}
@@ -12,7 +12,7 @@ use Rattle.chunk_plain.specs.Histories.{completed_images}
 use Rattle.chunk_plain.specs.Meaning.{Meaning}
 use Rattle.chunk_plain.specs.Owned.{IsOwned}
 use Rattle.chunk_plain.specs.Setup.{Setup, HasProducer, range_of, producer_of}
-use Rattle.chunk_plain.specs.Views.{WriterView, ServiceView}
+use Rattle.chunk_plain.specs.Views.{WriterView, ServiceView, newcomer}
 use Rattle.chunk_plain.specs.World.{World, Unclaimed, status, writer}
 use Rattle.trace_writer.specs.declared.route.Route.{Route}
 use Rattle.trace_writer.specs.declared.writer.WriterCore.{WriterCore}
@@ -24,6 +24,7 @@ use Rattle.service_core.specs.Agreement.{spec_at}
 use Rattle.service_core.specs.Taking.{places_of}
 use Rattle.replay_model.specs.Does as acts
 use Rattle.replay_model.specs.Does.{LeavesRest, MayNeedChunk, IsOut, Collects, policy_of}
+use Rattle.replay_model.proofs.StandsLemmas.{works_others}
 use Rattle.replay_host.specs.declared.helper.Collecting.{Collecting}
 use Rattle.replay_host.specs.Asking.{IsStalledCall, KeepsService}
 use Rattle.replay_host.specs.Helping.{MayHelp, Helps}
@@ -33,7 +34,7 @@ use Rattle.replay_host.specs.Stopping.{StallsIn}
 use Rattle.replay_host.proofs.AskedLemmas.{all_sit, route_is, set_here, set_there}
 use Rattle.replay_host.proofs.KeepLemmas.{works_keep}
 use Rattle.replay_host.proofs.RowLemmas.{AreLaws, row_is}
-use Rattle.replay_host.proofs.StuckLemmas.{IsTidy, tidy_is, stalled_holds_none, IsStuck, others_write, none_freed, none_left_still}
+use Rattle.replay_host.proofs.StuckLemmas.{IsTidy, tidy_is, stalled_holds_none, IsStuck, others_write, others_wrote, none_freed, none_left_still}
 use Rattle.replay_host.proofs.WorkLemmas.{Begins, none_between, begins_quiet, begins_gets, begins_out, begins_helped, out_is, own_first, own_leaves, helped_world, collects_world}
 
 -- a help that takes nothing
@@ -251,6 +252,10 @@ module _ {T W S : Type 0} (means : Meaning T W S) (laws : AreLaws means) (call :
         own = to.2.own;
         owned = owned_new;
         stuck = others_write (means.setup old) (producer_of (means.setup old) place) place to.0 stuck;
+        before = others_wrote (means.setup old) (producer_of (means.setup old) place) place was to.0 (laws.told_owned old was told_was) owned_new
+            (λ other apart. to.2.own.writers other apart ∙ ap (λ (vs : List WriterView). slice_index_or vs other newcomer) to.2.help.0.writers
+            ∙ works_others (means.setup old) place was to.2.asking to.2.works other apart)
+            (others_write (means.setup old) (producer_of (means.setup old) place) place to.0 stuck);
       },
     )
       where

@@ -268,6 +268,46 @@ module _ (setup : Setup) (producer place : ℕ) (world : World) (stuck : IsStuck
       by_status (Ready other id content) is = absurd (none_ready chunk other id content of_producer is)
       by_status (Reading other id content) is = absurd (none_reading chunk other id content is)
 
+-- ---- from before the call to its end
+
+-- the writer that a chunk's status names
+abbrev writer_in : Status → ℕ
+writer_in (Writing other id draft) = other
+writer_in status = 0
+
+-- what others write behind steps that leave their views, they or others wrote before them
+pub others_wrote : (setup : Setup) (producer place : ℕ) (was is : World) → ∥ IsOwned was ∥₁ → ∥ IsOwned is ∥₁
+    → ((other : ℕ) → other ≢ place → writer is other ≡ writer was other) → AreOthers setup producer place is → AreOthers setup producer place was
+others_wrote setup producer place was is owned_was owned_is same others chunk of_producer = by_status (status was chunk) refl
+  where
+    other : ℕ
+    other = (others chunk of_producer).0
+
+    id : ℕ
+    id = (others chunk of_producer).1
+
+    draft : Draft
+    draft = (others chunk of_producer).2
+
+    apart : other ≢ place
+    apart = (others chunk of_producer).4
+
+    only : (at : Status) → status was chunk ≡ at → (at ≡ Writing other id draft → ⊥) → ⊥
+    only at here differs = ∥∥₁_elim owned_was (λ a b. absurd a) (λ owned. ∥∥₁_elim owned_is (λ a b. absurd a) (λ later.
+        differs (sym here ∙ (owned.owns other chunk).held_is id draft
+        (subst (λ (v : WriterView). At v.begun id (Held chunk draft)) (same other apart)
+        ((later.owns other chunk).writing_is id draft (others chunk of_producer).3)))))
+
+    by_status : (at : Status) → status was chunk ≡ at
+        → (one number : ℕ) × (text : Draft) × (status was chunk ≡ Writing one number text) × (one ≢ place)
+    by_status Unclaimed here = absurd (only Unclaimed here (λ never. cc))
+    by_status (Claimed one) here = absurd (only (Claimed one) here (λ never. cc))
+    by_status (Stamped one number) here = absurd (only (Stamped one number) here (λ never. cc))
+    by_status (Writing one number text) here =
+        (one, number, text, here, λ own. only (Writing one number text) here (λ alike. apart (sym (ap writer_in alike) ∙ own)))
+    by_status (Ready one number content) here = absurd (only (Ready one number content) here (λ never. cc))
+    by_status (Reading one number content) here = absurd (only (Reading one number content) here (λ never. cc))
+
 -- ---- from the last help to the end of the call
 
 -- a help that took nothing frees no chunk

@@ -33,8 +33,8 @@ AreOthers setup producer place world = (chunk : ℕ) → IsChunkOf setup produce
     → (other id : ℕ) × (draft : Draft) × (status world chunk ≡ Writing other id draft) × (other ≢ place)
 
 -- The writer stalls in the call that it was asked for: it has the policy to, and asks for a last help where it is out of chunks. The
--- help takes nothing, and each of its producer's chunks is being written by other writers then. Each chunk is owned by exactly one in each of these
--- worlds; since the views of other writers are those of before, a chunk that one of them writes then it wrote before the call.
+-- help takes nothing, and each of its producer's chunks is being written by other writers then. They were before the call already. Each chunk is
+-- owned by exactly one in each of these worlds.
 pub record StallsIn (setup : Setup) (place : ℕ) (call : Call) (old new : World) : Type 0 where
   pub may : MayNeedChunk call
   pub policy_is : policy_of setup place ≡ policies.Stalls
@@ -48,6 +48,7 @@ pub record StallsIn (setup : Setup) (place : ℕ) (call : Call) (old new : World
   pub own : LeavesRest place kept new
   pub owned : ∥ IsOwned new ∥₁
   pub stuck : AreOthers setup (producer_of setup place) place new
+  pub before : AreOthers setup (producer_of setup place) place old
 
 -- the writer at this place stalled in a call: the fault says so, and no record was written
 pub record Stalls {T W S : Type 0} (means : Meaning T W S) (place : ℕ) (call : Call) (old new : Host T W S) (fault : HostFault) : Type 0 where
