@@ -12,6 +12,7 @@ ghost use Rattle.trace_writer.specs.Core.{holds_chunk};
 ghost use Rattle.service_core.specs.Agreement.{KeepsRest};
 ghost use Rattle.thread_service.specs.Serving as serving;
 ghost use Rattle.thread_service.specs.Serving.{Serves, IsOnlySeat};
+ghost use Rattle.thread_service.specs.Settling.{TakesAllOut};
 ghost use Rattle.thread_writer.specs.Writing.{core_of, view_in, Writes};
 ghost use Rattle.thread_host.specs.Ending.{begun_counts, AreDoneSeats, HasHeardAll};
 ghost use Rattle.thread_host.specs.Hosts.{IsHost, IsSettled, HavePlayed};
@@ -35,8 +36,8 @@ pub struct Settled {
 }
 
 impl Host {
-    /// Has all taken that the writers completed. Their seats know what they knew. How what the service
-    /// knows grows meanwhile is left open, but for all that it has taken in the end.
+    /// Has all taken that the writers completed. Their seats know what they knew. What the service knows
+    /// grows by rounds that take complete chunks, and by nothing else.
     pub fn settle(self, writers: Vec<TraceWriter>) -> Settled
         requires played { (scenario : Parts) × IsHost scenario self × HavePlayed scenario.lines self.table writers.items }
         ensures settled { (scenario : Parts) → IsHost scenario self → HavePlayed scenario.lines self.table writers.items
@@ -44,6 +45,8 @@ impl Host {
         ensures writers { views_of result.seats.items ≡ map view_in writers.items }
         ensures service { IfSome self.service (λ before. KeepsRest (setup_in self.table)
             (serving.core_of before) (serving.core_of result.service)) }
+        ensures takes { IfSome self.service (λ before. TakesAllOut (setup_in self.table) (setup_in self.table).writers
+            (serving.view_in before) (serving.view_in result.service)) }
         ensures table { result.table ≡ self.table }
         ensures pass { known_by_pass result.pass ≡ known_by_pass self.pass }
     {

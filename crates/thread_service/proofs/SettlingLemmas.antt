@@ -1,22 +1,24 @@
 -- What the rounds of a service show of its writers' chunks, and what this says of what they told.
 use Rattle.std.proofs.Common.{◌≡◌, ◌≢◌, ◌∙◌, ℕ, zero, suc, ◌+◌, ◌<◌, ◌≤◌, ◌⊎◌, Bool, true, false, List, [], ◌∷◌, ◌++◌, length, get_or, refl, sym, ap, subst, arith, inl, inr, append-nil, append_assoc, length-append}
 use Rattle.std.specs.Prelude.{cond, ◌==◌}
+use Rattle.std.specs.List.{All}
 use Rattle.std.proofs.lemmas.Bool.{cases_eq, eq-eqb, ne_eqb}
+use Rattle.std.proofs.lemmas.List.Elements.{All-nil, All-cons, All-append}
 use Rattle.trace_base.specs.declared.policy.WriterSpec.{WriterSpec}
 use Rattle.chunk_plain.specs.declared.tokens.TheConstants.{ID_LIMIT}
 use Rattle.chunk_plain.specs.Setup.{Setup, range_of, producer_of, IsChunkOf}
 use Rattle.chunk_plain.specs.Views.{At, Completed, Content, Look, Taken, none_taken, ServiceView, taken_of}
 use Rattle.chunk_words.specs.Knows.{Desk, Tale}
-use Rattle.chunk_words.specs.Told.{ShowsAllTold, PassesOver}
+use Rattle.chunk_words.specs.Told.{ShowsAllTold}
 use Rattle.chunk_words.proofs.Telling.{told_taken}
 use Rattle.world_model.proofs.OwnLemmas.{elem_at}
 use Rattle.service_core.specs.Agreement.{spec_at}
-use Rattle.service_core.specs.Taking.{took, ShowsOther, ShowNone, Leaves, TakesOf, Takes, places_of}
+use Rattle.service_core.specs.Taking.{ShowsOther, ShowNone, Leaves, TakesOf, Takes, places_of}
 use Rattle.service_core.proofs.AnswerLemmas.{takes_nothing}
 use Rattle.service_core.proofs.ChainLemmas.{shows_left, get_behind}
 use Rattle.service_core.proofs.QuietLemmas.{AllBelow}
 use Rattle.service_core.proofs.TakingLemmas.{taken_other}
-use Rattle.thread_service.specs.Settling.{IsSeenOut, IsWholeTale, TakesOut}
+use Rattle.thread_service.specs.Settling.{IsSeenOut, TakesRounds, TakesOut, TakesAllOut}
 
 -- ---- which writers a round is for
 
@@ -82,9 +84,15 @@ takes_own setup [] taken old new takes = ap (λ (v : ServiceView). v.commits) ta
 takes_own setup (place ∷ places) taken old new takes =
     takes_own setup places takes.1 takes.2 new takes.5 ∙ ap (λ (v : ServiceView). v.commits) takes.4.view
 
--- a round is one of further looks, and takes nothing of the writers of other producers
-pub round_takes : (setup : Setup) (producer taken : ℕ) (old new : ServiceView) → Takes setup (places_of producer 0 setup.writers) taken old new → TakesOut setup producer old new
-round_takes setup producer taken old new takes =
+-- Further looks were made, nothing was taken of the writers of other producers, and no image came by a commit.
+pub record LooksOn (setup : Setup) (producer : ℕ) (old new : ServiceView) : Type 0 where
+  pub looks : List Look
+  pub more : new.looks ≡ old.looks ++ looks
+  pub others : (place : ℕ) → (producer_of setup place ≡ producer → ⊥) → taken_of new place ≡ taken_of old place
+  pub own : new.commits ≡ old.commits
+
+round_looks : (setup : Setup) (producer taken : ℕ) (old new : ServiceView) → Takes setup (places_of producer 0 setup.writers) taken old new → LooksOn setup producer old new
+round_looks setup producer taken old new takes =
     let more = takes_looks setup (places_of producer 0 setup.writers) taken old new takes in
     record {
       looks = more.0;
@@ -94,16 +102,45 @@ round_takes setup producer taken old new takes =
       own = takes_own setup (places_of producer 0 setup.writers) taken old new takes;
     }
 
-pub out_none : (setup : Setup) (producer : ℕ) (view : ServiceView) → TakesOut setup producer view view
-out_none setup producer view = record { looks = []; more = sym (append-nil view.looks); others = λ place other. refl; own = refl }
-
-pub out_both : (setup : Setup) (producer : ℕ) (old mid new : ServiceView) → TakesOut setup producer old mid → TakesOut setup producer mid new → TakesOut setup producer old new
-out_both setup producer old mid new first second = record {
+looks_both : (setup : Setup) (producer : ℕ) (old mid new : ServiceView) → LooksOn setup producer old mid → LooksOn setup producer mid new → LooksOn setup producer old new
+looks_both setup producer old mid new first second = record {
   looks = first.looks ++ second.looks;
   more = second.more ∙ ap (λ (ls : List Look). ls ++ second.looks) first.more ∙ append_assoc old.looks first.looks second.looks;
   others = λ place other. second.others place other ∙ first.others place other;
   own = second.own ∙ first.own;
 }
+
+pub rounds_look : (setup : Setup) (producer : ℕ) (rounds : List ℕ) (old new : ServiceView) → TakesRounds setup producer rounds old new → LooksOn setup producer old new
+rounds_look setup producer [] old new same = record {
+  looks = [];
+  more = ap (λ (v : ServiceView). v.looks) same ∙ sym (append-nil old.looks);
+  others = λ place other. ap (λ (v : ServiceView). taken_of v place) same;
+  own = ap (λ (v : ServiceView). v.commits) same;
+}
+rounds_look setup producer (taken ∷ rounds) old new takes =
+    looks_both setup producer old takes.0 new (round_looks setup producer taken old takes.0 takes.1) (rounds_look setup producer rounds takes.0 new takes.2)
+
+-- one round more
+pub rounds_more : (setup : Setup) (producer : ℕ) (rounds : List ℕ) (taken : ℕ) (old mid new : ServiceView) → TakesRounds setup producer rounds old mid
+    → Takes setup (places_of producer 0 setup.writers) taken mid new → TakesRounds setup producer (rounds ++ taken ∷ []) old new
+rounds_more setup producer [] taken old mid new same takes =
+    (new, subst (λ (v : ServiceView). Takes setup (places_of producer 0 setup.writers) taken v new) same takes, refl)
+rounds_more setup producer (one ∷ rounds) taken old mid new before takes = (before.0, before.1, rounds_more setup producer rounds taken before.0 mid new before.2 takes)
+
+-- as one that took some
+pub some_more : (rounds : List ℕ) (taken : ℕ) → All (λ n. 0 < n) rounds → 0 < taken → All (λ n. 0 < n) (rounds ++ taken ∷ [])
+some_more rounds taken before some = All-append (λ n. 0 < n) rounds (taken ∷ []) before (All-cons (λ n. 0 < n) taken [] some (All-nil (λ n. 0 < n)))
+
+-- one producer more
+pub all_out_more : (setup : Setup) (specs : List WriterSpec) (spec : WriterSpec) (old mid new : ServiceView) → TakesAllOut setup specs old mid
+    → TakesOut setup spec.producer mid new → TakesAllOut setup (specs ++ spec ∷ []) old new
+all_out_more setup [] spec old mid new same takes = (new, subst (λ (v : ServiceView). TakesOut setup spec.producer v new) same takes, refl)
+all_out_more setup (one ∷ specs) spec old mid new before takes = (before.0, before.1, all_out_more setup specs spec before.0 mid new before.2 takes)
+
+pub all_out_own : (setup : Setup) (specs : List WriterSpec) (old new : ServiceView) → TakesAllOut setup specs old new → new.commits ≡ old.commits
+all_out_own setup [] old new same = ap (λ (v : ServiceView). v.commits) same
+all_out_own setup (spec ∷ specs) old new takes =
+    all_out_own setup specs takes.0 new takes.2 ∙ (rounds_look setup spec.producer (takes.1.rounds ++ 0 ∷ []) old takes.0 takes.1.takes).own
 
 -- ---- what a round that takes nothing shows
 
@@ -179,7 +216,7 @@ round_shows setup producer old new takes some below place inside own =
 
 -- of one writer more, where the chunks of its producer were taken
 pub seen_next : (setup : Setup) (since places producer : ℕ) (old new : ServiceView) → since ≤ length old.looks → ((place : ℕ) → place < places → IsSeenOut setup since place old)
-    → TakesOut setup producer old new
+    → LooksOn setup producer old new
     → ((place : ℕ) → place < length setup.writers → producer_of setup place ≡ producer → IsSeenOut setup (length old.looks) place new)
     → places < length setup.writers → producer_of setup places ≡ producer → (place : ℕ) → place < places + 1 → IsSeenOut setup since place new
 seen_next setup since places producer old new order before takes seen inside own place below = by_case (cases_eq (producer_of setup place) producer)

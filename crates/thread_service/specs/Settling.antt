@@ -1,11 +1,13 @@
 -- What the service has taken of what writers told it, once they are done.
-use Rattle.std.specs.Prelude.{◌≡◌, ℕ, ◌<◌, ◌≤◌, ◌⊎◌, List, ◌++◌, length}
+use Rattle.std.specs.Prelude.{◌≡◌, ℕ, ◌<◌, ◌≤◌, ◌⊎◌, List, [], ◌∷◌, ◌++◌, length}
+use Rattle.std.specs.List.{All}
+use Rattle.trace_base.specs.declared.policy.WriterSpec.{WriterSpec}
 use Rattle.chunk_plain.specs.declared.tokens.TheConstants.{ID_LIMIT}
 use Rattle.chunk_plain.specs.Setup.{Setup, producer_of, IsChunkOf}
 use Rattle.chunk_plain.specs.Views.{At, BegunChunk, Completed, Content, Look, ServiceView, taken_of}
 use Rattle.chunk_plain.specs.Words.{chunk_of}
 use Rattle.chunk_words.specs.Knows.{Tale}
-use Rattle.service_core.specs.Taking.{ShowNone}
+use Rattle.service_core.specs.Taking.{ShowNone, Takes, places_of}
 
 -- Looks from this one on show of each chunk of the writer's producer that it isn't the next one to be taken of this writer, of which so many are
 -- taken; or the writer has no id left.
@@ -20,12 +22,22 @@ pub record IsSeenOut (setup : Setup) (since place : ℕ) (view : ServiceView) : 
 abbrev pub AreSeenOut : Setup → (since places : ℕ) → ServiceView → Type 0
 AreSeenOut setup since places view = (place : ℕ) → place < places → IsSeenOut setup since place view
 
--- Further looks were made, nothing was taken of the writers of other producers, and no image came by a commit.
+-- Rounds for the producer's writers, one after another: each took so many complete chunks of them as its number says, and nothing else became known.
+abbrev pub TakesRounds : Setup → (producer : ℕ) → (rounds : List ℕ) → ServiceView → ServiceView → Type 0
+TakesRounds setup producer [] old new = new ≡ old
+TakesRounds setup producer (taken ∷ rounds) old new =
+    (between : ServiceView) × Takes setup (places_of producer 0 setup.writers) taken old between × TakesRounds setup producer rounds between new
+
+-- Rounds that took some chunks each, and then one that took none.
 pub record TakesOut (setup : Setup) (producer : ℕ) (old new : ServiceView) : Type 0 where
-  pub looks : List Look
-  pub more : new.looks ≡ old.looks ++ looks
-  pub others : (place : ℕ) → (producer_of setup place ≡ producer → ⊥) → taken_of new place ≡ taken_of old place
-  pub own : new.commits ≡ old.commits
+  pub rounds : List ℕ
+  pub some : All (λ taken. 0 < taken) rounds
+  pub takes : TakesRounds setup producer (rounds ++ 0 ∷ []) old new
+
+-- such rounds for the producer of each of these writers, one writer after another, and nothing else
+abbrev pub TakesAllOut : Setup → List WriterSpec → ServiceView → ServiceView → Type 0
+TakesAllOut setup [] old new = new ≡ old
+TakesAllOut setup (spec ∷ specs) old new = (between : ServiceView) × TakesOut setup spec.producer old between × TakesAllOut setup specs between new
 
 -- A tale of all that a writer has begun: each chunk is complete and of its producer, and the service has looked so often since.
 pub record IsWholeTale (setup : Setup) (view : ServiceView) (tale : Tale) : Type 0 where

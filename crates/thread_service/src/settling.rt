@@ -7,7 +7,7 @@ ghost use Rattle.chunk_words.specs.Sits.{setup_in};
 ghost use Rattle.chunk_words.specs.declared.host.HostTable.{HostTable};
 ghost use Rattle.service_core.specs.Agreement.{KeepsRest, IsOpen, is_closed};
 ghost use Rattle.thread_service.specs.Serving.{core_of, view_in, desk_in, Serves};
-ghost use Rattle.thread_service.specs.Settling.{AreSeenOut, IsSeenOut, IsWholeTale, TakesOut};
+ghost use Rattle.thread_service.specs.Settling.{AreSeenOut, IsSeenOut, IsWholeTale, TakesOut, TakesAllOut};
 
 use crate::service::Service;
 use chunk_words::HostTable;
@@ -38,7 +38,7 @@ impl Service {
         ensures serves { Serves table.now self.new }
         ensures keeps { KeepsRest (setup_in table.now) (core_of self.old) (core_of self.new) }
         ensures desk { desk_in self.new ≡ desk_in self.old }
-        ensures own { (view_in self.new).commits ≡ (view_in self.old).commits }
+        ensures takes { TakesAllOut (setup_in table.now) (setup_in table.now).writers (view_in self.old) (view_in self.new) }
         ensures seen { AreSeenOut (setup_in table.now) (length (view_in self.old).looks) (length (setup_in table.now).writers) (view_in self.new) }
     {
         'writers: for place in 0..writers.len() {
@@ -47,7 +47,7 @@ impl Service {
     }
 
     /// Takes all that the writers told of, where they told of all that they had begun. What is written
-    /// meanwhile may be taken too.
+    /// meanwhile may be taken too; but taking is all that it does.
     pub fn settle(&mut self, table: &HostTable, writers: &[WriterSpec])
         requires serves { Serves table.now self.old }
         requires writers { writers.now ≡ (setup_in table.now).writers }
@@ -56,6 +56,7 @@ impl Service {
         ensures keeps { KeepsRest (setup_in table.now) (core_of self.old) (core_of self.new) }
         ensures desk { desk_in self.new ≡ desk_in self.old }
         ensures own { (view_in self.new).commits ≡ (view_in self.old).commits }
+        ensures takes { TakesAllOut (setup_in table.now) (setup_in table.now).writers (view_in self.old) (view_in self.new) }
         ensures taken { (i : ℕ) (tale : Tale) → At (desk_in self.old).told i tale → IsWholeTale (setup_in table.now) (view_in self.old) tale
             → length tale.begun ≤ (taken_of (view_in self.new) tale.place).count }
     {

@@ -1,15 +1,16 @@
 -- What was heard of the writers is taken, and with it all that they have begun.
-use Rattle.std.proofs.Common.{◌∙◌, ℕ, ◌≤◌, Option, List, length, sym, ap, subst, arith}
+use Rattle.std.proofs.Common.{◌∙◌, ℕ, ◌≤◌, Option, IfSome, List, length, sym, ap, subst, arith}
 use Rattle.std.specs.Option.{IsSomeAnd}
 use Rattle.std.proofs.lemmas.List.{with_items_is}
 use Rattle.std.proofs.lemmas.Option.{slice_get_within}
-use Rattle.chunk_plain.specs.Views.{BegunChunk, taken_of}
+use Rattle.chunk_plain.specs.Views.{BegunChunk, ServiceView, taken_of}
 use Rattle.chunk_words.specs.declared.seats.WriterSeat.{WriterSeat}
 use Rattle.chunk_words.specs.Sits.{setup_in}
 use Rattle.loss_report.specs.declared.counts.SequenceCounts.{SequenceCounts}
 use Rattle.service_core.proofs.AgreeLemmas.{keeps_both}
 use Rattle.thread_service.specs.declared.service.Service.{Service}
 use Rattle.thread_service.specs.Serving as serving
+use Rattle.thread_service.specs.Settling.{TakesAllOut}
 use Rattle.thread_host.specs.Ending.{AreDoneSeats}
 use Rattle.thread_host.specs.Hosts.{IsServed}
 use Rattle.thread_host.proofs.Seating.{only_keeps, served_on, whole_tale}
@@ -21,6 +22,13 @@ unreachable-requires c = subst (λ (o : Option Service). IsSomeAnd o (IsServed c
 pub end_writers-requires-clause-serves : goal.end_writers-requires-clause-serves
 end_writers-requires-clause-serves c =
     (subst (λ (o : Option Service). IsSomeAnd o (IsServed c.requires.played.0 c.args.self.table)) c.in-Some.is c.requires.played.1.served).serves
+
+pub returns-clause-takes : goal.returns-clause-takes
+returns-clause-takes c =
+    let setup = setup_in c.args.self.table in
+    let last : Service = c.settle.new.self in
+    subst (λ (o : Option Service). IfSome o (λ before. TakesAllOut setup setup.writers (serving.view_in before) (serving.view_in last))) (sym c.in-Some.is)
+    (subst (λ (v : ServiceView). TakesAllOut setup setup.writers v (serving.view_in last)) c.end_writers.ensures.view c.settle.ensures.takes)
 
 pub returns-clause-settled : goal.returns-clause-settled
 returns-clause-settled c scenario host played =

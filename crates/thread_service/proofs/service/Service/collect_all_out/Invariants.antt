@@ -1,9 +1,10 @@
-use Rattle.std.proofs.Common.{◌≡◌, ◌+◌, List, ◌++◌, length}
+use Rattle.std.proofs.Common.{◌≡◌, List, ◌++◌, length}
+use Rattle.std.specs.Prelude.{take}
 use Rattle.chunk_plain.specs.Views.{Look}
 use Rattle.chunk_words.specs.Sits.{setup_in}
 use Rattle.service_core.specs.Agreement.{KeepsRest}
 use Rattle.thread_service.specs.Serving.{core_of, view_in, desk_in, Serves}
-use Rattle.thread_service.specs.Settling.{AreSeenOut}
+use Rattle.thread_service.specs.Settling.{AreSeenOut, TakesAllOut}
 use Rattle.thread_service.proofs.service.Service.collect_all_out.Given as goal
 
 abbrev pub invariant-writers : goal.invariant-writers
@@ -11,7 +12,7 @@ invariant-writers l = record {
   serves : Serves l.table l.self;
   keeps : KeepsRest (setup_in l.table) (core_of l.fn.self) (core_of l.self);
   desk : desk_in l.self ≡ desk_in l.fn.self;
-  own : (view_in l.self).commits ≡ (view_in l.fn.self).commits;
+  takes : TakesAllOut (setup_in l.table) (take l.place l.writers) (view_in l.fn.self) (view_in l.self);
   looks : (looks : List Look) × ((view_in l.self).looks ≡ (view_in l.fn.self).looks ++ looks);
   seen : AreSeenOut (setup_in l.table) (length (view_in l.fn.self).looks) l.place (view_in l.self);
 }

@@ -1,13 +1,23 @@
 -- The looks that each writer's rounds end with are made since it told, and show all that it told of.
-use Rattle.std.proofs.Common.{◌≡◌, ◌≤◌, ◌∙◌, ℕ, List, length, sym, ap, subst}
-use Rattle.chunk_plain.specs.Setup.{IsChunkOf, producer_of}
+use Rattle.std.proofs.Common.{◌∙◌, length, sym, ap, subst}
 use Rattle.chunk_plain.specs.Views.{At, Completed, ServiceView, taken_of}
-use Rattle.chunk_words.specs.Knows.{Desk, Tale}
+use Rattle.chunk_words.specs.Knows.{Desk}
 use Rattle.chunk_words.specs.Sits.{setup_in}
 use Rattle.thread_service.specs.Serving.{view_in, desk_in}
-use Rattle.thread_service.specs.Settling.{IsSeenOut}
-use Rattle.thread_service.proofs.SettlingLemmas.{told_out}
+use Rattle.thread_service.specs.Settling.{IsSeenOut, TakesAllOut}
+use Rattle.thread_service.proofs.SettlingLemmas.{all_out_own, told_out}
 use Rattle.thread_service.proofs.service.Service.settle.Goals as goal
+
+pub returns-clause-own : goal.returns-clause-own
+returns-clause-own c =
+    let setup = setup_in c.args.table.now in
+    ap (λ (v : ServiceView). v.commits) c.recall.ensures.view
+    ∙ all_out_own setup setup.writers (view_in c.args.self.now) (view_in c.collect_all_out.new.self) c.collect_all_out.ensures.takes
+
+pub returns-clause-takes : goal.returns-clause-takes
+returns-clause-takes c =
+    let setup = setup_in c.args.table.now in
+    subst (λ (v : ServiceView). TakesAllOut setup setup.writers (view_in c.args.self.now) v) (sym c.recall.ensures.view) c.collect_all_out.ensures.takes
 
 pub returns-clause-taken : goal.returns-clause-taken
 returns-clause-taken c i tale told whole =
