@@ -1,9 +1,11 @@
 //! What runs a scenario on threads.
-ghost use Rattle.std.specs.Prelude.{◌≡◌, [], IfOk, OnErr, OnOk};
+ghost use Rattle.std.specs.Prelude.{◌≡◌, [], IfSome, IfOk, OnErr, OnOk};
 ghost use Rattle.byte_io.specs.Bytes.{CountsFaults};
 ghost use Rattle.chunk_words.specs.Sits.{setup_in, known_by_pass};
 ghost use Rattle.scenario_text.specs.Scenario.{IsScenario, parts_of};
 ghost use Rattle.replay_model.specs.Played.{buffers_of};
+ghost use Rattle.thread_service.specs.Serving.{view_in};
+ghost use Rattle.thread_host.specs.Growing.{Grows};
 ghost use Rattle.thread_host.specs.Hosts.{IsHost, AreReady, HavePlayed, ClosesNone};
 ghost use Rattle.thread_host.specs.Jobs.{KeepsLoans, FailsLines, TellsLines};
 
@@ -72,7 +74,8 @@ impl Host {
     }
 
     /// Runs the scenario: each writer plays its lines on a thread of its own, beside the service's own
-    /// lines. The sink takes the records of the reads. After a write fault the service plays no more.
+    /// lines. The sink takes the records of the reads. After a write fault the service plays no more. What
+    /// the service knows grows by what is collected, scraped and read, and by nothing else.
     pub fn run<R: Threads + Wait + Sync, T: Sink + Send, G: Gate + Sync>(
         &mut self,
         rt: &R,
@@ -85,6 +88,8 @@ impl Host {
         requires writers { AreReady scenario.now.lines self.old.table writers.old.items }
         ensures host { IsHost (parts_of scenario.now) self.new }
         ensures table { self.new.table ≡ self.old.table }
+        ensures grows { IfSome self.old.service (λ before. IfSome self.new.service (λ after.
+            Grows (setup_in self.old.table) (view_in before) (view_in after))) }
         ensures played { HavePlayed scenario.now.lines self.new.table writers.new.items }
         ensures told { OnOk result (TellsLines (setup_in self.old.table) (buffers_of (parts_of scenario.now) (setup_in self.old.table))
             scenario.now.lines (known_by_pass self.old.pass) (known_by_pass self.new.pass) (T.taken out.old) (T.taken out.new)) }

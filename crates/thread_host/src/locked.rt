@@ -9,6 +9,7 @@ ghost use Rattle.service_core.specs.Scraping.{TakesAndScrapes};
 ghost use Rattle.service_core.specs.Taking.{Takes, places_of};
 ghost use Rattle.thread_service.specs.Reading.{IsKnownWhole, PassReads};
 ghost use Rattle.thread_service.specs.Serving.{core_of, view_in};
+ghost use Rattle.thread_host.specs.Growing.{Grows};
 ghost use Rattle.thread_host.specs.Jobs.{FailsLine, TellsLine};
 ghost use Rattle.thread_host.specs.Keeping.{IsNamed, ServesNamed, AllOpen, BeganWith, HasOwn};
 ghost use Rattle.thread_host.specs.Keeping.{serves_named_prop, began_prop, own_prop};
@@ -21,7 +22,8 @@ use std::marker::PhantomData;
 use thread_service::Service;
 
 /// The service of the table that its type names, none of whose sequences is closed. No image came by a
-/// commit.
+/// commit. What it knows is what the type says that it knew, and what was collected, scraped and read
+/// since.
 #[derive(Drop)]
 pub struct Locked<N: HostName> {
     pub(crate) service: Service,
@@ -30,6 +32,7 @@ pub struct Locked<N: HostName> {
     ghost open: { AllOpen N.setup service },
     ghost began: { BeganWith N.setup N.first service } by { began_prop N.setup N.first service },
     ghost own: { HasOwn service } by { own_prop service },
+    ghost grows: { Grows N.setup N.start (view_in service) },
 }
 
 impl<N: HostName> Locked<N> {
@@ -38,6 +41,7 @@ impl<N: HostName> Locked<N> {
         requires open { AllOpen N.setup service }
         requires began { BeganWith N.setup N.first service }
         requires own { HasOwn service }
+        requires grows { Grows N.setup N.start (view_in service) }
         ensures service { result.service ≡ service }
     {
         Locked {
@@ -52,6 +56,7 @@ impl<N: HostName> Locked<N> {
         ensures open { AllOpen N.setup result }
         ensures began { BeganWith N.setup N.first result }
         ensures own { HasOwn result }
+        ensures grows { Grows N.setup N.start (view_in result) }
     {
         let Locked { service, of: _ } = self;
         service

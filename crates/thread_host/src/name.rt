@@ -7,6 +7,7 @@ pub trait HostName {
     ghost use Rattle.atomic_table.specs.Seated.{TableId};
     ghost use Rattle.trace_model.specs.Buffers.{Buffer};
     ghost use Rattle.chunk_plain.specs.Setup.{Setup};
+    ghost use Rattle.chunk_plain.specs.Views.{ServiceView};
 
     ghost table: { TableId };
 
@@ -14,10 +15,14 @@ pub trait HostName {
 
     // the buffers of its service as they were made
     ghost first: { List Buffer };
+
+    // what its service knew when it was locked
+    ghost start: { ServiceView };
 }
 
 impl HostName for Brand {
     ghost use Rattle.std.specs.Prelude.{[]};
+    ghost use Rattle.chunk_plain.specs.Views.{newcomer_service};
     ghost use Rattle.chunk_words.specs.Named.{no_table};
     ghost use Rattle.thread_host.specs.Keeping.{no_setup};
 
@@ -26,4 +31,6 @@ impl HostName for Brand {
     ghost setup = { no_setup };
 
     ghost first = { [] };
+
+    ghost start = { newcomer_service };
 }

@@ -3,6 +3,8 @@ ghost use Rattle.std.specs.Prelude.{ℕ, ◌<◌, length, IfOk, OnErr};
 ghost use Rattle.byte_io.specs.Bytes.{CountsFaults};
 ghost use Rattle.chunk_words.specs.Sits.{Passes, known_by_pass};
 ghost use Rattle.thread_service.specs.Reading.{IsKnownWhole};
+ghost use Rattle.thread_service.specs.Serving.{view_in};
+ghost use Rattle.thread_host.specs.Growing.{Grows};
 ghost use Rattle.thread_host.specs.Hosts.{AreReadyFrom, HavePlayedFrom};
 ghost use Rattle.thread_host.specs.Jobs.{KeepsLoans, FailsLines, TellsLines};
 ghost use Rattle.thread_host.specs.Keeping.{IsNamed, ServesNamed, AllOpen, BeganWith, HasOwn};
@@ -117,6 +119,7 @@ pub fn run_named<
     requires open { AllOpen N.setup service }
     requires began { BeganWith N.setup N.first service }
     requires own { HasOwn service }
+    requires grows { Grows N.setup N.start (view_in service) }
     requires pass { Passes table.now pass.old }
     requires known { IsKnownWhole (known_by_pass pass.old) }
     requires ready { AreReadyFrom own.now table.now 0 writers.old }
@@ -124,6 +127,7 @@ pub fn run_named<
     ensures open { AllOpen N.setup result.0 }
     ensures began { BeganWith N.setup N.first result.0 }
     ensures own { HasOwn result.0 }
+    ensures grows { Grows N.setup N.start (view_in result.0) }
     ensures pass { Passes table.now pass.new }
     ensures known { IsKnownWhole (known_by_pass pass.new) }
     ensures told { IfOk result.1 (λ _. TellsLines N.setup N.first lines.now (known_by_pass pass.old) (known_by_pass pass.new)

@@ -1,9 +1,14 @@
 -- The service is there, and comes back as what the lock's type says of it.
-use Rattle.std.proofs.Common.{◌≡◌, ◌∙◌, List, length, sym, ap, subst}
+use Rattle.std.proofs.Common.{◌≡◌, ◌∙◌, Option, IfSome, List, length, sym, ap, subst}
+use Rattle.chunk_words.specs.Sits.{setup_in}
 use Rattle.scenario_text.specs.declared.scenario.NumberedLine.{NumberedLine}
 use Rattle.scenario_text.specs.Scenario.{parts_of}
 use Rattle.thread_writer.specs.declared.writer.TraceWriter.{TraceWriter}
+use Rattle.thread_service.specs.declared.service.Service.{Service}
+use Rattle.thread_service.specs.Serving.{view_in}
+use Rattle.thread_host.specs.Growing.{Grows}
 use Rattle.thread_host.specs.Hosts.{AreReadyFrom, IsServed, HavePlayed, HavePlayedFrom}
+use Rattle.thread_host.proofs.Growing.{grows_none}
 use Rattle.thread_host.proofs.Hosting.{all_played, given_back, held_of, never_none, ready_from, serves_named}
 use Rattle.thread_host.proofs.host.Host.run.Goals as goal
 
@@ -34,6 +39,16 @@ run_named-service-requires-clause-ready g c κs within =
     let table = c.args.self.now.table in
     subst (λ (ls : List NumberedLine). AreReadyFrom ls table 0 c.as_mut_slice.result.now) (sym c.by_writers-own.ensures)
     (subst (AreReadyFrom lines table 0) (sym c.as_mut_slice.ensures.value) (ready_from lines table c.args.writers.now.items c.requires.writers))
+
+pub run_named-service-requires-clause-grows : goal.run_named-service-requires-clause-grows
+run_named-service-requires-clause-grows g c κs within = grows_none (setup_in c.args.self.now.table) (view_in c.in-Some.service)
+
+pub returns-clause-grows : goal.returns-clause-grows
+returns-clause-grows g c =
+    let setup = setup_in c.args.self.now.table in
+    let after = view_in c.run_named-service.result.0 in
+    subst (λ (o : Option Service). IfSome o (λ before. Grows setup (view_in before) after)) (sym (sym c.take.ensures.value ∙ c.in-Some.is))
+    c.run_named-service.ensures.grows
 
 pub returns-clause-played : goal.returns-clause-played
 returns-clause-played g c =

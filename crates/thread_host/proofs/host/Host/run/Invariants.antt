@@ -1,8 +1,8 @@
--- The table of the host, and the buffers of its service as they were made.
+-- The table of the host, the buffers of its service as they were made, and what it knows.
 use Rattle.chunk_words.specs.Named.{identity_of}
 use Rattle.chunk_words.specs.Sits.{setup_in}
 use Rattle.service_core.specs.Agreement.{first_of}
-use Rattle.thread_service.specs.Serving.{core_of}
+use Rattle.thread_service.specs.Serving.{core_of, view_in}
 use Rattle.thread_host.proofs.host.Host.run.Given as goal
 
 abbrev pub ghosts-run_named : goal.ghosts-run_named
@@ -10,4 +10,5 @@ ghosts-run_named g a = record {
   table = identity_of a.table.now;
   setup = setup_in a.table.now;
   first = first_of (setup_in a.table.now) (core_of a.service);
+  start = view_in a.service;
 }

@@ -1,4 +1,8 @@
-use Rattle.std.proofs.Common.{rules}
+use Rattle.std.proofs.Common.{rules, subst}
+use Rattle.chunk_plain.specs.Setup.{Setup}
+use Rattle.service_core.specs.Taking.{Takes, places_of}
+use Rattle.thread_service.specs.Serving.{view_in}
+use Rattle.thread_host.proofs.Growing.{collect_grows}
 use Rattle.thread_host.proofs.Hosting.{collect_own}
 use Rattle.thread_host.proofs.locked.Locked.collect.Goals as goal
 
@@ -8,4 +12,12 @@ invariant_of-self g c = record {
   «open» = search rules;
   began = search rules;
   own = search (rules, collect_own);
+  grows =
+      let setup_is = c.requires.table.setup_is in
+      let start = g.N.HostName.start in
+      let old = view_in c.args.self.now.service in
+      let new = view_in c.collect.new.self in
+      collect_grows g.N.HostName.setup c.args.producer c.collect.result start old new
+      (subst (λ (s : Setup). Takes s (places_of c.args.producer 0 s.writers) c.collect.result old new) setup_is c.collect.ensures.takes)
+      c.args.self.now.grows;
 }

@@ -1,10 +1,11 @@
-use Rattle.std.proofs.Common.{◌∙◌, IfOk, OnErr, ap, subst}
+use Rattle.std.proofs.Common.{rules, ◌∙◌, IfOk, OnErr, ap, subst}
 use Rattle.chunk_plain.specs.Setup.{Setup}
 use Rattle.chunk_words.specs.Sits.{setup_in, known_by_pass}
 use Rattle.scenario_text.specs.declared.scenario.LineKind.TheVariants as line
 use Rattle.service_core.specs.Agreement.{first_of}
 use Rattle.thread_service.specs.Serving.{core_of, view_in}
 use Rattle.thread_host.specs.Jobs.{FailsLine, TellsLine}
+use Rattle.thread_host.proofs.Growing.{read_grows}
 use Rattle.thread_host.proofs.Telling.{locked_fails, locked_tells}
 use Rattle.thread_host.proofs.locked.Locked.read_passing.Goals as goal
 
@@ -31,3 +32,17 @@ returns-clause-torn g c =
     (locked_fails (setup_in c.args.table.now) core c.args.buffer c.args.limit (view_in c.args.self.now.service) (view_in c.read_passing.new.self)
     passed pass before after g.N.HostName.first (ap (λ (setup : Setup). first_of setup core) setup_is ∙ c.args.self.now.began)
     c.read_passing.result c.read_passing.ensures.fails c.read_passing.ensures.passes)
+
+pub invariant_of-self : goal.invariant_of-self
+invariant_of-self g c = record {
+  serves = search rules;
+  «open» = search rules;
+  began = search rules;
+  own = search rules;
+  grows =
+      let core = core_of c.args.self.now.service in
+      let old = view_in c.args.self.now.service in let new = view_in c.read_passing.new.self in
+      let before = g.O.Sink.taken c.args.out.now in let after = g.O.Sink.taken c.read_passing.new.out in
+      read_grows g.N.HostName.setup (setup_in c.args.table.now) core c.args.buffer c.args.limit g.N.HostName.start old new before after c.read_passing.result
+      c.read_passing.ensures.reads c.read_passing.ensures.fails c.args.self.now.grows;
+}

@@ -1,4 +1,8 @@
-use Rattle.std.proofs.Common.{rules}
+use Rattle.std.proofs.Common.{rules, subst}
+use Rattle.chunk_plain.specs.Setup.{Setup}
+use Rattle.service_core.specs.Scraping.{TakesAndScrapes}
+use Rattle.thread_service.specs.Serving.{view_in}
+use Rattle.thread_host.proofs.Growing.{scrape_grows}
 use Rattle.thread_host.proofs.Hosting.{scrape_own}
 use Rattle.thread_host.proofs.locked.Locked.scrape.Goals as goal
 
@@ -8,4 +12,12 @@ invariant_of-self g c = record {
   «open» = search rules;
   began = search rules;
   own = search (rules, scrape_own);
+  grows =
+      let setup_is = c.requires.table.setup_is in
+      let start = g.N.HostName.start in
+      let old = view_in c.args.self.now.service in
+      let new = view_in c.scrape.new.self in
+      scrape_grows g.N.HostName.setup c.args.producer c.scrape.result start old new
+      (subst (λ (s : Setup). TakesAndScrapes s c.args.producer c.scrape.result old new) setup_is c.scrape.ensures.scrapes)
+      c.args.self.now.grows;
 }
