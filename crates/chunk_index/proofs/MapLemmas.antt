@@ -84,13 +84,6 @@ map_with slots at entry inside free none =
     ∙ ap (λ o. cond (key == entry_key entry) (Some entry.place) o) (sym (get_is slots key))
     ∙ sym (get_with (map_of slots) (entry_key entry) entry.place key))
 
-pub count_with : (slots : List (Option Entry)) (at : ℕ) (entry : Entry) → at < length slots → is_used (slot slots at) ≡ false → get (map_of slots) (entry_key entry) ≡ None → len (map_of slots) ≡ length (entries_of slots) → len (map_of (set slots at (Some entry))) ≡ length (entries_of (set slots at (Some entry)))
-count_with slots at entry inside free none count =
-    ap (λ (m : FinMap nat_cmp ℕ). len m) (map_with slots at entry inside free none)
-    ∙ len-insert nat_cmp_total (map_of slots) (entry_key entry) entry.place
-    ∙ ap (λ (o : Option ℕ). cond (is_some o) (len (map_of slots)) (len (map_of slots) + 1)) none
-    ∙ (let more = more_entries slots at entry inside free in omega arith)
-
 -- Taking out
 
 pub map_without : (slots : List (Option Entry)) (at : ℕ) (entry : Entry) → at < length slots → slot slots at ≡ Some entry → Once slots → map_of (set slots at None) ≡ remove (map_of slots) (entry_key entry)

@@ -124,10 +124,6 @@ chains_end size pages page done now full flags e c h =
 
 -- A further fragment in the same page
 
-pub earlier_pieces-same : (pages : List Page) (continues : Bool) (done : List (List ℕ)) (now : List ℕ) → earlier_pieces pages continues (done ++ now ∷ []) ≡ []
-earlier_pieces-same pages continues [] now = earlier_pieces-more pages continues now []
-earlier_pieces-same pages continues (bytes ∷ others) now = earlier_pieces-more pages continues bytes (others ++ now ∷ [])
-
 -- A new page behind one that runs on
 
 pub earlier_pieces-run_on : (size : ℕ) (pages : List Page) (page : Page) (done : List (List ℕ)) (now : List ℕ)
@@ -209,16 +205,3 @@ pub runs_on_out : (size : ℕ) (pages : List Page) → All (IsWellFormedPage siz
 runs_on_out size pages full flags e =
     let k : HasRow pages (last_runs_on false pages) = row_of_pages pages flags (all_made size pages full) in
     runs_on_row pages k.chains (subst (λ (b : Bool). IsRow pages b k.chains) (sym e) k.row)
-
--- The chains before a further fragment are those of the held page, whatever else it has.
-pub chains_before-page : (pages : List Page) (page : Page) (done : List (List ℕ)) (now : List ℕ)
-    → page.fragments ≡ done ++ now ∷ [] → page.runs_on ≡ false → page.dropped ≡ false
-    → chains_before pages page.continues (done ++ now ∷ []) ≡ raw_chains (pages ++ page ∷ [])
-chains_before-page pages page done now e r d =
-    as_page done
-    ∙ raw_chains-same (pages ++ page_with page.continues (done ++ now ∷ []) ∷ []) (pages ++ page ∷ []) (SameFragments-one pages (page_with page.continues (done ++ now ∷ [])) page (refl, sym r, sym d, sym e, tt))
-  where
-    as_page : (done : List (List ℕ))
-        → chains_before pages page.continues (done ++ now ∷ []) ≡ raw_chains (pages ++ page_with page.continues (done ++ now ∷ []) ∷ [])
-    as_page [] = chains_before-more pages page.continues now []
-    as_page (bytes ∷ others) = chains_before-more pages page.continues bytes (others ++ now ∷ [])

@@ -17,10 +17,6 @@ and_false : (b : Bool) → (b && false) ≡ false
 and_false true = refl
 and_false false = refl
 
-twice_not : (b : Bool) → b ≡ not (not b)
-twice_not true = refl
-twice_not false = refl
-
 more_isnt_none : (k : ℕ) → (suc k == 0) ≡ false
 more_isnt_none k = ne_eqb (suc k) 0 (λ e. omega (arith, e))
 

@@ -39,14 +39,6 @@ table_is_values = refl
 pub table_value : (b : ℕ) → b < 256 → get_or hex_table b 0 ≡ digit_or_more b
 table_value b within = ap (λ (l : List ℕ). get_or l b 0) table_is_values ∙ values_at 256 b 0 within
 
--- a digit, by its value
-some_value : (o : Option ℕ) → or_more o < 16 → Some (or_more o) ≡ o
-some_value None small = absurd (omega arith)
-some_value (Some v) small = refl
-
-pub value_read : (b : ℕ) → digit_or_more b < 16 → Some (digit_or_more b) ≡ hex_value b
-value_read b small = some_value (hex_value b) small
-
 hex_small : (b v : ℕ) → hex_value b ≡ Some v → v < 16
 unfolding hex_value
 hex_small b v is =

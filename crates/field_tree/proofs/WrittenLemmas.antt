@@ -183,6 +183,3 @@ written_long (node ∷ nodes) all =
     let parts : length value ≡ length (written_value node.0 node.1) + length (written_nodes nodes) = length-append (written_value node.0 node.1) (written_nodes nodes) in
     let some : 1 ≤ length (varint (tag_of node.0)) = varint_some (tag_of node.0) (omega (arith, tag_fits node.0 all.0.numbers)) in
     omega (arith, sum, parts, some, written_long nodes all.1)
-
-pub shown_few : (bytes : List ℕ) → AreWritten bytes → length (shown_in bytes) ≤ length bytes
-shown_few bytes are = omega (arith, written_long (shown_in bytes) are.writable, ap length are.written)

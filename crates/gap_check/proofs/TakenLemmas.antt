@@ -1,9 +1,9 @@
 -- What the tellers have taken, and what it says of the records.
-use Rattle.std.proofs.Common.{◌≡◌, ◌≢◌, ◌↔◌, ℕ, zero, suc, ◌+◌, ◌-◌, ◌<◌, ◌≤◌, Bool, true, false, cond, List, [], ◌∷◌, ◌++◌, length, map, set, get_or, Option, Some, None, refl, sym, ap, ◌∙◌, subst, arith, append_assoc, length-append, inl, inr, ⊎_elim, eq-eqb}
-use Rattle.std.specs.Prelude.{slice_get, ◌==◌, ◌||◌, not, filter, All}
+use Rattle.std.proofs.Common.{◌≡◌, ◌≢◌, ℕ, zero, suc, ◌+◌, ◌-◌, ◌<◌, ◌≤◌, Bool, true, false, cond, List, [], ◌∷◌, ◌++◌, length, map, set, get_or, Option, Some, None, refl, sym, ap, ◌∙◌, subst, arith, append_assoc, length-append, inl, inr, ⊎_elim, eq-eqb}
+use Rattle.std.specs.Prelude.{slice_get, ◌==◌, not, filter}
 use Rattle.std.proofs.lemmas.Bool.{cases_eq, ne_eqb}
 use Rattle.std.proofs.lemmas.List.{append-nil, map-append, length-set}
-use Rattle.std.proofs.lemmas.List.Elements.{All-nil, All-push, All-head, All-tail, filter-append}
+use Rattle.std.proofs.lemmas.List.Elements.{All-nil, All-push, filter-append}
 use Rattle.std.proofs.lemmas.Option.{slice_get_within}
 use Rattle.trace_model.specs.Record.{record_of, mark_where}
 use Rattle.trace_model.specs.Tells.{IsTold, TellsFrom, Tells}
@@ -123,15 +123,6 @@ taken_faithful emitted delivered tellers h = record {
       from_said packets (sequence_of writer) true 0 (records_of (sequence_of writer) delivered) one.said one.all (is_told packets one.said there.0.place there.0.len one.after);
 }
 
-pub unknown_untold : (emitted : List (List (List ℕ))) (delivered : List Delivered) (one : Delivered)
-    → ((2 ≤ one.sequence) × (one.sequence < sequence_of (length emitted)) → ⊥) → IsFaithful emitted (delivered ++ one ∷ []) → ⊥
-unknown_untold emitted delivered one unknown faithful = unknown (last_one delivered faithful.known)
-  where
-    last_one : (ds : List Delivered) → All (λ (d : Delivered). (2 ≤ d.sequence) × (d.sequence < sequence_of (length emitted))) (ds ++ one ∷ [])
-        → (2 ≤ one.sequence) × (one.sequence < sequence_of (length emitted))
-    last_one [] all = All-head (λ (d : Delivered). (2 ≤ d.sequence) × (d.sequence < sequence_of (length emitted))) one [] all
-    last_one (d ∷ ds) all = last_one ds (All-tail (λ (d : Delivered). (2 ≤ d.sequence) × (d.sequence < sequence_of (length emitted))) d (ds ++ one ∷ []) all)
-
 pub none_untold : (emitted : List (List (List ℕ))) (delivered : List Delivered) (one : Delivered) (writer : ℕ) (packets : List (List ℕ))
     → slice_get emitted writer ≡ Some packets → one.sequence ≡ sequence_of writer → SaysNone one.bytes one.sequence → IsFaithful emitted (delivered ++ one ∷ []) → ⊥
 none_untold emitted delivered one writer packets e is none faithful =
@@ -205,9 +196,6 @@ pub record AreMade (emitted : List (List (List ℕ))) (tellers : List Teller) (c
   pub many : length tellers ≡ count
   pub each : (writer : ℕ) (packets : List (List ℕ)) (teller : Teller) → slice_get emitted writer ≡ Some packets → slice_get tellers writer ≡ Some teller
       → IsAfter packets [] teller.place teller.len × IsReady packets teller.place teller.len teller.borders.items
-
-pub made_none : (emitted : List (List (List ℕ))) → AreMade emitted [] 0
-made_none emitted = record { many = refl; each = λ writer packets teller e f. absurd cc }
 
 pub made_all : (emitted : List (List (List ℕ))) (tellers : List Teller) (count : ℕ) → AreMade emitted tellers count → count ≡ length emitted → AllTaken emitted [] tellers
 made_all emitted tellers count h all = record {

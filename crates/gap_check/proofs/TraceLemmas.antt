@@ -1,5 +1,5 @@
 -- How far a check has come in its trace.
-use Rattle.std.proofs.Common.{◌≡◌, ℕ, ◌+◌, ◌<◌, ◌≤◌, List, [], ◌∷◌, ◌++◌, length, map, Option, Some, None, refl, sym, ap, ◌∙◌, subst, arith, append_assoc, length-append}
+use Rattle.std.proofs.Common.{◌≡◌, ℕ, ◌+◌, ◌<◌, ◌≤◌, List, [], ◌∷◌, ◌++◌, length, map, Option, None, refl, sym, ap, subst, arith, append_assoc, length-append}
 use Rattle.std.proofs.lemmas.List.{append-nil, map-append}
 use Rattle.trace_model.specs.Delivery.{Delivered, IsFaithful}
 use Rattle.trace_file.specs.declared.fault.TraceFault.{TraceFault}
@@ -17,9 +17,6 @@ pub record GoesBack (old new : ReaderView) : Type 0 where
   pub packets : List TracePacket
   pub reads : (others : List TracePacket) (ending : Option TraceFault) → StillReads new others ending → StillReads old (packets ++ others) ending
 
-pub back_start : (reader : ReaderView) → GoesBack reader reader
-back_start reader = record { packets = []; reads = λ others ending h. h }
-
 pub back_more : (old mid new : ReaderView) (packet : TracePacket) → GoesBack old mid
     → ((packets : List TracePacket) (ending : Option TraceFault) → StillReads new packets ending → StillReads mid (packet ∷ packets) ending) → GoesBack old new
 back_more old mid new packet h next = record {
@@ -34,10 +31,6 @@ pub record IsTelling (emitted : List (List (List ℕ))) (trace : List ℕ) (tell
   pub taken : AllTaken emitted (delivered_by packets) tellers
   pub counted : count ≡ length packets
   pub small : count + length reader.rest ≤ length trace
-
-pub telling_start : (emitted : List (List (List ℕ))) (trace : List ℕ) (tellers : List Teller) → AllTaken emitted [] tellers
-    → IsTelling emitted trace tellers (record { at = 0; rest = trace; fault = None }) 0
-telling_start emitted trace tellers taken = record { packets = []; reads = λ others ending h. h; taken = taken; counted = refl; small = omega arith }
 
 reads_on : (trace : List ℕ) (old new : ReaderView) (packets : List TracePacket) (packet : TracePacket)
     → ((others : List TracePacket) (ending : Option TraceFault) → StillReads old others ending → ReadsFrom 0 trace (packets ++ others) ending)
@@ -87,10 +80,3 @@ telling_stops emitted trace tellers old new count packet h next untold rest = re
     unfaithful = λ faithful. untold (delivered_by h.packets) h.taken (subst (IsFaithful emitted) (map-append delivered_as h.packets (packet ∷ [])) faithful);
   };
 }
-
-pub telling_faults : (emitted : List (List (List ℕ))) (trace : List ℕ) (tellers : List Teller) (old new : ReaderView) (count : ℕ) (packet : TracePacket) (fault : TraceFault)
-    → IsTelling emitted trace tellers old count
-    → ((others : List TracePacket) (ending : Option TraceFault) → StillReads new others ending → StillReads old (packet ∷ others) ending)
-    → (rest : (others : List TracePacket) × StillReads new others (Some fault)) → (packets : List TracePacket) × ReadsFrom 0 trace packets (Some fault)
-telling_faults emitted trace tellers old new count packet fault h next rest =
-    (h.packets ++ (packet ∷ rest.0), h.reads (packet ∷ rest.0) (Some fault) (next rest.0 (Some fault) rest.1))

@@ -4,7 +4,7 @@ use Rattle.std.proofs.lemmas.Grind.{common_steps}
 use Rattle.std.proofs.lemmas.List.{append-nil, length-append}
 use Rattle.trace_base.specs.declared.limits.TheConstants.{MAX_INPUT}
 use Rattle.byte_io.specs.Bytes.{before_told, GivesAtMost}
-use Rattle.byte_io.proofs.Told.{all_came, before_told_again, gives_at_most, gives_more, longer_told}
+use Rattle.byte_io.proofs.Told.{all_came, before_told_again, gives_at_most, gives_more}
 use Rattle.scenario_text.specs.declared.reason.Reason.{Reason}
 use Rattle.scenario_text.specs.declared.reason.ScenarioFault.{ScenarioFault}
 use Rattle.scenario_text.specs.declared.scenario.Scenario.{Scenario}
@@ -100,9 +100,6 @@ longer_by old (Some told) bytes more most given long within = let P : Option (Li
 pub longer_behind : (old left : Option (List ℕ)) (count more most : ℕ) → HasGiven old left count → IfSome left (λ told. more < length told)
     → most ≤ count + more → IfSome old (λ told. most < length told)
 longer_behind old left count more most has long within = longer_by old left has.bytes more most has.given long (omega (arith, has.long, within))
-
-pub longer_given : (old left : Option (List ℕ)) (count most : ℕ) → HasGiven old left count → most < count → IfSome old (λ told. most < length told)
-longer_given old left count most has long = longer_told most has.bytes old left has.given (omega (arith, has.long, long))
 
 told_behind : (old left : Option (List ℕ)) (first rest : List ℕ) → old ≡ before_told first left → IfSome left (λ told. rest ≡ told)
     → IfSome old (λ told. first ++ rest ≡ told)

@@ -7,7 +7,7 @@ use Rattle.scenario_text.specs.declared.reason.Reason.{Reason}
 use Rattle.scenario_text.specs.declared.reason.Reason.TheVariants.{UnfinishedLine}
 use Rattle.scenario_text.specs.Pieces.{pieces, pieces_behind}
 use Rattle.scenario_text.specs.State.{State, packet_of}
-use Rattle.scenario_text.specs.Grammar.{after_line, after_lines, and_then, at_end, earlier, first_left, line_left}
+use Rattle.scenario_text.specs.Grammar.{after_line, after_lines, and_then, earlier, first_left, line_left}
 use Rattle.scenario_text.proofs.PieceLemmas.{has_piece}
 
 -- ---- packets that are left
@@ -45,9 +45,3 @@ pub last_unfinished : (state : State) (number : ℕ) (line : List ℕ) → 0 < l
 unfolding after_lines pieces_behind
 last_unfinished state number [] some = absurd (omega arith)
 last_unfinished state number (byte ∷ bytes) some = refl
-
-pub last_empty : (state : State) (number : ℕ) (line : List ℕ) → length line ≡ 0
-    → after_lines state number (line ∷ pieces_behind 10 None) ≡ at_end state
-unfolding after_lines pieces_behind
-last_empty state number [] none = refl
-last_empty state number (byte ∷ bytes) none = absurd (omega arith)

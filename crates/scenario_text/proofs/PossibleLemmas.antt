@@ -1,13 +1,9 @@
 -- The calls that a writer accepts are possible where they stand, and so are those that every scenario asks.
-use Rattle.std.proofs.Common.{◌≡◌, ℕ, ◌+◌, ◌==◌, true, not, List, [], ◌∷◌, Some, slice_get, refl, ap, arith}
+use Rattle.std.proofs.Common.{◌≡◌, ◌==◌, true, not, List, [], ◌∷◌, refl, ap, arith}
 use Rattle.std.proofs.lemmas.Bool.{ne_eqb, eq-eqb, and_from}
-use Rattle.trace_base.specs.declared.policy.WriterSpec.{WriterSpec}
 use Rattle.trace_model.specs.Calls.{Call, Begun, Number, Bytes, Nested, Ended, GivenUp, Finished, Flushed}
-use Rattle.trace_model.specs.Packets.{Packet, Account, nothing_yet, noted, is_writing, open_count, is_possible, are_possible_after, AreCalls}
-use Rattle.scenario_text.specs.declared.scenario.Scenario.{Scenario}
-use Rattle.scenario_text.specs.Scenario.{IsScenario}
-use Rattle.scenario_text.specs.Accepted.{calls_asked, Accepts, AreAccepted}
-use Rattle.scenario_text.proofs.AcceptedLemmas.{scenario_is_accepted}
+use Rattle.trace_model.specs.Packets.{Packet, Account, noted, is_writing, open_count, is_possible, are_possible_after}
+use Rattle.scenario_text.specs.Accepted.{Accepts, AreAccepted}
 
 accepted_call : (packets : List Packet) (call : Call) → Accepts packets call → is_possible packets call ≡ true
 accepted_call packets (Begun kept) accepts = ap not accepts.1
@@ -27,9 +23,3 @@ accepted_possible account [] accepted = refl
 accepted_possible account (call ∷ calls) accepted =
     and_from (is_possible account.packets call) (are_possible_after (noted account call) calls) (accepted_call account.packets call accepted.0)
     (accepted_possible (noted account call) calls accepted.1)
-
--- what the lines of a scenario ask of a writer is possible
-pub asked_possible : (scenario : Scenario) → IsScenario scenario → (place : ℕ) (writer : WriterSpec)
-    → slice_get scenario.writers.items place ≡ Some writer → AreCalls (calls_asked (place + 1) scenario.lines)
-asked_possible scenario is place writer there =
-    accepted_possible nothing_yet (calls_asked (place + 1) scenario.lines) (scenario_is_accepted scenario is place writer there).accepted

@@ -8,9 +8,9 @@ use Rattle.scenario_text.specs.declared.reason.ScenarioFault.TheVariants.{OutOfM
 use Rattle.scenario_text.specs.declared.scenario.Scenario.{Scenario}
 use Rattle.scenario_text.specs.Pieces.{pieces, pieces_behind}
 use Rattle.scenario_text.specs.State.{State, beginning}
-use Rattle.scenario_text.specs.Grammar.{after_line, after_lines, at_end, state_after}
+use Rattle.scenario_text.specs.Grammar.{after_line, after_lines, state_after}
 use Rattle.scenario_text.specs.Scenario.{GivesScenario, IsScenario, said, scenario_of}
-use Rattle.scenario_text.proofs.LineLemmas.{line_goes, line_stops, last_unfinished, last_empty}
+use Rattle.scenario_text.proofs.LineLemmas.{line_goes, line_stops, last_unfinished}
 
 pub scenario_starts : (text : List ℕ) → said (after_lines beginning 1 (pieces 10 text)) ≡ scenario_of text
 unfolding scenario_of state_after
@@ -29,10 +29,6 @@ pub scenario_unfinished : (state : State) (number : ℕ) (line : List ℕ) → 0
     → said (after_lines state number (line ∷ pieces_behind 10 None)) ≡ Err (number, UnfinishedLine)
 unfolding said
 scenario_unfinished state number line some = ap said (last_unfinished state number line some)
-
-pub scenario_ends : (state : State) (number : ℕ) (line : List ℕ) → length line ≡ 0
-    → said (after_lines state number (line ∷ pieces_behind 10 None)) ≡ said (at_end state)
-scenario_ends state number line none = ap said (last_empty state number line none)
 
 -- what was answered is a scenario
 pub is_scenario : (text : List ℕ) (result : Result Scenario ScenarioFault) → length text ≤ MAX_INPUT

@@ -8,10 +8,9 @@ use Rattle.trace_model.specs.Sequences.{Cursor}
 use Rattle.sequence_reader.specs.declared.spot.Bounds.{Bounds}
 use Rattle.sequence_reader.specs.declared.spot.Spot.{Spot}
 use Rattle.sequence_reader.specs.declared.step.Piece as code
-use Rattle.sequence_reader.specs.declared.step.Step.{Step}
 use Rattle.sequence_reader.specs.declared.step.Step.TheVariants as step
 use Rattle.sequence_reader.specs.Spots.{rows_of, cursor_of}
-use Rattle.sequence_reader.specs.Steps.{Shows, IsPieceAt}
+use Rattle.sequence_reader.specs.Steps.{IsPieceAt}
 use Rattle.sequence_reader.specs.Turns.{first_bytes, IsWholeAt}
 
 -- the first fragment of a whole packet, and what is behind it
@@ -116,13 +115,6 @@ module _ (one : Piece) (next : Cursor) (headless awaits : Bool) (left : ℕ) whe
       of true false runs_on dropped whole = runs behind whole
       of false d runs_on dropped whole = (ends behind whole).1
       of true true runs_on dropped whole = absurd (true≢false (sym dropped ∙ (ends behind whole).0))
-
--- the row of a whole packet begins with a fragment
-pub shows_fragment : (b : Buffer) (bounds : Bounds) (spot : Spot) (left : ℕ) (found : Step) → Shows b bounds spot found → IsWholeAt (rows_of b bounds.sequence (cursor_of spot)) left
-    → ((piece : code.Piece) → found ≡ step.Fragment piece → ⊥) → ⊥
-shows_fragment b bounds spot left (step.Fragment piece) shows whole none = none piece refl
-shows_fragment b bounds spot left (step.Gap lost) shows whole none = let both = sym shows.links ∙ whole.links_are in absurd (cc)
-shows_fragment b bounds spot left (step.Stop why may) shows whole none = let both = sym shows.links_are ∙ whole.links_are in absurd (cc)
 
 -- What a sink has taken
 

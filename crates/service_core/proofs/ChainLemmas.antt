@@ -8,7 +8,7 @@ use Rattle.trace_base.specs.declared.policy.WriterSpec.{WriterSpec}
 use Rattle.chunk_plain.specs.Setup.{Setup, range_of, producer_of, id_at}
 use Rattle.chunk_plain.specs.Views.{Content, Look, Taken, none_taken, Noted, Arrive, ServiceView, taken_of}
 use Rattle.service_core.specs.Agreement.{spec_at, no_writer}
-use Rattle.service_core.specs.Taking.{patched_where, takings, looked, taken_more, took, IsOther, ShowsOther, Leaves, TakesOne, SeesOther, TakesOf, Takes, places_of, IsRange, TakesNext, SeesNone, SeesNoneOf, TakesSome}
+use Rattle.service_core.specs.Taking.{patched_where, takings, looked, taken_more, took, IsOther, ShowsOther, SeesOther, TakesOf, Takes, places_of, IsRange, TakesNext, SeesNone, SeesNoneOf, TakesSome}
 use Rattle.service_core.proofs.HistoryLemmas.{get_more}
 use Rattle.service_core.proofs.TakingLemmas.{taken_here}
 
@@ -59,14 +59,6 @@ sees_more setup place first chunk old mid new seen other =
         })
     by_chunk c least below count_is (inr differs) =
         shows_left setup place (taken_of old place).count c seen.looks (other.look ∷ []) (seen.none c least (omega (arith, below, differs)))
-
-pub takes_next : (setup : Setup) (place first chunk : ℕ) (old mid new : ServiceView) → SeesNoneOf setup place first chunk old mid → TakesOne place mid new → TakesNext place old new
-takes_next setup place first chunk old mid new seen one = record {
-  looks = seen.looks ++ one.look ∷ [];
-  content = one.content;
-  view = one.view ∙ ap (λ (v : ServiceView). took v place (one.look ∷ []) (one.content ∷ [])) seen.view
-      ∙ ap (λ (l : List Look). record (took old place [] (one.content ∷ [])) { looks = l }) (append_assoc old.looks seen.looks (one.look ∷ []));
-}
 
 pub sees_none : (setup : Setup) (place first count : ℕ) (old new : ServiceView) → IsRange (range_of setup (producer_of setup place)) first count
     → SeesNoneOf setup place first (first + count) old new → SeesNone setup place old new
@@ -159,12 +151,6 @@ takes_more place taken old mid new inside some next =
       many = omega (arith, long, many);
       view = next.view ∙ ap (λ (v : ServiceView). took v place next.looks (next.content ∷ [])) some.view ∙ took_both old place some.looks next.looks some.contents (next.content ∷ []) inside;
     }
-
--- it took as many as the producer has, or has no id left
-pub takes_of : (setup : Setup) (place taken : ℕ) (old new : ServiceView) → TakesSome place taken old new
-    → ((looks : List Look) → Leaves setup place (taken_of new place).count taken looks) → TakesOf setup place taken old new
-takes_of setup place taken old new some leaves =
-    record { looks = some.looks; contents = some.contents; many = some.many; view = some.view; leaves = leaves some.looks }
 
 -- it saw none that is next
 pub takes_until : (setup : Setup) (place taken : ℕ) (old mid new : ServiceView) → TakesSome place taken old mid → SeesNone setup place mid new → TakesOf setup place taken old new

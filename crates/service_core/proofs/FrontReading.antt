@@ -140,10 +140,6 @@ record StandFrom (whole : List ℕ) (ends : List ℕ) : Type 0 where
   long : sealed_to ends ≤ length whole
   small : length whole < drop_size
 
-start_inside : (whole ends : List ℕ) (k : ℕ) → StandFrom whole ends → k < length ends → start_of ends k ≤ sealed_to ends
-start_inside whole ends zero s low = omega arith
-start_inside whole ends (suc k) s low = (s.reads k (omega (arith, low))).1
-
 front_from : (whole tail ends : List ℕ) → StandFrom whole ends → (left number at k : ℕ) → k + left ≡ length ends
     → reading_from left number at (drop (start_of ends k) (whole ++ tail)) ≡ reading_from left number at (drop (start_of ends k) whole)
 front_from whole tail ends s zero number at k sum = refl

@@ -2,8 +2,8 @@
 use Rattle.std.proofs.Common.{◌≡◌, ℕ, ◌==◌, Bool, true, false, cond, List, map, length, refl, sym, ap, ◌∙◌, subst}
 use Rattle.trace_model.specs.Arrivals.{Arrived, settled, arrival_of, partial_arrival_of, makes_arrive, with_arrived, arrival_noted, with_arrival, with_partial_arrival, once_read}
 use Rattle.trace_model.specs.Buffers.{Buffer}
-use Rattle.trace_model.specs.Images.{Chunk, Patch, complete_chunk, partial_chunk}
-use Rattle.trace_model.specs.Patches.{with_patch, closed_sequence, closed_buffer, with_close}
+use Rattle.trace_model.specs.Images.{Chunk, complete_chunk, partial_chunk}
+use Rattle.trace_model.specs.Patches.{closed_sequence, closed_buffer, with_close}
 use Rattle.trace_model.specs.Reading.{Reading, Fragments, Unreadable}
 use Rattle.trace_model.specs.Reads.{Turn, advanced}
 use Rattle.trace_model.specs.Sequences.{Sequence, Cursor, is_known, sequence_in, changed_at}
@@ -70,9 +70,6 @@ after_image v new q i flags reading is =
 pub after_partial : (v new : Buffer) (q i flags : ℕ) (reading : Reading) → new ≡ once_read v (with_partial_arrival v q i) flags reading → StayReady v new
 after_partial v new q i flags reading is =
     subst (StayReady v) (sym is) (after_reading v (with_partial_arrival v q i) flags reading (after_part v q i))
-
-pub after_patch : (v new : Buffer) (q : ℕ) (patch : Patch) → new ≡ with_patch v q patch → StayReady v new
-after_patch v new q patch is = subst (StayReady v) (sym is) (λ size number ready. ready)
 
 pub after_advance : (v new : Buffer) (q : ℕ) (to : Cursor) (turn : Turn) → new ≡ with_advance v q to turn → StayReady v new
 after_advance v new q to turn is =

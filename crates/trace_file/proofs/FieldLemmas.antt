@@ -7,7 +7,7 @@ use Rattle.wire_varint.specs.Reading.{IsVarint}
 use Rattle.trace_file.specs.declared.field.FieldFault.{FieldFault}
 use Rattle.trace_file.specs.declared.field.FieldFault.TheVariants.{Group, Malformed, CutShort}
 use Rattle.trace_file.specs.Fields.{FieldValue, Content, wire_of, IsValue, Spells}
-use Rattle.trace_file.specs.Faults.{HasTag, HasTooLittle, IsGroup, IsBadTag, Lacks, LacksTag, LacksValue}
+use Rattle.trace_file.specs.Faults.{HasTag, HasTooLittle, IsGroup, IsBadTag, Lacks, LacksValue}
 
 -- a length, and so many bytes behind it
 content_behind : (bytes : List ℕ) (width size : ℕ) → IsVarint (take width bytes) size → width ≤ length bytes → width + size ≤ length bytes
@@ -48,10 +48,6 @@ spells bytes width tag len value p low most wire is = record {
 
 pub has_tag : (bytes : List ℕ) (width tag : ℕ) → IsVarint (take width bytes) tag → HasTag bytes tag (drop width bytes)
 has_tag bytes width tag p = record { tag = take width bytes; cut = sym (take-append-drop width bytes); is_tag = p }
-
--- no tag
-pub lacks_tag : (bytes : List ℕ) (fault : FieldFault) → LacksTag fault bytes → Lacks fault bytes
-lacks_tag bytes fault lacks = inl lacks
 
 -- no value behind a tag
 pub lacks_behind : (bytes : List ℕ) (fault : FieldFault) (width tag : ℕ) → IsVarint (take width bytes) tag → ¬ IsGroup tag → ¬ IsBadTag tag

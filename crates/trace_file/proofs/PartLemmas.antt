@@ -8,7 +8,7 @@ use Rattle.trace_model.specs.Record.{dropped_mark, mark_where, content_of, recor
 use Rattle.trace_file.specs.Fields.{Content, MessageField, Spells}
 use Rattle.trace_file.specs.Apart.{SaysPacket, SaysOnly, SaysNone}
 use Rattle.trace_file.specs.Traces.{record_field}
-use Rattle.trace_file.proofs.OnceLemmas.{spells_once, same_length}
+use Rattle.trace_file.proofs.OnceLemmas.{spells_once}
 use Rattle.trace_file.proofs.ReadLemmas.{whole_some}
 
 abbrev pub tail_of : ℕ → Bool → List ℕ
@@ -22,18 +22,6 @@ pub record_cut : (body : List ℕ) (sequence : ℕ) (behind : Bool) → record_o
 unfolding record_of content_of
 record_cut body sequence behind =
     ap (λ (content : List ℕ). (0x0A ∷ varint (length content)) ++ content) (append_assoc body (0x50 ∷ varint sequence) (mark_where behind))
-
--- what follows another front of the same bytes is the content, where it is as long
-pub head_yes : (bytes content rest front : List ℕ) → Spells (record_field content) bytes → bytes ≡ front ++ rest → length rest ≡ length content → bytes ≡ front ++ content
-head_yes bytes content rest front h cut long =
-    let first : bytes ≡ (h.tag ++ h.is_value.0) ++ content = h.cut ∙ ap (λ (xs : List ℕ). h.tag ++ xs) h.is_value.2 ∙ sym (append_assoc h.tag h.is_value.0 content) in
-    let fronts : length front ≡ length (h.tag ++ h.is_value.0) =
-    omega (arith, ap length cut, ap length first, length-append front rest, length-append (h.tag ++ h.is_value.0) content, long) in
-    let same = same_length front (h.tag ++ h.is_value.0) rest content fronts (sym cut ∙ first) in
-    cut ∙ ap (λ (xs : List ℕ). front ++ xs) same.1
-
-pub head_long : (bytes content rest front : List ℕ) → bytes ≡ front ++ rest → bytes ≡ front ++ content → length rest ≡ length content
-head_long bytes content rest front cut other = ap length (append_cancel_left front rest content (sym cut ∙ other))
 
 -- ---- an end with a mark is none without
 
@@ -143,8 +131,3 @@ pub none_tail : (bytes content : List ℕ) (sequence : ℕ) → Spells (record_f
     → ((body : List ℕ) (behind : Bool) → content ≢ body ++ tail_of sequence behind) → SaysNone bytes sequence
 none_tail bytes content sequence h small none other front end record_is =
     none (mark_where front ++ other) end (content_is bytes content (mark_where front ++ other) sequence end h small record_is).0
-
-pub tail_none : (content : List ℕ) (sequence : ℕ) → ((rest : List ℕ) → content ≢ rest ++ tail_of sequence true) → ((rest : List ℕ) → content ≢ rest ++ tail_of sequence false)
-    → (body : List ℕ) (behind : Bool) → content ≢ body ++ tail_of sequence behind
-tail_none content sequence marked plain body true = marked body
-tail_none content sequence marked plain body false = plain body

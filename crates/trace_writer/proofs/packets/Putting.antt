@@ -301,18 +301,6 @@ lost_behind site old mid new before between after fragment now one two later who
           (lost.stopped_nested (with_more one packet) older (later ++ more) (first.keeps packet older i));
     }
 
--- a packet that stops in a piece stops in it and what comes behind
-pub lost_within : (site : Site) (old new : WriterView) (before after : Pending) (fragment : OpenFragment) (one later : List ℕ)
-    → StopsIn site old new before after fragment one → StopsIn site old new before after fragment (one ++ later)
-lost_within site old new before after fragment one later lost = record {
-  calls = lost.calls;
-  stopped = λ packet older more i.
-      subst (λ (xs : List ℕ). IsStopped site (with_more xs packet) older new after) (sym (append_assoc one later more)) (lost.stopped packet older (later ++ more) i);
-  stopped_nested = λ packet older more i.
-      subst (λ (xs : List ℕ). IsStopped site (with_open (with_more xs packet)) older new after) (sym (append_assoc one later more))
-      (lost.stopped_nested packet older (later ++ more) i);
-}
-
 pub puts_nothing : (site : Site) (view : WriterView) (pending : Pending) (fragment : OpenFragment) → PutsOn site view view pending pending fragment fragment []
 puts_nothing site view pending fragment = record {
   calls = refl;

@@ -1,6 +1,6 @@
 use Rattle.std.proofs.Common.{arith}
 use Rattle.trace_file.specs.Values.{packet_of}
-use Rattle.gap_check.proofs.TraceLemmas.{telling_more, telling_ends, telling_stops, telling_faults}
+use Rattle.gap_check.proofs.TraceLemmas.{telling_more, telling_ends, telling_stops}
 use Rattle.gap_check.proofs.check.tell_trace.Goals as goal
 
 pub returns-in-Ok-None-clause-verdict : goal.returns-in-Ok-None-clause-verdict

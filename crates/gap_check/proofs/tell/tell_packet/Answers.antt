@@ -1,8 +1,8 @@
-use Rattle.std.proofs.Common.{◌≡◌, ◌∙◌, ◌-◌, ◌<◌, ◌+◌, ℕ, List, length, get_or, Some, ap, sym, arith}
+use Rattle.std.proofs.Common.{◌≡◌, ◌∙◌, ◌-◌, ◌<◌, ℕ, List, length, get_or, Some, ap, sym, arith}
 use Rattle.std.specs.Prelude.{slice_get}
 use Rattle.trace_model.specs.Delivery.{Delivered, sequence_of}
 use Rattle.gap_check.specs.Taken.{HasTaken}
-use Rattle.gap_check.proofs.TakenLemmas.{some_there, there_or, none_untold, said_told, said_untold, unknown_untold}
+use Rattle.gap_check.proofs.TakenLemmas.{some_there, there_or, none_untold, said_told, said_untold}
 use Rattle.gap_check.proofs.tell.tell_packet.Goals as goal
 
 pub tell-requires-clause-ready : goal.tell-requires-clause-ready
