@@ -1,10 +1,11 @@
 -- The steps by which the service takes a chunk, as its code knows them.
-use Rattle.std.proofs.Common.{◌≡◌, ℕ, ◌+◌, ◌<◌, Bool, true, false, not, Some, None, IsSome, List, [], ◌∷◌, ◌++◌, length, map, set, take, drop, Vec, vec_len, subst, sym, refl, ap, ◌∙◌, arith}
+use Rattle.std.proofs.Common.{◌≡◌, ℕ, ◌+◌, ◌<◌, Bool, true, false, not, Some, None, IsSome, List, ◌++◌, length, map, set, take, drop, Vec, vec_len, subst, sym, refl, ap, ◌∙◌, arith}
 use Rattle.std.proofs.Math.Logic.{∥∥₁_map, ∥∥₁_elim}
 use Rattle.std.proofs.Math.Nat.{ℕ_set}
 use Rattle.std.specs.Vec.{with_items}
 use Rattle.std.proofs.lemmas.Grind.{same_number_lists}
 use Rattle.std.proofs.lemmas.List.{get_or-set_same}
+use Rattle.std.proofs.Math.Seq.{take-append_seam}
 use Rattle.commit_body.specs.declared.body.CommitBody.{CommitBody}
 use Rattle.commit_body.specs.Patches.{patch_value}
 use Rattle.page_geometry.specs.Header.{packed, unpacked}
@@ -27,13 +28,9 @@ use Rattle.chunk_plain.proofs.Known.{is_some_by}
 use Rattle.chunk_plain.proofs.Resting.{takes_serving}
 use Rattle.chunk_plain.proofs.WorldSet.{world_set}
 
-take_front : (xs ys : List ℕ) → take (length xs) (xs ++ ys) ≡ xs
-take_front [] ys = refl
-take_front (x ∷ xs) ys = ap (λ l. x ∷ l) (take_front xs ys)
-
 -- the elements of a vector that was filled as a slice
 pub with_items_is : {Z : Type 0} (v : Vec ℕ Z) (xs : List ℕ) → length xs ≡ vec_len v → (with_items v xs).items ≡ xs
-with_items_is v xs same = ap (λ n. take n (xs ++ drop (length xs) v.items)) (sym same) ∙ take_front xs (drop (length xs) v.items)
+with_items_is v xs same = ap (λ n. take n (xs ++ drop (length xs) v.items)) (sym same) ∙ take-append_seam xs (drop (length xs) v.items)
 
 pub not_false : (a b : Bool) → a ≡ false → a ≡ not b → b ≡ true
 not_false a true is e = refl

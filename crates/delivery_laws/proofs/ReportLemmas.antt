@@ -2,6 +2,7 @@
 use Rattle.std.proofs.Common.{◌≡◌, ◌∙◌, ℕ, suc, ◌+◌, ◌≤◌, Bool, true, false, not, ◌&&◌, ◌||◌, List, [], ◌∷◌, length, Some, refl, sym, ap, subst, arith}
 use Rattle.std.specs.Prelude.{◌==◌, slice_get, MatchBool}
 use Rattle.std.proofs.lemmas.Bool.{false≢true, eq-eqb, and_from}
+use Rattle.std.proofs.Math.Bool.{and-false, or-false, or-true}
 use Rattle.trace_model.specs.Images.{Chunk, Fragment, Patch}
 use Rattle.trace_model.specs.Fading.{ShowFragments}
 use Rattle.trace_model.specs.Packets.{packets_of}
@@ -96,18 +97,6 @@ pages_in_order goes pages q (Closed other ∷ events) come closed due order =
     by_same false h rest = rest closed h
 pages_in_order goes pages q (Read other limit ∷ events) come closed due order = pages_in_order goes pages q events come closed [] order.1
 
-and_false : (b : Bool) → (b && false) ≡ false
-and_false true = refl
-and_false false = refl
-
-or_false : (b : Bool) → (b || false) ≡ b
-or_false true = refl
-or_false false = refl
-
-or_true : (b : Bool) → (b || true) ≡ true
-or_true true = refl
-or_true false = refl
-
 module _ (sheets : List Sheet) (q : ℕ) where
   -- an event that may come leaves the rest as it is
   stays : (closed comes closes : Bool) (now : Bool) (events : List Event) → (closed && comes) ≡ false → (closed || closes) ≡ now → closes_last q now events ≡ true
@@ -126,8 +115,8 @@ module _ (sheets : List Sheet) (q : ℕ) where
           → ((ps : List Patch) → InOrder sheets q (suc come) closed ps events → closes_last q closed events ≡ true)
           → (InOrder sheets q come closed [] events → closes_last q closed events ≡ true)
           → (not (closed && (other == q)) && closes_last q (closed || false) events) ≡ true
-      by_same true e h here rest = stays closed (other == q) false closed events (ap (λ (b : Bool). b && (other == q)) h.0) (or_false closed) (here h.2.patches h.5)
-      by_same false e h here rest = stays closed (other == q) false closed events (ap (λ (b : Bool). closed && b) e ∙ and_false closed) (or_false closed) (rest h)
+      by_same true e h here rest = stays closed (other == q) false closed events (ap (λ (b : Bool). b && (other == q)) h.0) (or-false closed) (here h.2.patches h.5)
+      by_same false e h here rest = stays closed (other == q) false closed events (ap (λ (b : Bool). closed && b) e ∙ and-false closed) (or-false closed) (rest h)
   closes_in_order (ArrivesInPart other chunk_id chunk ∷ events) come closed due order =
       by_same (other == q) refl order.1 (λ o. closes_in_order events come closed [] o)
     where
@@ -135,17 +124,17 @@ module _ (sheets : List Sheet) (q : ℕ) where
           → MatchBool x ((closed ≡ false) × (chunk_id ≡ come) × IsPart sheets come chunk × InOrder sheets q come closed [] events) (InOrder sheets q come closed [] events)
           → (InOrder sheets q come closed [] events → closes_last q closed events ≡ true)
           → (not (closed && (other == q)) && closes_last q (closed || false) events) ≡ true
-      by_same true e h rest = stays closed (other == q) false closed events (ap (λ (b : Bool). b && (other == q)) h.0) (or_false closed) (rest h.3)
-      by_same false e h rest = stays closed (other == q) false closed events (ap (λ (b : Bool). closed && b) e ∙ and_false closed) (or_false closed) (rest h)
+      by_same true e h rest = stays closed (other == q) false closed events (ap (λ (b : Bool). b && (other == q)) h.0) (or-false closed) (rest h.3)
+      by_same false e h rest = stays closed (other == q) false closed events (ap (λ (b : Bool). closed && b) e ∙ and-false closed) (or-false closed) (rest h)
   closes_in_order (Patched other patches ∷ events) come closed due order =
-      stays closed false false closed events (and_false closed) (or_false closed) (by_same (other == q) order (λ o. closes_in_order events come closed [] o))
+      stays closed false false closed events (and-false closed) (or-false closed) (by_same (other == q) order (λ o. closes_in_order events come closed [] o))
     where
       by_same : (x : Bool) → MatchBool x ((patches ≡ due) × InOrder sheets q come closed [] events) ((due ≡ []) × InOrder sheets q come closed [] events)
           → (InOrder sheets q come closed [] events → closes_last q closed events ≡ true) → closes_last q closed events ≡ true
       by_same true h rest = rest h.1
       by_same false h rest = rest h.1
   closes_in_order (Committed image patches ∷ events) come closed due order =
-      stays closed (image.sequence == q) false closed events (ap (λ (b : Bool). closed && b) order.1 ∙ and_false closed) (or_false closed)
+      stays closed (image.sequence == q) false closed events (ap (λ (b : Bool). closed && b) order.1 ∙ and-false closed) (or-false closed)
       (closes_in_order events come closed [] order.2)
   closes_in_order (Closed other ∷ events) come closed due order =
       by_same (other == q) refl order.1 (λ c o. closes_in_order events come c [] o)
@@ -154,10 +143,10 @@ module _ (sheets : List Sheet) (q : ℕ) where
           → MatchBool x ((closed ≡ false) × InOrder sheets q come true [] events) (InOrder sheets q come closed [] events)
           → ((c : Bool) → InOrder sheets q come c [] events → closes_last q c events ≡ true)
           → (not (closed && false) && closes_last q (closed || (other == q)) events) ≡ true
-      by_same true e h rest = stays closed false (other == q) true events (and_false closed) (ap (λ (b : Bool). closed || b) e ∙ or_true closed) (rest true h.1)
-      by_same false e h rest = stays closed false (other == q) closed events (and_false closed) (ap (λ (b : Bool). closed || b) e ∙ or_false closed) (rest closed h)
+      by_same true e h rest = stays closed false (other == q) true events (and-false closed) (ap (λ (b : Bool). closed || b) e ∙ or-true closed) (rest true h.1)
+      by_same false e h rest = stays closed false (other == q) closed events (and-false closed) (ap (λ (b : Bool). closed || b) e ∙ or-false closed) (rest closed h)
   closes_in_order (Read other limit ∷ events) come closed due order =
-      stays closed false false closed events (and_false closed) (or_false closed) (closes_in_order events come closed [] order.1)
+      stays closed false false closed events (and-false closed) (or-false closed) (closes_in_order events come closed [] order.1)
 
 pub accounts_are_histories : AccountsAreHistories
 accounts_are_histories size calls pages sequences q record_size events account countable = record {

@@ -2,20 +2,14 @@
 use Rattle.std.proofs.Common.{◌≡◌, ◌∙◌, ℕ, zero, suc, ◌<◌, ◌≤◌, ◌⊎◌, max, Bool, true, false, not, ◌&&◌, List, [], ◌∷◌, ◌++◌, length, drop, Some, refl, sym, ap, subst, arith, inl, inr}
 use Rattle.std.specs.Prelude.{cond, ◌==◌, slice_get}
 use Rattle.std.proofs.lemmas.Bool.{ne_eqb, cases_lt, and_right}
+use Rattle.std.proofs.Math.Bool.{and-false, and-true}
+use Rattle.std.proofs.lemmas.List.{drop_all}
 use Rattle.trace_model.specs.Images.{Chunk, Fragment}
 use Rattle.trace_model.specs.Fading.{ShowFragments}
 use Rattle.trace_model.specs.Row.{Slot, Here, Gone, Never, Link, Gap, Stop, Missing, Partial, Unpatched, place, place_behind, with_piece, is_last, is_part, chunk_links, row_of}
 use Rattle.delivery_laws.specs.Sheets.{Sheet, Part, WrittenPacket, parts_from, all_parts, tail_bytes, ends_whole, packets_in, SheetsAgree}
 use Rattle.delivery_laws.proofs.Walks.{Follows, Walks, parts_at, Inside, StandsAt, ShowsSheet, FitsFrom}
 use Rattle.delivery_laws.proofs.PieceLemmas.{IsPiece, piece_walks}
-
-and_true : (b : Bool) → (b && true) ≡ b
-and_true true = refl
-and_true false = refl
-
-and_false : (b : Bool) → (b && false) ≡ false
-and_false true = refl
-and_false false = refl
 
 more_isnt_none : (k : ℕ) → (suc k == 0) ≡ false
 more_isnt_none k = ne_eqb (suc k) 0 (λ e. omega (arith, e))
@@ -34,13 +28,13 @@ parts_next (first ∷ second ∷ sheets) zero passed sheet get =
     let same : first ≡ sheet = cc in
     ap (λ (s : Sheet). parts_from (s.chunk.continues && (passed == 0)) s.chunk.runs_on (drop passed s.written) ++ all_parts (second ∷ sheets)) same
     ∙ ap (λ (b : Bool). parts_from (sheet.chunk.continues && (passed == 0)) sheet.chunk.runs_on (drop passed sheet.written)
-    ++ (parts_from b second.chunk.runs_on second.written ++ all_parts sheets)) (sym (and_true second.chunk.continues))
+    ++ (parts_from b second.chunk.runs_on second.written ++ all_parts sheets)) (sym (and-true second.chunk.continues))
 parts_next (first ∷ sheets) (suc chunk_id) passed sheet get = parts_next sheets chunk_id passed sheet get
 
 pub all_at_start : (sheets : List Sheet) → parts_at sheets 0 0 ≡ all_parts sheets
 all_at_start [] = refl
 all_at_start (sheet ∷ sheets) =
-    ap (λ (b : Bool). parts_from b sheet.chunk.runs_on sheet.written ++ all_parts sheets) (and_true sheet.chunk.continues)
+    ap (λ (b : Bool). parts_from b sheet.chunk.runs_on sheet.written ++ all_parts sheets) (and-true sheet.chunk.continues)
 
 -- behind a chunk a packet begins exactly where it doesn't run on
 follows_next : (sheets : List Sheet) (chunk_id : ℕ) (runs_on : Bool) (sheet : Sheet) → SheetsAgree runs_on sheets → slice_get sheets chunk_id ≡ Some sheet
@@ -55,7 +49,7 @@ follows_next (first ∷ second ∷ sheets) zero runs_on sheet agree get =
     begins [] some = absurd (omega (arith, some))
     begins (fragment ∷ fragments) some =
         let same : first ≡ sheet = cc in
-        ap not (and_true second.chunk.continues ∙ agree.2.0 ∙ ap (λ (s : Sheet). s.chunk.runs_on) same)
+        ap not (and-true second.chunk.continues ∙ agree.2.0 ∙ ap (λ (s : Sheet). s.chunk.runs_on) same)
 follows_next (first ∷ sheets) (suc chunk_id) runs_on sheet agree get = follows_next sheets chunk_id first.chunk.runs_on sheet agree.2 get
 
 pub inside_first : (sheets : List Sheet) (runs_on : Bool) (chunk_id : ℕ) → SheetsAgree runs_on sheets → Inside sheets chunk_id 0
@@ -73,12 +67,6 @@ show_further zero partial awaits fragments written h low = h
 show_further (suc k) partial awaits [] written h low = absurd (omega (arith, low))
 show_further (suc k) partial awaits (f ∷ fs) [] h low = absurd h
 show_further (suc k) partial awaits (f ∷ fs) (w ∷ ws) h low = show_further k partial awaits fs ws h.2 (omega (arith, low))
-
-none_left : (k : ℕ) (fragments : List Fragment) → length fragments ≤ k → drop k fragments ≡ []
-none_left zero [] h = refl
-none_left zero (f ∷ fs) h = absurd (omega (arith, h))
-none_left (suc k) [] h = refl
-none_left (suc k) (f ∷ fs) h = none_left k fs (omega (arith, h))
 
 pub one_left : (k : ℕ) (xs : List Fragment) (x : Fragment) (rest : List Fragment) → drop k xs ≡ x ∷ rest → (drop (suc k) xs ≡ rest) × (k < length xs)
 one_left k [] x rest e = absurd (none k e)
@@ -111,13 +99,13 @@ same_ends sheet chunk shows others more h = by_part chunk.partial refl others mo
     by_part : (p : Bool) → chunk.partial ≡ p → (others more : List Fragment) → ShowFragments p chunk.awaits others more
         → not (sheet.chunk.runs_on && is_last more) ≡ not (chunk.runs_on && is_last others)
     by_part true e [] [] h = absurd h
-    by_part true e [] (w ∷ ws) h = ap not (and_false sheet.chunk.runs_on ∙ sym (ap (λ (b : Bool). b && true) (shows.stays e).0))
+    by_part true e [] (w ∷ ws) h = ap not (and-false sheet.chunk.runs_on ∙ sym (ap (λ (b : Bool). b && true) (shows.stays e).0))
     by_part true e (f ∷ fs) [] h = absurd h
-    by_part true e (f ∷ fs) (w ∷ ws) h = ap not (and_false sheet.chunk.runs_on ∙ sym (and_false chunk.runs_on))
+    by_part true e (f ∷ fs) (w ∷ ws) h = ap not (and-false sheet.chunk.runs_on ∙ sym (and-false chunk.runs_on))
     by_part false e [] [] h = ap (λ (b : Bool). not (b && true)) (sym (shows.goes e))
     by_part false e [] (w ∷ ws) h = absurd h
     by_part false e (f ∷ fs) [] h = absurd h
-    by_part false e (f ∷ fs) (w ∷ ws) h = ap not (and_false sheet.chunk.runs_on ∙ sym (and_false chunk.runs_on))
+    by_part false e (f ∷ fs) (w ∷ ws) h = ap not (and-false sheet.chunk.runs_on ∙ sym (and-false chunk.runs_on))
 
 -- the packets that begin in a list of parts are those of its front, some, and then those of its rest
 split_parts : (front rest : List Part) → (between : List WrittenPacket) × (packets_in (front ++ rest) ≡ between ++ packets_in rest)
@@ -181,8 +169,8 @@ module _ (sheets : List Sheet) (Over : ℕ → Type 0) (closed : Bool) (agree : 
       )
 
       onward : (ws : List Fragment) → Follows (not (sheet.chunk.runs_on && is_last ws)) (parts_from false sheet.chunk.runs_on ws ++ parts_at sheets (suc chunk_id) 0)
-      onward [] = subst (λ (b : Bool). Follows (not b) (parts_at sheets (suc chunk_id) 0)) (sym (and_true sheet.chunk.runs_on)) (follows_next sheets chunk_id false sheet agree get)
-      onward (x ∷ xs) = ap not (sym (and_false sheet.chunk.runs_on))
+      onward [] = subst (λ (b : Bool). Follows (not b) (parts_at sheets (suc chunk_id) 0)) (sym (and-true sheet.chunk.runs_on)) (follows_next sheets chunk_id false sheet agree get)
+      onward (x ∷ xs) = ap not (sym (and-false sheet.chunk.runs_on))
 
       is : IsPiece (StandsAt sheets) (record { at = place chunk_id k; fragment = f; runs_on = chunk.runs_on && is_last fs }) (chunk.continues && (k == 0)) (chunk.awaits && is_last fs)
           (record { starts = not (sheet.chunk.continues && (k == 0)); ends = not (sheet.chunk.runs_on && is_last ws); dropped = w.dropped; bytes = w.bytes })
@@ -211,7 +199,7 @@ module _ (sheets : List Sheet) (Over : ℕ → Type 0) (closed : Bool) (agree : 
           (chunk_links closed chunk_id chunk (suc k) fs rest)
           (parts_from false sheet.chunk.runs_on ws ++ parts_at sheets (suc chunk_id) 0) is
           (subst (λ (b : Bool). Walks (StandsAt sheets) Over (chunk_links closed chunk_id chunk (suc k) fs rest) (parts_from b sheet.chunk.runs_on ws ++ parts_at sheets (suc chunk_id) 0))
-          (ap (λ (b : Bool). sheet.chunk.continues && b) (more_isnt_none k) ∙ and_false sheet.chunk.continues) n)
+          (ap (λ (b : Bool). sheet.chunk.continues && b) (more_isnt_none k) ∙ and-false sheet.chunk.continues) n)
 
   -- a chunk that is lost is passed by a gap
   gap_walks : (chunk_id passed : ℕ) (lost : Bool) (sheet : Sheet) (links : List Link) → slice_get sheets chunk_id ≡ Some sheet → Inside sheets chunk_id passed
@@ -281,7 +269,7 @@ module _ (sheets : List Sheet) (Over : ℕ → Type 0) (closed : Bool) (agree : 
           (show_further passed chunk.partial chunk.awaits chunk.fragments sheet.written shows.shows (omega (arith, low))))
       by_length (inr high) =
           subst (λ (fs : List Fragment). Walks (StandsAt sheets) Over (chunk_links closed chunk_id chunk passed fs (cond (is_part closed chunk) (Stop (place chunk_id (max passed (length chunk.fragments))) Partial false ∷ []) (row_of closed (suc chunk_id) 0 slots))) (parts_at sheets chunk_id passed))
-          (sym (none_left passed chunk.fragments high)) (by_part chunk.partial refl)
+          (sym (drop_all passed chunk.fragments high)) (by_part chunk.partial refl)
         where
           too_far : (awaits : Bool) (fragments written : List Fragment) → ShowFragments false awaits fragments written → length written ≤ length fragments
           too_far awaits [] [] h = omega arith

@@ -4,6 +4,7 @@ use Rattle.std.proofs.Common.{◌≡◌, ◌∙◌, ℕ, zero, suc, ◌+◌, ◌
 use Rattle.std.specs.Prelude.{cond, ◌==◌, slice_get, is_some}
 use Rattle.std.specs.List.{flat_map}
 use Rattle.std.proofs.lemmas.Bool.{false≢true, cases_eq, eq-eqb, and_from}
+use Rattle.std.proofs.lemmas.List.{length-drop}
 use Rattle.trace_model.specs.Images.{Chunk, Fragment}
 use Rattle.trace_model.specs.Sequences.{Cursor}
 use Rattle.trace_model.specs.Counts.{one_if}
@@ -144,11 +145,6 @@ ShowsStart closed k (Some (Here chunk)) =
 ShowsStart closed k (Some Gone) = ⊥
 ShowsStart closed k (Some Never) = closed ≡ false
 
-drop_long : (k : ℕ) (xs : List Fragment) → length (drop k xs) ≡ length xs - k
-drop_long zero xs = omega arith
-drop_long (suc k) [] = omega arith
-drop_long (suc k) (x ∷ xs) = let e = drop_long k xs in omega (arith, e)
-
 module _ (closed : Bool) where
   abbrev row_behind : ℕ → ℕ → Chunk → List Slot → Bool → List Link
   row_behind chunk_id passed chunk slots part =
@@ -162,7 +158,7 @@ module _ (closed : Bool) where
       subst (λ (n : ℕ). HasStart (place n k) (row_of closed chunk_id passed (Here chunk ∷ slots))) (omega arith) (by_shown shows)
     where
       long : length (drop passed chunk.fragments) ≡ length chunk.fragments - passed
-      long = drop_long passed chunk.fragments
+      long = length-drop passed chunk.fragments
 
       by_shown : ((k < length chunk.fragments) × ((chunk.continues && (k == 0)) ≡ false)) ⊎ ((length chunk.fragments ≤ k) × (is_part closed chunk ≡ true))
           → HasStart (place chunk_id k) (row_of closed chunk_id passed (Here chunk ∷ slots))

@@ -3,6 +3,7 @@ use Rattle.std.proofs.Common.{◌≡◌, ◌∙◌, ℕ, ◌+◌, ◌≤◌, Boo
 use Rattle.std.specs.Prelude.{cond, ◌==◌, find, filter, is_some, MatchBool}
 use Rattle.std.proofs.lemmas.Bool.{false≢true, eqb-true, eq-eqb, and_parts, and_from, or_right}
 use Rattle.std.proofs.lemmas.List.Folds.{list_any-append}
+use Rattle.std.proofs.Math.Bool.{or-false}
 use Rattle.trace_model.specs.Images.{Chunk, Patch, patched_last, last_holds}
 use Rattle.trace_model.specs.Sequences.{is_among, sequence_in}
 use Rattle.trace_model.specs.Buffers.{Buffer, BufferRecord, is_of, live_at, meets, made_room}
@@ -49,10 +50,6 @@ settled_each q P b chunk_id chunk each new (BadChunk fragment) = each
 each_both : (q : ℕ) (P Q : BufferRecord → Type 0) (rs : List BufferRecord) → EachOf q P rs → EachOf q Q rs → EachOf q (λ r. P r × Q r) rs
 each_both q P Q [] h k = tt
 each_both q P Q (r ∷ rs) h k = ((λ e. (h.0 e, k.0 e)), each_both q P Q rs h.1 k.1)
-
-or_none : (a : Bool) → (a || false) ≡ a
-or_none true = refl
-or_none false = refl
 
 module _ (sheets : List Sheet) (q come : ℕ) (closed : Bool) where
   patched_waits : (patch : Patch) (later first : List Patch) (r : BufferRecord) (x : Bool) → (awaits_at q patch.chunk_id r && last_holds r.chunk.fragments patch) ≡ x
@@ -126,7 +123,7 @@ arrival_has q come b chunk roomy low stays = by_live (live_at b q come) refl low
         (record { sequence = q; chunk_id = come; at = place_after b.room b.next (sequence_in b.sequences q).size; size = (sequence_in b.sequences q).size; chunk = chunk } ∷ [])
         ∙ or_right (has_record q come (made_room b (sequence_in b.sequences q).size).live)
         (has_record q come (record { sequence = q; chunk_id = come; at = place_after b.room b.next (sequence_in b.sequences q).size; size = (sequence_in b.sequences q).size; chunk = chunk } ∷ []))
-        (or_none ((q == q) && (come == come)) ∙ and_from (q == q) (come == come) (eq-eqb q q refl) (eq-eqb come come refl))
+        (or-false ((q == q) && (come == come)) ∙ and_from (q == q) (come == come) (eq-eqb q q refl) (eq-eqb come come refl))
 
     by_refused : (x : Bool) → is_refused b (sequence_in b.sequences q).size ≡ x → b.next + asks_for (cond x Discarded Kept) (sequence_in b.sequences q).size ≤ b.room
         → has_record q come (settled (cond x Discarded Kept) b q come chunk).live ≡ true

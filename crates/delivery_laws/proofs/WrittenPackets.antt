@@ -4,6 +4,7 @@ use Rattle.std.specs.Prelude.{cond, ◌==◌}
 use Rattle.std.specs.List.{AllZip}
 use Rattle.std.proofs.lemmas.Bool.{false≢true, and_parts, ne_eqb}
 use Rattle.std.proofs.lemmas.List.{reverse-append}
+use Rattle.std.proofs.Math.Bool.{and-true, and-false}
 use Rattle.trace_model.specs.Images.{Chunk, Fragment, Patch, patched_last}
 use Rattle.trace_model.specs.Sequences.{Cursor}
 use Rattle.trace_model.specs.Pages.{Page, chunk_of, fragments_from, patches_of}
@@ -121,14 +122,6 @@ covers_piece piece next headless first links parts is c = by_runs (piece.runs_on
 
 -- Pages
 
-and_true : (b : Bool) → (b && true) ≡ b
-and_true true = refl
-and_true false = refl
-
-and_false : (b : Bool) → (b && false) ≡ false
-and_false true = refl
-and_false false = refl
-
 -- a drop mark stands only where the chunk runs on nowhere
 abbrev DropsEnd : Bool → List Fragment → Type 0
 DropsEnd runs_on [] = Unit {0}
@@ -140,14 +133,14 @@ covers_fragments : (chunk : Chunk) → chunk.awaits ≡ false → (chunk_id : �
 covers_fragments chunk settled chunk_id goes after rest follows c [] k continues e drops = c
 covers_fragments chunk settled chunk_id goes after rest follows c (f ∷ fs) k continues e drops =
     by_stop ((chunk.awaits && is_last fs) && not false) (ap (λ (b : Bool). (b && is_last fs) && not false) settled)
-    (covers_fragments chunk settled chunk_id goes after rest follows c fs (suc k) false (sym (ap (λ (b : Bool). chunk.continues && b) (more_isnt_none k) ∙ and_false chunk.continues)) drops.1)
+    (covers_fragments chunk settled chunk_id goes after rest follows c fs (suc k) false (sym (ap (λ (b : Bool). chunk.continues && b) (more_isnt_none k) ∙ and-false chunk.continues)) drops.1)
   where
     more_isnt_none : (k : ℕ) → (suc k == 0) ≡ false
     more_isnt_none k = ne_eqb (suc k) 0 (λ e. omega (arith, e))
 
     onward : (fs : List Fragment) → Follows (not (chunk.runs_on && is_last fs)) (parts_from false goes fs ++ after)
-    onward [] = subst (λ (b : Bool). Follows (not b) after) (sym (and_true chunk.runs_on)) follows
-    onward (g ∷ gs) = ap not (sym (and_false chunk.runs_on))
+    onward [] = subst (λ (b : Bool). Follows (not b) after) (sym (and-true chunk.runs_on)) follows
+    onward (g ∷ gs) = ap not (sym (and-false chunk.runs_on))
 
     is : IsWritten (record { at = place chunk_id k; fragment = f; runs_on = chunk.runs_on && is_last fs }) (chunk.continues && (k == 0))
         (record { starts = not continues; ends = not (goes && is_last fs); dropped = f.dropped; bytes = f.bytes }) (parts_from false goes fs ++ after)
@@ -245,7 +238,7 @@ covers_page : (size : ℕ) (patches : List Patch) (chunk_id : ℕ) (goes : Bool)
     (parts_from page.continues goes (settled_fragments patches chunk_id (chunk_of page).fragments) ++ after)
 covers_page size patches chunk_id goes page after rest full follows c =
     covers_fragments (settled_chunk patches chunk_id (chunk_of page)) refl chunk_id goes after rest follows c
-    (settled_fragments patches chunk_id (chunk_of page).fragments) 0 page.continues (sym (and_true page.continues))
+    (settled_fragments patches chunk_id (chunk_of page).fragments) 0 page.continues (sym (and-true page.continues))
     (drops_settled page.runs_on patches chunk_id (chunk_of page).fragments (drops_page page.runs_on page.dropped (λ d. (full.dropped d).0) 4 page.fragments))
 
 covers_pages : (size : ℕ) (patches : List Patch) (goes runs_on : Bool) (pages : List Page) (chunk_id : ℕ) → AreFull size pages → FlagsAgree runs_on pages

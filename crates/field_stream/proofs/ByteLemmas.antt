@@ -2,7 +2,7 @@
 use Rattle.std.proofs.Common.{◌≡◌, ◌∙◌, ℕ, zero, suc, ◌+◌, ◌*◌, ◌≤◌, List, [], ◌++◌, length, take, drop, refl, sym, ap, append_assoc, length-append, arith, ◌<◌, add-one, Option, Some, None}
 use Rattle.std.specs.Prelude.{IsNone, OnSome}
 use Rattle.std.specs.List.{repeat}
-use Rattle.std.proofs.lemmas.List.{take-append-drop, append-nil}
+use Rattle.std.proofs.lemmas.List.{take-append-drop, append-nil, drop-drop}
 use Rattle.std.proofs.Math.Seq.{drop-append_seam, take-append_seam, drop-append-add}
 use Rattle.std.proofs.lemmas.Grind.{common_steps}
 use Rattle.std.proofs.Math.Nat.{suc-mul, mul-le-mul_right}
@@ -25,9 +25,6 @@ put_between front old new back same =
 length_front : (n : ℕ) (xs : List ℕ) → n ≤ length xs → length (take n xs) ≡ n
 length_front n xs h = grind (arith, common_steps)
 
-drop_more : (n m : ℕ) (xs : List ℕ) → drop m (drop n xs) ≡ drop (n + m) xs
-drop_more n m xs = grind (arith, common_steps)
-
 -- bytes behind those that were put
 pub put_more : (old : List ℕ) (at : ℕ) (a b : List ℕ) → at + length a + length b ≤ length old
     → with_bytes (with_bytes old at a) (at + length a) b ≡ with_bytes old at (a ++ b)
@@ -41,7 +38,7 @@ put_more old at a b fits =
     ap (λ (xs : List ℕ). with_bytes xs (at + length a) b) parts
     ∙ ap (λ (n : ℕ). with_bytes (front ++ take (length b) rest ++ drop (length b) rest) n b) (sym place)
     ∙ put_between front (take (length b) rest) b (drop (length b) rest) enough
-    ∙ ap (λ (xs : List ℕ). front ++ b ++ xs) (drop_more (at + length a) (length b) old ∙ ap (λ (n : ℕ). drop n old) more)
+    ∙ ap (λ (xs : List ℕ). front ++ b ++ xs) (drop-drop (length b) (at + length a) old ∙ ap (λ (n : ℕ). drop n old) more)
     ∙ ap (λ (xs : List ℕ). xs ++ drop (at + length (a ++ b)) old) (append_assoc (take at old) a b)
   where
     more : at + length a + length b ≡ at + length (a ++ b)

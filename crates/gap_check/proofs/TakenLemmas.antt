@@ -1,5 +1,5 @@
 -- What the tellers have taken, and what it says of the records.
-use Rattle.std.proofs.Common.{◌≡◌, ◌≢◌, ℕ, zero, suc, ◌+◌, ◌-◌, ◌<◌, ◌≤◌, Bool, true, false, cond, List, [], ◌∷◌, ◌++◌, length, map, set, get_or, Option, Some, None, refl, sym, ap, ◌∙◌, subst, arith, append_assoc, length-append, inl, inr, ⊎_elim, eq-eqb}
+use Rattle.std.proofs.Common.{◌≡◌, ◌≢◌, ℕ, zero, suc, ◌+◌, ◌-◌, ◌<◌, ◌≤◌, Bool, true, false, cond, List, [], ◌∷◌, ◌++◌, length, map, set, Option, Some, None, refl, sym, ap, ◌∙◌, subst, arith, append_assoc, length-append, inl, inr, ⊎_elim, eq-eqb}
 use Rattle.std.specs.Prelude.{slice_get, ◌==◌, not, filter}
 use Rattle.std.proofs.lemmas.Bool.{cases_eq, ne_eqb}
 use Rattle.std.proofs.lemmas.List.{append-nil, map-append, length-set}
@@ -106,11 +106,6 @@ pub some_there : {A : Type 0} (xs : List A) (i : ℕ) → i < length xs → (x :
 some_there [] i within = absurd (omega (arith, within))
 some_there (y ∷ ys) zero within = (y, refl)
 some_there (y ∷ ys) (suc i) within = some_there ys i (omega (arith, within))
-
-pub there_or : {A : Type 0} (xs : List A) (i : ℕ) (d : A) → i < length xs → slice_get xs i ≡ Some (get_or xs i d)
-there_or [] i d within = absurd (omega (arith, within))
-there_or (y ∷ ys) zero d within = refl
-there_or (y ∷ ys) (suc i) d within = there_or ys i d (omega (arith, within))
 
 -- ---- all sequences
 

@@ -3,6 +3,7 @@ use Rattle.std.proofs.Common.{◌≡◌, ◌∙◌, ℕ, suc, Bool, true, false,
 use Rattle.std.specs.Prelude.{filter, fold}
 use Rattle.std.proofs.lemmas.List.{reverse-append, map-append}
 use Rattle.std.proofs.lemmas.List.Elements.{filter-append}
+use Rattle.std.proofs.Math.Seq.{drop-append_seam}
 use Rattle.wire_varint.specs.Varint.{redundant}
 use Rattle.trace_model.specs.Calls.{Call, Begun, Number, Bytes, Nested, Ended, GivenUp, Finished, Flushed}
 use Rattle.trace_model.specs.Encoding.{number_field, bytes_field, nested_tag}
@@ -61,10 +62,6 @@ length_fronted : (front : List ℕ) (levels : List (List ℕ)) → length (front
 length_fronted front [] = refl
 length_fronted front (level ∷ []) = refl
 length_fronted front (level ∷ outer ∷ others) = ap suc (length_fronted front (outer ∷ others))
-
-drop_front : (front bytes : List ℕ) → drop (length front) (front ++ bytes) ≡ bytes
-drop_front [] bytes = refl
-drop_front (byte ∷ front) bytes = drop_front front bytes
 
 -- Packets
 
@@ -238,7 +235,7 @@ same_encoding packet asked h =
     ∙ sym (ap (λ (levels : List (List ℕ)). front ++ flat open_length levels) h.some) in
     let unmarked : front_of asked ≡ [] = ap (λ (b : Bool). mark_where (asked.kept && b)) h.follows ∙ ap (λ (b : Bool). mark_where (b && false)) h.kept in
     ap (drop (length front)) bytes
-    ∙ drop_front front (body_of asked)
+    ∙ drop-append_seam front (body_of asked)
     ∙ sym (ap (λ (xs : List ℕ). drop (length xs) (body_of asked)) unmarked)
 
 abbrev pub emitted_by : List Packet → List (List ℕ)

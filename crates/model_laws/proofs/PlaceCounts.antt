@@ -2,7 +2,7 @@
 use Rattle.std.proofs.Common.{◌≡◌, ◌∙◌, ℕ, ◌+◌, ◌≤◌, Bool, true, false, not, ◌||◌, List, [], ◌∷◌, map, reverse, length, refl, sym, ap, subst, arith, inl, inr, Option, Some, None}
 use Rattle.std.specs.Prelude.{cond, ◌==◌, count_by, IsTrue, is_some}
 use Rattle.std.specs.List.{list_any}
-use Rattle.std.proofs.lemmas.Bool.{cases_Bool, and_from, or_parts, eq-eqb, false≢true}
+use Rattle.std.proofs.lemmas.Bool.{cases_Bool, and_from, or_parts, eq-eqb, false≢true, false_from_ne_true}
 use Rattle.std.proofs.lemmas.List.{reverse-append}
 use Rattle.std.proofs.lemmas.List.Sums.{sum_by-cons, sum_by-append, count_by-le-length}
 use Rattle.trace_model.specs.Sequences.{Cursor}
@@ -11,7 +11,7 @@ use Rattle.trace_model.specs.RowLaws.{UpTo, Rises}
 use Rattle.trace_model.specs.Written.{chains_in}
 use Rattle.trace_model.specs.Causes.{Fixed, Outcome, is_same_place, outcome_at}
 use Rattle.trace_model.specs.CauseLaws.{AreDistinct}
-use Rattle.trace_model.proofs.CursorLemmas.{Each, each-then, same_parts, differs_by, differs_behind, up_to_up_to, before_up_to, before_then}
+use Rattle.trace_model.proofs.CursorLemmas.{Each, each-then, same_parts, differs_behind, up_to_up_to, before_up_to, before_then}
 use Rattle.trace_model.proofs.RowPlaceLemmas.{rows_rise}
 use Rattle.model_laws.proofs.RowEnds.{StopsLast, row_stops}
 
@@ -39,7 +39,7 @@ same_sym a b = elim (cases_Bool (is_same_place a b)) [
       let parts = same_parts a b met in
       met ∙ sym (and_from (b.chunk_id == a.chunk_id) (b.passed == a.passed) (eq-eqb b.chunk_id a.chunk_id (sym parts.0)) (eq-eqb b.passed a.passed (sym parts.1)))
   | inr missed ↦
-      missed ∙ sym (differs_by (is_same_place b a) (λ met.
+      missed ∙ sym (false_from_ne_true (is_same_place b a) (λ met.
       let parts = same_parts b a met in
       false≢true (sym missed ∙ and_from (a.chunk_id == b.chunk_id) (a.passed == b.passed) (eq-eqb a.chunk_id b.chunk_id (sym parts.0)) (eq-eqb a.passed b.passed (sym parts.1)))))
 ]
@@ -70,7 +70,7 @@ alone at f [] h same = refl
 alone at f (g ∷ others) h same =
     let none : (is_same_place g.at f.at || list_any (λ other. is_same_place other.at f.at) others) ≡ false = not_true (is_same_place g.at f.at || list_any (λ other. is_same_place other.at f.at) others) h in
     let parts = or_parts (is_same_place g.at f.at) (list_any (λ other. is_same_place other.at f.at) others) none in
-    let differs : is_same_place g.at at ≡ false = differs_by (is_same_place g.at at) (λ e. false≢true (sym parts.0 ∙ same_same g.at at f.at e same)) in
+    let differs : is_same_place g.at at ≡ false = false_from_ne_true (is_same_place g.at at) (λ e. false≢true (sym parts.0 ∙ same_same g.at at f.at e same)) in
     ap (λ (b : Bool). cond b (Some g.outcome) (outcome_at at others)) differs
     ∙ alone at f others (ap not parts.1) same
   where
@@ -120,7 +120,7 @@ module _ (test : Option Outcome → Bool) where
           let nothing : cond {A = ℕ} (test (outcome_at at others)) 1 0 ≡ cond (test None) 1 0 = ap (λ (o : Option Outcome). cond {A = ℕ} (test o) 1 0) (free at e) in
           let rest : count_by (λ (p : Cursor). test (outcome_at p (f ∷ others))) places ≡ count_by (λ (p : Cursor). test (outcome_at p others)) places =
           none_more f others places (each-then (λ (p : Cursor). is_same_place at p ≡ false) (λ (p : Cursor). is_same_place p f.at ≡ false)
-          (λ p d. differs_by (is_same_place p f.at) (λ s. false≢true (sym d ∙ same_same at f.at p e (same_sym f.at p ∙ s)))) places spread.0) in
+          (λ p d. false_from_ne_true (is_same_place p f.at) (λ s. false≢true (sym d ∙ same_same at f.at p e (same_sym f.at p ∙ s)))) places spread.0) in
           omega (arith, here, there, own, nothing, rest)
       step false e a k =
           let own : cond {A = ℕ} (test (cond (is_same_place f.at at) (Some f.outcome) (outcome_at at others))) 1 0 ≡ cond (test (outcome_at at others)) 1 0 =

@@ -1,8 +1,9 @@
 -- The records behind one that a next record meets.
-use Rattle.std.proofs.Common.{◌≡◌, ℕ, ◌+◌, ◌<◌, ◌≤◌, ◌&&◌, min, Bool, true, false, cond, nat_lt, List, [], ◌∷◌, Option, Some, None, IfSome, IsSome, is_some, refl, sym, ap, ap₂, ◌∙◌, subst, arith, eq-eqb, eqb-true, true≢false}
+use Rattle.std.proofs.Common.{◌≡◌, ℕ, ◌+◌, ◌<◌, ◌≤◌, ◌&&◌, min, Bool, true, false, cond, nat_lt, List, [], ◌∷◌, Option, Some, None, IfSome, IsSome, is_some, refl, sym, ap, ap₂, ◌∙◌, subst, arith, eq-eqb, eqb-true}
 use Rattle.std.proofs.lemmas.Bool.Decides.{nat_tests}
 use Rattle.std.specs.List.{find}
 use Rattle.std.specs.Option.{option_map}
+use Rattle.std.proofs.lemmas.Bool.{and_parts}
 use Rattle.page_geometry.specs.Sizes.{record_size}
 use Rattle.trace_model.specs.Places.{is_met}
 use Rattle.ring_bytes.specs.declared.header.Header.{Header}
@@ -132,10 +133,6 @@ one_behind P place (s ∷ ss) t found =
     of true later is = one P ss t is
     of false later is = later is
 
-both : (x y : Bool) → (x && y) ≡ true → (x ≡ true) × (y ≡ true)
-both true y is = (refl, is)
-both false y is = absurd (true≢false (sym is))
-
 met_in : (a : Inside) (len place : ℕ) → IsRing a → IfSome (next_met_behind (ring_view a) len place) (IsMetAt (ring_view a) len)
 met_in a len place ok = of (find P (behind place live)) refl
   where
@@ -150,7 +147,7 @@ met_in a len place ok = of (find P (behind place live)) refl
     of (Some t) is =
         let Q : Stored → Bool = λ x. is_at t.at x && P x in
         let p = some_of (find Q live) (one_behind P place live t is) in
-        let holds = both (is_at t.at p.0) (P p.0) (find_true Q live p.0 p.1) in
+        let holds = and_parts (is_at t.at p.0) (P p.0) (find_true Q live p.0 p.1) in
         subst (λ n. IsMetAt (ring_view a) len n) (eqb-true p.0.at t.at holds.0)
         record {
           stored = p.0;

@@ -1,12 +1,12 @@
 -- A writer accepts what every scenario asks of it.
-use Rattle.std.proofs.Common.{◌≡◌, ◌≢◌, ◌∙◌, ℕ, zero, suc, ◌+◌, ◌-◌, ◌<◌, ◌≤◌, nat_eq, length, Bool, true, false, cond, ◌||◌, List, [], ◌∷◌, ◌++◌, Option, Some, None, Result, is_none, nat_lt, slice_get, slice_set, refl, sym, subst, ap, arith}
+use Rattle.std.proofs.Common.{◌≡◌, ◌≢◌, ◌∙◌, ℕ, zero, suc, ◌+◌, ◌-◌, ◌<◌, ◌≤◌, nat_eq, length, Bool, true, false, cond, List, [], ◌∷◌, ◌++◌, Option, Some, None, Result, is_none, nat_lt, slice_get, slice_set, refl, sym, subst, ap, arith}
 use Rattle.std.specs.Prelude.{fold}
 use Rattle.std.specs.List.{list_any}
 use Rattle.std.specs.Option.{unwrap_or}
 use Rattle.std.proofs.lemmas.Grind.{common_steps, flat_map-append}
 use Rattle.std.proofs.lemmas.List.{append-nil, length-append, length-set}
 use Rattle.std.proofs.lemmas.List.Folds.{list_any-append}
-use Rattle.std.proofs.lemmas.Bool.{eqb-false, ne_eqb}
+use Rattle.std.proofs.lemmas.Bool.{eqb-false, ne_eqb, false_from_ne_true, or_left, or_right}
 use Rattle.std.proofs.Math.Dec.{eqb-suc-zero}
 use Rattle.std.proofs.lemmas.Option.{slice_get_within}
 use Rattle.trace_base.specs.declared.policy.WriterSpec.{WriterSpec}
@@ -96,14 +96,6 @@ producer_calls number producer Scrape = refl
 producer_calls number producer Close = refl
 
 -- ---- what lines have closed
-
-or_left : (a b : Bool) → a ≡ true → (a || b) ≡ true
-or_left true b is = refl
-or_left false b is = cc
-
-or_right : (a b : Bool) → b ≡ true → (a || b) ≡ true
-or_right true b is = refl
-or_right false b is = is
 
 closed_before : (lines : List NumberedLine) (line : NumberedLine) (producer : ℕ) → is_closed_by lines producer ≡ true
     → is_closed_by (lines ++ line ∷ []) producer ≡ true
@@ -381,10 +373,6 @@ left_none false state writer (Some packet) closed_is not none = absurd (left_som
     left_some true is none = cc
     left_some false is none = cc
 
-not_closed : (closed : Bool) → (closed ≡ true → ⊥) → closed ≡ false
-not_closed true none = absurd (none refl)
-not_closed false none = refl
-
 ends : (state : State) → IsTold state → first_left state None 1 state.writers ≡ None → (place : ℕ) (writer : WriterSpec)
     → slice_get state.writers place ≡ Some writer → AsksWell state.lines (place + 1) writer
 ends state told none place writer get =
@@ -399,7 +387,7 @@ ends state told none place writer get =
       accepted = all.accepted;
       ended = λ unshut.
           let shut : is_closed state (Fits writer.producer) ≡ false =
-          not_closed (is_closed state (Fits writer.producer)) (λ closed. no_both (told.shut writer.producer closed) unshut) in
+          false_from_ne_true (is_closed state (Fits writer.producer)) (λ closed. no_both (told.shut writer.producer closed) unshut) in
           let gone : packet_of state (Fits (suc place)) ≡ None =
           left_none (is_closed state (Fits writer.producer)) state writer (packet_of state (Fits (suc place))) refl shut left in
           (subst (Stands (fold noted nothing_yet (calls_asked (suc place) state.lines))) gone all.stands).ended;

@@ -6,6 +6,7 @@ use Rattle.std.proofs.lemmas.Grind.{common_steps}
 use Rattle.std.proofs.lemmas.List.{length-append, length-set}
 use Rattle.std.proofs.lemmas.List.Folds.{list_any-append}
 use Rattle.std.proofs.lemmas.Option.{slice_get_within}
+use Rattle.std.proofs.lemmas.Bool.{false_from_ne_true}
 use Rattle.trace_base.specs.declared.policy.WriterSpec.{WriterSpec}
 use Rattle.field_tree.specs.Nodes.{Shown}
 use Rattle.scenario_text.specs.declared.numeral.Numeral.{Numeral}
@@ -151,17 +152,13 @@ reach_buffer buffers producers writers buffer before kinds.Request names = names
 
 -- ---- which producers are closed
 
-not_true : (closed : Bool) → (closed ≡ true → ⊥) → closed ≡ false
-not_true true none = absurd (none refl)
-not_true false none = refl
-
 no_both : {b : Bool} → b ≡ true → b ≡ false → ⊥
 no_both is none = cc
 
 -- a producer that the state doesn't call closed wasn't closed by a line
 opened_before : (state : State) (producer : ℕ) → IsReaching state → is_closed state (Fits producer) ≡ false → is_closed_by state.lines producer ≡ false
 opened_before state producer reaching open_is =
-    not_true (is_closed_by state.lines producer) (λ closed. no_both (reaching.known producer closed) open_is)
+    false_from_ne_true (is_closed_by state.lines producer) (λ closed. no_both (reaching.known producer closed) open_is)
 
 either : (a b : Bool) → (a || b) ≡ true → (a ≡ true) ⊎ (b ≡ true)
 either true b is = inl refl

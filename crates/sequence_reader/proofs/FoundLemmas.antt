@@ -1,5 +1,5 @@
 -- What a read does at a link, as the reader finds it.
-use Rattle.std.proofs.Common.{◌≡◌, not, Bool, true, false, refl, sym, ap, ◌∙◌, arith, true≢false}
+use Rattle.std.proofs.Common.{◌≡◌, false, ap, ◌∙◌, arith}
 use Rattle.trace_model.specs.Buffers.{Buffer}
 use Rattle.trace_model.specs.Reads.{turn_by}
 use Rattle.trace_model.specs.Row as row
@@ -31,7 +31,3 @@ found_packet b bounds chain walked stops is begins done first here =
       few = omega (arith, walked.further, walked.near);
       behind = walked.spot;
     }
-
-pub unset : (b : Bool) → not b ≡ true → b ≡ false
-unset true is = absurd (true≢false (sym is))
-unset false is = refl

@@ -1,5 +1,6 @@
 -- The row of a sequence at a place, by what there is of the chunk there.
 use Rattle.std.proofs.Common.{◌≡◌, ℕ, zero, suc, ◌-◌, ◌<◌, ◌≤◌, ◌==◌, ◌&&◌, ◌||◌, not, max, Bool, true, false, cond, List, [], ◌∷◌, length, drop, Option, Some, None, is_some, refl, sym, ap, ◌∙◌, arith}
+use Rattle.std.proofs.lemmas.List.{drop_all}
 use Rattle.trace_model.specs.Buffers.{Buffer, BufferRecord, live_at}
 use Rattle.trace_model.specs.Images.{Chunk, Fragment}
 use Rattle.trace_model.specs.Row.{Slot, Here, Gone, Never, Link, Gap, Stop, Missing, Partial, Unpatched, place, place_behind, is_last, is_part, with_piece, chunk_links, row_of, slot_from, slot_of, slots_of, horizon}
@@ -34,12 +35,6 @@ module _ (b : Buffer) (s : Sequence) (i k : ℕ) where
       → row_at b s (place i k) ≡ chunk_links s.closed i chunk k (drop k chunk.fragments) (rest_of chunk k)
   row_here chunk is before = row_slot (Here chunk) is before
 
-none_left : (k : ℕ) (fragments : List Fragment) → length fragments ≤ k → drop k fragments ≡ []
-none_left zero [] h = refl
-none_left zero (f ∷ fs) h = absurd (omega (arith, h))
-none_left (suc k) [] h = refl
-none_left (suc k) (f ∷ fs) h = none_left k fs (omega (arith, h))
-
 one_left : (k : ℕ) (fragments : List Fragment) (f : Fragment) (rest : List Fragment) → drop k fragments ≡ f ∷ rest → (drop (suc k) fragments ≡ rest) × (k < length fragments)
 one_left k [] f rest e = absurd (none k e)
   where
@@ -59,7 +54,7 @@ pub row_exhausted : (b : Buffer) (s : Sequence) (i k : ℕ) (chunk : Chunk) → 
     → row_at b s (place i k) ≡ rest_of b s i k chunk k
 row_exhausted b s i k chunk is before passed =
     row_here b s i k chunk is before
-    ∙ ap (λ fs. chunk_links s.closed i chunk k fs (rest_of b s i k chunk k)) (none_left k chunk.fragments passed)
+    ∙ ap (λ fs. chunk_links s.closed i chunk k fs (rest_of b s i k chunk k)) (drop_all k chunk.fragments passed)
 
 pub row_part : (b : Buffer) (s : Sequence) (i k : ℕ) (chunk : Chunk) → slot_of b s i ≡ Here chunk → i < horizon s → length chunk.fragments ≤ k → is_part s.closed chunk ≡ true
     → row_at b s (place i k) ≡ Stop (place i (max k (length chunk.fragments))) Partial false ∷ []

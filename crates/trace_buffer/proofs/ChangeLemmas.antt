@@ -4,6 +4,7 @@ use Rattle.std.specs.FinMap.{FinMap}
 use Rattle.std.specs.List.{find}
 use Rattle.std.specs.Option.{option_map}
 use Rattle.std.specs.Ordering.{nat_cmp}
+use Rattle.std.proofs.lemmas.Bool.{and_parts}
 use Rattle.page_geometry.specs.Sizes.{record_size}
 use Rattle.chunk_index.specs.Value.{IndexValue}
 use Rattle.ring_bytes.specs.declared.key.RecordKey.{RecordKey}
@@ -13,7 +14,6 @@ use Rattle.trace_model.specs.Sequences.{Sequence, sequence_in}
 use Rattle.trace_buffer.specs.BufferFields.{AreParts, AllKept, IsKept, IsIndexed, NoneOf, KeysOnce, PlacesOnce}
 use Rattle.trace_buffer.specs.Records.{record_of, chunk_of, is_at_key}
 use Rattle.trace_buffer.proofs.FindLemmas.{none_found}
-use Rattle.trace_buffer.proofs.KeptLemmas.{both}
 
 -- The same places and chunks
 
@@ -91,7 +91,7 @@ same_change q i place f (t ∷ ss) s keys once found here = of (is_at_key q i t)
     of true is rest some =
         let same : t ≡ s = cc in
         let at_t : t.at ≡ place = ap (λ (u : Stored). u.at) same ∙ sym here in
-        let two = both (t.key.sequence == q) (t.key.chunk_id == i) is in
+        let two = and_parts (t.key.sequence == q) (t.key.chunk_id == i) is in
         ap₂ (λ u us. u ∷ us)
         (ap (λ b. cond b (f t) t) (eq-eqb t.at place at_t) ∙ sym (ap (λ b. cond b (f t) t) is))
         (no_change_at place f ss (subst (λ n. NoneAt n ss) at_t once.0)
@@ -112,7 +112,7 @@ contents_alike key payload s = of (is_at_key key.sequence key.chunk_id s) refl
   where
     of : (b : Bool) → is_at_key key.sequence key.chunk_id s ≡ b → IsAlike s (cond b (with_contents key payload s) s)
     of true is =
-        let two = both (s.key.sequence == key.sequence) (s.key.chunk_id == key.chunk_id) is in
+        let two = and_parts (s.key.sequence == key.sequence) (s.key.chunk_id == key.chunk_id) is in
         record {
           at = refl;
           sequence = sym (eqb-true s.key.sequence key.sequence two.0);
@@ -137,7 +137,7 @@ contents_records rows key payload (s ∷ ss) size kept =
   where
     of : (b : Bool) → is_at_key key.sequence key.chunk_id s ≡ b → record_of (cond b (with_contents key payload s) s) ≡ cond b (record (record_of s) { chunk = chunk_of key payload }) (record_of s)
     of true is =
-        let two = both (s.key.sequence == key.sequence) (s.key.chunk_id == key.chunk_id) is in
+        let two = and_parts (s.key.sequence == key.sequence) (s.key.chunk_id == key.chunk_id) is in
         let q : key.sequence ≡ s.key.sequence = sym (eqb-true s.key.sequence key.sequence two.0) in
         let i : key.chunk_id ≡ s.key.chunk_id = sym (eqb-true s.key.chunk_id key.chunk_id two.1) in
         let n : record_size (length payload) ≡ record_size (length s.payload) =

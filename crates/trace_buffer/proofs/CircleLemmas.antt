@@ -3,18 +3,11 @@ use Rattle.std.proofs.Common.{◌≡◌, ◌≢◌, ℕ, zero, suc, ◌+◌, ◌
 use Rattle.std.proofs.lemmas.Bool.{cases_eq}
 use Rattle.std.proofs.lemmas.List.{get_or-set_other, get_or-set_same, get_or-replicate}
 use Rattle.std.proofs.lemmas.Bool.Decides.{nat_tests}
+use Rattle.std.proofs.lemmas.List.Folds.{list_any-append}
 use Rattle.trace_model.specs.Sequences.{is_among, with_number, first_absent}
 use Rattle.trace_buffer.specs.Circle.{bit, with_bit, numbers, marked, arrived_of}
 
 -- Numbers that follow one another
-
-among_append : (i : ℕ) (xs ys : List ℕ) → is_among i (xs ++ ys) ≡ (is_among i xs || is_among i ys)
-among_append i [] ys = refl
-among_append i (x ∷ xs) ys = of (x == i) (among_append i xs ys)
-  where
-    of : (b : Bool) → is_among i (xs ++ ys) ≡ (is_among i xs || is_among i ys) → (b || is_among i (xs ++ ys)) ≡ ((b || is_among i xs) || is_among i ys)
-    of true later = refl
-    of false later = later
 
 numbers_in : (n at i : ℕ) → at ≤ i → i < at + n → is_among i (numbers n at) ≡ true
 numbers_in zero at i low high = absurd (omega arith)
@@ -231,18 +224,18 @@ arrived_step bits base len on =
 
 pub arrived_below : (bits : List Bool) (base i : ℕ) → i < base → is_among i (arrived_of base bits) ≡ true
 arrived_below bits base i low =
-    among_append i (numbers base 0) (marked bits 1024 base)
+    list_any-append (λ (m : ℕ). m == i) (numbers base 0) (marked bits 1024 base)
     ∙ ap (λ b. b || is_among i (marked bits 1024 base)) (numbers_in base 0 i (omega arith) (omega arith))
 
 pub arrived_ahead : (bits : List Bool) (base i : ℕ) → base ≤ i → i < base + 1024 → is_among i (arrived_of base bits) ≡ bit bits i
 arrived_ahead bits base i low high =
-    among_append i (numbers base 0) (marked bits 1024 base)
+    list_any-append (λ (m : ℕ). m == i) (numbers base 0) (marked bits 1024 base)
     ∙ ap (λ b. b || is_among i (marked bits 1024 base)) (numbers_out base 0 i (inr (omega arith)))
     ∙ marked_in bits 1024 base i low high
 
 pub arrived_beyond : (bits : List Bool) (base i : ℕ) → base + 1024 ≤ i → is_among i (arrived_of base bits) ≡ false
 arrived_beyond bits base i high =
-    among_append i (numbers base 0) (marked bits 1024 base)
+    list_any-append (λ (m : ℕ). m == i) (numbers base 0) (marked bits 1024 base)
     ∙ ap (λ b. b || is_among i (marked bits 1024 base)) (numbers_out base 0 i (inr (omega arith)))
     ∙ marked_out bits 1024 base i (inr high)
 

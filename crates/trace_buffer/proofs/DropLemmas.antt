@@ -4,6 +4,7 @@ use Rattle.std.specs.FinMap.{FinMap, get, remove}
 use Rattle.std.specs.List.{find}
 use Rattle.std.specs.Option.{option_map}
 use Rattle.std.specs.Ordering.{nat_cmp}
+use Rattle.std.proofs.lemmas.Bool.{and_parts}
 use Rattle.chunk_index.specs.Value.{IndexValue, key_of, without_place}
 use Rattle.chunk_index.proofs.FoundLemmas.{get_without}
 use Rattle.chunk_index.proofs.MapLemmas.{len_without}
@@ -12,7 +13,7 @@ use Rattle.ring_bytes.proofs.ListLemmas.{without_only}
 use Rattle.trace_model.specs.Sequences.{Sequence}
 use Rattle.trace_buffer.specs.BufferFields.{AreParts, AllKept, IsKept, IsIndexed, NoneOf, KeysOnce, PlacesOnce}
 use Rattle.trace_buffer.specs.Records.{is_at_key}
-use Rattle.trace_buffer.proofs.KeptLemmas.{flip_key, key_test, both}
+use Rattle.trace_buffer.proofs.KeptLemmas.{flip_key, key_test}
 
 none_out : (q i : ℕ) (xs ys : List Stored) (s : Stored) → NoneOf q i (xs ++ s ∷ ys) → NoneOf q i (xs ++ ys)
 none_out q i [] ys s none = none.1
@@ -71,7 +72,7 @@ found_less places xs ys s p j low below once found =
   where
     of : (b : Bool) → is_at_key p j s ≡ b → cond b None (get places (key_of p j)) ≡ option_map (λ (t : Stored). t.at) (find (is_at_key p j) (xs ++ ys))
     of true is =
-        let two = both (s.key.sequence == p) (s.key.chunk_id == j) is in
+        let two = and_parts (s.key.sequence == p) (s.key.chunk_id == j) is in
         sym
         (ap (option_map (λ (t : Stored). t.at))
         (ap₂ (λ x y. find (is_at_key x y) (xs ++ ys)) (sym (eqb-true s.key.sequence p two.0)) (sym (eqb-true s.key.chunk_id j two.1))

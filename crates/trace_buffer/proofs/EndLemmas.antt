@@ -1,19 +1,16 @@
 -- The end of a sequence's ids, by the bits of its two circles.
 use Rattle.std.proofs.Common.{◌≡◌, ◌≢◌, ℕ, zero, suc, ◌+◌, ◌-◌, ◌<◌, ◌≤◌, ◌==◌, ◌||◌, ⊎_elim, max, Bool, true, false, List, [], ◌∷◌, refl, sym, ap, ◌∙◌, arith, eq-eqb, eqb-true, true≢false}
 use Rattle.std.proofs.lemmas.Bool.{cases_lt, cases_eq}
+use Rattle.std.proofs.Math.Bool.{or-true}
 use Rattle.trace_model.specs.Sequences.{is_among, above_all}
 use Rattle.trace_buffer.specs.Circle.{bit, marked, arrived_of}
 use Rattle.trace_buffer.proofs.CircleLemmas.{marked_in, arrived_below, arrived_ahead, arrived_beyond, final_beyond}
-
-or_true : (b : Bool) → (b || true) ≡ true
-or_true true = refl
-or_true false = refl
 
 above_most : (ks : List ℕ) (e : ℕ) → ((i : ℕ) → is_among i ks ≡ true → i < e) → above_all ks ≤ e
 above_most [] e below = omega arith
 above_most (k ∷ ks) e below =
     let first : k < e = below k (ap (λ b. b || is_among k ks) (eq-eqb k k refl)) in
-    let rest : above_all ks ≤ e = above_most ks e (λ i is. below i (ap (λ b. (k == i) || b) is ∙ or_true (k == i))) in
+    let rest : above_all ks ≤ e = above_most ks e (λ i is. below i (ap (λ b. (k == i) || b) is ∙ or-true (k == i))) in
     omega arith
 
 above_least : (ks : List ℕ) (i : ℕ) → is_among i ks ≡ true → i < above_all ks

@@ -5,6 +5,7 @@ use Rattle.std.specs.FinMap.{FinMap, get, insert}
 use Rattle.std.specs.List.{find}
 use Rattle.std.specs.Option.{option_map}
 use Rattle.std.specs.Ordering.{nat_cmp}
+use Rattle.std.proofs.lemmas.Bool.{and_parts}
 use Rattle.page_geometry.specs.Sizes.{record_size}
 use Rattle.chunk_index.specs.Value.{IndexValue, key_of, with_place}
 use Rattle.chunk_index.proofs.FoundLemmas.{get_with}
@@ -74,10 +75,6 @@ find_other : (P : Stored → Bool) (ss : List Stored) (s : Stored) → P s ≡ f
 find_other P [] s other = ap (λ b. cond b (Some s) None) other
 find_other P (t ∷ ss) s other = ap (λ o. cond (P t) (Some t) o) (find_other P ss s other)
 
-pub both : (x y : Bool) → (x && y) ≡ true → (x ≡ true) × (y ≡ true)
-both true y is = (refl, is)
-both false y is = absurd (true≢false (sym is))
-
 found_more : (places : FinMap nat_cmp ℕ) (ss : List Stored) (s : Stored) (q i p j : ℕ) → q ≡ s.key.sequence → i ≡ s.key.chunk_id → i < 2 ^ 32 → j < 2 ^ 32 → find (is_at_key q i) ss ≡ None → get places (key_of p j) ≡ option_map (λ (t : Stored). t.at) (find (is_at_key p j) ss) → get (insert places (key_of q i) s.at) (key_of p j) ≡ option_map (λ (t : Stored). t.at) (find (is_at_key p j) (ss ++ s ∷ []))
 found_more places ss s q i p j q_is i_is low below none found =
     get_with places (key_of q i) s.at (key_of p j)
@@ -86,7 +83,7 @@ found_more places ss s q i p j q_is i_is low below none found =
   where
     of : (b : Bool) → is_at_key p j s ≡ b → cond b (Some s.at) (get places (key_of p j)) ≡ option_map (λ (t : Stored). t.at) (find (is_at_key p j) (ss ++ s ∷ []))
     of true is =
-        let two = both (s.key.sequence == p) (s.key.chunk_id == j) is in
+        let two = and_parts (s.key.sequence == p) (s.key.chunk_id == j) is in
         let q_same : q ≡ p = q_is ∙ eqb-true s.key.sequence p two.0 in
         let i_same : i ≡ j = i_is ∙ eqb-true s.key.chunk_id j two.1 in
         sym

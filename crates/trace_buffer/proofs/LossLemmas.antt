@@ -1,6 +1,7 @@
 -- What is lost with a record, from its header and the one sequence that has it.
 use Rattle.std.proofs.Common.{◌≡◌, ℕ, zero, suc, ◌+◌, ◌-◌, ◌<◌, ◌==◌, ◌&&◌, Bool, true, false, not, cond, nat_lt, List, [], ◌∷◌, length, map, drop, get_or, set, sum_by, count_by, Option, Some, None, refl, sym, ap, ap₂, ◌∙◌, arith, eq-eqb, ne_eqb, true≢false}
 use Rattle.std.proofs.lemmas.List.Sums.{sum_by-cons}
+use Rattle.std.proofs.lemmas.Bool.{or_parts}
 use Rattle.ring_bytes.specs.declared.key.RecordKey.{RecordKey}
 use Rattle.ring_bytes.specs.Value.{Stored}
 use Rattle.trace_model.specs.Arrivals.{with_discarded}
@@ -14,7 +15,7 @@ use Rattle.trace_model.specs.Sequences.{Sequence, fresh, is_known, changed_at, u
 use Rattle.trace_buffer.specs.BufferFields.{NumbersOnce}
 use Rattle.trace_buffer.specs.Keys.{packets_lost, is_loss, is_unread_loss, LosesAt, discarded_by}
 use Rattle.trace_buffer.specs.Records.{record_of, chunk_of, fragments_of, is_readable, unread_losses}
-use Rattle.trace_buffer.proofs.RowLemmas.{neither, changed_is, same_item, other_number}
+use Rattle.trace_buffer.proofs.RowLemmas.{changed_is, same_item, other_number}
 
 -- A payload that reads has as many fragments as its header counts.
 
@@ -117,7 +118,7 @@ count_more rows s r n other rest =
 count_none : (rows : List Sequence) (r : BufferRecord) → is_known rows r.sequence ≡ false → unread_losses rows r ≡ 0
 count_none [] r none = refl
 count_none (s ∷ rows) r none =
-    let no = neither (s.number == r.sequence) (is_known rows r.sequence) none in
+    let no = or_parts (s.number == r.sequence) (is_known rows r.sequence) none in
     count_more rows s r 0 no.0 (count_none rows r no.1)
 
 count_once : (rows : List Sequence) (i : ℕ) (d : Sequence) (r : BufferRecord) → NumbersOnce rows → i < length rows → (get_or rows i d).number ≡ r.sequence → unread_losses rows r ≡ one_if (model.is_unread_loss (get_or rows i d) r)

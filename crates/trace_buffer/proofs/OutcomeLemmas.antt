@@ -36,10 +36,6 @@ is_placed v q i n row b d row_is n_is b_is d_is absent near =
 
 -- The first fragments of one
 
-pub either : (x y : Bool) → y ≡ true → (x || y) ≡ true
-either true y is = refl
-either false y is = is
-
 pub is_no_new : Buffer → ℕ → ℕ → ℕ → Bool
 is_no_new v q i count =
     has_arrived (sequence_in v.sequences q) i

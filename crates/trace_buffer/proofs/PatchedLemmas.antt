@@ -1,6 +1,7 @@
 -- The record that a patch changes.
 use Rattle.std.proofs.Common.{◌≡◌, ℕ, ◌==◌, ◌&&◌, Bool, true, false, not, cond, List, [], ◌∷◌, length, map, Some, None, is_some, IsSome, refl, sym, ap, ap₂, ◌∙◌, subst, arith, eqb-true}
 use Rattle.std.specs.List.{find}
+use Rattle.std.proofs.lemmas.Bool.{and_parts}
 use Rattle.page_geometry.specs.Sizes.{record_size}
 use Rattle.chunk_index.specs.Value.{IndexValue}
 use Rattle.ring_bytes.specs.Value.{Stored, RingValue, is_at, change_at, changed_at, stored_at, with_awaits, put_at}
@@ -16,7 +17,6 @@ use Rattle.trace_buffer.specs.Records.{record_of, is_at_key, fragments_of, is_re
 use Rattle.trace_buffer.proofs.ChangeLemmas.{IsAlike, indexed_alike, at_key, same_change, no_change_of}
 use Rattle.trace_buffer.proofs.DropLemmas.{none_find}
 use Rattle.trace_buffer.proofs.FindLemmas.{readable_is}
-use Rattle.trace_buffer.proofs.KeptLemmas.{both}
 use Rattle.trace_buffer.proofs.PutLemmas.{payload_patched}
 
 -- Records that no patch changes
@@ -41,7 +41,7 @@ none_with q i B (s ∷ ss) none = of (is_at_key q i s) none (none_with q i B ss)
 
 none_of_key : (q i : ℕ) (s : Stored) (ss : List Stored) → is_at_key q i s ≡ true → NoneOf s.key.sequence s.key.chunk_id ss → NoneOf q i ss
 none_of_key q i s ss is none =
-    let two = both (s.key.sequence == q) (s.key.chunk_id == i) is in
+    let two = and_parts (s.key.sequence == q) (s.key.chunk_id == i) is in
     subst (λ n. NoneOf n i ss) (eqb-true s.key.sequence q two.0) (subst (λ n. NoneOf s.key.sequence n ss) (eqb-true s.key.chunk_id i two.1) none)
 
 none_key : (q i : ℕ) (s : Stored) (ss : List Stored) → is_at_key q i s ≡ true → NoneOf s.key.sequence s.key.chunk_id ss → find (is_at_key q i) ss ≡ None

@@ -2,6 +2,7 @@
 use Rattle.std.proofs.Common.{◌≡◌, ℕ, zero, suc, ◌+◌, ◌-◌, ◌*◌, ◌%◌, ◌≤◌, ◌==◌, ◌⊎◌, ⊎_elim, inl, inr, nat_lt, nat_le, Bool, true, false, cond, List, [], ◌∷◌, length, take, drop, Option, Some, None, refl, sym, ap, ◌∙◌, subst, arith, ne_eqb, append_assoc, true≢false}
 use Rattle.std.proofs.lemmas.Bool.Decides.{nat_tests}
 use Rattle.std.proofs.lemmas.List.{take_rest, length-drop}
+use Rattle.std.proofs.lemmas.Bool.{and_parts}
 use Rattle.ring_bytes.specs.Value.{put_at}
 use Rattle.ring_bytes.proofs.SliceLemmas.{length_put, put_same, slice_put_within}
 use Rattle.trace_model.specs.Fragments.{drop_size}
@@ -9,7 +10,6 @@ use Rattle.trace_model.specs.Images.{Fragment, Patch, holds_patch, last_holds, p
 use Rattle.trace_model.specs.Reading.{Reading, Fragments, Unreadable, Size, size_of, longer_size, fragment_of, reading_from, reading_of, read_on, behind, fragment_end}
 use Rattle.trace_buffer.specs.Records.{fragments_of, is_readable}
 use Rattle.trace_buffer.proofs.LossLemmas.{length_from}
-use Rattle.trace_buffer.proofs.KeptLemmas.{both}
 
 -- Parts of a list into which a piece was put
 
@@ -130,7 +130,7 @@ last_patched at bytes f patch four is holds = ⊎_elim marked plain is.kind
     w = is.size.width
 
     two : (nat_le f.offset patch.offset ≡ true) × (nat_le (patch.offset + 4) (f.offset + length f.bytes) ≡ true)
-    two = both (nat_le f.offset patch.offset) (nat_le (patch.offset + 4) (f.offset + length f.bytes)) holds
+    two = and_parts (nat_le f.offset patch.offset) (nat_le (patch.offset + 4) (f.offset + length f.bytes)) holds
 
     low : f.offset ≤ patch.offset
     low = le_is f.offset patch.offset two.0

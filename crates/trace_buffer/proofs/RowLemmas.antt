@@ -1,11 +1,8 @@
 -- The sequences of a buffer: a change of the one with a number is a change at its position.
 use Rattle.std.proofs.Common.{◌≡◌, ℕ, zero, suc, ◌<◌, ◌≤◌, ◌==◌, ◌||◌, Bool, true, false, cond, List, [], ◌∷◌, length, get_or, set, refl, sym, ap, ◌∙◌, subst, arith, eq-eqb, ne_eqb, true≢false}
+use Rattle.std.proofs.lemmas.Bool.{or_parts}
 use Rattle.trace_model.specs.Sequences.{Sequence, is_known, sequence_in, changed_at}
 use Rattle.trace_buffer.specs.BufferFields.{NumbersOnce, AllFit}
-
-pub neither : (x y : Bool) → (x || y) ≡ false → (x ≡ false) × (y ≡ false)
-neither true y is = absurd (true≢false is)
-neither false y is = (refl, is)
 
 pub same_item : (rows : List Sequence) (i : ℕ) (d e : Sequence) → i < length rows → get_or rows i d ≡ get_or rows i e
 same_item [] i d e in_it = absurd (omega arith)
@@ -15,7 +12,7 @@ same_item (s ∷ rows) (suc i) d e in_it = same_item rows i d e (omega arith)
 changed_none : (number : ℕ) (f : Sequence → Sequence) (rows : List Sequence) → is_known rows number ≡ false → changed_at number f rows ≡ rows
 changed_none number f [] none = refl
 changed_none number f (s ∷ rows) none =
-    let no = neither (s.number == number) (is_known rows number) none in
+    let no = or_parts (s.number == number) (is_known rows number) none in
     ap (λ b. cond b (f s) s ∷ changed_at number f rows) no.0 ∙ ap (λ ss. s ∷ ss) (changed_none number f rows no.1)
 
 known_at : (rows : List Sequence) (i : ℕ) (d : Sequence) → i < length rows → is_known rows (get_or rows i d).number ≡ true

@@ -1,6 +1,7 @@
 -- The buffer between a record's place and the note of its arrival.
 use Rattle.std.proofs.Common.{◌≡◌, ℕ, ◌==◌, ◌&&◌, Bool, true, false, cond, List, [], ◌∷◌, ◌++◌, map, filter, not, Option, Some, None, is_some, refl, sym, ap, ◌∙◌, true≢false}
 use Rattle.std.specs.List.{find}
+use Rattle.std.proofs.lemmas.Bool.{and_right}
 use Rattle.trace_model.specs.Arrivals.{Arrived, Kept, Rewritten, Duplicate, Discarded, TooFar, BadChunk, makes_arrive, is_too_far, is_refused, arrival_of, settled, with_discarded, discarded_buffer}
 use Rattle.trace_model.specs.Buffers.{Buffer, BufferRecord, is_of, live_at, meets, with_losses}
 use Rattle.trace_model.specs.Images.{Chunk}
@@ -146,14 +147,10 @@ none_part q i (r ∷ rs) none = of (is_of q i r) (none_part q i rs) none
     of true rest h = absurd (cc)
     of false rest h = rest h
 
-and_false : (x y : Bool) → y ≡ false → (x && y) ≡ false
-and_false true y is = is
-and_false false y is = refl
-
 none_more : (q i : ℕ) (rs : List BufferRecord) (r : BufferRecord) → r.chunk.partial ≡ false → find (part_of q i) rs ≡ None → find (part_of q i) (rs ++ r ∷ []) ≡ None
 unfolding part_of
 none_more q i [] r whole none =
-    ap (λ b. cond b (Some r) None) (and_false (is_of q i r) r.chunk.partial whole)
+    ap (λ b. cond b (Some r) None) (and_right (is_of q i r) r.chunk.partial whole)
 none_more q i (s ∷ rs) r whole none = of (is_of q i s && s.chunk.partial) (none_more q i rs r whole) none
   where
     of : (b : Bool) → (find (part_of q i) rs ≡ None → find (part_of q i) (rs ++ r ∷ []) ≡ None) → cond b (Some s) (find (part_of q i) rs) ≡ None → cond b (Some s) (find (part_of q i) (rs ++ r ∷ [])) ≡ None
@@ -169,7 +166,7 @@ none_rewritten q i chunk (r ∷ rs) whole =
     ∙ none_rewritten q i chunk rs whole
   where
     of : (b : Bool) → is_of q i r ≡ b → (is_of q i (cond b (record r { chunk = chunk }) r) && (cond b (record r { chunk = chunk }) r).chunk.partial) ≡ false
-    of true is = and_false (is_of q i r) chunk.partial whole
+    of true is = and_right (is_of q i r) chunk.partial whole
     of false is = ap (λ b. b && r.chunk.partial) is
 
 of_outcome : (a : Arrived) (v : Buffer) (q i : ℕ) (chunk : Chunk) → arrival_of v q i ≡ a → makes_arrive a ≡ true → chunk.partial ≡ false → find (part_of q i) (settled a v q i chunk).live ≡ None

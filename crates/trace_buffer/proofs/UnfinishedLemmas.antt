@@ -2,6 +2,7 @@
 use Rattle.std.proofs.Common.{◌≡◌, ℕ, ◌+◌, ◌-◌, ◌≤◌, ◌==◌, ◌&&◌, ◌||◌, Bool, true, false, cond, List, [], ◌∷◌, ◌++◌, length, map, filter, count_by, sum_by, Some, refl, sym, ap, ap₂, ◌∙◌, subst, arith, eqb-true}
 use Rattle.std.proofs.lemmas.List.Sums.{count_by-le-length, sum_by-append, sum_by-cons, sum_by_push}
 use Rattle.std.specs.List.{find}
+use Rattle.std.proofs.Math.Bool.{and-false}
 use Rattle.ring_bytes.specs.declared.key.RecordKey.{RecordKey}
 use Rattle.ring_bytes.specs.Value.{Stored, NoneAt, OnlyAt, is_at, size_of, change_at, without_stored}
 use Rattle.ring_bytes.proofs.ListLemmas.{change_only, without_only}
@@ -121,17 +122,13 @@ finished_first : (s : Stored) (ss : List Stored) → unfinished_of (s ∷ ss) �
 finished_first s ss none =
     finished s.key.partial s.key.awaits (unfinished_of ss) (sym (sum_by-cons (λ (t : Stored). one_of t.key) s ss) ∙ none)
 
-both_false : (b : Bool) → (b && false) ≡ false
-both_false true = refl
-both_false false = refl
-
 no_parts : (number : ℕ) (ss : List Stored) → unfinished_of ss ≡ 0 → parts_of number (map record_of ss) ≡ []
 no_parts number [] none = refl
 no_parts number (s ∷ ss) none =
     let all = finished_first s ss none in
     let others : List BufferRecord = filter (λ (r : BufferRecord). (r.sequence == number) && r.chunk.partial) (map record_of ss) in
     ap (λ b. map (λ (r : BufferRecord). r.chunk_id) (cond b (record_of s ∷ others) others))
-    (ap (λ b. (s.key.sequence == number) && b) all.0 ∙ both_false (s.key.sequence == number))
+    (ap (λ b. (s.key.sequence == number) && b) all.0 ∙ and-false (s.key.sequence == number))
     ∙ no_parts number ss all.2
 
 none_await : (number : ℕ) (ss : List Stored) → unfinished_of ss ≡ 0 → count_by (λ (r : BufferRecord). (r.sequence == number) && r.chunk.awaits) (map record_of ss) ≡ 0
@@ -140,7 +137,7 @@ none_await number (s ∷ ss) none =
     let all = finished_first s ss none in
     sum_by-cons (λ (r : BufferRecord). cond ((r.sequence == number) && r.chunk.awaits) 1 0) (record_of s) (map record_of ss)
     ∙ ap₂ (λ b n. cond b 1 0 + n)
-    (ap (λ b. (s.key.sequence == number) && b) all.1 ∙ both_false (s.key.sequence == number))
+    (ap (λ b. (s.key.sequence == number) && b) all.1 ∙ and-false (s.key.sequence == number))
     (none_await number ss all.2)
 
 pub none_to_mark : (old : Sequence) (first : ℕ) (all : List Stored) (row : Sequence) (count : ℕ) (rest : List Stored) → unfinished_of rest ≡ 0 → IsMarked old first all row count rest → IsMarked old first all row count []

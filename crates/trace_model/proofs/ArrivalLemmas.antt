@@ -2,14 +2,14 @@
 use Rattle.std.proofs.Common.{◌≡◌, ◌∙◌, ℕ, suc, Bool, true, false, not, ◌&&◌, List, [], ◌∷◌, ◌++◌, map, refl, sym, ap, subst, arith, inl, inr}
 use Rattle.std.specs.Prelude.{filter, cond, ◌⊎◌, ◌==◌, nat_le}
 use Rattle.std.specs.List.{flat_map}
-use Rattle.std.proofs.lemmas.Bool.{cases_eq, and_parts, and_from, eqb-true, eq-eqb, false≢true}
+use Rattle.std.proofs.lemmas.Bool.{cases_eq, and_parts, and_from, eqb-true, eq-eqb, false≢true, false_from_ne_true}
 use Rattle.trace_model.specs.Images.{Chunk}
 use Rattle.trace_model.specs.Sequences.{Sequence, has_arrived, sequence_in, is_known, changed_at}
 use Rattle.trace_model.specs.Buffers.{BufferRecord, is_of, with_losses}
 use Rattle.trace_model.specs.Arrivals.{with_arrived, with_discarded}
 use Rattle.trace_model.specs.Causes.{Fixed, fixed_by_loss}
 use Rattle.trace_model.specs.RowLaws.{UpTo}
-use Rattle.trace_model.proofs.CursorLemmas.{each-append, each-then, each-filter, same_up_to, differs_by}
+use Rattle.trace_model.proofs.CursorLemmas.{each-append, each-then, each-filter, same_up_to}
 use Rattle.trace_model.proofs.SequenceLemmas.{sequence_in-map, known-map, number_of, changed_here, changed_other, known_changed, among_more, among_new}
 use Rattle.trace_model.proofs.RecordLemmas.{NoneOf, not_none, Once, once-filter, Finished, IsLost, AreLost, losses_fix}
 use Rattle.trace_model.proofs.FixedLemmas.{Later, later_same, IsFixed, fixed_later, finished_later, IsNew, new_apart, Holds, Steps, Turns}
@@ -76,7 +76,7 @@ once-snoc : (q : ℕ) (rs : List BufferRecord) (r : BufferRecord) → Once q rs 
 once-snoc q [] r h k = ((λ e. tt), tt)
 once-snoc q (t ∷ ts) r h k = (
   (λ e. each-append (λ u. is_of q t.chunk_id u ≡ false) ts (r ∷ []) (h.0 e) (
-    differs_by (is_of q t.chunk_id r) (λ same.
+    false_from_ne_true (is_of q t.chunk_id r) (λ same.
         let parts = and_parts (r.sequence == q) (r.chunk_id == t.chunk_id) same in
         let none : NoneOf q r.chunk_id (t ∷ ts) = k parts.0 in
         false≢true (sym none.0 ∙ and_from (t.sequence == q) (t.chunk_id == r.chunk_id) e
@@ -118,7 +118,7 @@ placed_steps q closed old new live fixed lost r turns h fresh = record {
         (each-then (IsLost q (sequence_in old q) live left) (IsFixed q (sequence_in new q) (left ++ r ∷ []))
         (λ f i. inr (
           each-append (λ t. is_of q f.at.chunk_id t ≡ false) left (r ∷ []) i.gone (
-            differs_by (is_of q f.at.chunk_id r) (λ same.
+            false_from_ne_true (is_of q f.at.chunk_id r) (λ same.
                 let parts = and_parts (r.sequence == q) (r.chunk_id == f.at.chunk_id) same in
                 not_none q f.at.chunk_id live i.there (subst (λ (n : ℕ). NoneOf q n live) (eqb-true r.chunk_id f.at.chunk_id parts.1) (fresh parts.0).none)),
             tt,
@@ -145,7 +145,7 @@ placed_steps q closed old new live fixed lost r turns h fresh = record {
 
     stay : (chunk_id : ℕ) → NoneOf q chunk_id live → Finished (sequence_in old q) chunk_id → NoneOf q chunk_id (left ++ r ∷ [])
     stay chunk_id none finished = each-append (λ t. is_of q chunk_id t ≡ false) left (r ∷ []) (each-filter (λ t. is_of q chunk_id t ≡ false) (λ t. not (lost t)) live none) (
-      differs_by (is_of q chunk_id r) (λ same.
+      false_from_ne_true (is_of q chunk_id r) (λ same.
           let parts = and_parts (r.sequence == q) (r.chunk_id == chunk_id) same in
           unfinished q closed (sequence_in old q) (sequence_in new q) live r h.shut (fresh parts.0)
           (subst (λ (n : ℕ). Finished (sequence_in old q) n) (sym (eqb-true r.chunk_id chunk_id parts.1)) finished)),

@@ -3,6 +3,7 @@ use Rattle.std.proofs.Common.{◌≡◌, ◌∙◌, ℕ, ◌+◌, Bool, true, fa
 use Rattle.std.specs.Prelude.{filter, cond, ◌⊎◌, ◌==◌, sum_by}
 use Rattle.std.specs.List.{flat_map}
 use Rattle.std.proofs.lemmas.Bool.{cases_eq, eq-eqb, ne_eqb}
+use Rattle.std.proofs.Math.Bool.{and-false}
 use Rattle.trace_model.specs.Images.{Chunk, Patch, complete_chunk, whole_chunk}
 use Rattle.trace_model.specs.Counts.{raised}
 use Rattle.trace_model.specs.Reading.{Reading, Fragments, Unreadable, reading_of}
@@ -136,10 +137,6 @@ counted_discarded q p chunk_id chunk ss known owner = step (cases_eq p q)
         (counted_none (sequence_in ss q) (sequence_in (changed_at p (with_discarded chunk_id chunk) ss) q)
         (subst (λ (t : Sequence). SameCounts (sequence_in ss q) t) (sym (changed_other p q (with_discarded chunk_id chunk) (λ t. refl) ss known d)) (same_counts (sequence_in ss q))))
 
-and_false : (b : Bool) → (b && false) ≡ false
-and_false true = refl
-and_false false = refl
-
 module _ (q p : ℕ) (b : Buffer) (chunk_id : ℕ) (chunk : Chunk) (known : is_known b.sequences q ≡ true) (owner : is_known b.sequences p ≡ true) where
   counted_complete : (outcome : Arrived) → Counted (sequence_in b.sequences q) (sequence_in (complete_after b p chunk_id chunk outcome).sequences q)
       (fixed_by_arrival b (sequence_in b.sequences q) (sequence_in b.sequences p) outcome false chunk_id chunk)
@@ -169,7 +166,7 @@ module _ (q p : ℕ) (b : Buffer) (chunk_id : ℕ) (chunk : Chunk) (known : is_k
   counted_partial Duplicate = counted_none (sequence_in b.sequences q) (sequence_in b.sequences q) (same_counts (sequence_in b.sequences q))
   counted_partial Discarded =
       subst (λ (x : Bool). Counted (sequence_in b.sequences q) (sequence_in b.sequences q) (cond x (map lost_at (unread_start_places (sequence_in b.sequences q) chunk_id chunk)) []))
-      (sym (and_false ((sequence_in b.sequences q).number == (sequence_in b.sequences p).number)))
+      (sym (and-false ((sequence_in b.sequences q).number == (sequence_in b.sequences p).number)))
       (counted_none (sequence_in b.sequences q) (sequence_in b.sequences q) (same_counts (sequence_in b.sequences q)))
   counted_partial TooFar = counted_none (sequence_in b.sequences q) (sequence_in b.sequences q) (same_counts (sequence_in b.sequences q))
   counted_partial (BadChunk fragment) = counted_none (sequence_in b.sequences q) (sequence_in b.sequences q) (same_counts (sequence_in b.sequences q))

@@ -2,7 +2,7 @@
 use Rattle.std.proofs.Common.{◌≡◌, ◌∙◌, Bool, true, false, not, ◌||◌, List, [], ◌∷◌, ◌++◌, map, refl, sym, arith, inl, inr}
 use Rattle.std.specs.Prelude.{filter, cond, ◌==◌, IsTrue}
 use Rattle.std.specs.List.{list_any}
-use Rattle.std.proofs.lemmas.Bool.{and_parts, and_from, eqb-true, eq-eqb, false≢true}
+use Rattle.std.proofs.lemmas.Bool.{and_parts, and_from, eqb-true, eq-eqb, false≢true, false_from_ne_true}
 use Rattle.trace_model.specs.Sequences.{Cursor}
 use Rattle.trace_model.specs.Causes.{Fixed, is_same_place}
 use Rattle.trace_model.specs.RowLaws.{Before, UpTo}
@@ -65,13 +65,9 @@ same_parts a b h =
     let parts = and_parts (a.chunk_id == b.chunk_id) (a.passed == b.passed) h in
     (eqb-true a.chunk_id b.chunk_id parts.0, eqb-true a.passed b.passed parts.1)
 
-pub differs_by : (b : Bool) → (b ≡ true → ⊥) → b ≡ false
-differs_by true h = absurd (h refl)
-differs_by false h = refl
-
 -- a place before another one isn't the same
 pub differs_behind : (a b : Cursor) → Before a b → is_same_place b a ≡ false
-differs_behind a b h = differs_by (is_same_place b a) (λ e.
+differs_behind a b h = false_from_ne_true (is_same_place b a) (λ e.
     let same : (b.chunk_id ≡ a.chunk_id) × (b.passed ≡ a.passed) = same_parts b a e in
     not_both a b h (inr (same.0, omega (arith, same.1))))
 
@@ -96,7 +92,7 @@ pub distinct_first : (f : Fixed) (fs : List Fixed) → Apart f fs → AreDistinc
 distinct_first f fs h k = (apart_test f fs h, k)
 
 same_turned : (a b : Cursor) → is_same_place a b ≡ false → is_same_place b a ≡ false
-same_turned a b h = differs_by (is_same_place b a) (λ e.
+same_turned a b h = false_from_ne_true (is_same_place b a) (λ e.
     let same : (b.chunk_id ≡ a.chunk_id) × (b.passed ≡ a.passed) = same_parts b a e in
     false≢true (sym h ∙ and_from (a.chunk_id == b.chunk_id) (a.passed == b.passed) (eq-eqb a.chunk_id b.chunk_id (sym same.0)) (eq-eqb a.passed b.passed (sym same.1))))
 

@@ -2,8 +2,9 @@
 use Rattle.std.proofs.Common.{◌≡◌, ◌∙◌, ℕ, zero, suc, ◌+◌, ◌<◌, ◌≤◌, max, Bool, true, false, not, ◌&&◌, ◌||◌, List, [], ◌∷◌, ◌++◌, length, drop, map, refl, sym, ap, subst, arith, inl, inr}
 use Rattle.std.specs.Prelude.{cond, ◌==◌, ◌⊎◌}
 use Rattle.std.proofs.lemmas.Bool.{false≢true, or_parts, and_parts, cases_lt}
-use Rattle.std.proofs.lemmas.List.{drop-drop}
+use Rattle.std.proofs.lemmas.List.{drop-drop, drop_all}
 use Rattle.std.proofs.lemmas.Grind.{flat_map-append}
+use Rattle.std.proofs.Math.Bool.{and-false}
 use Rattle.trace_model.specs.Images.{Chunk, Fragment}
 use Rattle.trace_model.specs.Sequences.{Cursor}
 use Rattle.trace_model.specs.Row.{Slot, Here, Gone, Never, Piece, Chain, Fate, Whole, Marked, IntoLost, CutOff, Open, Link, Joined, Gap, Stop, Missing, Partial, Unpatched, bytes_of, joined_to, with_piece, place, is_last, is_part, place_behind, chunk_links, row_of, chain_of}
@@ -161,10 +162,6 @@ not_last awaits [] (w ∷ ws) h = refl
 not_last awaits (f ∷ fs) [] h = absurd h
 not_last awaits (f ∷ fs) (w ∷ ws) h = refl
 
-and_none : (x : Bool) → (x && false) ≡ false
-and_none true = refl
-and_none false = refl
-
 -- a seen chunk runs on behind a fragment exactly where the written one does
 same_onward : (chunk first : Chunk) → ShowsChunk chunk first → (fs ws : List Fragment) → ShowFragments chunk.partial chunk.awaits fs ws
     → (chunk.runs_on && is_last fs) ≡ (first.runs_on && is_last ws)
@@ -173,7 +170,7 @@ same_onward chunk first shows fs ws h = step chunk.partial refl
     step : (b : Bool) → chunk.partial ≡ b → (chunk.runs_on && is_last fs) ≡ (first.runs_on && is_last ws)
     step true e =
         ap (λ (x : Bool). x && is_last fs) (shows.part e).0
-        ∙ sym (ap (λ (x : Bool). first.runs_on && x) (not_last chunk.awaits fs ws (subst (λ (x : Bool). ShowFragments x chunk.awaits fs ws) e h)) ∙ and_none first.runs_on)
+        ∙ sym (ap (λ (x : Bool). first.runs_on && x) (not_last chunk.awaits fs ws (subst (λ (x : Bool). ShowFragments x chunk.awaits fs ws) e h)) ∙ and-false first.runs_on)
     step false e =
         ap (λ (x : Bool). x && is_last fs) (shows.whole e)
         ∙ ap (λ (x : Bool). first.runs_on && x) (same_last chunk.awaits fs ws (subst (λ (x : Bool). ShowFragments x chunk.awaits fs ws) e h))
@@ -273,11 +270,6 @@ show_dropped (suc n) partial awaits [] ws h k = absurd (omega (arith, k))
 show_dropped (suc n) partial awaits (f ∷ fs) [] h k = absurd h
 show_dropped (suc n) partial awaits (f ∷ fs) (w ∷ ws) h k = show_dropped n partial awaits fs ws h.2 (omega (arith, k))
 
-none_left : (k : ℕ) (fs : List Fragment) → length fs < k → drop k fs ≡ []
-none_left zero fs h = absurd (omega (arith, h))
-none_left (suc k) [] h = refl
-none_left (suc k) (f ∷ fs) h = none_left k fs (omega (arith, h))
-
 record FadesRow (written : List Chunk) (chunk_id passed : ℕ) (links : List Link) : Type 0 where
   fades : Fades written links
   front : passed ≡ 0 → Front (place chunk_id 0) links
@@ -319,7 +311,7 @@ module _ (closed : Bool) (written : List Chunk) where
           (sym w) (record { fades = r.fades; front = r.front refl })
 
       by_length : ((length chunk.fragments < passed) ⊎ (passed ≤ length chunk.fragments)) → Fades written (chunk_links closed chunk_id chunk passed (drop passed chunk.fragments) seen)
-      by_length (inl h) = subst (λ (fs : List Fragment). Fades written (chunk_links closed chunk_id chunk passed fs seen)) (sym (none_left passed chunk.fragments h)) seen_fades
+      by_length (inl h) = subst (λ (fs : List Fragment). Fades written (chunk_links closed chunk_id chunk passed fs seen)) (sym (drop_all passed chunk.fragments (omega (arith, h)))) seen_fades
       by_length (inr h) = fades_chunk closed written chunk_id chunk first shows seen rest row_at rest_is seen_fades seen_at (drop passed chunk.fragments) (drop passed first.fragments) passed refl
           (show_dropped passed chunk.partial chunk.awaits chunk.fragments first.fragments shows.fragments h)
 

@@ -2,12 +2,13 @@
 -- gone for good.
 use Rattle.std.proofs.Common.{◌≡◌, ◌∙◌, ℕ, Bool, true, false, ◌&&◌, List, [], ◌∷◌, ◌++◌, map, sym, ap, subst, arith, inl, inr}
 use Rattle.std.specs.Prelude.{◌⊎◌, ◌==◌}
+use Rattle.std.proofs.lemmas.Bool.{false_from_ne_true}
 use Rattle.trace_model.specs.Sequences.{Sequence, has_arrived, sequence_in, is_known}
 use Rattle.trace_model.specs.Buffers.{BufferRecord, is_of}
 use Rattle.trace_model.specs.Causes.{Fixed, is_same_place}
 use Rattle.trace_model.specs.CauseLaws.{AreDistinct}
 use Rattle.trace_model.specs.RowLaws.{Before, UpTo}
-use Rattle.trace_model.proofs.CursorLemmas.{Each, each-then, each-map, before_up_to, up_to_up_to, not_both, same_parts, same_up_to, differs_by, Apart, AllApart}
+use Rattle.trace_model.proofs.CursorLemmas.{Each, each-then, each-map, before_up_to, up_to_up_to, not_both, same_parts, same_up_to, Apart, AllApart}
 use Rattle.trace_model.proofs.RecordLemmas.{NoneOf, Once, Come, Finished}
 
 -- the second state of a sequence comes after the first
@@ -47,10 +48,10 @@ abbrev pub IsNew : ℕ → Sequence → List BufferRecord → Fixed → Type 0
 IsNew q s live f = UpTo s.cursor f.at × (NoneOf q f.at.chunk_id live → Finished s f.at.chunk_id → ⊥)
 
 new_differs : (q : ℕ) (s : Sequence) (live : List BufferRecord) (f g : Fixed) → IsFixed q s live f → IsNew q s live g → is_same_place f.at g.at ≡ false
-new_differs q s live f g (inl h) n = differs_by (is_same_place f.at g.at) (λ e.
+new_differs q s live f g (inl h) n = false_from_ne_true (is_same_place f.at g.at) (λ e.
     let same : (f.at.chunk_id ≡ g.at.chunk_id) × (f.at.passed ≡ g.at.passed) = same_parts f.at g.at e in
     not_both f.at g.at (before_up_to f.at s.cursor g.at h n.0) (inr (sym same.0, omega (arith, same.1))))
-new_differs q s live f g (inr h) n = differs_by (is_same_place f.at g.at) (λ e.
+new_differs q s live f g (inr h) n = false_from_ne_true (is_same_place f.at g.at) (λ e.
     let same : (f.at.chunk_id ≡ g.at.chunk_id) × (f.at.passed ≡ g.at.passed) = same_parts f.at g.at e in
     n.1 (subst (λ (i : ℕ). NoneOf q i live) same.0 h.0) (subst (λ (i : ℕ). Finished s i) same.0 h.1))
 

@@ -3,6 +3,7 @@ use Rattle.std.proofs.Common.{◌≡◌, ◌∙◌, ℕ, zero, suc, ◌-◌, Boo
 use Rattle.std.specs.Prelude.{cond, ◌⊎◌, ◌==◌, find, Option, Some, None, is_some}
 use Rattle.std.specs.List.{flat_map}
 use Rattle.std.proofs.lemmas.Bool.{cases_eq, and_parts, eqb-true, eq-eqb, ne_eqb, false≢true}
+use Rattle.std.proofs.Math.Bool.{or-false, or-true}
 use Rattle.trace_model.specs.Images.{Patch, whole_chunk, last_holds}
 use Rattle.trace_model.specs.Reading.{Reading, Fragments, Unreadable, reading_of}
 use Rattle.trace_model.specs.Sequences.{Cursor, Sequence, has_arrived, sequence_in, is_known, is_among}
@@ -21,14 +22,6 @@ use Rattle.trace_model.proofs.ReadPlaceLemmas.{Within, AreWithin, reads_within}
 use Rattle.trace_model.proofs.SequenceLemmas.{number_of, changed_here, changed_other, known_changed}
 use Rattle.trace_model.proofs.FixedLemmas.{Later, later_same, IsFixed, fixed_later, IsNew, new_apart, Holds, Steps, steps_none, holds_mapped, holds_turned}
 use Rattle.trace_model.proofs.OutcomeLemmas.{arrival_facts, partial_facts, complete_steps, partial_steps}
-
-or_false : (x : Bool) → (x || false) ≡ x
-or_false true = refl
-or_false false = refl
-
-or_true : (x : Bool) → (x || true) ≡ true
-or_true true = refl
-or_true false = refl
 
 -- Patches
 
@@ -73,7 +66,7 @@ holds_closing q p closed b fixed h = step (cases_eq p q)
     step (inr d) =
         let same : sequence_in (closed_buffer b p).sequences q ≡ sequence_in b.sequences q =
         changed_other p q (closed_sequence b.live) (λ s. refl) b.sequences h.known d in
-        subst (λ (x : Bool). Holds q x (closed_buffer b p).sequences b.live fixed) (sym (ap (λ (x : Bool). closed || x) (ne_eqb p q d) ∙ or_false closed))
+        subst (λ (x : Bool). Holds q x (closed_buffer b p).sequences b.live fixed) (sym (ap (λ (x : Bool). closed || x) (ne_eqb p q d) ∙ or-false closed))
         (holds_turned q closed b.sequences (closed_buffer b p).sequences b.live fixed
         (record {
           known = known_changed p q (closed_sequence b.live) (λ s. refl) b.sequences ∙ h.known;
@@ -92,7 +85,7 @@ holds_closing q p closed b fixed h = step (cases_eq p q)
           come = each-then (λ (r : BufferRecord). (r.sequence == q) ≡ true → r.chunk.partial ≡ false → has_arrived (sequence_in b.sequences q) r.chunk_id ≡ true)
               (λ (r : BufferRecord). (r.sequence == q) ≡ true → r.chunk.partial ≡ false → has_arrived (sequence_in (closed_buffer b p).sequences q) r.chunk_id ≡ true)
               (λ r k e p. later.arrived r.chunk_id (k e p)) b.live h.come;
-          shut = ap (λ (t : Sequence). t.closed) same ∙ sym (ap (λ (x : Bool). closed || x) (eq-eqb p q e) ∙ or_true closed);
+          shut = ap (λ (t : Sequence). t.closed) same ∙ sym (ap (λ (x : Bool). closed || x) (eq-eqb p q e) ∙ or-true closed);
           before = each-then (IsFixed q (sequence_in b.sequences q) b.live) (IsFixed q (sequence_in (closed_buffer b p).sequences q) b.live)
               (λ f k. fixed_later q (sequence_in b.sequences q) (sequence_in (closed_buffer b p).sequences q) b.live b.live f later (λ i n e. n) k) fixed h.before;
         }
@@ -105,8 +98,8 @@ holds_closed q p closed b fixed h = step (sequence_in b.sequences p).closed refl
     same e is = sym h.shut ∙ subst (λ (n : ℕ). (sequence_in b.sequences n).closed ≡ true) (eqb-true p q e) is
 
     stays : (x : Bool) → (x ≡ true → closed ≡ true) → (closed || x) ≡ closed
-    stays true k = or_true closed ∙ sym (k refl)
-    stays false k = or_false closed
+    stays true k = or-true closed ∙ sym (k refl)
+    stays false k = or-false closed
 
     step : (x : Bool) → (sequence_in b.sequences p).closed ≡ x
         → Holds q (closed || (p == q)) (cond x b (closed_buffer b p)).sequences (cond x b (closed_buffer b p)).live fixed
@@ -228,25 +221,25 @@ event_steps : (q : ℕ) (closed : Bool) (b : Buffer) (old : List Fixed) (event :
     → Steps q (closed || is_close_of q event) (after b event).sequences (after b event).live old (fixed_by b (sequence_in b.sequences q) event)
 event_steps q closed b old (Arrives p chunk_id chunk) h known may =
     subst (λ (x : Bool). Steps q x (after b (Arrives p chunk_id chunk)).sequences (after b (Arrives p chunk_id chunk)).live old (fixed_by b (sequence_in b.sequences q) (Arrives p chunk_id chunk)))
-    (sym (or_false closed))
+    (sym (or-false closed))
     (complete_steps q p closed b old h chunk_id chunk (arrival_of b p chunk_id) known (opened_by p q closed may) (arrival_facts b p chunk_id))
 event_steps q closed b old (ArrivesInPart p chunk_id chunk) h known may =
     subst (λ (x : Bool). Steps q x (after b (ArrivesInPart p chunk_id chunk)).sequences (after b (ArrivesInPart p chunk_id chunk)).live old (fixed_by b (sequence_in b.sequences q) (ArrivesInPart p chunk_id chunk)))
-    (sym (or_false closed))
+    (sym (or-false closed))
     (partial_steps q p closed b old h chunk_id chunk (partial_arrival_of b p chunk_id (length chunk.fragments)) known (opened_by p q closed may)
     (partial_facts b p chunk_id (length chunk.fragments)))
 event_steps q closed b old (Patched p patches) h known may =
-    subst (λ (x : Bool). Steps q x (with_patches b p patches).sequences (with_patches b p patches).live old []) (sym (or_false closed))
+    subst (λ (x : Bool). Steps q x (with_patches b p patches).sequences (with_patches b p patches).live old []) (sym (or-false closed))
     (steps_patched patches q closed b p old [] (steps_none q closed b.sequences b.live old h))
 event_steps q closed b old (Committed image patches) h known may =
     subst (λ (x : Bool). Steps q x (after b (Committed image patches)).sequences (after b (Committed image patches)).live old (fixed_by b (sequence_in b.sequences q) (Committed image patches)))
-    (sym (or_false closed))
+    (sym (or-false closed))
     (steps_patched patches q closed (with_image b image) image.sequence old (fixed_by b (sequence_in b.sequences q) (Committed image patches))
     (read_image_steps q image.sequence closed b old image.chunk_id image.flags (reading_of image.count image.payload) h known (opened_by image.sequence q closed may)))
 event_steps q closed b old (Closed p) h known may =
     steps_none q (closed || (p == q)) (with_close b p).sequences (with_close b p).live old (holds_closed q p closed b old h)
 event_steps q closed b old (Read p limit) h known may =
-    subst (λ (x : Bool). Steps q x (with_read b p limit).sequences b.live old (fixed_by b (sequence_in b.sequences q) (Read p limit))) (sym (or_false closed))
+    subst (λ (x : Bool). Steps q x (with_read b p limit).sequences b.live old (fixed_by b (sequence_in b.sequences q) (Read p limit))) (sym (or-false closed))
     (read_steps q p closed b old limit h)
 
 -- an event of a sequence that the buffer doesn't have closes none that it has
@@ -267,7 +260,7 @@ any_steps q closed b old event h may = step (is_known b.sequences (event_sequenc
         → Steps q (closed || is_close_of q event) (cond x (after b event) b).sequences (cond x (after b event) b).live old (cond x (fixed_by b (sequence_in b.sequences q) event) [])
     step true e = event_steps q closed b old event h e may
     step false e = subst (λ (x : Bool). Steps q x b.sequences b.live old [])
-        (sym (ap (λ (x : Bool). closed || x) (closes_none q b event h.known e) ∙ or_false closed)) (steps_none q closed b.sequences b.live old h)
+        (sym (ap (λ (x : Bool). closed || x) (closes_none q b event h.known e) ∙ or-false closed)) (steps_none q closed b.sequences b.live old h)
 
 -- Histories
 

@@ -2,6 +2,7 @@
 use Rattle.std.proofs.Common.{◌≡◌, ◌∙◌, ℕ, Bool, true, false, not, ◌&&◌, ◌||◌, List, [], ◌∷◌, map, length, refl, sym, ap, subst, inl, inr}
 use Rattle.std.specs.Prelude.{filter, cond, ◌⊎◌, ◌==◌, find, Some, is_some}
 use Rattle.std.proofs.lemmas.Bool.{cases_eq, and_parts, or_parts, eq-eqb, ne_eqb, eqb-true, false≢true}
+use Rattle.std.proofs.Math.Bool.{and-false}
 use Rattle.trace_model.specs.Images.{Chunk, complete_chunk, partial_chunk}
 use Rattle.trace_model.specs.Places.{place_after}
 use Rattle.trace_model.specs.Sequences.{Sequence, has_arrived, sequence_in, is_known, changed_at, unread_of}
@@ -61,10 +62,6 @@ module _ (b : Buffer) (p chunk_id : ℕ) where
       (is_too_far (sequence_in b.sequences p) chunk_id)
 
 -- A chunk of the sequence that gets no place
-
-and_false : (x : Bool) → (x && not true) ≡ false
-and_false true = refl
-and_false false = refl
 
 discarded_steps : (q : ℕ) (closed : Bool) (old new : List Sequence) (live : List BufferRecord) (fixed : List Fixed) (chunk_id : ℕ) (chunk : Chunk)
     → Turns q old new → Holds q closed old live fixed → closed ≡ false → has_arrived (sequence_in old q) chunk_id ≡ false → NoneOf q chunk_id live
@@ -208,7 +205,7 @@ partial_own q closed b old h chunk_id chunk Rewritten known opened facts =
 partial_own q closed b old h chunk_id chunk Duplicate known opened facts = steps_none q closed b.sequences b.live old h
 partial_own q closed b old h chunk_id chunk Discarded known opened facts =
     subst (λ (x : Bool). Steps q closed b.sequences b.live old (cond x (map lost_at (unread_start_places (sequence_in b.sequences q) chunk_id chunk)) []))
-    (sym (and_false ((sequence_in b.sequences q).number == (sequence_in b.sequences q).number))) (steps_none q closed b.sequences b.live old h)
+    (sym (and-false ((sequence_in b.sequences q).number == (sequence_in b.sequences q).number))) (steps_none q closed b.sequences b.live old h)
 partial_own q closed b old h chunk_id chunk TooFar known opened facts = steps_none q closed b.sequences b.live old h
 partial_own q closed b old h chunk_id chunk (BadChunk fragment) known opened facts = steps_none q closed b.sequences b.live old h
 
@@ -262,7 +259,7 @@ partial_other q p closed b old d h chunk_id chunk Rewritten known opened facts =
 partial_other q p closed b old d h chunk_id chunk Duplicate known opened facts = steps_none q closed b.sequences b.live old h
 partial_other q p closed b old d h chunk_id chunk Discarded known opened facts =
     subst (λ (x : Bool). Steps q closed b.sequences b.live old (cond x (map lost_at (unread_start_places (sequence_in b.sequences q) chunk_id chunk)) []))
-    (sym (and_false ((sequence_in b.sequences q).number == (sequence_in b.sequences p).number))) (steps_none q closed b.sequences b.live old h)
+    (sym (and-false ((sequence_in b.sequences q).number == (sequence_in b.sequences p).number))) (steps_none q closed b.sequences b.live old h)
 partial_other q p closed b old d h chunk_id chunk TooFar known opened facts = steps_none q closed b.sequences b.live old h
 partial_other q p closed b old d h chunk_id chunk (BadChunk fragment) known opened facts = steps_none q closed b.sequences b.live old h
 

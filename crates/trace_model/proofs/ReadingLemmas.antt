@@ -5,7 +5,7 @@ use Rattle.std.specs.Prelude.{All, cond, ◌⊎◌, nat_le}
 use Rattle.std.proofs.lemmas.Bool.{cases_lt, cases_eq, lt-ltb, le-ltb, le-leb, leb-true, eq-eqb, ne_eqb}
 use Rattle.std.proofs.lemmas.Option.{none-some, same_Some}
 use Rattle.std.proofs.lemmas.List.{take-append-drop, drop-drop}
-use Rattle.std.proofs.Math.Seq.{drop-append_seam}
+use Rattle.std.proofs.Math.Seq.{drop-append_seam, take-append_seam}
 use Rattle.wire_varint.specs.Reading.{joined, IsWhole}
 use Rattle.trace_model.specs.Images.{Fragment}
 use Rattle.trace_model.specs.Fragments.{drop_mark, drop_size, ReadsOne, ReadsDropped}
@@ -97,13 +97,6 @@ size_most (a ∷ b ∷ c ∷ d ∷ e ∷ es) h = absurd (omega (arith, h))
 
 -- Fragments
 
-pub drop-front : (xs ys : List ℕ) → drop (length xs) (xs ++ ys) ≡ ys
-drop-front xs ys = drop-append_seam xs ys
-
-take-front : (xs ys : List ℕ) → take (length xs) (xs ++ ys) ≡ xs
-take-front [] ys = refl
-take-front (x ∷ xs) ys = ap (λ (zs : List ℕ). x ∷ zs) (take-front xs ys)
-
 -- a fragment that stands in front is read
 pub read_kept : (last : Bool) (at : ℕ) (bytes : List ℕ) (fragment : Fragment) (rest : List ℕ) → ReadsOne at bytes fragment rest → fragment_of last at bytes (size_of 4 bytes) ≡ Some fragment
 read_kept last at bytes fragment rest reads =
@@ -115,7 +108,7 @@ read_kept last at bytes fragment rest reads =
     ∙ ap (λ (m : ℕ). Some (record { value = m; width = w })) reads.is_size.value in
     let long : w + n ≤ length bytes =
     omega (arith, ap length cut, length-append reads.size (fragment.bytes ++ rest), length-append fragment.bytes rest) in
-    let behind_size : drop w bytes ≡ fragment.bytes ++ rest = ap (drop w) cut ∙ drop-front reads.size (fragment.bytes ++ rest) in
+    let behind_size : drop w bytes ≡ fragment.bytes ++ rest = ap (drop w) cut ∙ drop-append_seam reads.size (fragment.bytes ++ rest) in
     let read : Fragment = record { bytes = take n (drop w bytes); dropped = false; offset = at + w } in
     ap (fragment_of last at bytes) size
     ∙ ap (λ (b : Bool). cond b
@@ -124,7 +117,7 @@ read_kept last at bytes fragment rest reads =
     (ne_eqb n drop_size (λ e. omega (arith, e, reads.unmarked)))
     ∙ ap (λ (b : Bool). cond b (Some read) None) (le-leb (w + n) (length bytes) long)
     ∙ ap (λ (xs : List ℕ). Some (record { bytes = take n xs; dropped = false; offset = at + w })) behind_size
-    ∙ ap (λ (xs : List ℕ). Some (record { bytes = xs; dropped = false; offset = at + w })) (take-front fragment.bytes rest)
+    ∙ ap (λ (xs : List ℕ). Some (record { bytes = xs; dropped = false; offset = at + w })) (take-append_seam fragment.bytes rest)
     ∙ ap (λ (d : Bool). Some (record { bytes = fragment.bytes; dropped = d; offset = at + w })) (sym reads.kept)
     ∙ ap (λ (o : ℕ). Some (record { bytes = fragment.bytes; dropped = fragment.dropped; offset = o })) (sym reads.offset)
 
@@ -165,7 +158,7 @@ read_sound last at bytes fragment below e = by_size (size_of 4 bytes) refl e
     dropped_first size has v true f g =
         let read : Fragment = record { bytes = drop size.width bytes; dropped = true; offset = at + size.width } in
         let same : read ≡ fragment = same_Some read fragment g in
-        let front_is : has.front ≡ take (length has.front) bytes = sym (ap (take (length has.front)) has.cut ∙ take-front has.front has.rest) in
+        let front_is : has.front ≡ take (length has.front) bytes = sym (ap (take (length has.front)) has.cut ∙ take-append_seam has.front has.rest) in
         let front_bytes : All (λ byte. byte < 256) has.front =
         subst (λ (xs : List ℕ). All (λ byte. byte < 256) xs) (sym front_is) (All-take (λ byte. byte < 256) (length has.front) bytes below) in
         let mark : has.front ≡ drop_mark = marked_size has.front has.whole has.few front_bytes (has.value ∙ v) in
@@ -174,7 +167,7 @@ read_sound last at bytes fragment below e = by_size (size_of 4 bytes) refl e
           f,
           subst (λ (r : Fragment). ReadsDropped at bytes r) same (record {
             cut = has.cut
-                ∙ ap (λ (xs : List ℕ). has.front ++ xs) (sym (drop-front has.front has.rest) ∙ ap (drop (length has.front)) (sym has.cut) ∙ ap (λ (n : ℕ). drop n bytes) has.width)
+                ∙ ap (λ (xs : List ℕ). has.front ++ xs) (sym (drop-append_seam has.front has.rest) ∙ ap (drop (length has.front)) (sym has.cut) ∙ ap (λ (n : ℕ). drop n bytes) has.width)
                 ∙ ap (λ (xs : List ℕ). xs ++ drop size.width bytes) mark;
             offset = ap (λ (n : ℕ). at + n) width;
             dropped = refl;
@@ -187,7 +180,7 @@ read_sound last at bytes fragment below e = by_size (size_of 4 bytes) refl e
     kept_first size has v true f g =
         let read : Fragment = record { bytes = take size.value (drop size.width bytes); dropped = false; offset = at + size.width } in
         let same : read ≡ fragment = same_Some read fragment g in
-        let rest_is : drop size.width bytes ≡ has.rest = ap (λ (n : ℕ). drop n bytes) (sym has.width) ∙ ap (drop (length has.front)) has.cut ∙ drop-front has.front has.rest in
+        let rest_is : drop size.width bytes ≡ has.rest = ap (λ (n : ℕ). drop n bytes) (sym has.width) ∙ ap (drop (length has.front)) has.cut ∙ drop-append_seam has.front has.rest in
         let long : size.width + size.value ≤ length bytes = leb-true (size.width + size.value) (length bytes) f in
         let inside : size.value ≤ length has.rest = omega (arith, long, ap length has.cut, length-append has.front has.rest, has.width) in
         let count : length (take size.value (drop size.width bytes)) ≡ size.value =

@@ -3,18 +3,19 @@ use Rattle.std.proofs.Common.{◌≡◌, ◌∙◌, ℕ, zero, suc, ◌-◌, ◌
 use Rattle.std.proofs.lemmas.List.Elements.{All-drop}
 use Rattle.std.specs.Prelude.{All, ◌==◌}
 use Rattle.std.proofs.lemmas.Bool.{eqb-true, false≢true}
+use Rattle.std.proofs.Math.Seq.{drop-append_seam}
 use Rattle.trace_model.specs.Images.{Fragment}
 use Rattle.trace_model.specs.Fragments.{ReadsOne, ReadsFrom}
 use Rattle.trace_model.specs.Reading.{size_of, fragment_of, Reading, Fragments, Unreadable, behind, fragment_end, read_on, reading_from, reading_of}
 use Rattle.trace_model.specs.ReadingLaws.{ReadingIsExact}
-use Rattle.trace_model.proofs.ReadingLemmas.{StandsFirst, read_kept, read_dropped, read_sound, drop-front}
+use Rattle.trace_model.proofs.ReadingLemmas.{StandsFirst, read_kept, read_dropped, read_sound}
 
 -- the rest behind a fragment
 pub rest_behind : (at : ℕ) (bytes : List ℕ) (fragment : Fragment) (rest : List ℕ) → ReadsOne at bytes fragment rest → drop (fragment_end fragment - at) bytes ≡ rest
 rest_behind at bytes fragment rest reads =
     ap (λ (n : ℕ). drop n bytes) (omega (arith, reads.offset, length-append reads.size fragment.bytes))
     ∙ ap (drop (length (reads.size ++ fragment.bytes))) reads.cut
-    ∙ drop-front (reads.size ++ fragment.bytes) rest
+    ∙ drop-append_seam (reads.size ++ fragment.bytes) rest
 
 complete_from : (fragments : List Fragment) (number at : ℕ) (bytes : List ℕ) → ReadsFrom at bytes fragments → reading_from (length fragments) number at bytes ≡ Fragments fragments
 complete_from [] number at bytes h = absurd h

@@ -2,13 +2,13 @@
 use Rattle.std.proofs.Common.{◌≡◌, ◌∙◌, ℕ, Bool, true, false, not, ◌&&◌, List, [], ◌∷◌, ◌++◌, map, refl, sym, subst, inl, inr}
 use Rattle.std.specs.Prelude.{filter, cond, ◌⊎◌, ◌==◌}
 use Rattle.std.specs.List.{flat_map}
-use Rattle.std.proofs.lemmas.Bool.{and_parts, and_from, eqb-true, eq-eqb, false≢true}
+use Rattle.std.proofs.lemmas.Bool.{and_parts, and_from, eqb-true, eq-eqb, false≢true, false_from_ne_true}
 use Rattle.trace_model.specs.Sequences.{Sequence, has_arrived}
 use Rattle.trace_model.specs.Buffers.{BufferRecord, is_of, is_loss_of}
 use Rattle.trace_model.specs.Causes.{Fixed, is_same_place, unread_start_places, lost_at, fixed_by_loss}
 use Rattle.trace_model.specs.CauseLaws.{AreDistinct}
 use Rattle.trace_model.specs.RowLaws.{UpTo}
-use Rattle.trace_model.proofs.CursorLemmas.{Each, each-append, each-then, each-filter, same_parts, differs_by, distinct-append, Apart}
+use Rattle.trace_model.proofs.CursorLemmas.{Each, each-append, each-then, each-filter, same_parts, distinct-append, Apart}
 use Rattle.trace_model.proofs.LossPlaceLemmas.{AreUnread, unread_places}
 
 -- no record is of the chunk; some record is
@@ -78,14 +78,14 @@ finished_by q s r n h come =
 -- an outcome of a chunk that has a record isn't one of a chunk that has none
 apart_of : (q chunk_id : ℕ) (rs : List BufferRecord) (f g : Fixed) → f.at.chunk_id ≡ chunk_id → NoneOf q chunk_id rs → Has q g.at.chunk_id rs
     → is_same_place f.at g.at ≡ false
-apart_of q chunk_id rs f g e none has = differs_by (is_same_place f.at g.at) (λ same.
+apart_of q chunk_id rs f g e none has = false_from_ne_true (is_same_place f.at g.at) (λ same.
     not_none q g.at.chunk_id rs has (subst (λ (i : ℕ). NoneOf q i rs) (sym e ∙ (same_parts f.at g.at same).0) none))
 
 -- a record that stays doesn't bring back a chunk of the others
 none_more : (q chunk_id : ℕ) (r : BufferRecord) (rs left : List BufferRecord) → ((r.sequence == q) ≡ true → NoneOf q r.chunk_id rs)
     → Has q chunk_id rs → NoneOf q chunk_id left → NoneOf q chunk_id (r ∷ left)
 none_more q chunk_id r rs left once has none = (
-  differs_by (is_of q chunk_id r) (λ e.
+  false_from_ne_true (is_of q chunk_id r) (λ e.
       let parts : ((r.sequence == q) ≡ true) × (r.chunk_id ≡ chunk_id) = is_of_parts q chunk_id r e in
       not_none q chunk_id rs has (subst (λ (i : ℕ). NoneOf q i rs) parts.1 (once parts.0))),
   none,

@@ -2,6 +2,7 @@
 use Rattle.std.proofs.Common.{◌≡◌, ◌∙◌, ℕ, zero, suc, ◌+◌, ◌<◌, Bool, true, false, List, [], ◌∷◌, ◌++◌, length, map, Some, refl, sym, ap, subst, arith, length-append}
 use Rattle.std.specs.Prelude.{slice_get}
 use Rattle.std.proofs.lemmas.Option.{slice_get_within}
+use Rattle.std.proofs.lemmas.List.{nil_from_length}
 use mathlib.Core.Option.{some}
 use Rattle.trace_model.specs.Fragments.{drop_size}
 use Rattle.trace_model.specs.Images.{Image, Chunk, Patch, has_flag_1, has_flag_2, has_flag_4, whole_chunk}
@@ -78,10 +79,6 @@ patches_at (first ∷ pages) zero page patches e f =
     sym is ∙ ap (λ (p : Page). p.patches) same
 patches_at (first ∷ pages) (suc i) page patches e f = patches_at pages i page patches e f
 
-none_left : {A : Type 0} (xs : List A) → length xs ≡ 0 → xs ≡ []
-none_left [] e = refl
-none_left (x ∷ xs) e = absurd (omega (arith, e))
-
 -- a content is a page of the writer; it is the last one only where nothing is held
 pub record IsPageOf (q n : ℕ) (pages : List Page) (held : List Image) (content : Content) : Type 0 where
   pub page : Page
@@ -113,7 +110,7 @@ page_of size place n chunk view held cut content at named =
       get = subst (λ (i : ℕ). slice_get pages i ≡ Some is.page) same is.get;
       image = is.is ∙ ap (λ (i : ℕ). image_of q i is.page) id_is;
       patches = patches_at pages h.place is.page content.patches is.get brings;
-      last = λ e. none_left held (omega (arith, e, same, inside, long, both, as_many));
+      last = λ e. nil_from_length held (omega (arith, e, same, inside, long, both, as_many));
     }
 
 -- Pages and sheets

@@ -1,6 +1,6 @@
 -- What one call more makes of a writer's account.
 use Rattle.std.proofs.Common.{◌≡◌, ◌∙◌, ℕ, ◌+◌, Bool, true, false, not, cond, Option, None, Some, List, [], ◌∷◌, ◌++◌, length, map, filter, refl, sym, ap, arith}
-use Rattle.std.proofs.lemmas.List.{length-reverse}
+use Rattle.std.proofs.lemmas.List.{length-reverse, nil_from_length}
 use Rattle.std.proofs.lemmas.List.Sums.{fold-append}
 use Rattle.trace_model.specs.Calls.{Call}
 use Rattle.trace_model.specs.Packets.{Packet, Account, account_of, noted, nothing_yet, on_newest, front_of, open_places}
@@ -27,10 +27,6 @@ pub begun_is : (open_one : Option OpenPacket) → is_begun open_one ≡ true →
 begun_is None e = absurd (cc)
 begun_is (Some open_packet) e = record { value = open_packet; is = refl }
 
-empty_list : {A : Type 0} (xs : List A) → length xs ≡ 0 → xs ≡ []
-empty_list [] e = refl
-empty_list (x ∷ xs) e = absurd (omega (arith, e))
-
 length-map : {A B : Type 0} (f : A → B) (xs : List A) → length (map f xs) ≡ length xs
 length-map f [] = refl
 length-map f (x ∷ xs) = omega (arith, length-map f xs)
@@ -45,7 +41,7 @@ measured_depth open_one packet measured =
 
 -- in which no message is open
 pub none_open : (open_one : OpenPacket) (packet : Packet) → IsMeasured open_one packet → length open_one.starts.items ≡ 0 → open_places packet.text.levels ≡ []
-none_open open_one packet measured none = empty_list (open_places packet.text.levels) (sym (measured_depth open_one packet measured) ∙ none)
+none_open open_one packet measured none = nil_from_length (open_places packet.text.levels) (sym (measured_depth open_one packet measured) ∙ none)
 
 -- Counts
 

@@ -2,6 +2,7 @@
 use Rattle.std.proofs.Common.{◌≡◌, ◌∙◌, ℕ, ◌+◌, ◌-◌, ◌<◌, ◌≤◌, Bool, true, false, not, ◌||◌, ◌&&◌, List, [], ◌∷◌, ◌++◌, length, map, reverse, Option, Some, None, is_some, refl, sym, ap, subst, arith, append_assoc}
 use Rattle.std.proofs.lemmas.Bool.{true≢false}
 use Rattle.std.proofs.lemmas.List.{length-map, length-reverse}
+use Rattle.std.proofs.Math.Bool.{or-true}
 use Rattle.trace_base.specs.declared.policy.WriterPolicy.{WriterPolicy}
 use Rattle.trace_base.specs.declared.policy.WriterPolicy.TheVariants.{Drops, Stalls}
 use Rattle.trace_model.specs.Calls.{Call, GivenUp}
@@ -35,7 +36,7 @@ use Rattle.trace_writer.specs.Agreement.{IsMeasured, IsWritingInto, IsThrownAway
 use Rattle.trace_writer.specs.Outcomes.{StopsBehind, GoesBehind}
 use Rattle.trace_writer.proofs.accounts.Accounts.{dropped_in, dropped-changed, account_is as newest_account}
 use Rattle.trace_writer.proofs.stops.Idling.{changed_idle}
-use Rattle.trace_writer.proofs.accounts.Changes.{account_changed, account_lost, newest_open, or_true}
+use Rattle.trace_writer.proofs.accounts.Changes.{account_changed, account_lost, newest_open}
 use Rattle.trace_writer.proofs.accounts.Measuring.{long_written, long_opened}
 use Rattle.trace_writer.proofs.packets.RunOn.{inside_seen}
 use Rattle.trace_writer.proofs.stops.Stopping.{refuses_none}
@@ -241,7 +242,7 @@ agrees_stopped Drops setup place view mid new before after state pending next_id
         older = older;
         packets = ap (λ (account : Account). account.packets) account_is;
         unflushed = ap (λ (account : Account). account.flushed) account_is;
-        lost = or_true (not (change packet).kept);
+        lost = or-true (not (change packet).kept);
         idle = subst (λ (account : Account). IsIdle site account new pending) (sym account_is)
             (idle_seen site (with_loss (change packet) older) mid new pending begun stops);
       },

@@ -1,5 +1,5 @@
 -- A call that changes the newest packet: the account behind it.
-use Rattle.std.proofs.Common.{◌≡◌, ◌∙◌, ℕ, ◌<◌, Bool, true, false, ◌||◌, List, [], ◌∷◌, ◌++◌, length, refl, sym, ap, subst, arith}
+use Rattle.std.proofs.Common.{◌≡◌, ◌∙◌, ℕ, ◌<◌, Bool, false, List, [], ◌∷◌, ◌++◌, length, refl, sym, ap, subst, arith}
 use Rattle.std.specs.Prelude.{fold, ⊤}
 use Rattle.trace_model.specs.Calls.{Call, Begun, Number, Bytes, Nested, Ended, GivenUp, Finished, Flushed}
 use Rattle.trace_model.specs.Encoding.{number_field, bytes_field}
@@ -73,7 +73,3 @@ open_all (call ∷ calls) account h = open_all calls (noted account call) (open_
 
 pub newest_open : (calls : List Call) (packet : Packet) (older : List Packet) → (account_of calls).packets ≡ packet ∷ older → 0 < length packet.text.levels
 newest_open calls packet older newest = subst NewestOpen newest (open_all calls nothing_yet tt)
-
-pub or_true : (b : Bool) → (b || true) ≡ true
-or_true true = refl
-or_true false = refl

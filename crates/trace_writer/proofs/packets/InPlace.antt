@@ -5,7 +5,7 @@ use Rattle.std.specs.Prelude.{vec_len}
 use Rattle.std.specs.List.{repeat}
 use Rattle.std.proofs.lemmas.Grind.{common_steps}
 use Rattle.std.proofs.lemmas.Bool.{true≢false}
-use Rattle.std.proofs.lemmas.List.{take-append-drop, length-take, take_all}
+use Rattle.std.proofs.lemmas.List.{take-append-drop, length-take, take_all, drop-drop}
 use Rattle.trace_model.specs.Calls.{Call, Nested}
 use Rattle.trace_model.specs.Encoding.{nested_tag}
 use Rattle.trace_model.specs.Images.{with_bytes}
@@ -37,9 +37,6 @@ use Rattle.trace_writer.proofs.packets.RunOn.{inside_seen}
 
 -- Bytes behind bytes
 
-drop_more : (n m : ℕ) (xs : List ℕ) → drop m (drop n xs) ≡ drop (n + m) xs
-drop_more n m xs = grind (arith, common_steps)
-
 pub with_bytes_both : (old one two : List ℕ) (at : ℕ) → at + length one + length two ≤ length old
     → with_bytes (with_bytes old at one) (at + length one) two ≡ with_bytes old at (one ++ two)
 with_bytes_both old one two at fits =
@@ -52,7 +49,7 @@ with_bytes_both old one two at fits =
     (ap (λ (xs : List ℕ). front ++ xs) (sym (take-append-drop (length two) rest)) ∙ sym (append_assoc front (take (length two) rest) (drop (length two) rest)))
     ∙ ap (λ (n : ℕ). with_bytes (front ++ take (length two) rest ++ drop (length two) rest) n two) place
     ∙ with_bytes_mid front (take (length two) rest) (drop (length two) rest) two long
-    ∙ ap (λ (xs : List ℕ). front ++ two ++ xs) (drop_more (at + length one) (length two) old ∙ ap (λ (n : ℕ). drop n old) more)
+    ∙ ap (λ (xs : List ℕ). front ++ two ++ xs) (drop-drop (length two) (at + length one) old ∙ ap (λ (n : ℕ). drop n old) more)
     ∙ ap (λ (xs : List ℕ). xs ++ drop (at + length (one ++ two)) old) (append_assoc (take at old) one two)
 
 same_both : (old mid new : OpenFragment) → IsSameChunk old mid → IsSameChunk mid new → IsSameChunk old new

@@ -1,5 +1,6 @@
 -- Which chunk a writer holds, by the view of its seat, and the calls by which it asks for none.
 use Rattle.std.proofs.Common.{◌≡◌, ◌∙◌, ℕ, ◌<◌, ◌||◌, Bool, true, false, not, List, [], ◌∷◌, ◌++◌, Option, refl, sym, ap, subst, true≢false}
+use Rattle.std.proofs.Math.Bool.{or-false}
 use Rattle.trace_model.specs.Calls.{Ended, Finished, Flushed}
 use Rattle.trace_model.specs.Packets.{Packet, Account, account_of, packets_of, on_newest, finished_packet, newest_is_lost, is_lost, is_writing}
 use Rattle.commit_body.specs.Pending.{Pending}
@@ -50,16 +51,12 @@ unflushed_is site account view pending packet (Writing fragment) agrees inside g
 unflushed_is site account view pending packet (Dropping next_id) agrees inside goes = agrees.1.unflushed
 unflushed_is site account view pending packet (Stalled next_id) agrees inside goes = absurd (true≢false goes)
 
-or_false : (b : Bool) → (b || false) ≡ b
-or_false true = refl
-or_false false = refl
-
 finished_holds : (packets : List Packet) (flushed empty : Bool) → flushed ≡ false → is_writing packets ≡ true
     → empty ≡ newest_is_lost (on_newest finished_packet (record { packets = packets; flushed = flushed })).packets
     → not empty ≡ holds_newest (on_newest finished_packet (record { packets = packets; flushed = flushed }))
 finished_holds [] flushed empty none writes is = absurd (true≢false (sym writes))
 finished_holds (packet ∷ older) flushed empty none writes is =
-    ap not (is ∙ sym (or_false (is_lost packet)) ∙ ap (λ (b : Bool). is_lost packet || b) (sym none))
+    ap not (is ∙ sym (or-false (is_lost packet)) ∙ ap (λ (b : Bool). is_lost packet || b) (sym none))
 
 flushed_holds : (account : Account) → holds_newest (record account { flushed = true }) ≡ false
 flushed_holds account = by account.packets

@@ -1,7 +1,8 @@
+use Rattle.std.proofs.lemmas.Bool.{or_right}
 use Rattle.std.proofs.Common.{◌≡◌, refl, ◌==◌, ◌||◌, Bool, true, sym, ap, ap₂, ◌∙◌, eq-eqb, ne_eqb}
 use Rattle.trace_model.specs.Buffers.{Buffer}
 use Rattle.trace_model.specs.Sequences.{sequence_in}
-use Rattle.trace_buffer.proofs.OutcomeLemmas.{no_new_is, no_new, either, part_far, part_placed}
+use Rattle.trace_buffer.proofs.OutcomeLemmas.{no_new_is, no_new, part_far, part_placed}
 use Rattle.trace_buffer.proofs.RowLemmas.{row_of}
 use Rattle.trace_buffer.proofs.buffer.TraceBuffer.partial_outcome.Goals as goal
 use Rattle.trace_buffer.proofs.buffer.TraceBuffer.partial_outcome.Goals.{then-has_arrived-via-then-has_arrived, then-has_arrived-via-else-has_arrived+then-has_as_many, then-has_arrived-via-else-has_arrived+else-has_as_many+then-unread_of-eq0}
@@ -21,10 +22,10 @@ returns-then-has_arrived c =
           ∙ one c.has_arrived.result _ w.if-has_arrived.true
       | then-has_arrived-via-else-has_arrived+then-has_as_many w ↦
           sym (no_new_is c.args.self.now c.args.sequence c.args.chunk_id c.from.result c.args.count c.index-row.result.now c.has_arrived.result w.has_as_many.result _ row c.from.ensures c.has_arrived.ensures w.has_as_many.ensures refl)
-          ∙ either c.has_arrived.result _ (one w.has_as_many.result _ w.if-has_as_many.true)
+          ∙ or_right c.has_arrived.result _ (one w.has_as_many.result _ w.if-has_as_many.true)
       | then-has_arrived-via-else-has_arrived+else-has_as_many+then-unread_of-eq0 w ↦
           sym (no_new_is c.args.self.now c.args.sequence c.args.chunk_id c.from.result c.args.count c.index-row.result.now c.has_arrived.result w.has_as_many.result (w.unread_of.result == 0) row c.from.ensures c.has_arrived.ensures w.has_as_many.ensures (ap (λ n. n == 0) w.unread_of.ensures))
-          ∙ either c.has_arrived.result _ (either w.has_as_many.result _ (eq-eqb w.unread_of.result 0 w.if-unread_of-eq0.true))
+          ∙ or_right c.has_arrived.result _ (or_right w.has_as_many.result _ (eq-eqb w.unread_of.result 0 w.if-unread_of-eq0.true))
     ])
 
 pub returns-then-is_too_far : goal.returns-then-is_too_far
