@@ -75,6 +75,11 @@ at_more [] y x (suc i) at = absurd (some-ne-none x (sym at))
 at_more (z ∷ zs) y x zero at = inl at
 at_more (z ∷ zs) y x (suc i) at = ⊎_elim (λ old. inl old) (λ new. inr (ap suc new.0, new.1)) (at_more zs y x i at)
 
+-- the first one behind a list
+pub at_seam : {A : Type 0} (xs ys : List A) (x : A) → At (xs ++ x ∷ ys) (length xs) x
+at_seam [] ys x = refl
+at_seam (z ∷ xs) ys x = at_seam xs ys x
+
 -- a place that has an element is inside the list
 pub at_inside : {A : Type 0} (xs : List A) (x : A) (i : ℕ) → At xs i x → i < length xs
 at_inside [] x i at = absurd (some-ne-none x (sym at))

@@ -18,10 +18,10 @@ size_at_same b c at (suc n) same =
 pub one_byte : (b : ℕ → ℕ) (at : ℕ) → b at < 128 → size_bytes b at ≡ 1
 one_byte b at first = grind (arith, nat_tests)
 
-two_bytes : (b : ℕ → ℕ) (at : ℕ) → 128 ≤ b at → b (at + 1) < 128 → size_bytes b at ≡ 2
+pub two_bytes : (b : ℕ → ℕ) (at : ℕ) → 128 ≤ b at → b (at + 1) < 128 → size_bytes b at ≡ 2
 two_bytes b at first second = grind (arith, nat_tests)
 
-three_bytes : (b : ℕ → ℕ) (at : ℕ) → 128 ≤ b at → 128 ≤ b (at + 1) → b (at + 2) < 128 → size_bytes b at ≡ 3
+pub three_bytes : (b : ℕ → ℕ) (at : ℕ) → 128 ≤ b at → 128 ≤ b (at + 1) → b (at + 2) < 128 → size_bytes b at ≡ 3
 three_bytes b at first second third = grind (arith, nat_tests)
 
 pub four_bytes : (b : ℕ → ℕ) (at : ℕ) → 128 ≤ b at → 128 ≤ b (at + 1) → 128 ≤ b (at + 2) → size_bytes b at ≡ 4

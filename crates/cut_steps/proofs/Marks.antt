@@ -1,6 +1,6 @@
 -- Which patches pages bring, which of them are the last of their chunks, and which pages await patches, as pages and
 -- patches are added.
-use Rattle.std.proofs.Common.{◌≡◌, ◌∙◌, ℕ, zero, suc, ◌+◌, ◌<◌, ◌≤◌, Bool, true, false, not, ◌&&◌, ◌||◌, cond, List, [], ◌∷◌, ◌++◌, length, map, refl, sym, ap, subst, arith, Some, None, Option}
+use Rattle.std.proofs.Common.{◌≡◌, ◌∙◌, ℕ, suc, ◌+◌, ◌<◌, ◌≤◌, Bool, true, false, not, ◌&&◌, ◌||◌, cond, List, [], ◌∷◌, ◌++◌, length, map, refl, sym, ap, subst, arith, Some, None, Option}
 use Rattle.std.proofs.Math.Bool.{or_assoc}
 use Rattle.std.specs.Prelude.{◌==◌, IsTrue, filter, slice_get}
 use Rattle.std.specs.List.{list_all}
@@ -9,6 +9,7 @@ use Rattle.std.proofs.lemmas.List.Folds.{list_any-append, list_all-append}
 use Rattle.std.proofs.lemmas.List.Concat.{flat_map-append}
 use Rattle.std.proofs.lemmas.List.{append-nil}
 use Rattle.std.proofs.lemmas.Bool.{eq-eqb, ne_eqb, and_parts, and_from, false≢true}
+use Rattle.trace_base.proofs.Lists.{get_more}
 use Rattle.trace_model.specs.Images.{Patch, Fragment, last_holds}
 use Rattle.trace_model.specs.Pages.{Page, patches_of, chunk_of}
 use Rattle.trace_model.specs.Sequences.{is_among}
@@ -178,15 +179,10 @@ placed_in-some : (page : Option Page) (patch : Patch) → is_placed_in page patc
 placed_in-some None patch placed = absurd (false≢true placed)
 placed_in-some (Some page) patch placed = (page, refl)
 
-pub slice_get-more : (pages more : List Page) (n : ℕ) (page : Page) → slice_get pages n ≡ Some page → slice_get (pages ++ more) n ≡ Some page
-slice_get-more [] more n page found = absurd (cc)
-slice_get-more (one ∷ pages) more zero page found = found
-slice_get-more (one ∷ pages) more (suc n) page found = slice_get-more pages more n page found
-
 pub placed-more : (pages more : List Page) (patch : Patch) → IsTrue (is_placed pages patch) → IsTrue (is_placed (pages ++ more) patch)
 placed-more pages more patch placed =
     let stands : (found : Page) × (slice_get pages patch.chunk_id ≡ Some found) = placed_in-some (slice_get pages patch.chunk_id) patch placed in
-    subst (λ (page : Option Page). IsTrue (is_placed_in page patch)) (stands.1 ∙ sym (slice_get-more pages more patch.chunk_id stands.0 stands.1)) placed
+    subst (λ (page : Option Page). IsTrue (is_placed_in page patch)) (stands.1 ∙ sym (get_more pages more patch.chunk_id stands.0 stands.1)) placed
 
 pub all_placed-more : (patches : List Patch) (pages more : List Page) → IsTrue (list_all (is_placed pages) patches) → IsTrue (list_all (is_placed (pages ++ more)) patches)
 all_placed-more [] pages more placed = refl

@@ -2,6 +2,7 @@
 use Rattle.std.proofs.Common.{◌≡◌, ◌∙◌, ℕ, zero, suc, ◌+◌, ◌-◌, ◌≤◌, Bool, true, false, ◌&&◌, List, [], ◌∷◌, ◌++◌, length, refl, sym, ap, subst, arith, Some, Option, inl, inr}
 use Rattle.std.specs.Prelude.{◌==◌, IsTrue, slice_get, nat_le}
 use Rattle.std.proofs.lemmas.Bool.{cases_lt, le-leb, eq-eqb, and_from, or_left, or_right}
+use Rattle.trace_base.proofs.Lists.{get_more, get_seam}
 use Rattle.trace_model.specs.Images.{Patch, Fragment, holds_patch, last_holds}
 use Rattle.trace_model.specs.Pages.{Page, chunk_of, fragments_from}
 use Rattle.trace_model.specs.Sequences.{is_among}
@@ -10,7 +11,7 @@ use Rattle.trace_model.specs.Sent.{AwaitsAre, chunk_at, offset_at, is_placed, is
 use Rattle.cut_steps.specs.RawChains.{offset_behind, piece_behind}
 use Rattle.cut_steps.specs.Pieces.{StandInOnePiece, EndsWith, RunsOnFrom, AllRunOn}
 use Rattle.cut_steps.proofs.Places.{chunk_at-here, chunk_at-behind, offset_at-here, offset_at-behind, stands-here, stands-behind}
-use Rattle.cut_steps.proofs.Marks.{slice_get-more, is_among-append}
+use Rattle.cut_steps.proofs.Marks.{is_among-append}
 
 -- what a page of these awaits
 awaits_at : (pages : List Page) (crossing : List ℕ) (first n : ℕ) (page : Page) → AwaitsAre crossing first pages → slice_get pages n ≡ Some page
@@ -68,11 +69,7 @@ placed_earlier (piece ∷ earlier) pages crossing at patch awaits run stands chu
 
 run_on-more : (pages more : List Page) (piece : Piece) → RunsOnFrom pages piece → RunsOnFrom (pages ++ more) piece
 run_on-more pages more piece runs =
-    record { page = runs.page; stands = slice_get-more pages more piece.at.chunk_id runs.page runs.stands; runs_on = runs.runs_on; last = runs.last }
-
-slice_get-last : (pages : List Page) (page : Page) → slice_get (pages ++ page ∷ []) (length pages) ≡ Some page
-slice_get-last [] page = refl
-slice_get-last (one ∷ pages) page = slice_get-last pages page
+    record { page = runs.page; stands = get_more pages more piece.at.chunk_id runs.page runs.stands; runs_on = runs.runs_on; last = runs.last }
 
 ends_with-more : (fragment : Fragment) (fragments : List Fragment) (last : Fragment) → EndsWith fragments last → EndsWith (fragment ∷ fragments) last
 ends_with-more fragment [] last ends = absurd ends
@@ -92,7 +89,7 @@ pub all_run_on-one : (earlier : List Piece) (pages : List Page) (page : Page) (d
 all_run_on-one [] pages page done now holds runs kept run = (
   record {
     page = page;
-    stands = slice_get-last pages page;
+    stands = get_seam pages [] page;
     runs_on = runs;
     last = subst (λ (fragments : List (List ℕ)). EndsWith (fragments_from 4 page.dropped fragments) (record { bytes = now; dropped = false; offset = offset_behind 4 done })) (sym holds)
         (subst (λ (b : Bool). EndsWith (fragments_from 4 b (done ++ now ∷ [])) (record { bytes = now; dropped = false; offset = offset_behind 4 done })) (sym kept)

@@ -5,6 +5,7 @@ use Rattle.std.proofs.lemmas.Bool.{false≢true, eq-eqb, cases_lt}
 use Rattle.std.proofs.lemmas.List.{length-map}
 use Rattle.std.proofs.lemmas.Option.{slice_get_within, same_Some, none-some}
 use Rattle.trace_base.specs.declared.policy.FullPolicy.{FullPolicy}
+use Rattle.trace_base.proofs.Lists.{get_more}
 use Rattle.trace_model.specs.Calls.{Call, Flushed}
 use Rattle.trace_model.specs.Images.{Chunk, Fragment, Patch}
 use Rattle.trace_model.specs.Packets.{Packet, packets_of, kept_of, emissions_of, AreCalls}
@@ -41,11 +42,6 @@ use Rattle.delivery_laws.proofs.SettledHistory.{AreSent, IsState, settles}
 use Rattle.delivery_laws.proofs.FlushCalls.{newest_ends, closed_before, none_goes_on_behind}
 
 -- ---- pages
-
-get_first : (flushed more : List Page) (i : ℕ) (page : Page) → slice_get flushed i ≡ Some page → slice_get (flushed ++ more) i ≡ Some page
-get_first [] more i page e = absurd (cc)
-get_first (first ∷ flushed) more zero page e = e
-get_first (first ∷ flushed) more (suc i) page e = get_first flushed more i page e
 
 get_there : (pages : List Page) (i : ℕ) → i < length pages → (page : Page) × (slice_get pages i ≡ Some page)
 get_there [] i low = absurd (omega (arith, low))
@@ -314,7 +310,7 @@ module _ (size : ℕ) (calls : List Call) (pages : List Page) (sequences : List 
   page_then i page low get =
       let there = get_there flushed i low in
       there.1 ∙ ap (λ (p : Page). Some p) (same_Some there.0 page
-      (sym (get_first flushed is.more i there.0 there.1) ∙ sym (ap (λ (ps : List Page). slice_get ps i) is.pages_are) ∙ get))
+      (sym (get_more flushed is.more i there.0 there.1) ∙ sym (ap (λ (ps : List Page). slice_get ps i) is.pages_are) ∙ get))
 
   sheet_of_page : (i : ℕ) (sheet : Sheet) → slice_get sheets i ≡ Some sheet → IsSheetOf (patches_of pages) pages 0 i sheet
   sheet_of_page i sheet get = sheet_at (patches_of pages) goes pages 0 i sheet get

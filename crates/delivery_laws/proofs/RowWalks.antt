@@ -4,6 +4,7 @@ use Rattle.std.specs.Prelude.{cond, ◌==◌, slice_get}
 use Rattle.std.proofs.lemmas.Bool.{ne_eqb, cases_lt, and_right}
 use Rattle.std.proofs.Math.Bool.{and-false, and-true}
 use Rattle.std.proofs.lemmas.List.{drop_all}
+use Rattle.trace_base.proofs.Lists.{one_left}
 use Rattle.trace_model.specs.Images.{Chunk, Fragment}
 use Rattle.trace_model.specs.Fading.{ShowFragments}
 use Rattle.trace_model.specs.Row.{Slot, Here, Gone, Never, Link, Gap, Stop, Missing, Partial, Unpatched, place, place_behind, with_piece, is_last, is_part, chunk_links, row_of}
@@ -67,19 +68,6 @@ show_further zero partial awaits fragments written h low = h
 show_further (suc k) partial awaits [] written h low = absurd (omega (arith, low))
 show_further (suc k) partial awaits (f ∷ fs) [] h low = absurd h
 show_further (suc k) partial awaits (f ∷ fs) (w ∷ ws) h low = show_further k partial awaits fs ws h.2 (omega (arith, low))
-
-pub one_left : (k : ℕ) (xs : List Fragment) (x : Fragment) (rest : List Fragment) → drop k xs ≡ x ∷ rest → (drop (suc k) xs ≡ rest) × (k < length xs)
-one_left k [] x rest e = absurd (none k e)
-  where
-    none : (n : ℕ) → drop n [] ≡ x ∷ rest → ⊥
-    none zero e = cc
-    none (suc n) e = cc
-one_left zero (y ∷ ys) x rest e =
-    let same : ys ≡ rest = cc in
-    (same, omega arith)
-one_left (suc k) (y ∷ ys) x rest e =
-    let further = one_left k ys x rest e in
-    (further.0, omega (arith, further.1))
 
 ended : (awaits : Bool) (written : List Fragment) → ShowFragments false awaits [] written → written ≡ []
 ended awaits [] h = refl

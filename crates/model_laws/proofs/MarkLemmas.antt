@@ -2,6 +2,7 @@
 use Rattle.std.proofs.Common.{◌≡◌, ◌∙◌, ℕ, ◌+◌, ◌≤◌, Bool, true, false, not, ◌||◌, List, [], ◌∷◌, ◌++◌, map, length, refl, sym, ap, subst, arith, inl, inr, Some}
 use Rattle.std.specs.Prelude.{cond, ◌⊎◌, ◌==◌, filter, slice_get}
 use Rattle.std.proofs.lemmas.Bool.{cases_eq, eqb-true, eq-eqb, ne_eqb, false≢true}
+use Rattle.trace_base.proofs.Lists.{get_seam}
 use Rattle.trace_model.specs.Counts.{raised}
 use Rattle.trace_model.specs.Images.{Chunk, whole_chunk, complete_chunk, partial_chunk}
 use Rattle.trace_model.specs.Reading.{Reading, Fragments, Unreadable, reading_of}
@@ -255,10 +256,6 @@ delivered_all (event ∷ events) q b known =
 
 -- Places in what is delivered
 
-get_behind : (xs : List Delivery) (y : Delivery) (ys : List Delivery) → slice_get (xs ++ y ∷ ys) (length xs) ≡ Some y
-get_behind [] y ys = refl
-get_behind (x ∷ xs) y ys = get_behind xs y ys
-
 pub marks_tell_what_is_missing : MarksTellWhatIsMissing
 marks_tell_what_is_missing room policy sequences sequence size events known start =
     let b : Buffer = empty_buffer room policy sequences in
@@ -274,6 +271,6 @@ marks_tell_what_is_missing room policy sequences sequence size events known star
           ap (λ (ds : List Delivery). slice_get ds (count_of delivers before))
           (all ∙ ap (delivered_of true) split ∙ delivered-append before (link ∷ behind) true ∙ ap (λ (ds : List Delivery). first ++ ds) one)
           ∙ ap (slice_get (first ++ record { body = link_bytes link; marked = missing_after true before } ∷ delivered_of false behind)) (sym (delivered-long before true))
-          ∙ get_behind first (record { body = link_bytes link; marked = missing_after true before }) (delivered_of false behind)
+          ∙ get_seam first (delivered_of false behind) (record { body = link_bytes link; marked = missing_after true before })
           ∙ ap (λ (m : Bool). Some (record { body = link_bytes link; marked = m })) (missing_is before);
     }

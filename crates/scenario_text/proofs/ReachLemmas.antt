@@ -7,6 +7,7 @@ use Rattle.std.proofs.lemmas.List.{length-append, length-set}
 use Rattle.std.proofs.lemmas.List.Folds.{list_any-append}
 use Rattle.std.proofs.lemmas.Option.{slice_get_within}
 use Rattle.std.proofs.lemmas.Bool.{false_from_ne_true}
+use Rattle.trace_base.proofs.Lists.{get_more}
 use Rattle.trace_base.specs.declared.policy.WriterSpec.{WriterSpec}
 use Rattle.field_tree.specs.Nodes.{Shown}
 use Rattle.scenario_text.specs.declared.numeral.Numeral.{Numeral}
@@ -33,7 +34,7 @@ use Rattle.scenario_text.specs.Accepted.{closes, is_closed_by}
 use Rattle.scenario_text.specs.Reach.{NamesWriter, NamesProducer, ReadsBuffer, IsInReach, AreInReach}
 use Rattle.scenario_text.proofs.SoundLemmas.{both}
 use Rattle.scenario_text.proofs.FrontLemmas.{IsPassed, passed, not_false, within_least, within_most}
-use Rattle.scenario_text.proofs.LimitLemmas.{named, get_more}
+use Rattle.scenario_text.proofs.LimitLemmas.{named}
 use Rattle.scenario_text.proofs.StateLemmas.{first_none, scenario_holds}
 
 -- Of each producer that a line has closed the state says so, and what the lines name is there.

@@ -1,6 +1,7 @@
 -- The row of a sequence at a place, by what there is of the chunk there.
-use Rattle.std.proofs.Common.{◌≡◌, ℕ, zero, suc, ◌-◌, ◌<◌, ◌≤◌, ◌==◌, ◌&&◌, ◌||◌, not, max, Bool, true, false, cond, List, [], ◌∷◌, length, drop, Option, Some, None, is_some, refl, sym, ap, ◌∙◌, arith}
+use Rattle.std.proofs.Common.{◌≡◌, ℕ, suc, ◌-◌, ◌<◌, ◌≤◌, ◌==◌, ◌&&◌, ◌||◌, not, max, Bool, true, false, cond, List, [], ◌∷◌, length, drop, Option, Some, None, is_some, refl, sym, ap, ◌∙◌, arith}
 use Rattle.std.proofs.lemmas.List.{drop_all}
+use Rattle.trace_base.proofs.Lists.{one_left}
 use Rattle.trace_model.specs.Buffers.{Buffer, BufferRecord, live_at}
 use Rattle.trace_model.specs.Images.{Chunk, Fragment}
 use Rattle.trace_model.specs.Row.{Slot, Here, Gone, Never, Link, Gap, Stop, Missing, Partial, Unpatched, place, place_behind, is_last, is_part, with_piece, chunk_links, row_of, slot_from, slot_of, slots_of, horizon}
@@ -34,19 +35,6 @@ module _ (b : Buffer) (s : Sequence) (i k : ℕ) where
   pub row_here : (chunk : Chunk) → slot_of b s i ≡ Here chunk → i < horizon s
       → row_at b s (place i k) ≡ chunk_links s.closed i chunk k (drop k chunk.fragments) (rest_of chunk k)
   row_here chunk is before = row_slot (Here chunk) is before
-
-one_left : (k : ℕ) (fragments : List Fragment) (f : Fragment) (rest : List Fragment) → drop k fragments ≡ f ∷ rest → (drop (suc k) fragments ≡ rest) × (k < length fragments)
-one_left k [] f rest e = absurd (none k e)
-  where
-    none : (n : ℕ) → drop n [] ≡ f ∷ rest → ⊥
-    none zero e = cc
-    none (suc n) e = cc
-one_left zero (g ∷ gs) f rest e =
-    let same : gs ≡ rest = cc in
-    (same, omega arith)
-one_left (suc k) (g ∷ gs) f rest e =
-    let further = one_left k gs f rest e in
-    (further.0, omega (arith, further.1))
 
 -- behind all fragments that are there
 

@@ -1,7 +1,8 @@
 -- Notes that lead from the beginning to a stage are in order, as an account asks it.
 use Rattle.std.proofs.Common.{◌≡◌, ◌∙◌, ℕ, suc, ◌+◌, ◌-◌, Bool, true, false, ◌&&◌, List, [], ◌∷◌, length, Option, Some, None, refl, ap, subst, arith}
-use Rattle.std.specs.Prelude.{◌==◌, cond, MatchBool}
+use Rattle.std.specs.Prelude.{◌==◌, cond}
 use Rattle.std.proofs.lemmas.Bool.{eqb-true, and_parts, false≢true}
+use Rattle.trace_base.proofs.Choices.{match_map}
 use Rattle.trace_model.specs.Images.{Image, Patch}
 use Rattle.chunk_plain.specs.Views.{At, BegunChunk, Held, Completed, Found, Look, Noted, Arrive, Partial, Patched, Closed, Read, Commit, ServiceView}
 use Rattle.chunk_plain.specs.World.{World, writer}
@@ -68,10 +69,6 @@ scraped world place q id count images place_is owned has part =
           there = image.1;
           front = finds_are_fronts.held about chunk part.found draft image.0 is has_it ((owned.counts place).drafts id chunk draft at) image.2 image.3 part.some;
         }
-
-match_map : (b : Bool) (P Q R T : Type 0) → MatchBool b P Q → (P → R) → (Q → T) → MatchBool b R T
-match_map true P Q R T h same apart = same h
-match_map false P Q R T h same apart = apart h
 
 -- where no patches are due, none are due
 none_due : (images : List Image) (view : ServiceView) (q come : ℕ) (closed : Bool) (due : List Patch) (notes : List Noted) → due ≡ [] → InOrder images view q come closed due notes

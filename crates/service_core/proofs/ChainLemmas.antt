@@ -1,22 +1,15 @@
 -- Looks and takings one after another.
 use Rattle.std.proofs.Common.{◌≡◌, ◌≢◌, ◌∙◌, ℕ, suc, ◌+◌, ◌<◌, ◌≤◌, ◌⊎◌, Bool, true, false, List, [], ◌∷◌, ◌++◌, length, set, take, refl, sym, ap, subst, arith, append-nil, append_assoc, length-append, length-take-le, inl, inr}
-use Rattle.std.specs.Prelude.{slice_get, Some, cond, ◌==◌}
-use Rattle.std.proofs.lemmas.List.{set-set, set-get_or, get_or-append-add, take_more}
-use Rattle.std.proofs.lemmas.Option.{slice_get_within, slice_get-get_or, get_or_from_slice_get}
+use Rattle.std.specs.Prelude.{cond, ◌==◌}
+use Rattle.std.proofs.lemmas.List.{set-set, set-get_or, take_more}
 use Rattle.std.proofs.lemmas.Bool.{cases_eq, cases_lt, eq-eqb, ne_eqb}
+use Rattle.trace_base.proofs.Lists.{get_more, get_behind}
 use Rattle.trace_base.specs.declared.policy.WriterSpec.{WriterSpec}
 use Rattle.chunk_plain.specs.Setup.{Setup, range_of, producer_of, id_at}
 use Rattle.chunk_plain.specs.Views.{Content, Look, Taken, none_taken, Noted, Arrive, ServiceView, taken_of}
 use Rattle.service_core.specs.Agreement.{spec_at, no_writer}
 use Rattle.service_core.specs.Taking.{patched_where, takings, looked, taken_more, took, IsOther, ShowsOther, SeesOther, TakesOf, Takes, places_of, IsRange, TakesNext, SeesNone, SeesNoneOf, TakesSome}
-use Rattle.service_core.proofs.HistoryLemmas.{get_more}
 use Rattle.service_core.proofs.TakingLemmas.{taken_here}
-
-pub get_behind : {T : Type 0} → (xs ys : List T) (n : ℕ) (y : T) → slice_get ys n ≡ Some y → slice_get (xs ++ ys) (length xs + n) ≡ Some y
-get_behind xs ys n y is =
-    let low = slice_get_within ys n y is in
-    let long = length-append xs ys in
-    slice_get-get_or (xs ++ ys) (length xs + n) y (omega (arith, low, long)) ∙ ap (λ x. Some x) (get_or-append-add xs ys n y ∙ get_or_from_slice_get ys n y y is)
 
 pub shows_left : (setup : Setup) (place count chunk : ℕ) (looks more : List Look) → ShowsOther setup place count chunk looks → ShowsOther setup place count chunk (looks ++ more)
 shows_left setup place count chunk looks more s =

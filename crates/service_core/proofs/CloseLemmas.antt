@@ -1,12 +1,11 @@
 -- What the close of a sequence leaves of the others.
-use Rattle.std.proofs.Common.{◌≡◌, ◌≢◌, ◌∙◌, ℕ, ◌+◌, ◌-◌, ◌<◌, ◌⊎◌, Bool, true, false, List, [], ◌∷◌, ◌++◌, length, refl, sym, ap, subst, arith, inl, inr, append_assoc, length-append}
-use Rattle.std.specs.Prelude.{cond, slice_get, Some}
-use Rattle.std.proofs.lemmas.Option.{slice_get-get_or}
-use Rattle.std.proofs.Math.Seq.{get_or-append_seam}
+use Rattle.std.proofs.Common.{◌≡◌, ◌≢◌, ◌∙◌, ℕ, ◌+◌, ◌-◌, ◌<◌, ◌⊎◌, Bool, true, false, List, [], ◌∷◌, ◌++◌, length, refl, sym, ap, subst, arith, inl, inr, append_assoc}
+use Rattle.std.specs.Prelude.{cond}
 use Rattle.std.specs.List.{flat_map}
 use Rattle.std.proofs.lemmas.Grind.{flat_map-append}
 use Rattle.std.proofs.lemmas.Bool.{cases_eq}
 use Rattle.std.proofs.lemmas.List.{map-append}
+use Rattle.trace_base.proofs.Lists.{get_more, get_seam}
 use Rattle.trace_model.specs.Sequences.{Sequence, sequence_in, is_known}
 use Rattle.trace_model.specs.Buffers.{Buffer}
 use Rattle.trace_model.specs.Patches.{closed_sequence, closed_buffer}
@@ -25,7 +24,7 @@ use Rattle.service_core.specs.Agreement.{IsRouted, AreKnownNotes, NoneCommitted,
 use Rattle.service_core.specs.Order.{LeadTo, beginning}
 use Rattle.service_core.specs.Taking.{noted_more}
 use Rattle.service_core.specs.Closing.{ClosesOne, ClosesSome, closes_of}
-use Rattle.service_core.proofs.HistoryLemmas.{Grows, all_known_grow, known_append, history_stays, get_more}
+use Rattle.service_core.proofs.HistoryLemmas.{Grows, all_known_grow, known_append, history_stays}
 use Rattle.service_core.proofs.RouteLemmas.{at_after, buffers_append}
 use Rattle.service_core.proofs.RoutedLemmas.{stands, closed_by_none}
 use Rattle.service_core.proofs.AgreeLemmas.{first_stays, order_there}
@@ -155,12 +154,6 @@ committed_grows : (view : ServiceView) (committed : Committed) → Grows view (n
 committed_grows view committed =
     record { contents = λ s i content is. is; looks = λ p i n found is. is; commits = λ k one is. get_more view.commits (committed ∷ []) k one is }
 
-last_commit : (view : ServiceView) (committed : Committed) → slice_get (view.commits ++ committed ∷ []) (length view.commits) ≡ Some committed
-last_commit view committed =
-    let long = length-append view.commits (committed ∷ []) in
-    slice_get-get_or (view.commits ++ committed ∷ []) (length view.commits) committed (omega (arith, long))
-    ∙ ap (λ (c : Committed). Some c) (get_or-append_seam view.commits committed [] committed)
-
 pub agrees_committed : {S : Type 0} → (setup : Setup) (old : ServiceView) (core done : ServiceCore S) (committed : Committed) → ServiceAgrees setup old core → KeepsFields core done
     → done.buffers.items ≡ buffers_after core.buffers.items (model.Committed committed.image committed.patches ∷ []) → done.taken.items ≡ core.taken.items
     → ServiceAgrees setup (notes_commit old committed) done
@@ -169,7 +162,7 @@ agrees_committed setup old core done committed agrees keeps buffers_are taken_is
     let grows = committed_grows old committed in
     let first : List Buffer = first_of setup core in
     let notes : List Noted = Commit (length old.commits) ∷ [] in
-    let event : flat_map (happened new) notes ≡ model.Committed committed.image committed.patches ∷ [] = ap (λ o. commit_of o ++ []) (last_commit old committed) in
+    let event : flat_map (happened new) notes ≡ model.Committed committed.image committed.patches ∷ [] = ap (λ o. commit_of o ++ []) (get_seam old.commits [] committed) in
     record {
       layout = keeps.layout ∙ agrees.layout;
       writers = keeps.writers ∙ agrees.writers;
@@ -185,7 +178,7 @@ agrees_committed setup old core done committed agrees keeps buffers_are taken_is
           ∙ ap (λ (bs : List Buffer). buffers_after bs (history_of new)) (sym (first_stays setup core done keeps));
       session = ap (λ (s : SessionValue). s.writers) keeps.session ∙ agrees.session;
       none_read = agrees.none_read;
-      known = known_append new old.events notes (all_known_grow old new old.events grows agrees.known) ((committed, last_commit old committed), tt);
+      known = known_append new old.events notes (all_known_grow old new old.events grows agrees.known) ((committed, get_seam old.commits [] committed), tt);
       order = λ place inside none.
           order_there old new place notes (is_closed setup core place) (is_closed setup done place) grows agrees.known refl refl
           (sym (closed_by_none setup old core done place (model.Committed committed.image committed.patches ∷ []) agrees buffers_are (refl, tt) inside))

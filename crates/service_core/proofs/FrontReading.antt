@@ -10,7 +10,7 @@ use Rattle.trace_model.specs.Fragments.{drop_size}
 use Rattle.trace_model.specs.Images.{Fragment}
 use Rattle.trace_model.specs.Reading.{Reading, Size, size_of, fragment_of, reading_from, reading_of, read_on, behind, fragment_end}
 use Rattle.chunk_plain.specs.Payload.{byte_in, size_at, size_bytes, IsFragment, start_of, sealed_to, HasFragments}
-use Rattle.chunk_plain.proofs.Sealing.{one_byte, four_bytes}
+use Rattle.chunk_plain.proofs.Sealing.{one_byte, two_bytes, three_bytes, four_bytes}
 
 -- The size in front
 
@@ -26,12 +26,6 @@ size_three x y z rest first second third = grind (arith, nat_tests)
 size_four : (x y z w : ℕ) (rest : List ℕ) → 128 ≤ x → 128 ≤ y → 128 ≤ z → w < 128
     → size_of 4 (x ∷ y ∷ z ∷ w ∷ rest) ≡ Some (record { value = x % 128 + 128 * (y % 128 + 128 * (z % 128 + 128 * w)); width = 4 })
 size_four x y z w rest first second third fourth = grind (arith, nat_tests)
-
-two_bytes : (b : ℕ → ℕ) (at : ℕ) → 128 ≤ b at → b (at + 1) < 128 → size_bytes b at ≡ 2
-two_bytes b at first second = grind (arith, nat_tests)
-
-three_bytes : (b : ℕ → ℕ) (at : ℕ) → 128 ≤ b at → 128 ≤ b (at + 1) → b (at + 2) < 128 → size_bytes b at ≡ 3
-three_bytes b at first second third = grind (arith, nat_tests)
 
 -- a size as it is read, and its place
 abbrev pub size_here : (ℕ → ℕ) → ℕ → Size
@@ -194,16 +188,3 @@ front_reads whole tail ends reads long small = step (length ends) refl
     step : (n : ℕ) → n ≡ length ends → reading_of n (whole ++ tail) ≡ reading_of n whole
     step zero is = refl
     step (suc more) is = front_from whole tail ends (record { reads = reads; long = long; small = small }) (suc more) 0 0 0 (omega (arith, is))
-
--- the rest behind bytes that a list begins with
-pub record Begins (front whole : List ℕ) : Type 0 where
-  pub rest : List ℕ
-  pub is : whole ≡ front ++ rest
-
-pub begins : (front whole : List ℕ) → length front ≤ length whole → ((j : ℕ) → j < length front → byte_in whole j ≡ byte_in front j) → Begins front whole
-begins [] whole short same = record { rest = whole; is = refl }
-begins (x ∷ front) [] short same = absurd (omega (arith, short))
-begins (x ∷ front) (y ∷ whole) short same =
-    let more = begins front whole (omega (arith, short)) (λ j low. same (suc j) (omega (arith, low))) in
-    let head : y ≡ x = same 0 (omega arith) in
-    record { rest = more.rest; is = ap (λ (z : ℕ). z ∷ whole) head ∙ ap (λ (l : List ℕ). x ∷ l) more.is }

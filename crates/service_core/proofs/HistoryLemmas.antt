@@ -1,9 +1,7 @@
 -- A view that grows keeps what was noted: each note is the event that it was.
-use Rattle.std.proofs.Common.{◌≡◌, ◌∙◌, ℕ, ◌-◌, Bool, true, false, List, [], ◌∷◌, ◌++◌, Some, refl, sym, ap, arith, length-append}
+use Rattle.std.proofs.Common.{◌≡◌, ◌∙◌, ℕ, ◌-◌, Bool, true, false, List, [], ◌∷◌, ◌++◌, Some, refl, sym, ap}
 use Rattle.std.specs.Prelude.{cond, slice_get}
 use Rattle.std.specs.List.{flat_map}
-use Rattle.std.proofs.lemmas.Option.{slice_get_within, slice_get-get_or, get_or_from_slice_get}
-use Rattle.std.proofs.lemmas.List.{get_or_append_left}
 use Rattle.trace_model.specs.History as model
 use Rattle.chunk_plain.specs.Views.{Content, Found, Look, Noted, Arrive, Partial, Patched, Closed, Read, Commit, Committed, ServiceView}
 use Rattle.chunk_plain.specs.Histories.{content_at, found_among, is_scraped, arrival_of, part_of, patches_of, commit_of, happened}
@@ -55,9 +53,3 @@ found_more place id count (look ∷ looks) more found is = step (is_scraped plac
         → cond b look.found (found_among place id count (looks ++ more)) ≡ Some found
     step true h k = h
     step false h k = k h
-
-pub get_more : {T : Type 0} → (xs more : List T) (i : ℕ) (x : T) → slice_get xs i ≡ Some x → slice_get (xs ++ more) i ≡ Some x
-get_more xs more i x is =
-    let low = slice_get_within xs i x is in
-    let long = length-append xs more in
-    slice_get-get_or (xs ++ more) i x (omega (arith, low, long)) ∙ ap (λ y. Some y) (get_or_append_left xs more x i low ∙ get_or_from_slice_get xs i x x is)

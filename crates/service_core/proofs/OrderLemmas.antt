@@ -1,7 +1,8 @@
 -- Notes that are in order stay so while the view grows, and go on at the end.
 use Rattle.std.proofs.Common.{◌≡◌, ◌≢◌, ℕ, suc, ◌-◌, Bool, true, false, List, [], ◌∷◌, ◌++◌, refl, sym, subst}
-use Rattle.std.specs.Prelude.{◌==◌, slice_get, Some, MatchBool}
+use Rattle.std.specs.Prelude.{◌==◌, slice_get, Some}
 use Rattle.std.proofs.lemmas.Bool.{eq-eqb, ne_eqb}
+use Rattle.trace_base.proofs.Choices.{match_map, match_true, match_false}
 use Rattle.trace_model.specs.Images.{Patch}
 use Rattle.chunk_plain.specs.Views.{Content, Noted, Arrive, Partial, Patched, Closed, Read, Commit, Committed, ServiceView}
 use Rattle.chunk_plain.specs.Histories.{content_at}
@@ -10,16 +11,6 @@ use Rattle.service_core.specs.Agreement.{AreKnownNotes}
 use Rattle.service_core.specs.Taking.{patched_where, takings}
 use Rattle.service_core.specs.Order.{Stage, IsFoundPart, LeadTo}
 use Rattle.service_core.proofs.HistoryLemmas.{Grows}
-
-pub match_map : (b : Bool) (P Q R T : Type 0) → MatchBool b P Q → (P → R) → (Q → T) → MatchBool b R T
-match_map true P Q R T h same apart = same h
-match_map false P Q R T h same apart = apart h
-
-pub match_true : (b : Bool) (P Q : Type 0) → b ≡ true → P → MatchBool b P Q
-match_true b P Q is h = subst (λ (x : Bool). MatchBool x P Q) (sym is) h
-
-pub match_false : (b : Bool) (P Q : Type 0) → b ≡ false → Q → MatchBool b P Q
-match_false b P Q is h = subst (λ (x : Bool). MatchBool x P Q) (sym is) h
 
 -- one list of notes behind another
 pub lead_both : (view : ServiceView) (q : ℕ) (first mid last : Stage) (xs ys : List Noted) → LeadTo view q first xs mid → LeadTo view q mid ys last → LeadTo view q first (xs ++ ys) last

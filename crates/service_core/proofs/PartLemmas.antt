@@ -1,6 +1,7 @@
 -- Looks for parts of chunks, one after another.
 use Rattle.std.proofs.Common.{◌≡◌, ◌∙◌, ℕ, ◌+◌, ◌%◌, ◌<◌, ◌≤◌, ◌⊎◌, List, [], ◌∷◌, ◌++◌, length, refl, sym, ap, subst, arith, inl, inr, append_assoc, append-nil}
 use Rattle.std.proofs.lemmas.Bool.{cases_eq}
+use Rattle.trace_base.proofs.Lists.{get_more, get_behind}
 use Rattle.page_geometry.specs.declared.chunk_state.ChunkState.TheVariants.{BeingWritten}
 use Rattle.page_geometry.specs.PageBits.{HasState}
 use Rattle.page_geometry.specs.Header.{packed}
@@ -9,18 +10,13 @@ use Rattle.chunk_plain.specs.Setup.{Setup, spot, range_of, producer_of, id_at}
 use Rattle.chunk_plain.specs.Views.{At, Head, Look, Noted, Partial, ServiceView, taken_of}
 use Rattle.chunk_plain.specs.Steps.{taken_counts}
 use Rattle.chunk_plain.specs.Words.{LooksAt}
+use Rattle.chunk_plain.proofs.Lists.{at_seam}
 use Rattle.service_core.specs.Order.{IsFoundPart}
 use Rattle.service_core.specs.Taking.{looked, noted_more, IsRange}
 use Rattle.service_core.specs.Scraping.{IsNoPart, SeesNoPart, ShowsNoPart, TakesPart, TakesNoPart, TakesNoPartOf, ScrapesOne, ScrapesEach, IsPart, PartLooked}
-use Rattle.service_core.proofs.HistoryLemmas.{get_more}
-use Rattle.service_core.proofs.ChainLemmas.{get_behind}
 use Rattle.service_core.proofs.TakingLemmas.{counts_at}
 
 -- What one look found
-
-at_end : {A : Type 0} (xs : List A) (x : A) → At (xs ++ x ∷ []) (length xs) x
-at_end [] x = refl
-at_end (y ∷ xs) x = at_end xs x
 
 pub part_looked : (setup : Setup) (old new : ServiceView) (place chunk : ℕ) (seen : Seen) (at writer id finished : ℕ) → LooksAt setup chunk seen.word.0 seen.header old new
     → at ≡ (spot setup chunk).place → writer ≡ place + 1 → IsPart seen at writer id finished → PartLooked new chunk place id finished seen.header.flags
@@ -37,7 +33,7 @@ part_looked setup old new place chunk seen at writer id finished looks at_is wri
       found = one.0;
       number = length old.looks;
       look = look;
-      at = subst (λ (v : ServiceView). At v.looks (length old.looks) look) (sym looks.view) (at_end old.looks look);
+      at = subst (λ (v : ServiceView). At v.looks (length old.looks) look) (sym looks.view) (at_seam old.looks [] look);
       chunk_is = refl;
       found_is = one.1;
       place_is = omega (arith, place_is, named, writer_is);

@@ -4,6 +4,7 @@ use Rattle.std.specs.Prelude.{cond, ◌==◌}
 use Rattle.std.specs.List.{flat_map}
 use Rattle.std.proofs.lemmas.Bool.{cases_eq, eqb-true, eq-eqb, and_parts, false≢true}
 use mathlib.Core.Option.{some-injective}
+use Rattle.trace_base.proofs.Lists.{begins}
 use Rattle.trace_model.specs.Fragments.{drop_size}
 use Rattle.trace_model.specs.Images.{Image, Fragment, whole_chunk}
 use Rattle.trace_model.specs.Reading.{Reading, Fragments, Unreadable, reading_of}
@@ -29,7 +30,7 @@ use Rattle.service_core.proofs.RouteLemmas.{NoCloses}
 use Rattle.service_core.proofs.RoutedLemmas.{closed_by_none}
 use Rattle.service_core.proofs.OrderLemmas.{lead_part, lead_part_other}
 use Rattle.service_core.proofs.CloseLemmas.{agrees_noted}
-use Rattle.service_core.proofs.FrontReading.{front_reads, begins}
+use Rattle.service_core.proofs.FrontReading.{front_reads}
 
 -- The first look that found so much
 
@@ -120,11 +121,11 @@ same_parts (b ∷ bs) q id one other (Fragments fragments) same =
 loaded_reads : (found : Found) (count : ℕ) (payload : List ℕ) → IsFound found → length found.ends ≡ count → length found.sealed ≤ length payload
     → ((j : ℕ) → j < length found.sealed → byte_in payload j ≡ byte_in found.sealed j) → length payload < drop_size → reading_of count payload ≡ reading_of count found.sealed
 loaded_reads found count payload is count_is long same small =
-    let front = begins found.sealed payload long same in
+    let front = begins 0 found.sealed payload long same in
     let whole = is.whole in
     ap (λ (n : ℕ). reading_of n payload) (sym count_is)
-    ∙ ap (reading_of (length found.ends)) front.is
-    ∙ front_reads found.sealed front.rest found.ends is.sealed.reads (omega (arith, whole)) (omega (arith, long, small))
+    ∙ ap (reading_of (length found.ends)) front.1
+    ∙ front_reads found.sealed front.0 found.ends is.sealed.reads (omega (arith, whole)) (omega (arith, long, small))
     ∙ ap (λ (n : ℕ). reading_of n found.sealed) count_is
 
 no_closes : (image : Image) → NoCloses (partial_arrivals_of image)

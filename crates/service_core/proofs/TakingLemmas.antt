@@ -6,6 +6,7 @@ use Rattle.std.proofs.lemmas.List.{get_or-set_same, get_or-set_other, set-set, g
 use Rattle.std.proofs.Math.Seq.{get_or-append_seam}
 use Rattle.std.proofs.lemmas.Option.{slice_get-get_or}
 use Rattle.std.proofs.lemmas.Bool.{cases_eq, eq-eqb}
+use Rattle.trace_base.proofs.Lists.{get_more}
 use Rattle.page_geometry.specs.Header.{packed}
 use Rattle.chunk_plain.specs.declared.tokens.Taken.{Taken as TakenToken}
 use Rattle.chunk_plain.specs.declared.tokens.NotComplete.{NotComplete}
@@ -15,7 +16,7 @@ use Rattle.chunk_plain.specs.Views.{Content, Look, Taken, none_taken, ServiceVie
 use Rattle.chunk_plain.specs.Steps.{without, taken_counts, looks_at, takes_in, learns, lets_go}
 use Rattle.chunk_plain.specs.Histories.{content_at}
 use Rattle.service_core.specs.Taking.{takings, looked, noted_more, taken_more, took, SeesOther}
-use Rattle.service_core.proofs.HistoryLemmas.{Grows, found_more, get_more}
+use Rattle.service_core.proofs.HistoryLemmas.{Grows, found_more}
 
 -- of this writer, and of each other one
 pub taken_here : (view : ServiceView) (place : ℕ) (looks : List Look) (contents : List Content) → place < length view.taken

@@ -1,9 +1,9 @@
 -- The lines of a workload by turns.
-use Rattle.std.proofs.Common.{◌≡◌, ℕ, zero, suc, ◌+◌, ◌*◌, ◌/◌, ◌%◌, ◌<◌, ◌≤◌, inl, inr, ◌⊎◌, Some, List, [], ◌∷◌, ◌++◌, length, slice_get, length-append, refl, ap, ◌∙◌, arith}
+use Rattle.std.proofs.Common.{◌≡◌, ℕ, zero, suc, ◌+◌, ◌*◌, ◌/◌, ◌%◌, ◌<◌, ◌≤◌, inl, inr, ◌⊎◌, Some, [], ◌∷◌, ◌++◌, length, slice_get, length-append, refl, ap, ◌∙◌, arith}
 use Rattle.std.proofs.Math.Nat.{suc-mul, mul-le-mul_right}
 use Rattle.std.proofs.lemmas.Bool.{cases_lt}
 use Rattle.std.proofs.lemmas.Nat.{div-mul-add, mod-mul-add}
-use Rattle.scenario_text.proofs.LimitLemmas.{get_more}
+use Rattle.trace_base.proofs.Lists.{get_more, get_seam}
 use Rattle.scenario_text.specs.declared.scenario.NumberedLine.{NumberedLine}
 use Rattle.workload_laws.specs.Asked.{line_asked, lines_asked, turn_line}
 use Rattle.workload_laws.specs.WorkloadLaws.{TakesTurns}
@@ -15,12 +15,6 @@ length_lines number writers (suc packet) =
     let before = length_lines number writers packet in
     length-append (lines_asked number writers packet) (line_asked number writers packet ∷ []) ∙ omega arith
 
-get_last : {X : Type 0} (things : List X) (thing : X) (i : ℕ) → i ≡ length things → slice_get (things ++ thing ∷ []) i ≡ Some thing
-get_last [] thing zero same = refl
-get_last [] thing (suc i) same = absurd (omega arith)
-get_last (x ∷ things) thing zero same = absurd (omega arith)
-get_last (x ∷ things) thing (suc i) same = get_last things thing i (omega arith)
-
 line_by : (number writers count packet : ℕ) → packet < suc count → (packet < count) ⊎ (count ≤ packet)
     → (packet < count → slice_get (lines_asked number writers count) packet ≡ Some (line_asked number writers packet))
     → slice_get (lines_asked number writers count ++ line_asked number writers count ∷ []) packet ≡ Some (line_asked number writers packet)
@@ -29,7 +23,8 @@ line_by number writers count packet below (inl inside) again =
 line_by number writers count packet below (inr past) again =
     let same : count ≡ packet = omega arith in
     let last : packet ≡ length (lines_asked number writers count) = omega (arith, length_lines number writers count) in
-    get_last (lines_asked number writers count) (line_asked number writers count) packet last
+    ap (slice_get (lines_asked number writers count ++ line_asked number writers count ∷ [])) last
+    ∙ get_seam (lines_asked number writers count) [] (line_asked number writers count)
     ∙ ap (λ (k : ℕ). Some (line_asked number writers k)) same
 
 line_at : (number writers count packet : ℕ) → packet < count → slice_get (lines_asked number writers count) packet ≡ Some (line_asked number writers packet)

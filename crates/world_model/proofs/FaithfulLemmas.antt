@@ -2,9 +2,10 @@
 use Rattle.std.proofs.Common.{◌≡◌, ◌∙◌, ℕ, suc, ◌+◌, ◌-◌, ◌<◌, ◌≤◌, ◌⊎◌, Bool, true, false, All, List, [], ◌∷◌, ◌++◌, length, map, take, get_or, Option, Some, None, refl, sym, ap, subst, arith, inl, inr, length-take}
 use Rattle.std.specs.Prelude.{◌==◌, slice_get, MatchBool, option_map}
 use Rattle.std.specs.List.{flat_map}
-use Rattle.std.proofs.lemmas.Bool.{false≢true, eqb-true, eq-eqb}
+use Rattle.std.proofs.lemmas.Bool.{eqb-true, eq-eqb}
 use Rattle.std.proofs.lemmas.Option.{same_Some, slice_get-map, slice_get-get_or, slice_get_within}
 use Rattle.std.proofs.lemmas.List.{length-map}
+use Rattle.trace_base.proofs.Choices.{match_true, match_false}
 use Rattle.trace_base.specs.declared.policy.WriterPolicy.TheVariants.{Drops}
 use Rattle.trace_base.specs.declared.policy.WriterSpec.{WriterSpec}
 use Rattle.page_geometry.specs.Sizes.{record_size}
@@ -43,14 +44,6 @@ use Rattle.world_model.proofs.PartLemmas.{looked, sealed_is, front_reads, front_
 by_match : {A B C : Type 0} (b : Bool) → MatchBool b A B → (b ≡ true → A → C) → (b ≡ false → B → C) → C
 by_match true h f g = f refl h
 by_match false h f g = g refl h
-
-match_true : (A B : Type 0) (b : Bool) → b ≡ true → A → MatchBool b A B
-match_true A B true e a = a
-match_true A B false e a = absurd (false≢true e)
-
-match_false : (A B : Type 0) (b : Bool) → b ≡ false → B → MatchBool b A B
-match_false A B true e x = absurd (false≢true (sym e))
-match_false A B false e x = x
 
 -- One writer and what the service knows of its chunks.
 module _ (size place : ℕ) (view : WriterView) (held : List Image) (cut : HasCut size place view held) (service : ServiceView)
@@ -156,7 +149,7 @@ module _ (size place : ℕ) (view : WriterView) (held : List Image) (cut : HasCu
   other_arrives other id come closed due events (Some content) none apart order = by_reading (reading_of content.image.count content.image.payload)
     where
       by_reading : (reading : Reading) → Ordered come closed due (once_read (λ chunk. model.Arrives other id chunk) content.image.flags reading ++ events)
-      by_reading (Fragments fragments) = (none, match_false _ _ (other == q) apart order)
+      by_reading (Fragments fragments) = (none, match_false (other == q) _ _ apart order)
       by_reading (Unreadable number) = nothing come closed due events none order
 
   other_in_part : (other id count come : ℕ) (closed : Bool) (due : List Patch) (events : List Event) (found : Option Found) → due ≡ [] → (other == q) ≡ false
@@ -165,13 +158,13 @@ module _ (size place : ℕ) (view : WriterView) (held : List Image) (cut : HasCu
   other_in_part other id count come closed due events (Some found) none apart order = by_reading (reading_of count found.sealed)
     where
       by_reading : (reading : Reading) → Ordered come closed due (once_read (λ chunk. model.ArrivesInPart other id chunk) found.head.flags reading ++ events)
-      by_reading (Fragments fragments) = (none, match_false _ _ (other == q) apart order)
+      by_reading (Fragments fragments) = (none, match_false (other == q) _ _ apart order)
       by_reading (Unreadable number) = nothing come closed due events none order
 
   other_patched : (other come : ℕ) (closed : Bool) (due : List Patch) (events : List Event) (content : Option Content) → due ≡ [] → (other == q) ≡ false
       → Ordered come closed [] events → Ordered come closed due (histories.patches_of other content ++ events)
   other_patched other come closed due events None none apart order = nothing come closed due events none order
-  other_patched other come closed due events (Some content) none apart order = match_false _ _ (other == q) apart (none, order)
+  other_patched other come closed due events (Some content) none apart order = match_false (other == q) _ _ apart (none, order)
 
   committed : (come : ℕ) (closed : Bool) (due : List Patch) (events : List Event) (commit : Option Committed) → due ≡ []
       → ((one : Committed) → commit ≡ Some one → (one.image.sequence == q) ≡ false) → Ordered come closed [] events
@@ -191,7 +184,7 @@ module _ (size place : ℕ) (view : WriterView) (held : List Image) (cut : HasCu
       ap (λ (s : ℕ). happened service (Arrive s id)) (eqb-true other q same) ∙ ap (λ (i : ℕ). happened service (Arrive q i)) h.1 ∙ c.event in
       subst (λ (es : List Event). Ordered come closed due (es ++ events)) (sym is) (
         order.0,
-        match_true _ _ (q == q) (eq-eqb q q refl) (
+        match_true (q == q) _ _ (eq-eqb q q refl) (
           h.0,
           refl,
           c.sheet,
@@ -209,7 +202,7 @@ module _ (size place : ℕ) (view : WriterView) (held : List Image) (cut : HasCu
       let is : happened service (Partial other id count) ≡ model.ArrivesInPart q come c.chunk ∷ [] =
       ap (λ (s : ℕ). happened service (Partial s id count)) (eqb-true other q same) ∙ ap (λ (i : ℕ). happened service (Partial q i count)) h.1 ∙ c.event in
       subst (λ (es : List Event). Ordered come closed due (es ++ events)) (sym is)
-      (order.0, match_true _ _ (q == q) (eq-eqb q q refl) (h.0, refl, c.part, order_events notes come closed [] h.3)))
+      (order.0, match_true (q == q) _ _ (eq-eqb q q refl) (h.0, refl, c.part, order_events notes come closed [] h.3)))
       (λ apart rest. other_in_part other id count come closed due events (found_among (other - 2) id count service.looks) order.0 apart (order_events notes come closed [] rest))
   order_events (Patched other id ∷ notes) come closed due order =
       let events : List Event = flat_map (happened service) notes in
@@ -218,12 +211,12 @@ module _ (size place : ℕ) (view : WriterView) (held : List Image) (cut : HasCu
       let is : happened service (Patched other id) ≡ model.Patched q h.0.patches ∷ [] =
       ap (λ (s : ℕ). happened service (Patched s id)) (eqb-true other q same) ∙ ap (histories.patches_of q) h.1 in
       subst (λ (es : List Event). Ordered come closed due (es ++ events)) (sym is)
-      (match_true _ _ (q == q) (eq-eqb q q refl) (h.2, order_events notes come closed [] h.3)))
+      (match_true (q == q) _ _ (eq-eqb q q refl) (h.2, order_events notes come closed [] h.3)))
       (λ apart rest. other_patched other come closed due events (content_at service other id) rest.0 apart (order_events notes come closed [] rest.1))
   order_events (Closed other ∷ notes) come closed due order =
       by_match (other == q) order.1
-      (λ same h. (order.0, match_true _ _ (other == q) same (h.0, order_events notes come true [] h.1)))
-      (λ apart rest. (order.0, match_false _ _ (other == q) apart (order_events notes come closed [] rest)))
+      (λ same h. (order.0, match_true (other == q) _ _ same (h.0, order_events notes come true [] h.1)))
+      (λ apart rest. (order.0, match_false (other == q) _ _ apart (order_events notes come closed [] rest)))
   order_events (Read other limit ∷ notes) come closed due order = (order.0, order_events notes come closed [] order.1)
   order_events (Commit at ∷ notes) come closed due order =
       committed come closed due (flat_map (happened service) notes) (slice_get service.commits at) order.0 order.1 (order_events notes come closed [] order.2)

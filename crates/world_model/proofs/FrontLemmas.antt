@@ -1,8 +1,10 @@
 -- What a look found of a chunk is a front of its image.
-use Rattle.std.proofs.Common.{◌≡◌, ◌∙◌, ℕ, suc, ◌+◌, ◌%◌, ◌^◌, ◌<◌, ◌≤◌, List, [], ◌∷◌, ◌++◌, length, refl, sym, ap, arith, length-append}
+use Rattle.std.proofs.Common.{◌≡◌, ◌∙◌, ℕ, ◌+◌, ◌%◌, ◌^◌, ◌<◌, ◌≤◌, List, length, refl, sym, ap, arith, length-append}
 use Rattle.std.specs.List.{flat_map}
 use Rattle.std.proofs.lemmas.List.{get_or_append_left}
+use Rattle.trace_base.proofs.Lists.{begins}
 use Rattle.trace_model.specs.Fragments.{drop_size}
+use Rattle.trace_model.specs.Cut.{Begins}
 use Rattle.trace_model.specs.Images.{Image}
 use Rattle.trace_model.specs.Pages.{framed}
 use Rattle.chunk_plain.specs.Payload.{byte_at, byte_in, ends_from}
@@ -14,19 +16,6 @@ use Rattle.world_model.specs.Accounts.{IsFrontOf}
 use Rattle.world_model.specs.FrontLaws.{StandsInWords, FindsAreFronts}
 use Rattle.world_model.proofs.PartLemmas.{all_small}
 
-record Begins (front whole : List ℕ) : Type 0 where
-  rest : List ℕ
-  is : whole ≡ front ++ rest
-
--- the bytes of the front stand at the beginning of the whole
-begins : (front whole : List ℕ) → length front ≤ length whole → ((j : ℕ) → j < length front → byte_in whole j ≡ byte_in front j) → Begins front whole
-begins [] whole short same = record { rest = whole; is = refl }
-begins (x ∷ front) [] short same = absurd (omega (arith, short))
-begins (x ∷ front) (y ∷ whole) short same =
-    let more = begins front whole (omega (arith, short)) (λ j low. same (suc j) (omega (arith, low))) in
-    let head : y ≡ x = same 0 (omega arith) in
-    record { rest = more.rest; is = ap (λ (z : ℕ). z ∷ whole) head ∙ ap (λ (l : List ℕ). x ∷ l) more.is }
-
 -- the header has more fragments than were finished
 front_of : (found : Found) (new : Head) (image : Image) → IsFound found → MayFollow found.head new → new ≡ record { count = image.count; flags = image.flags }
     → 0 < length found.ends → Begins found.sealed image.payload → IsFrontOf found image
@@ -37,8 +26,8 @@ front_of found new image is follows same least bytes =
     let grows = follows.count_grows in
     record {
       continues = sym (follows.front_stays (λ e. omega (arith, e, many, least))) ∙ ap (λ (n : ℕ). n % 2) flags;
-      rest = bytes.rest;
-      begins = bytes.is;
+      rest = bytes.0;
+      begins = bytes.1;
       some = least;
       more = omega (arith, many, grows, count, least);
     }
@@ -46,7 +35,7 @@ front_of found new image is follows same least bytes =
 completed : (about chunk : ℕ) (found : Found) (content : Content) → IsFound found → StillHas about found (Completed chunk content) → 0 < length found.ends → IsFrontOf found content.image
 completed about chunk found content is has least =
     front_of found (record { count = content.image.count; flags = content.image.flags }) content.image is has.1 refl least
-    (begins found.sealed content.image.payload has.2 has.3)
+    (begins 0 found.sealed content.image.payload has.2 has.3)
 
 held : (about chunk : ℕ) (found : Found) (draft : Draft) (image : Image) → IsFound found → StillHas about found (Held chunk draft) → IsDraft draft → StandsInWords draft image
     → length image.payload < drop_size → 0 < length found.ends → IsFrontOf found image
@@ -64,7 +53,7 @@ held about chunk found draft image is has sealed stands small least =
     let end = frames_are.1 in
     let within = has.2 in
     let inside : length found.sealed ≤ length frames = omega (arith, grows, end, within) in
-    let bytes = begins found.sealed image.payload (omega (arith, inside, long))
+    let bytes = begins 0 found.sealed image.payload (omega (arith, inside, long))
     (λ j low. ap (λ (xs : List ℕ). byte_in xs j) stands.payload
     ∙ get_or_append_left frames stands.rest 0 j (omega (arith, inside, low))
     ∙ sym (stands.bytes j (omega (arith, inside, low)))

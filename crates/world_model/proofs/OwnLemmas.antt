@@ -1,9 +1,10 @@
 -- The contents that the service has of a writer's chunks are the pages of the writer's cut.
-use Rattle.std.proofs.Common.{◌≡◌, ◌∙◌, ℕ, zero, suc, ◌+◌, ◌<◌, Bool, true, false, List, [], ◌∷◌, ◌++◌, length, map, Some, refl, sym, ap, subst, arith, length-append}
+use Rattle.std.proofs.Common.{◌≡◌, ◌∙◌, ℕ, zero, suc, ◌+◌, ◌<◌, Bool, true, false, List, [], ◌∷◌, length, map, Some, refl, sym, ap, subst, arith, length-append}
 use Rattle.std.specs.Prelude.{slice_get}
 use Rattle.std.proofs.lemmas.Option.{slice_get_within}
 use Rattle.std.proofs.lemmas.List.{nil_from_length}
 use mathlib.Core.Option.{some}
+use Rattle.trace_base.proofs.Lists.{get_more}
 use Rattle.trace_model.specs.Fragments.{drop_size}
 use Rattle.trace_model.specs.Images.{Image, Chunk, Patch, has_flag_1, has_flag_2, has_flag_4, whole_chunk}
 use Rattle.trace_model.specs.Pages.{Page, laid, flag_where, flags_of, image_of, images_from, chunk_of}
@@ -42,11 +43,6 @@ is_among (Held other draft ∷ begun) (suc n) chunk content at =
 is_among (Completed other first ∷ begun) (suc n) chunk content at =
     let h = is_among begun n chunk content at in
     record { place = suc h.place; image = h.image; patches = h.patches }
-
-get_more : {A : Type 0} (xs ys : List A) (i : ℕ) (x : A) → slice_get xs i ≡ Some x → slice_get (xs ++ ys) i ≡ Some x
-get_more [] ys i x e = absurd (cc)
-get_more (y ∷ xs) ys zero x e = e
-get_more (y ∷ xs) ys (suc i) x e = get_more xs ys i x e
 
 -- Pages and images
 

@@ -5,13 +5,10 @@ use Rattle.trace_model.specs.Pages.{Page, laid, flags_of, image_of}
 use Rattle.chunk_plain.specs.Views.{At, BegunChunk, Held, Completed, Draft, no_draft, Content, WriterView}
 use Rattle.chunk_plain.specs.Drafts.{draft_in, draft_at, IsHolding}
 use Rattle.chunk_plain.specs.Steps.{redrafts, completes}
+use Rattle.chunk_plain.proofs.Lists.{at_seam}
 use Rattle.trace_writer.specs.Headers.{completed_chunk}
 use Rattle.trace_writer.specs.Site.{Site}
 use Rattle.trace_writer.specs.Filled.{ShowsPages}
-
-at_seam : {A : Type 0} (xs : List A) (y : A) (ys : List A) → At (xs ++ y ∷ ys) (length xs) y
-at_seam [] y ys = refl
-at_seam (x ∷ xs) y ys = at_seam xs y ys
 
 -- A chunk that the writer holds
 
@@ -27,7 +24,7 @@ pub holds_here : (view : WriterView) (completed later : List BegunChunk) (chunk 
 holds_here view completed later chunk id draft begun id_is =
     subst (λ (d : Draft). At view.begun id (Held chunk d)) (sym (draft_here view completed later chunk id draft begun id_is))
     (subst (λ (xs : List BegunChunk). At xs id (Held chunk draft)) (sym begun)
-    (subst (λ (i : ℕ). At (completed ++ Held chunk draft ∷ later) i (Held chunk draft)) (sym id_is) (at_seam completed (Held chunk draft) later)))
+    (subst (λ (i : ℕ). At (completed ++ Held chunk draft ∷ later) i (Held chunk draft)) (sym id_is) (at_seam completed later (Held chunk draft))))
 
 pub redrafted_here : (view new : WriterView) (completed later : List BegunChunk) (chunk id : ℕ) (draft next : Draft) → view.begun ≡ completed ++ Held chunk draft ∷ later
     → id ≡ length completed → new ≡ redrafts view chunk id next → new.begun ≡ completed ++ Held chunk next ∷ later
