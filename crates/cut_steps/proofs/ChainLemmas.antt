@@ -7,8 +7,9 @@ use Rattle.trace_model.specs.RowLaws.{is_open}
 use Rattle.trace_model.specs.Pages.{Page, fragments_from}
 use Rattle.trace_model.specs.Written.{written_slots, chains_in}
 use Rattle.trace_model.specs.Cut.{IsWellFormedPage, FlagsAgree, last_runs_on, older_chains}
+use Rattle.trace_model.proofs.JoinLemmas.{merged}
 use Rattle.cut_steps.specs.RawChains.{placeless, raw_chains, page_with, newest_pieces, earlier_pieces, chains_before, offset_behind, piece_behind, fate_of, start_of, chain_to}
-use Rattle.cut_steps.proofs.RowSteps.{chains_in-links_of, StartsAt, merged, entered, stop_at, piece_at, lone, chunk_with, behind, chains_after, IsRow, RunsOnHere, row-after, all_made, Split, split-cons, HasRow, row_of_pages}
+use Rattle.cut_steps.proofs.RowSteps.{chains_in-links_of, StartsAt, entered, stop_at, piece_at, lone, chunk_with, behind, chains_after, IsRow, RunsOnHere, row-after, all_made, Split, split-cons, HasRow, row_of_pages}
 
 raw-row : (pages : List Page) (runs_on : Bool) (chains : List Chain) → IsRow pages runs_on chains → raw_chains pages ≡ map placeless chains
 raw-row pages runs_on chains k =

@@ -11,6 +11,7 @@ use Rattle.trace_model.specs.Pages.{Page, fragments_from}
 use Rattle.trace_model.specs.Written.{written_slots, chains_in}
 use Rattle.trace_model.specs.Cut.{IsWellFormedPage, FlagsAgree, last_runs_on}
 use Rattle.trace_model.proofs.ContinuedLemmas.{rows_continue}
+use Rattle.trace_model.proofs.JoinLemmas.{merged}
 use Rattle.cut_steps.specs.RawChains.{fate_of, offset_behind}
 
 -- Links as chains
@@ -51,10 +52,6 @@ abbrev pub Ends : Bool → List Chain → Type 0
 Ends false chains = AllClosed chains
 Ends true [] = ⊥
 Ends true (chain ∷ older) = RunsOnHere chain × AllClosed older
-
--- two chains joined
-abbrev pub merged : Chain → Chain → Chain
-merged chain other = record chain { next = other.next; pieces = chain.pieces ++ other.pieces; awaits = chain.awaits || other.awaits; fate = other.fate }
 
 -- the first chain of a page behind these, which continues the newest of them or not
 abbrev pub entered : Bool → List Chain → Chain → List Chain

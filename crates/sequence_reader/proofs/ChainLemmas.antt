@@ -6,6 +6,7 @@ use Rattle.trace_model.specs.Images.{Fragment}
 use Rattle.trace_model.specs.Row as row
 use Rattle.trace_model.specs.Row.{Link, Joined, Gap, place, bytes_of, joined_to, with_piece, chain_of}
 use Rattle.trace_model.specs.Sequences.{Cursor}
+use Rattle.trace_model.proofs.JoinLemmas.{merged, before_start, before_more, before_last}
 use Rattle.sequence_reader.specs.declared.ends.Why.{Why}
 use Rattle.sequence_reader.specs.declared.link.Chain.{Chain}
 use Rattle.sequence_reader.specs.declared.link.Fate.{Fate}
@@ -16,7 +17,6 @@ use Rattle.sequence_reader.specs.declared.step.Piece.{Piece}
 use Rattle.sequence_reader.specs.Links.{fate_value, TellsStop, IsWalked}
 use Rattle.sequence_reader.specs.Spots.{rows_of, cursor_of}
 use Rattle.sequence_reader.specs.Steps.{IsPieceAt, IsGapAt, IsStopAt}
-use Rattle.sequence_reader.proofs.JoinLemmas.{merged, before_start, before_more, before_last}
 
 abbrev pub last_fate : Bool → Fate
 last_fate dropped = cond dropped Marked Whole

@@ -3,7 +3,6 @@ pub mod PresentLemmas
 pub mod RowLemmas
 pub mod StepLemmas
 pub mod SpotLemmas
-pub mod JoinLemmas
 pub mod ChainLemmas
 pub mod FoundLemmas
 pub mod PutLemmas

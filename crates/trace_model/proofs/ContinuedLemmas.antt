@@ -1,11 +1,11 @@
 -- A row goes on where more chunks come.
-use Rattle.std.proofs.Common.{◌≡◌, ◌∙◌, ℕ, suc, ◌+◌, max, Bool, true, false, not, ◌&&◌, ◌||◌, List, [], ◌∷◌, ◌++◌, length, refl, sym, ap, subst, arith, append_assoc}
-use Rattle.std.proofs.Math.Bool.{or_assoc}
+use Rattle.std.proofs.Common.{◌≡◌, ◌∙◌, ℕ, suc, ◌+◌, max, Bool, true, false, not, ◌&&◌, ◌||◌, List, [], ◌∷◌, ◌++◌, length, refl, sym, ap, subst, arith}
 use Rattle.std.specs.Prelude.{cond, ◌==◌}
 use Rattle.trace_model.specs.Images.{Chunk, Fragment}
 use Rattle.trace_model.specs.Sequences.{Cursor}
 use Rattle.trace_model.specs.Row.{Slot, Here, Gone, Never, Piece, Chain, Fate, Whole, Marked, IntoLost, CutOff, Open, Link, Joined, Gap, Stop, Partial, Unpatched, joined_to, with_piece, place, is_last, is_part, place_behind, chunk_links, row_of, chain_of}
 use Rattle.trace_model.specs.RowLaws.{is_open, continued, AreWhole, RowsContinue}
+use Rattle.trace_model.proofs.JoinLemmas.{merged, joined-joined, joined-start}
 
 -- a chain may run on into the row's stop place
 abbrev MayEnd : List Link → Type 0
@@ -29,54 +29,6 @@ joined-fate chain fate (Joined other ∷ links) = step other.headless
     step false = refl
 joined-fate chain fate (Gap at next lost ∷ links) = refl
 joined-fate chain fate (Stop at why may ∷ links) = refl
-
--- two chains joined
-abbrev merged : Chain → Chain → Chain
-merged chain other = record chain { next = other.next; pieces = chain.pieces ++ other.pieces; awaits = chain.awaits || other.awaits; fate = other.fate }
-
--- joining twice is joining once
-joined-joined : (chain other : Chain) (rest : List Link) → other.headless ≡ true → joined_to chain (joined_to other rest) ≡ joined_to (merged chain other) rest
-joined-joined chain other [] h =
-    ap (λ (b : Bool). cond b (Joined (merged chain (record other { fate = Open })) ∷ []) (Joined (record chain { fate = CutOff }) ∷ Joined (record other { fate = Open }) ∷ [])) h
-joined-joined chain other (Joined third ∷ links) h = step third.headless
-  where
-    step : (b : Bool) → joined_to chain (cond b (Joined (merged other third) ∷ links) (Joined (record other { fate = CutOff }) ∷ Joined third ∷ links))
-        ≡ cond b (Joined (merged (merged chain other) third) ∷ links) (Joined (record (merged chain other) { fate = CutOff }) ∷ Joined third ∷ links)
-    step true =
-        ap (λ (b : Bool). cond b (Joined (merged chain (merged other third)) ∷ links) (Joined (record chain { fate = CutOff }) ∷ Joined (merged other third) ∷ links)) h
-        ∙ ap (λ (ps : List Piece). Joined (record chain { next = third.next; pieces = ps; awaits = chain.awaits || (other.awaits || third.awaits); fate = third.fate }) ∷ links)
-        (sym (append_assoc chain.pieces other.pieces third.pieces))
-        ∙ ap (λ (b : Bool). Joined (record chain { next = third.next; pieces = (chain.pieces ++ other.pieces) ++ third.pieces; awaits = b; fate = third.fate }) ∷ links)
-        (sym (or_assoc chain.awaits other.awaits third.awaits))
-    step false =
-        ap (λ (b : Bool). cond b (Joined (merged chain (record other { fate = CutOff })) ∷ Joined third ∷ links)
-        (Joined (record chain { fate = CutOff }) ∷ Joined (record other { fate = CutOff }) ∷ Joined third ∷ links)) h
-joined-joined chain other (Gap at next lost ∷ links) h =
-    ap (λ (b : Bool). cond b (Joined (merged chain (record other { fate = cond lost IntoLost CutOff })) ∷ Gap at next lost ∷ links)
-    (Joined (record chain { fate = CutOff }) ∷ Joined (record other { fate = cond lost IntoLost CutOff }) ∷ Gap at next lost ∷ links)) h
-joined-joined chain other (Stop at why may ∷ links) h =
-    ap (λ (b : Bool). cond b (Joined (merged chain (record other { fate = cond may Open CutOff })) ∷ Stop at why may ∷ links)
-    (Joined (record chain { fate = CutOff }) ∷ Joined (record other { fate = cond may Open CutOff }) ∷ Stop at why may ∷ links)) h
-
--- a chain before one that begins a packet is cut
-joined-start : (chain other : Chain) (rest : List Link) → other.headless ≡ false → joined_to chain (joined_to other rest) ≡ Joined (record chain { fate = CutOff }) ∷ joined_to other rest
-joined-start chain other [] h =
-    ap (λ (b : Bool). cond b (Joined (merged chain (record other { fate = Open })) ∷ []) (Joined (record chain { fate = CutOff }) ∷ Joined (record other { fate = Open }) ∷ [])) h
-joined-start chain other (Joined third ∷ links) h = step third.headless
-  where
-    step : (b : Bool) → joined_to chain (cond b (Joined (merged other third) ∷ links) (Joined (record other { fate = CutOff }) ∷ Joined third ∷ links))
-        ≡ Joined (record chain { fate = CutOff }) ∷ cond b (Joined (merged other third) ∷ links) (Joined (record other { fate = CutOff }) ∷ Joined third ∷ links)
-    step true =
-        ap (λ (b : Bool). cond b (Joined (merged chain (merged other third)) ∷ links) (Joined (record chain { fate = CutOff }) ∷ Joined (merged other third) ∷ links)) h
-    step false =
-        ap (λ (b : Bool). cond b (Joined (merged chain (record other { fate = CutOff })) ∷ Joined third ∷ links)
-        (Joined (record chain { fate = CutOff }) ∷ Joined (record other { fate = CutOff }) ∷ Joined third ∷ links)) h
-joined-start chain other (Gap at next lost ∷ links) h =
-    ap (λ (b : Bool). cond b (Joined (merged chain (record other { fate = cond lost IntoLost CutOff })) ∷ Gap at next lost ∷ links)
-    (Joined (record chain { fate = CutOff }) ∷ Joined (record other { fate = cond lost IntoLost CutOff }) ∷ Gap at next lost ∷ links)) h
-joined-start chain other (Stop at why may ∷ links) h =
-    ap (λ (b : Bool). cond b (Joined (merged chain (record other { fate = cond may Open CutOff })) ∷ Stop at why may ∷ links)
-    (Joined (record chain { fate = CutOff }) ∷ Joined (record other { fate = cond may Open CutOff }) ∷ Stop at why may ∷ links)) h
 
 ended_isnt_open : (chain : Chain) (links rest : List Link) → is_open chain.fate ≡ false → continued (Joined chain ∷ links) rest ≡ Joined chain ∷ continued links rest
 ended_isnt_open chain links rest h = ap (λ (b : Bool). cond b (joined_to chain rest) (Joined chain ∷ continued links rest)) h

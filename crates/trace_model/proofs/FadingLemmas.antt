@@ -1,5 +1,5 @@
 -- What a reader sees is what was written, faded by losses.
-use Rattle.std.proofs.Common.{◌≡◌, ◌∙◌, ℕ, zero, suc, ◌+◌, ◌<◌, ◌≤◌, max, Bool, true, false, not, ◌&&◌, ◌||◌, List, [], ◌∷◌, ◌++◌, length, drop, map, refl, sym, ap, subst, arith, inl, inr}
+use Rattle.std.proofs.Common.{◌≡◌, ◌∙◌, ℕ, zero, suc, ◌+◌, ◌<◌, ◌≤◌, max, Bool, true, false, not, ◌&&◌, List, [], ◌∷◌, ◌++◌, length, drop, map, refl, sym, ap, subst, arith, inl, inr}
 use Rattle.std.specs.Prelude.{cond, ◌==◌, ◌⊎◌}
 use Rattle.std.proofs.lemmas.Bool.{false≢true, or_parts, and_parts, cases_lt}
 use Rattle.std.proofs.lemmas.List.{drop-drop, drop_all}
@@ -9,6 +9,7 @@ use Rattle.trace_model.specs.Images.{Chunk, Fragment}
 use Rattle.trace_model.specs.Sequences.{Cursor}
 use Rattle.trace_model.specs.Row.{Slot, Here, Gone, Never, Piece, Chain, Fate, Whole, Marked, IntoLost, CutOff, Open, Link, Joined, Gap, Stop, Missing, Partial, Unpatched, bytes_of, joined_to, with_piece, place, is_last, is_part, place_behind, chunk_links, row_of, chain_of}
 use Rattle.trace_model.proofs.ContinuedLemmas.{unstopped}
+use Rattle.trace_model.proofs.JoinLemmas.{merged}
 use Rattle.trace_model.specs.Fading.{ShowFragments, ShowsChunk, Show, written_from, StandsAsWritten, Fades, RowsFade}
 
 -- a row fades, and a chain at its front without its start begins at this place
@@ -34,9 +35,6 @@ never_whole fate h e = false≢true (sym h ∙ ap is_whole e)
 
 bytes_append : (xs ys : List Piece) → bytes_of (xs ++ ys) ≡ bytes_of xs ++ bytes_of ys
 bytes_append xs ys = flat_map-append (λ (piece : Piece). piece.fragment.bytes) xs ys
-
-abbrev merged : Chain → Chain → Chain
-merged chain other = record chain { next = other.next; pieces = chain.pieces ++ other.pieces; awaits = chain.awaits || other.awaits; fate = other.fate }
 
 -- two chains that follow one another stand in what was written
 stands_merged : (written : List Chunk) (chain first other : Chain) (rest : List Link) → other.at ≡ chain.next → other.headless ≡ true

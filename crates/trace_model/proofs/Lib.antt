@@ -6,6 +6,7 @@ pub mod CursorLemmas
 pub mod EncodingLemmas
 pub mod FadingLemmas
 pub mod FixedLemmas
+pub mod JoinLemmas
 pub mod LiveLemmas
 pub mod LossPlaceLemmas
 pub mod OneOutcomeLemmas
