@@ -1,120 +1,41 @@
 -- A history asks for no more than a record for each chunk: each that asks had none, and has one from then on.
 use Rattle.std.proofs.Common.{◌≡◌, ◌∙◌, ℕ, zero, suc, ◌+◌, ◌*◌, ◌<◌, ◌≤◌, ◌⊎◌, Bool, true, false, ◌&&◌, ◌||◌, List, [], ◌∷◌, length, map, Option, Some, None, refl, sym, ap, subst, arith, inl, inr, mul-le-mul_right, suc-mul}
-use Rattle.std.specs.Prelude.{cond, ◌==◌, find, is_some, filter}
+use Rattle.std.specs.Prelude.{cond, ◌==◌, find, is_some}
 use Rattle.std.specs.List.{list_any}
 use Rattle.std.proofs.lemmas.Bool.{false≢true, eqb-true, eq-eqb, and_from, or_left, or_right, cases_eq}
 use Rattle.std.proofs.lemmas.List.Folds.{list_any-append}
 use Rattle.trace_model.specs.Images.{Image, Chunk, Patch, last_holds, whole_chunk, complete_chunk, partial_chunk}
 use Rattle.trace_model.specs.Reading.{Reading, Fragments, Unreadable, reading_of}
 use Rattle.trace_model.specs.Places.{place_after}
-use Rattle.trace_model.specs.Sequences.{Sequence, sequence_in, is_known, changed_at, has_arrived, unread_of}
-use Rattle.trace_model.specs.Buffers.{Buffer, BufferRecord, empty_buffer, is_of, live_at, meets, with_losses, made_room}
-use Rattle.trace_model.specs.Arrivals.{Arrived, Kept, Rewritten, Duplicate, Discarded, TooFar, BadChunk, is_refused, is_too_far, has_as_many, placing_of, arrival_of, partial_arrival_of, outcome_of, with_arrived, with_discarded, discarded_buffer, settled, makes_arrive, with_arrival, once_read, with_image}
-use Rattle.trace_model.specs.Patches.{awaits_at, patched_chunk, with_patch, with_patches, closed_sequence, closed_buffer}
-use Rattle.trace_model.specs.Row.{row_from_cursor}
-use Rattle.trace_model.specs.Reads.{passed_by, sequence_after}
+use Rattle.trace_model.specs.Sequences.{Sequence, sequence_in, is_known, has_arrived, unread_of}
+use Rattle.trace_model.specs.Buffers.{Buffer, BufferRecord, empty_buffer, is_of, live_at, made_room}
+use Rattle.trace_model.specs.Arrivals.{Arrived, Kept, Rewritten, Duplicate, Discarded, TooFar, BadChunk, is_refused, is_too_far, has_as_many, placing_of, arrival_of, partial_arrival_of, outcome_of, settled, with_arrival, once_read, with_image}
+use Rattle.trace_model.specs.Patches.{awaits_at, patched_chunk, with_patch, with_patches}
 use Rattle.trace_model.specs.History.{Event, Arrives, ArrivesInPart, Patched, Committed, Closed, Read, event_sequence, after, buffer_after}
+use Rattle.trace_model.proofs.ShapeLemmas.{Shape, shapes, known_shapes, shapes_event}
 use Rattle.delivery_laws.specs.Room.{is_placing, asks_for, asks, asked, wanted, EachBelow}
 use Rattle.delivery_laws.specs.EnoughLaws.{EveryAskIsCounted}
 use Rattle.delivery_laws.proofs.RoomLemmas.{has_record, IsRoomy, Grows, event_grows, is_discarded, arrival_not, part_not}
 
--- No event changes which sequences a buffer has, and how long their records are.
-
-record Shape : Type 0 where
-  number : ℕ
-  size : ℕ
-
-abbrev shape_of : Sequence → Shape
-shape_of state = record { number = state.number; size = state.size }
-
-abbrev shapes : List Sequence → List Shape
-shapes sequences = map shape_of sequences
-
-shapes_map : (change : Sequence → Sequence) → ((s : Sequence) → shape_of (change s) ≡ shape_of s) → (ss : List Sequence) → shapes (map change ss) ≡ shapes ss
-shapes_map change keeps [] = refl
-shapes_map change keeps (s ∷ ss) = ap (λ (x : Shape). x ∷ shapes (map change ss)) (keeps s) ∙ ap (λ (xs : List Shape). shape_of s ∷ xs) (shapes_map change keeps ss)
-
-shapes_changed : (q : ℕ) (change : Sequence → Sequence) → ((s : Sequence) → shape_of (change s) ≡ shape_of s) → (ss : List Sequence) → shapes (changed_at q change ss) ≡ shapes ss
-shapes_changed q change keeps ss = shapes_map (λ s. cond (s.number == q) (change s) s) (λ s. step s (s.number == q)) ss
-  where
-    step : (s : Sequence) (b : Bool) → shape_of (cond b (change s) s) ≡ shape_of s
-    step s true = keeps s
-    step s false = refl
-
-shapes_settled : (outcome : Arrived) (b : Buffer) (q chunk_id : ℕ) (chunk : Chunk) → shapes (settled outcome b q chunk_id chunk).sequences ≡ shapes b.sequences
-shapes_settled Kept b q chunk_id chunk = shapes_map (with_losses (filter (meets b (sequence_in b.sequences q).size) b.live)) (λ s. refl) b.sequences
-shapes_settled Rewritten b q chunk_id chunk = refl
-shapes_settled Duplicate b q chunk_id chunk = refl
-shapes_settled Discarded b q chunk_id chunk = step chunk.partial
-  where
-    step : (x : Bool) → shapes (cond x (record b { shut = true }) (discarded_buffer b q chunk_id chunk)).sequences ≡ shapes b.sequences
-    step true = refl
-    step false = shapes_changed q (with_discarded chunk_id chunk) (λ s. refl) b.sequences
-shapes_settled TooFar b q chunk_id chunk = refl
-shapes_settled (BadChunk fragment) b q chunk_id chunk = refl
-
-shapes_arrival : (b : Buffer) (q chunk_id : ℕ) (chunk : Chunk) → shapes (with_arrival b q chunk_id chunk).sequences ≡ shapes b.sequences
-shapes_arrival b q chunk_id chunk =
-    step (makes_arrive (arrival_of b q chunk_id)) (settled (arrival_of b q chunk_id) b q chunk_id (complete_chunk chunk)).sequences
-    ∙ shapes_settled (arrival_of b q chunk_id) b q chunk_id (complete_chunk chunk)
-  where
-    step : (x : Bool) (ss : List Sequence) → shapes (cond x (changed_at q (with_arrived chunk_id (length chunk.fragments)) ss) ss) ≡ shapes ss
-    step true ss = shapes_changed q (with_arrived chunk_id (length chunk.fragments)) (λ s. refl) ss
-    step false ss = refl
-
-shapes_patches : (b : Buffer) (q : ℕ) (patches : List Patch) → shapes (with_patches b q patches).sequences ≡ shapes b.sequences
-shapes_patches b q [] = refl
-shapes_patches b q (patch ∷ patches) = shapes_patches (with_patch b q patch) q patches
-
-shapes_image : (b : Buffer) (image : Image) → shapes (with_image b image).sequences ≡ shapes b.sequences
-shapes_image b image = by_reading (reading_of image.count image.payload)
-  where
-    by_reading : (reading : Reading) → shapes (once_read b (with_arrival b image.sequence image.chunk_id) image.flags reading).sequences ≡ shapes b.sequences
-    by_reading (Fragments fragments) = shapes_arrival b image.sequence image.chunk_id (whole_chunk image.flags fragments)
-    by_reading (Unreadable number) = refl
-
-shapes_after : (b : Buffer) (event : Event) → shapes (after b event).sequences ≡ shapes b.sequences
-shapes_after b (Arrives q chunk_id chunk) = shapes_arrival b q chunk_id chunk
-shapes_after b (ArrivesInPart q chunk_id chunk) = shapes_settled (partial_arrival_of b q chunk_id (length chunk.fragments)) b q chunk_id (partial_chunk chunk)
-shapes_after b (Patched q patches) = shapes_patches b q patches
-shapes_after b (Committed image patches) = shapes_patches (with_image b image) image.sequence patches ∙ shapes_image b image
-shapes_after b (Closed q) = step (sequence_in b.sequences q).closed
-  where
-    step : (x : Bool) → shapes (cond x b (closed_buffer b q)).sequences ≡ shapes b.sequences
-    step true = refl
-    step false = shapes_changed q (closed_sequence b.live) (λ s. refl) b.sequences
-shapes_after b (Read q limit) = shapes_changed q (sequence_after (passed_by limit (row_from_cursor b (sequence_in b.sequences q)))) (λ s. refl) b.sequences
-
-shapes_event : (b : Buffer) (event : Event) → shapes (buffer_after b event).sequences ≡ shapes b.sequences
-shapes_event b event = step (is_known b.sequences (event_sequence event))
-  where
-    step : (x : Bool) → shapes (cond x (after b event) b).sequences ≡ shapes b.sequences
-    step true = shapes_after b event
-    step false = refl
-
-known_shapes : (ss : List Sequence) (q : ℕ) → is_known ss q ≡ list_any (λ (s : Shape). s.number == q) (shapes ss)
-known_shapes [] q = refl
-known_shapes (s ∷ ss) q = ap (λ (b : Bool). (s.number == q) || b) (known_shapes ss q)
-
 pub known_after : (b : Buffer) (event : Event) (q : ℕ) → is_known (buffer_after b event).sequences q ≡ is_known b.sequences q
 known_after b event q =
-    known_shapes (buffer_after b event).sequences q
+    known_shapes false (buffer_after b event).sequences q
     ∙ ap (λ (xs : List Shape). list_any (λ (s : Shape). s.number == q) xs) (shapes_event b event)
-    ∙ sym (known_shapes b.sequences q)
+    ∙ sym (known_shapes false b.sequences q)
 
-known_same : (b : Buffer) (ss : List Sequence) (q : ℕ) → shapes b.sequences ≡ shapes ss → is_known b.sequences q ≡ true → is_known ss q ≡ true
-known_same b ss q same k = known_shapes ss q ∙ ap (λ (xs : List Shape). list_any (λ (s : Shape). s.number == q) xs) (sym same) ∙ sym (known_shapes b.sequences q) ∙ k
+known_same : (b : Buffer) (ss : List Sequence) (q : ℕ) → shapes false b.sequences ≡ shapes false ss → is_known b.sequences q ≡ true → is_known ss q ≡ true
+known_same b ss q same k = known_shapes false ss q ∙ ap (λ (xs : List Shape). list_any (λ (s : Shape). s.number == q) xs) (sym same) ∙ sym (known_shapes false b.sequences q) ∙ k
 
 -- the length of the records of a sequence
 abbrev size_in : List Shape → ℕ → ℕ
 size_in [] q = 0
 size_in (s ∷ ss) q = cond (s.number == q) s.size (size_in ss q)
 
-size_shapes : (ss : List Sequence) (q : ℕ) → (sequence_in ss q).size ≡ size_in (shapes ss) q
+size_shapes : (ss : List Sequence) (q : ℕ) → (sequence_in ss q).size ≡ size_in (shapes false ss) q
 size_shapes [] q = refl
 size_shapes (s ∷ ss) q = step (s.number == q) (size_shapes ss q)
   where
-    step : (b : Bool) → (sequence_in ss q).size ≡ size_in (shapes ss) q → (cond b s (sequence_in ss q)).size ≡ cond b s.size (size_in (shapes ss) q)
+    step : (b : Bool) → (sequence_in ss q).size ≡ size_in (shapes false ss) q → (cond b s (sequence_in ss q)).size ≡ cond b s.size (size_in (shapes false ss) q)
     step true e = refl
     step false e = e
 
@@ -197,10 +118,10 @@ module _ (chunks : ℕ → ℕ) where
           omega (arith, here, others)
 
   -- at the start each chunk is wanted
-  want_all : (ss : List Sequence) → want (shapes ss) [] ≡ wanted chunks ss
+  want_all : (ss : List Sequence) → want (shapes false ss) [] ≡ wanted chunks ss
   want_all [] = refl
   want_all (s ∷ ss) =
-      ap (λ (n : ℕ). n * s.size + want (shapes ss) []) (none_there (chunks s.number)) ∙ ap (λ (n : ℕ). chunks s.number * s.size + n) (want_all ss)
+      ap (λ (n : ℕ). n * s.size + want (shapes false ss) []) (none_there (chunks s.number)) ∙ ap (λ (n : ℕ). chunks s.number * s.size + n) (want_all ss)
     where
       none_there : (n : ℕ) → missing n (λ i. false) ≡ n
       none_there zero = refl
@@ -294,24 +215,24 @@ module _ (chunks : ℕ → ℕ) where
   }
 
   -- a chunk that comes, whole or in part
-  counted_chunk : (b new : Buffer) (q i : ℕ) (outcome : Arrived) → IsRoomy b → b.next + want chunks (shapes b.sequences) b.live ≤ b.room → is_known b.sequences q ≡ true → i < chunks q
+  counted_chunk : (b new : Buffer) (q i : ℕ) (outcome : Arrived) → IsRoomy b → b.next + want chunks (shapes false b.sequences) b.live ≤ b.room → is_known b.sequences q ≡ true → i < chunks q
       → Absent b q i outcome → (is_placing outcome ≡ true → b.next + asks_for outcome (sequence_in b.sequences q).size ≤ b.room → has_record q i new.live ≡ true)
-      → IsCounted (shapes b.sequences) b new (asks_for outcome (sequence_in b.sequences q).size)
+      → IsCounted (shapes false b.sequences) b new (asks_for outcome (sequence_in b.sequences q).size)
   counted_chunk b new q i outcome roomy low known below absent has = by_placing (is_placing outcome) refl
     where
-      by_placing : (x : Bool) → is_placing outcome ≡ x → IsCounted (shapes b.sequences) b new (cond x (sequence_in b.sequences q).size 0)
-      by_placing false p = counted_none (shapes b.sequences) b new low
+      by_placing : (x : Bool) → is_placing outcome ≡ x → IsCounted (shapes false b.sequences) b new (cond x (sequence_in b.sequences q).size 0)
+      by_placing false p = counted_none (shapes false b.sequences) b new low
       by_placing true p =
           let size = size_shapes b.sequences q in
           let one : BufferRecord = record { sequence = q; chunk_id = i; at = 0; size = 0; chunk = record { continues = false; runs_on = false; awaits = false; partial = false; fragments = [] } } in
-          let most = want_fewer chunks (shapes b.sequences) q i b.live (one ∷ b.live) (λ p k h. or_right (is_of p k one) (has_record p k b.live) h)
-          (sym (known_shapes b.sequences q) ∙ known) below (absent p)
+          let most = want_fewer chunks (shapes false b.sequences) q i b.live (one ∷ b.live) (λ p k h. or_right (is_of p k one) (has_record p k b.live) h)
+          (sym (known_shapes false b.sequences q) ∙ known) below (absent p)
           (or_left (is_of q i one) (has_record q i b.live) (and_from (q == q) (i == i) (eq-eqb q q refl) (eq-eqb i i refl))) in
           let room : b.next + (sequence_in b.sequences q).size ≤ b.room = omega (arith, size, most, low) in
           record {
             fits = room;
             fewer = λ g.
-                let less = want_fewer chunks (shapes b.sequences) q i b.live new.live g.stays (sym (known_shapes b.sequences q) ∙ known) below (absent p)
+                let less = want_fewer chunks (shapes false b.sequences) q i b.live new.live g.stays (sym (known_shapes false b.sequences q) ∙ known) below (absent p)
                 (has p (subst (λ (y : Bool). b.next + cond y (sequence_in b.sequences q).size 0 ≤ b.room) (sym p) room)) in
                 omega (arith, less, size);
           }
@@ -322,15 +243,15 @@ module _ (chunks : ℕ → ℕ) where
   EventBelow ss (Committed image patches) = is_known ss image.sequence ≡ true → image.chunk_id < chunks image.sequence
   EventBelow ss event = Unit {0}
 
-  counted_image : (b : Buffer) (image : Image) (patches : List Patch) → IsRoomy b → b.next + want chunks (shapes b.sequences) b.live ≤ b.room → is_known b.sequences image.sequence ≡ true
+  counted_image : (b : Buffer) (image : Image) (patches : List Patch) → IsRoomy b → b.next + want chunks (shapes false b.sequences) b.live ≤ b.room → is_known b.sequences image.sequence ≡ true
       → image.chunk_id < chunks image.sequence
-      → IsCounted (shapes b.sequences) b (with_patches (with_image b image) image.sequence patches) (asks b (Committed image patches))
+      → IsCounted (shapes false b.sequences) b (with_patches (with_image b image) image.sequence patches) (asks b (Committed image patches))
   counted_image b image patches roomy low known below = by_reading (reading_of image.count image.payload)
     where
       by_reading : (reading : Reading)
-          → IsCounted (shapes b.sequences) b (with_patches (once_read b (with_arrival b image.sequence image.chunk_id) image.flags reading) image.sequence patches)
+          → IsCounted (shapes false b.sequences) b (with_patches (once_read b (with_arrival b image.sequence image.chunk_id) image.flags reading) image.sequence patches)
           (asks_for (outcome_of (arrival_of b image.sequence image.chunk_id) reading) (sequence_in b.sequences image.sequence).size)
-      by_reading (Unreadable number) = counted_none (shapes b.sequences) b (with_patches b image.sequence patches) low
+      by_reading (Unreadable number) = counted_none (shapes false b.sequences) b (with_patches b image.sequence patches) low
       by_reading (Fragments fragments) =
           counted_chunk b (with_patches (with_arrival b image.sequence image.chunk_id (whole_chunk image.flags fragments)) image.sequence patches) image.sequence image.chunk_id
           (arrival_of b image.sequence image.chunk_id) roomy low known below (arrival_absent b image.sequence image.chunk_id)
@@ -338,8 +259,8 @@ module _ (chunks : ℕ → ℕ) where
           (placed_has b image.sequence image.chunk_id (complete_chunk (whole_chunk image.flags fragments)) (arrival_of b image.sequence image.chunk_id) p
           (arrival_not b image.sequence image.chunk_id roomy fits)))
 
-  counted_after : (b : Buffer) (event : Event) → IsRoomy b → b.next + want chunks (shapes b.sequences) b.live ≤ b.room → is_known b.sequences (event_sequence event) ≡ true
-      → EventBelow b.sequences event → IsCounted (shapes b.sequences) b (after b event) (asks b event)
+  counted_after : (b : Buffer) (event : Event) → IsRoomy b → b.next + want chunks (shapes false b.sequences) b.live ≤ b.room → is_known b.sequences (event_sequence event) ≡ true
+      → EventBelow b.sequences event → IsCounted (shapes false b.sequences) b (after b event) (asks b event)
   counted_after b (Arrives q i chunk) roomy low known below =
       counted_chunk b (with_arrival b q i chunk) q i (arrival_of b q i) roomy low known (below known) (arrival_absent b q i)
       (λ p fits. placed_has b q i (complete_chunk chunk) (arrival_of b q i) p (arrival_not b q i roomy fits))
@@ -348,19 +269,19 @@ module _ (chunks : ℕ → ℕ) where
       (part_absent b q i (length chunk.fragments))
       (λ p fits. placed_has b q i (partial_chunk chunk) (partial_arrival_of b q i (length chunk.fragments)) p (part_not b q i (length chunk.fragments) roomy fits))
   counted_after b (Committed image patches) roomy low known below = counted_image b image patches roomy low known (below known)
-  counted_after b (Patched q patches) roomy low known below = counted_none (shapes b.sequences) b (after b (Patched q patches)) low
-  counted_after b (Closed q) roomy low known below = counted_none (shapes b.sequences) b (after b (Closed q)) low
-  counted_after b (Read q limit) roomy low known below = counted_none (shapes b.sequences) b (after b (Read q limit)) low
+  counted_after b (Patched q patches) roomy low known below = counted_none (shapes false b.sequences) b (after b (Patched q patches)) low
+  counted_after b (Closed q) roomy low known below = counted_none (shapes false b.sequences) b (after b (Closed q)) low
+  counted_after b (Read q limit) roomy low known below = counted_none (shapes false b.sequences) b (after b (Read q limit)) low
 
-  counted_event : (b : Buffer) (event : Event) → IsRoomy b → b.next + want chunks (shapes b.sequences) b.live ≤ b.room → EventBelow b.sequences event
-      → IsCounted (shapes b.sequences) b (buffer_after b event) (cond (is_known b.sequences (event_sequence event)) (asks b event) 0)
+  counted_event : (b : Buffer) (event : Event) → IsRoomy b → b.next + want chunks (shapes false b.sequences) b.live ≤ b.room → EventBelow b.sequences event
+      → IsCounted (shapes false b.sequences) b (buffer_after b event) (cond (is_known b.sequences (event_sequence event)) (asks b event) 0)
   counted_event b event roomy low below = step (is_known b.sequences (event_sequence event)) refl
     where
-      step : (x : Bool) → is_known b.sequences (event_sequence event) ≡ x → IsCounted (shapes b.sequences) b (cond x (after b event) b) (cond x (asks b event) 0)
+      step : (x : Bool) → is_known b.sequences (event_sequence event) ≡ x → IsCounted (shapes false b.sequences) b (cond x (after b event) b) (cond x (asks b event) 0)
       step true e = counted_after b event roomy low e below
-      step false e = counted_none (shapes b.sequences) b b low
+      step false e = counted_none (shapes false b.sequences) b b low
 
-  first_below : (b : Buffer) (ss : List Sequence) (event : Event) (events : List Event) → shapes b.sequences ≡ shapes ss → EachBelow chunks ss (event ∷ events)
+  first_below : (b : Buffer) (ss : List Sequence) (event : Event) (events : List Event) → shapes false b.sequences ≡ shapes false ss → EachBelow chunks ss (event ∷ events)
       → EventBelow b.sequences event × EachBelow chunks ss events
   first_below b ss (Arrives q i chunk) events same below = ((λ k. below.0 (known_same b ss q same k)), below.1)
   first_below b ss (ArrivesInPart q i chunk) events same below = ((λ k. below.0 (known_same b ss q same k)), below.1)
@@ -369,8 +290,8 @@ module _ (chunks : ℕ → ℕ) where
   first_below b ss (Closed q) events same below = (tt, below)
   first_below b ss (Read q limit) events same below = (tt, below)
 
-  asked_few : (events : List Event) (b : Buffer) (ss : List Sequence) → shapes b.sequences ≡ shapes ss → EachBelow chunks ss events → IsRoomy b
-      → b.next + want chunks (shapes b.sequences) b.live ≤ b.room → asked b events ≤ want chunks (shapes b.sequences) b.live
+  asked_few : (events : List Event) (b : Buffer) (ss : List Sequence) → shapes false b.sequences ≡ shapes false ss → EachBelow chunks ss events → IsRoomy b
+      → b.next + want chunks (shapes false b.sequences) b.live ≤ b.room → asked b events ≤ want chunks (shapes false b.sequences) b.live
   asked_few [] b ss same below roomy low = omega arith
   asked_few (event ∷ events) b ss same below roomy low =
       let parts = first_below b ss event events same below in
@@ -380,7 +301,7 @@ module _ (chunks : ℕ → ℕ) where
       let fewer = counted.fewer grows in
       let next = grows.next in
       let room = grows.room in
-      let now : want chunks (shapes (buffer_after b event).sequences) (buffer_after b event).live ≡ want chunks (shapes b.sequences) (buffer_after b event).live =
+      let now : want chunks (shapes false (buffer_after b event).sequences) (buffer_after b event).live ≡ want chunks (shapes false b.sequences) (buffer_after b event).live =
       ap (λ (xs : List Shape). want chunks xs (buffer_after b event).live) shape in
       let rest = asked_few events (buffer_after b event) ss (shape ∙ same) parts.1 grows.roomy (omega (arith, low, fewer, next, room, now)) in
       omega (arith, fewer, rest, now)

@@ -16,6 +16,5 @@ pub mod RoomLemmas
 pub mod RouteLemmas
 pub mod RoutedLemmas
 pub mod ScrapeLemmas
-pub mod ShapeLemmas
 pub mod TakingLemmas
 pub mod ToldLemmas

@@ -10,10 +10,10 @@ use Rattle.trace_model.specs.Sequences.{sequence_in, is_known}
 use Rattle.trace_model.specs.Buffers.{Buffer, empty_buffer}
 use Rattle.trace_model.specs.Arrivals.{with_arrival, with_partial_arrival, with_image, with_partial_image, once_read}
 use Rattle.trace_model.specs.History.{Event, Arrives, ArrivesInPart, Committed, event_sequence, after, buffer_after, state_after, buffers_after}
+use Rattle.trace_model.proofs.ShapeLemmas.{is_close, size_after, closed_after}
 use Rattle.chunk_plain.specs.Histories as histories
 use Rattle.delivery_laws.proofs.AskLemmas.{known_after}
 use Rattle.service_core.specs.Routing.{buffer_at, IsAt, is_closed_at, arrivals_of, partial_arrivals_of}
-use Rattle.service_core.proofs.ShapeLemmas.{is_close, size_after, closed_after}
 
 -- Events one after another
 

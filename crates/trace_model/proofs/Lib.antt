@@ -21,6 +21,7 @@ pub mod RecordLemmas
 pub mod RoundLemmas
 pub mod RowPlaceLemmas
 pub mod SequenceLemmas
+pub mod ShapeLemmas
 pub mod TallyLemmas
 pub mod TellsLemmas
 pub mod ToldPlacesLemmas

@@ -1,6 +1,7 @@
 -- No event but its close changes the number of a sequence, the length of its records, or that it is open.
-use Rattle.std.proofs.Common.{◌≡◌, ◌∙◌, ℕ, Bool, true, false, List, [], ◌∷◌, length, map, refl, sym, ap}
+use Rattle.std.proofs.Common.{◌≡◌, ◌∙◌, ℕ, Bool, true, false, ◌||◌, List, [], ◌∷◌, length, map, refl, sym, ap}
 use Rattle.std.specs.Prelude.{cond, ◌==◌, filter}
+use Rattle.std.specs.List.{list_any}
 use Rattle.std.proofs.lemmas.Bool.{false≢true}
 use Rattle.trace_model.specs.Images.{Image, Chunk, Patch, whole_chunk, complete_chunk, partial_chunk}
 use Rattle.trace_model.specs.Reading.{Reading, Fragments, Unreadable, reading_of}
@@ -83,6 +84,10 @@ module _ (all : Bool) where
   shapes_after b (Closed q) none = absurd (false≢true (sym none))
   shapes_after b (Read q limit) none = shapes_changed q (sequence_after (passed_by limit (row_from_cursor b (sequence_in b.sequences q)))) (λ s. refl) b.sequences
 
+  pub known_shapes : (ss : List Sequence) (q : ℕ) → is_known ss q ≡ list_any (λ (s : Shape). s.number == q) (shapes ss)
+  known_shapes [] q = refl
+  known_shapes (s ∷ ss) q = ap (λ (b : Bool). (s.number == q) || b) (known_shapes ss q)
+
   -- one sequence, by its shape
   abbrev shape_in : List Shape → ℕ → Shape
   shape_in [] q = shape_of all (fresh q 0)
@@ -100,9 +105,9 @@ module _ (all : Bool) where
   pub same_shape : (ss ts : List Sequence) (q : ℕ) → shapes ts ≡ shapes ss → shape_of all (sequence_in ts q) ≡ shape_of all (sequence_in ss q)
   same_shape ss ts q same = in_shapes ts q ∙ ap (λ (xs : List Shape). shape_in xs q) same ∙ sym (in_shapes ss q)
 
--- an event leaves the length of the records of each sequence
-pub size_after : (b : Buffer) (event : Event) (q : ℕ) → (sequence_in (buffer_after b event).sequences q).size ≡ (sequence_in b.sequences q).size
-size_after b event q = ap (λ (s : Shape). s.size) (same_shape false b.sequences (buffer_after b event).sequences q (step (is_known b.sequences (event_sequence event))))
+-- no event changes the number of a sequence, or the length of its records
+pub shapes_event : (b : Buffer) (event : Event) → shapes false (buffer_after b event).sequences ≡ shapes false b.sequences
+shapes_event b event = step (is_known b.sequences (event_sequence event))
   where
     close : (p : ℕ) (x : Bool) → shapes false (cond x b (closed_buffer b p)).sequences ≡ shapes false b.sequences
     close p true = refl
@@ -119,6 +124,9 @@ size_after b event q = ap (λ (s : Shape). s.size) (same_shape false b.sequences
     step : (x : Bool) → shapes false (cond x (after b event) b).sequences ≡ shapes false b.sequences
     step true = by_event event
     step false = refl
+
+pub size_after : (b : Buffer) (event : Event) (q : ℕ) → (sequence_in (buffer_after b event).sequences q).size ≡ (sequence_in b.sequences q).size
+size_after b event q = ap (λ (s : Shape). s.size) (same_shape false b.sequences (buffer_after b event).sequences q (shapes_event b event))
 
 -- one that closes none leaves open what is open
 pub closed_after : (b : Buffer) (event : Event) (q : ℕ) → is_close event ≡ false → (sequence_in (buffer_after b event).sequences q).closed ≡ (sequence_in b.sequences q).closed
