@@ -1,18 +1,19 @@
 -- Where a packet begins in a chunk that is there, a reader's row has a chain with its start, or stops before; and a read that goes past the
 -- place fixes what became of the packet.
-use Rattle.std.proofs.Common.{◌≡◌, ◌∙◌, ℕ, zero, suc, ◌+◌, ◌-◌, ◌<◌, ◌≤◌, ◌⊎◌, max, Bool, true, false, not, ◌&&◌, ◌||◌, List, [], ◌∷◌, ◌++◌, length, drop, Option, Some, None, refl, sym, ap, subst, arith, inl, inr}
+use Rattle.std.proofs.Common.{◌≡◌, ℕ, zero, suc, ◌+◌, ◌-◌, ◌<◌, ◌≤◌, ◌⊎◌, max, Bool, true, false, ◌&&◌, ◌||◌, List, [], ◌∷◌, ◌++◌, length, drop, Option, Some, None, refl, sym, ap, subst, arith, inl, inr}
 use Rattle.std.specs.Prelude.{cond, ◌==◌, slice_get, is_some}
 use Rattle.std.specs.List.{flat_map}
-use Rattle.std.proofs.lemmas.Bool.{false≢true, cases_eq, eq-eqb, and_from}
+use Rattle.std.proofs.lemmas.Bool.{false≢true, eq-eqb, and_from}
 use Rattle.std.proofs.lemmas.List.{length-drop}
-use Rattle.trace_model.specs.Images.{Chunk, Fragment}
+use Rattle.trace_model.specs.Images.{Chunk}
 use Rattle.trace_model.specs.Sequences.{Cursor}
 use Rattle.trace_model.specs.Counts.{one_if}
-use Rattle.trace_model.specs.Row.{Slot, Here, Gone, Never, Piece, Chain, Fate, Whole, Marked, IntoLost, CutOff, Open, Link, Joined, Gap, Stop, Missing, Partial, Unpatched, joined_to, with_piece, chain_of, place, place_behind, is_last, is_part, chunk_links, row_of}
+use Rattle.trace_model.specs.Row.{Slot, Here, Gone, Never, Fate, Whole, Marked, IntoLost, CutOff, Open, Link, Joined, Gap, Stop, Missing, Partial, place, is_part, row_of}
 use Rattle.trace_model.specs.Reads.{turn_by, turn_of, delivers, ends, passed_by, left_by}
 use Rattle.trace_model.specs.RowLaws.{Before, UpTo, Rises}
 use Rattle.trace_model.specs.Causes.{Fixed, Outcome, is_same_place, outcome_at, fixed_by_turn, fixed_by_link}
 use Rattle.trace_model.proofs.CursorLemmas.{up_to_up_to, before_then, same_up_to, not_both}
+use Rattle.model_laws.proofs.StartedRows.{Started, chunk_keeps, chunk_starts}
 use Rattle.delivery_laws.proofs.AdjacentLemmas.{begin_of, Adjacent}
 
 -- the outcome of the packet that begins at the place is among these
@@ -43,97 +44,7 @@ fixed_here at outcome others =
 
 -- a chain with its start begins at the place, or the row stops before
 abbrev pub HasStart : Cursor → List Link → Type 0
-HasStart at [] = ⊥
-HasStart at (Joined chain ∷ links) = ((chain.at ≡ at) × (chain.headless ≡ false)) ⊎ HasStart at links
-HasStart at (Gap here next lost ∷ links) = HasStart at links
-HasStart at (Stop here why may ∷ links) = UpTo here at
-
-joined_keeps : (at : Cursor) (chain : Chain) (links : List Link) → HasStart at links → HasStart at (joined_to chain links)
-joined_keeps at chain [] h = absurd h
-joined_keeps at chain (Joined rest ∷ links) h = step rest.headless refl h
-  where
-    step : (b : Bool) → rest.headless ≡ b → ((rest.at ≡ at) × (rest.headless ≡ false)) ⊎ HasStart at links
-        → HasStart at (cond b
-        (Joined (record chain { next = rest.next; pieces = chain.pieces ++ rest.pieces; awaits = chain.awaits || rest.awaits; fate = rest.fate }) ∷ links)
-        (Joined (record chain { fate = CutOff }) ∷ Joined rest ∷ links))
-    step true e (inl here) = absurd (false≢true (sym here.1 ∙ e))
-    step true e (inr there) = inr there
-    step false e k = inr k
-joined_keeps at chain (Gap here next lost ∷ links) h = inr h
-joined_keeps at chain (Stop here why may ∷ links) h = inr h
-
-joined_has : (chain : Chain) (links : List Link) → chain.headless ≡ false → HasStart chain.at (joined_to chain links)
-joined_has chain [] h = inl (refl, h)
-joined_has chain (Joined rest ∷ links) h = step rest.headless
-  where
-    step : (b : Bool) → HasStart chain.at (cond b
-        (Joined (record chain { next = rest.next; pieces = chain.pieces ++ rest.pieces; awaits = chain.awaits || rest.awaits; fate = rest.fate }) ∷ links)
-        (Joined (record chain { fate = CutOff }) ∷ Joined rest ∷ links))
-    step true = inl (refl, h)
-    step false = inl (refl, h)
-joined_has chain (Gap here next lost ∷ links) h = inl (refl, h)
-joined_has chain (Stop here why may ∷ links) h = inl (refl, h)
-
-piece_keeps : (at : Cursor) (piece : Piece) (next : Cursor) (headless awaits : Bool) (links : List Link) → HasStart at links
-    → HasStart at (with_piece piece next headless awaits links)
-piece_keeps at piece next headless awaits links h = step (piece.runs_on && not piece.fragment.dropped)
-  where
-    step : (b : Bool) → HasStart at (cond b (joined_to (chain_of piece next headless awaits) links) (Joined (chain_of piece next headless awaits) ∷ links))
-    step true = joined_keeps at (chain_of piece next headless awaits) links h
-    step false = inr h
-
-piece_has : (piece : Piece) (next : Cursor) (headless awaits : Bool) (links : List Link) → headless ≡ false
-    → HasStart piece.at (with_piece piece next headless awaits links)
-piece_has piece next headless awaits links h = step (piece.runs_on && not piece.fragment.dropped)
-  where
-    step : (b : Bool) → HasStart piece.at (cond b (joined_to (chain_of piece next headless awaits) links) (Joined (chain_of piece next headless awaits) ∷ links))
-    step true = joined_has (chain_of piece next headless awaits) links h
-    step false = inl (refl, h)
-
--- Chunks
-
-module _ (closed : Bool) (chunk_id : ℕ) (chunk : Chunk) (rest : List Link) where
-  abbrev piece_in : ℕ → Fragment → List Fragment → Piece
-  piece_in passed fragment others = record { at = place chunk_id passed; fragment = fragment; runs_on = chunk.runs_on && is_last others }
-
-  -- the links of a fragment before those of the others
-  abbrev first_links : Bool → ℕ → Fragment → List Fragment → List Link
-  first_links stops passed fragment others =
-      cond stops (Stop (place chunk_id passed) Unpatched (chunk.continues && (passed == 0)) ∷ [])
-      (with_piece (piece_in passed fragment others) (place_behind (is_part closed chunk) chunk_id passed (is_last others)) (chunk.continues && (passed == 0))
-      (chunk.awaits && is_last others) (chunk_links closed chunk_id chunk (suc passed) others rest))
-
-  -- a place behind all these fragments
-  chunk_keeps : (at : Cursor) (fragments : List Fragment) (passed : ℕ) → ((p : ℕ) → p < passed + length fragments → UpTo (place chunk_id p) at)
-      → HasStart at rest → HasStart at (chunk_links closed chunk_id chunk passed fragments rest)
-  chunk_keeps at [] passed behind h = h
-  chunk_keeps at (fragment ∷ others) passed behind h =
-      step ((chunk.awaits && is_last others) && not closed) (chunk_keeps at others (suc passed) (λ p low. behind p (omega (arith, low))) h)
-    where
-      step : (b : Bool) → HasStart at (chunk_links closed chunk_id chunk (suc passed) others rest) → HasStart at (first_links b passed fragment others)
-      step true k = behind passed (omega arith)
-      step false k = piece_keeps at (piece_in passed fragment others) (place_behind (is_part closed chunk) chunk_id passed (is_last others))
-          (chunk.continues && (passed == 0)) (chunk.awaits && is_last others) (chunk_links closed chunk_id chunk (suc passed) others rest) k
-
-  -- a place among them
-  chunk_has : (k : ℕ) (fragments : List Fragment) (passed : ℕ) → passed ≤ k → k < passed + length fragments → (chunk.continues && (k == 0)) ≡ false
-      → HasStart (place chunk_id k) (chunk_links closed chunk_id chunk passed fragments rest)
-  chunk_has k [] passed low high begins = absurd (omega (arith, low, high))
-  chunk_has k (fragment ∷ others) passed low high begins =
-      step ((chunk.awaits && is_last others) && not closed) (cases_eq passed k)
-      (λ d. chunk_has k others (suc passed) (grind (arith, low, d)) (omega (arith, high)) begins)
-    where
-      step : (b : Bool) → ((passed ≡ k) ⊎ (passed ≡ k → ⊥)) → ((passed ≡ k → ⊥) → HasStart (place chunk_id k) (chunk_links closed chunk_id chunk (suc passed) others rest))
-          → HasStart (place chunk_id k) (first_links b passed fragment others)
-      step true is later = inr (refl, low)
-      step false (inl same) later =
-          subst (λ (n : ℕ). HasStart (place chunk_id n) (first_links false passed fragment others)) same
-          (piece_has (piece_in passed fragment others) (place_behind (is_part closed chunk) chunk_id passed (is_last others))
-          (chunk.continues && (passed == 0)) (chunk.awaits && is_last others) (chunk_links closed chunk_id chunk (suc passed) others rest)
-          (ap (λ (n : ℕ). chunk.continues && (n == 0)) same ∙ begins))
-      step false (inr other) later =
-          piece_keeps (place chunk_id k) (piece_in passed fragment others) (place_behind (is_part closed chunk) chunk_id passed (is_last others))
-          (chunk.continues && (passed == 0)) (chunk.awaits && is_last others) (chunk_links closed chunk_id chunk (suc passed) others rest) (later other)
+HasStart at links = Started UpTo at links
 
 -- Rows
 
@@ -166,18 +77,18 @@ module _ (closed : Bool) where
           let from = low refl in
           let e = long in
           let high = h.0 in
-          chunk_has closed chunk_id chunk (row_behind chunk_id passed chunk slots (is_part closed chunk)) k (drop passed chunk.fragments) passed from
-          (omega (arith, from, e, high)) h.1
+          chunk_starts UpTo closed chunk_id chunk (row_behind chunk_id passed chunk slots (is_part closed chunk)) k (drop passed chunk.fragments) passed from
+          (omega (arith, from, e, high)) h.1 (λ p below awaits. inr (refl, below))
       by_shown (inr h) =
           let from = low refl in
           let e = long in
           let high = h.0 in
-          chunk_keeps closed chunk_id chunk (row_behind chunk_id passed chunk slots (is_part closed chunk)) (place chunk_id k) (drop passed chunk.fragments) passed
-          (λ p below. inr (refl, omega (arith, from, e, high, below)))
+          chunk_keeps UpTo closed chunk_id chunk (row_behind chunk_id passed chunk slots (is_part closed chunk)) (place chunk_id k) (drop passed chunk.fragments) passed
+          (λ p below awaits. inr (refl, omega (arith, from, e, high, below)))
           (subst (λ (b : Bool). HasStart (place chunk_id k) (row_behind chunk_id passed chunk slots b)) (sym h.1) (inr (refl, omega (arith, from, high))))
   row_has (Here chunk ∷ slots) chunk_id passed (suc d) k low shows =
-      chunk_keeps closed chunk_id chunk (row_behind chunk_id passed chunk slots (is_part closed chunk)) (place (chunk_id + suc d) k) (drop passed chunk.fragments) passed
-      (λ p below. inl (omega arith)) (by_part (is_part closed chunk) (row_has slots (suc chunk_id) 0 d k (λ z. omega arith) shows))
+      chunk_keeps UpTo closed chunk_id chunk (row_behind chunk_id passed chunk slots (is_part closed chunk)) (place (chunk_id + suc d) k) (drop passed chunk.fragments) passed
+      (λ p below awaits. inl (omega arith)) (by_part (is_part closed chunk) (row_has slots (suc chunk_id) 0 d k (λ z. omega arith) shows))
     where
       by_part : (b : Bool) → HasStart (place (suc chunk_id + d) k) (row_of closed (suc chunk_id) 0 slots) → HasStart (place (chunk_id + suc d) k) (row_behind chunk_id passed chunk slots b)
       by_part true h = inl (omega arith)

@@ -9,6 +9,7 @@ pub mod RisingLemmas
 pub mod RowEnds
 pub mod SpoiltLemmas
 pub mod StartLemmas
+pub mod StartedRows
 pub mod StopLemmas
 pub mod TextSizes
 pub mod UnreadableLemmas
