@@ -15,6 +15,7 @@ use Rattle.field_tree.proofs.TestLemmas.{number_digit}
 use Rattle.field_tree.specs.Scanning.{reading_with}
 use Rattle.field_tree.proofs.Runs.{run_joins, run_next, run_last, field_runs, value_runs, times_runs, text_step, pair_runs}
 use Rattle.field_tree.proofs.Accepted.{accepted}
+use Rattle.field_tree.proofs.ScanLemmas.{at_colon, at_quote, at_second_quote, at_star, at_x, at_tick, at_second_tick}
 
 abbrev pub start_at : List Shown → ℕ → Bool → TextReading
 start_at ns d opened = reading_with ns d [] (Start opened)
@@ -54,10 +55,6 @@ empty_end ns d =
 brace_next : (ns : List Shown) (d f : ℕ) → next (reading_with ns d [] (Field f)) 123 ≡ Some (start_at (ns ++ (Begin f, []) ∷ []) (suc d) true)
 unfolding next act applied
 brace_next ns d f = refl
-
-colon_next : (ns : List Shown) (d f : ℕ) → next (reading_with ns d [] (Field f)) 58 ≡ Some (reading_with ns d [] (Value f))
-unfolding next act applied
-colon_next ns d f = refl
 
 -- ---- texts one behind another
 
@@ -111,35 +108,11 @@ field_value : (ns : List Shown) (d : ℕ) (opened : Bool) (f : ℕ) (value : Lis
 field_value ns d opened f value to field r = record {
   stop = r.stop;
   run_is = run_joins (number f) (58 ∷ value) (start_at ns d opened) (reading_with ns d [] (Field f)) (Some r.stop) (field_runs ns d opened f field.0 field.1)
-      (run_next 58 value (reading_with ns d [] (Field f)) (reading_with ns d [] (Value f)) (Some r.stop) (colon_next ns d f) r.run_is);
+      (run_next 58 value (reading_with ns d [] (Field f)) (reading_with ns d [] (Value f)) (Some r.stop) (at_colon ns d f) r.run_is);
   settled_is = r.settled_is;
 }
 
 -- ---- a field of a text
-
-quote_next : (ns : List Shown) (d f : ℕ) → next (reading_with ns d [] (Value f)) 34 ≡ Some (reading_with ns d [] (Text f))
-unfolding next act applied
-quote_next ns d f = refl
-
-quoted_next : (ns : List Shown) (d f : ℕ) (t : List ℕ) → next (reading_with ns d t (Text f)) 34 ≡ Some (reading_with ns d t (Quoted f))
-unfolding next act applied
-quoted_next ns d f t = refl
-
-star_next : (ns : List Shown) (d f : ℕ) (t : List ℕ) → next (reading_with ns d t (Quoted f)) 42 ≡ Some (reading_with ns d t (Star f))
-unfolding next act applied
-star_next ns d f t = refl
-
-tick_next : (ns : List Shown) (d f : ℕ) → next (reading_with ns d [] (Value f)) 120 ≡ Some (reading_with ns d [] (Tick f))
-unfolding next act applied
-tick_next ns d f = refl
-
-pairs_next : (ns : List Shown) (d f : ℕ) → next (reading_with ns d [] (Tick f)) 39 ≡ Some (reading_with ns d [] (Pairs f))
-unfolding next act applied
-pairs_next ns d f = refl
-
-packed_next : (ns : List Shown) (d f : ℕ) (t : List ℕ) → next (reading_with ns d t (Pairs f)) 39 ≡ Some (reading_with ns d t (Packed f))
-unfolding next act applied
-packed_next ns d f t = refl
 
 settled_quoted : (ns : List Shown) (d f : ℕ) (t : List ℕ) → settled (reading_with ns d t (Quoted f)) ≡ after_at (ns ++ (Bytes f 1, t) ∷ []) d
 unfolding settled
@@ -180,8 +153,8 @@ quoted_value ns d f t all =
     let to : Option TextReading = Some (reading_with ns d t (Quoted f)) in
     record {
       stop = reading_with ns d t (Quoted f);
-      run_is = run_next 34 (t ++ 34 ∷ []) (reading_with ns d [] (Value f)) (reading_with ns d [] (Text f)) to (quote_next ns d f)
-          (text_runs t [] (34 ∷ []) ns d f to all (run_last 34 (reading_with ns d t (Text f)) to (quoted_next ns d f t)));
+      run_is = run_next 34 (t ++ 34 ∷ []) (reading_with ns d [] (Value f)) (reading_with ns d [] (Text f)) to (at_quote ns d f)
+          (text_runs t [] (34 ∷ []) ns d f to all (run_last 34 (reading_with ns d t (Text f)) to (at_second_quote ns d f t)));
       settled_is = settled_quoted ns d f t;
     }
 
@@ -191,10 +164,10 @@ repeated_value ns d f k t all some fits =
     let to : Option TextReading = Some (reading_with ns d t (Times f k)) in
     record {
       stop = reading_with ns d t (Times f k);
-      run_is = run_next 34 (t ++ 34 ∷ 42 ∷ number k) (reading_with ns d [] (Value f)) (reading_with ns d [] (Text f)) to (quote_next ns d f)
+      run_is = run_next 34 (t ++ 34 ∷ 42 ∷ number k) (reading_with ns d [] (Value f)) (reading_with ns d [] (Text f)) to (at_quote ns d f)
           (text_runs t [] (34 ∷ 42 ∷ number k) ns d f to all
-          (run_next 34 (42 ∷ number k) (reading_with ns d t (Text f)) (reading_with ns d t (Quoted f)) to (quoted_next ns d f t)
-          (run_next 42 (number k) (reading_with ns d t (Quoted f)) (reading_with ns d t (Star f)) to (star_next ns d f t)
+          (run_next 34 (42 ∷ number k) (reading_with ns d t (Text f)) (reading_with ns d t (Quoted f)) to (at_second_quote ns d f t)
+          (run_next 42 (number k) (reading_with ns d t (Quoted f)) (reading_with ns d t (Star f)) to (at_star ns d f t)
           (times_runs ns d f k t some fits))));
       settled_is = settled_times ns d f k t;
     }
@@ -205,9 +178,9 @@ packed_value ns d f t all =
     let to : Option TextReading = Some (reading_with ns d t (Packed f)) in
     record {
       stop = reading_with ns d t (Packed f);
-      run_is = run_next 120 (39 ∷ (pairs t ++ 39 ∷ [])) (reading_with ns d [] (Value f)) (reading_with ns d [] (Tick f)) to (tick_next ns d f)
-          (run_next 39 (pairs t ++ 39 ∷ []) (reading_with ns d [] (Tick f)) (reading_with ns d [] (Pairs f)) to (pairs_next ns d f)
-          (pairs_run t [] (39 ∷ []) ns d f to all (run_last 39 (reading_with ns d t (Pairs f)) to (packed_next ns d f t))));
+      run_is = run_next 120 (39 ∷ (pairs t ++ 39 ∷ [])) (reading_with ns d [] (Value f)) (reading_with ns d [] (Tick f)) to (at_x ns d f)
+          (run_next 39 (pairs t ++ 39 ∷ []) (reading_with ns d [] (Tick f)) (reading_with ns d [] (Pairs f)) to (at_tick ns d f)
+          (pairs_run t [] (39 ∷ []) ns d f to all (run_last 39 (reading_with ns d t (Pairs f)) to (at_second_tick ns d f t))));
       settled_is = settled_packed ns d f t;
     }
 

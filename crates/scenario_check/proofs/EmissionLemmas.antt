@@ -1,5 +1,5 @@
 -- The emissions of all writers of a scenario.
-use Rattle.std.proofs.Common.{◌≡◌, ◌∙◌, ℕ, zero, suc, ◌+◌, ◌<◌, ◌≤◌, List, [], ◌∷◌, Some, Result, Ok, Err, IfOk, length, refl, sym, ap, subst, arith}
+use Rattle.std.proofs.Common.{◌≡◌, ◌∙◌, ℕ, zero, suc, ◌+◌, ◌<◌, ◌≤◌, List, [], ◌∷◌, Some, length, refl, sym, ap, subst, arith}
 use Rattle.std.specs.Prelude.{slice_get}
 use Rattle.trace_base.specs.declared.limits.TheConstants.{MAX_WRITERS}
 use Rattle.trace_model.specs.Packets.{nothing_yet}
@@ -103,8 +103,3 @@ collected scenario is emitters emitted many taken asks =
       few = λ writer packets there. omega (arith, asked.few writer packets there, (scenario_is_short scenario is).few);
       clean = subst AreUnmarked (sym same) (scenario_is_unmarked scenario is);
     }
-
--- a fact that follows of a value, where there is one
-pub if_ok : {A E : Type 0} (r : Result A E) (P Q : A → Type 0) → ((x : A) → P x → Q x) → IfOk r P → IfOk r Q
-if_ok (Ok x) P Q follows fact = follows x fact
-if_ok (Err fault) P Q follows fact = tt

@@ -4,7 +4,7 @@ use Rattle.std.specs.Prelude.{fold, slice_get}
 use Rattle.std.proofs.lemmas.Bool.{cases_eq, eqb-false, ne_eqb}
 use Rattle.std.proofs.lemmas.Grind.{flat_map-append}
 use Rattle.std.proofs.lemmas.List.{append-nil}
-use Rattle.std.proofs.lemmas.List.Sums.{fold-append, sum_by_push, sum_by-append}
+use Rattle.std.proofs.lemmas.List.Sums.{fold-append, sum_by-append}
 use Rattle.std.proofs.lemmas.Option.{slice_get_within}
 use Rattle.trace_model.specs.Calls.{Call}
 use Rattle.trace_model.specs.Packets.{Account, account_of, noted, nothing_yet}
@@ -13,7 +13,9 @@ use Rattle.scenario_text.specs.declared.scenario.LineKind.{LineKind}
 use Rattle.scenario_text.specs.declared.scenario.LineKind.TheVariants.{Packet, Begin, Add, Nest, Unnest, End, Flush, Collect, Scrape, Close, Read, Request}
 use Rattle.scenario_text.specs.declared.scenario.NumberedLine.{NumberedLine}
 use Rattle.scenario_text.specs.Accepted.{line_calls, calls_asked, AreAccepted}
-use Rattle.scenario_text.specs.Lengths.{line_len, lines_len}
+use Rattle.scenario_text.specs.Lengths.{line_len}
+use Rattle.scenario_text.proofs.AcceptedLemmas.{calls_more}
+use Rattle.scenario_text.proofs.ShortLemmas.{lines_push}
 use Rattle.scenario_check.specs.Progress.{Holds, MayTake, Takes, named_writer, named_calls, HasTaken, HaveTaken, MayCome}
 use Rattle.scenario_check.proofs.AskedLemmas.{push_there}
 use Rattle.scenario_check.proofs.CallLemmas.{accepted_front, accepted_back, split_there}
@@ -40,12 +42,6 @@ named_at false number (Read buffer limit) is = refl
 named_at true number Request is = refl
 named_at false number Request is = refl
 
-calls_more : (number : ℕ) (lines : List NumberedLine) (line : NumberedLine)
-    → calls_asked number (lines ++ line ∷ []) ≡ calls_asked number lines ++ line_calls number line.what
-calls_more number lines line =
-    flat_map-append (λ (l : NumberedLine). line_calls number l.what) lines (line ∷ [])
-    ∙ ap (λ (calls : List Call). calls_asked number lines ++ calls) (append-nil (line_calls number line.what))
-
 self_eq : (number : ℕ) → nat_eq number number ≡ true
 self_eq number = by_value (nat_eq number number) refl
   where
@@ -66,9 +62,6 @@ calls_other number lines line other =
     calls_more number lines line
     ∙ ap (λ (calls : List Call). calls_asked number lines ++ calls) (named_at false number line.what (ne_eqb number (named_writer line.what) other))
     ∙ append-nil (calls_asked number lines)
-
-lines_push : (lines : List NumberedLine) (line : NumberedLine) → lines_len (lines ++ line ∷ []) ≡ lines_len lines + line_len line.what
-lines_push lines line = sum_by_push (λ (l : NumberedLine). line_len l.what) lines line
 
 -- ---- one emitter
 

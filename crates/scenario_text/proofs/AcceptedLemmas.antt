@@ -51,7 +51,7 @@ record IsTold (state : State) : Type 0 where
 
 -- ---- lines
 
-calls_more : (number : ℕ) (lines : List NumberedLine) (line : NumberedLine)
+pub calls_more : (number : ℕ) (lines : List NumberedLine) (line : NumberedLine)
     → calls_asked number (lines ++ line ∷ []) ≡ calls_asked number lines ++ line_calls number line.what
 calls_more number lines line =
     flat_map-append (λ (l : NumberedLine). line_calls number l.what) lines (line ∷ [])

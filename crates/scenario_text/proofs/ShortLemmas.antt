@@ -29,7 +29,7 @@ use Rattle.scenario_text.specs.Forms.{form_of}
 use Rattle.scenario_text.specs.Grammar.{unless, after_form, says_nothing, after_line, first_left, unless_left, at_end, and_then, after_lines, state_after}
 use Rattle.scenario_text.specs.Scenario.{Parts, parts_of, parts_said, said, scenario_of, IsScenario}
 use Rattle.scenario_text.proofs.StateLemmas.{first_none, scenario_holds}
-use Rattle.scenario_text.proofs.TreeLemmas.{within}
+use Rattle.scenario_text.proofs.TreeLemmas.{within, served_lines}
 use Rattle.scenario_text.specs.Lengths.{line_len, lines_len, AreShort}
 
 -- ---- how long packets are
@@ -39,7 +39,7 @@ record AreCounted (state : State) : Type 0 where
   sum_is : lines_len state.lines ≡ state.bytes
   most : state.bytes ≤ MAX_SCENARIO_PACKET_BYTES
 
-lines_push : (lines : List NumberedLine) (line : NumberedLine) → lines_len (lines ++ line ∷ []) ≡ lines_len lines + line_len line.what
+pub lines_push : (lines : List NumberedLine) (line : NumberedLine) → lines_len (lines ++ line ∷ []) ≡ lines_len lines + line_len line.what
 lines_push lines line = sum_by_push (λ (l : NumberedLine). line_len l.what) lines line
 
 -- a line of a writer is as long as its step
@@ -131,12 +131,6 @@ OneMore state after = length after.lines ≤ length state.lines + 1
 push_one : (lines : List NumberedLine) (line : NumberedLine) → length (lines ++ line ∷ []) ≤ length lines + 1
 push_one lines line = omega (arith, length-append lines (line ∷ []))
 
-served_one : (state : State) (producer : Numeral) (step : ProducerStep) → (served state producer step).lines ≡ state.lines
-unfolding served with_closed
-served_one state producer Collect = refl
-served_one state producer Scrape = refl
-served_one state producer Close = refl
-
 moved_one : (state : State) (number : ℕ) (form : Form) (nodes : List Shown) → OneMore state (moved state number form nodes)
 unfolding moved written with_line with_packet with_bytes
 moved_one state number (Buffer kb policy) nodes = omega arith
@@ -145,7 +139,7 @@ moved_one state number (Writer producer buffer policy) nodes = omega arith
 moved_one state number (OfWriter writer step) nodes = push_one state.lines _
 moved_one state number (OfProducer producer step) nodes =
     subst (λ (lines : List NumberedLine). length lines ≤ length state.lines + 1)
-    (sym (served_one (with_line state number (producer_kind (value producer) step)) producer step)) (push_one state.lines _)
+    (sym (served_lines (with_line state number (producer_kind (value producer) step)) producer step)) (push_one state.lines _)
 moved_one state number (Read buffer limit) nodes = push_one state.lines _
 moved_one state number Request nodes = push_one state.lines _
 

@@ -118,7 +118,7 @@ one_more : (lines : List NumberedLine) (line : NumberedLine) → GiveTrees lines
 one_more [] line all more = (more, tt)
 one_more (first ∷ lines) line all more = (all.0, one_more lines line all.1 more)
 
-served_lines : (state : State) (producer : Numeral) (step : ProducerStep) → (served state producer step).lines ≡ state.lines
+pub served_lines : (state : State) (producer : Numeral) (step : ProducerStep) → (served state producer step).lines ≡ state.lines
 unfolding served with_closed
 served_lines state producer Collect = refl
 served_lines state producer Scrape = refl

@@ -1,8 +1,7 @@
 -- One line with a whole packet, of a writer that has begun none and whose producer is open.
-use Rattle.std.proofs.Common.{◌≡◌, ℕ, ◌+◌, ◌-◌, ◌^◌, ◌<◌, ◌≤◌, nat_eq, nat_lt, Bool, true, false, cond, ◌&&◌, Some, None, Ok, List, [], ◌∷◌, ◌++◌, length, slice_get, slice_set, refl, sym, ap, ◌∙◌, arith}
+use Rattle.std.proofs.Common.{◌≡◌, ℕ, ◌+◌, ◌-◌, ◌^◌, ◌<◌, ◌≤◌, nat_eq, Bool, true, false, cond, Some, None, Ok, List, [], ◌∷◌, ◌++◌, slice_get, slice_set, refl, sym, ap, ◌∙◌, arith}
 use Rattle.std.specs.Prelude.{codes}
 use Rattle.std.specs.Fmt.{decimal}
-use Rattle.std.proofs.lemmas.Bool.{and_right}
 use Rattle.std.proofs.lemmas.List.{set-get_or}
 use Rattle.std.proofs.lemmas.Option.{get_or_from_slice_get}
 use Rattle.trace_base.specs.declared.limits.TheConstants.{MAX_SCENARIO_PACKET_BYTES}
@@ -18,13 +17,14 @@ use Rattle.scenario_text.specs.declared.scenario.LineKind.TheVariants as kinds
 use Rattle.scenario_text.specs.Pieces.{pieces, pieces_behind, behind_space, fields_part}
 use Rattle.scenario_text.specs.Forms.{form_of, with_number, long_form, form_of_words}
 use Rattle.scenario_text.specs.Items.{item, with_item}
-use Rattle.scenario_text.specs.Ranges.{fits, value}
+use Rattle.scenario_text.specs.Ranges.{value}
 use Rattle.scenario_text.specs.State.{State, is_closed, packet_of, nesting_of, len_of}
-use Rattle.scenario_text.specs.Reasons.{first, front_reasons, given_by, step_len, is_out_of_range, is_late, is_set_up, is_too_many, lacks_producer, lacks_buffer, lacks_writer, has_larger_chunks, has_closed_producer, is_closed_for, meets_packet, wants_none, lacks_packet, lacks_nesting, leaves_nesting}
+use Rattle.scenario_text.specs.Reasons.{first, front_reasons, given_by, step_len}
 use Rattle.scenario_text.specs.Effects.{writer_kind, packet_after, with_line, with_packet, with_bytes, written}
 use Rattle.scenario_text.specs.Grammar.{says_nothing, after_form, after_line}
 use Rattle.scenario_text.proofs.FormLemmas.{several_words}
 use Rattle.scenario_text.proofs.WriteLemmas.{taken}
+use Rattle.scenario_text.proofs.PacketLemmas.{front_passed}
 use Rattle.workload_laws.proofs.CutLemmas.{lacks_decimal, pieces-at, behind_space_at}
 use Rattle.workload_laws.proofs.NumeralLemmas.{numeral_read}
 use Rattle.workload_laws.proofs.FieldsLemmas.{packet_tree, fields_text, AreNumbers, packet_read, packet_len_any}
@@ -79,13 +79,7 @@ unfolding packet_of
 none_begun state writer is = let free : item state.packets (Fits writer) ≡ Some None = is.free in rw free refl
 
 front_none : (state : State) (writer : ℕ) → IsFree state writer → first (front_reasons state (OfWriter (Fits writer) (Packet true))) ≡ None
-unfolding front_reasons is_out_of_range fits is_late is_set_up is_too_many lacks_producer lacks_buffer lacks_writer has_larger_chunks has_closed_producer is_closed_for meets_packet wants_none lacks_packet lacks_nesting leaves_nesting
-front_none state writer is =
-    let early : (nat_lt 0 (length state.lines) && false) ≡ false = and_right (nat_lt 0 (length state.lines)) false refl in
-    let there : item state.writers (Fits writer) ≡ Some is.spec = is.there in
-    let opened : is_closed state (Fits is.spec.producer) ≡ false = is.opened in
-    let none : packet_of state (Fits writer) ≡ None = none_begun state writer is in
-    rw (early, there, opened, none) refl
+front_none state writer is = front_passed state writer is.spec is.there is.opened (none_begun state writer is)
 
 -- ---- what it leads to
 
