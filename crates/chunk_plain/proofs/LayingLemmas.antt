@@ -227,7 +227,7 @@ pages_sized page geometry (suc n) c below =
     ∙ page_sized (page + n) geometry geometry.chunks (c - length before) (let many = length-append before last in let one = length-page_spots (page + n) geometry geometry.chunks in omega arith))
 
 -- a chunk of some producer isn't one of those before
-range_behind : (first : ℕ) (producers : List ProducerSpec) (i c : ℕ) → (get_or (ranges_of first producers) i (record { first = 0; count = 0 })).first ≤ c
+pub range_behind : (first : ℕ) (producers : List ProducerSpec) (i c : ℕ) → (get_or (ranges_of first producers) i (record { first = 0; count = 0 })).first ≤ c
     → c < (get_or (ranges_of first producers) i (record { first = 0; count = 0 })).first + (get_or (ranges_of first producers) i (record { first = 0; count = 0 })).count → first ≤ c
 range_behind first [] i c least below = absurd (omega arith)
 range_behind first (producer ∷ producers) zero c least below = least

@@ -53,12 +53,12 @@ raw-before pages continues bytes others chains k =
     ∙ last-same parts.done parts.now continues chains (length pages)
     ∙ ap (λ (xs : List (List ℕ)). map placeless (all_behind continues chains (length pages) xs)) (sym parts.is)
 
-chains_before-more : (pages : List Page) (continues : Bool) (bytes : List ℕ) (others : List (List ℕ))
+pub chains_before-more : (pages : List Page) (continues : Bool) (bytes : List ℕ) (others : List (List ℕ))
     → chains_before pages continues (bytes ∷ others) ≡ raw_chains (pages ++ page_with continues (bytes ∷ others) ∷ [])
 chains_before-more pages true bytes others = refl
 chains_before-more pages false bytes others = refl
 
-earlier_pieces-more : (pages : List Page) (continues : Bool) (bytes : List ℕ) (others : List (List ℕ)) → earlier_pieces pages continues (bytes ∷ others) ≡ []
+pub earlier_pieces-more : (pages : List Page) (continues : Bool) (bytes : List ℕ) (others : List (List ℕ)) → earlier_pieces pages continues (bytes ∷ others) ≡ []
 earlier_pieces-more pages true bytes others = refl
 earlier_pieces-more pages false bytes others = refl
 
@@ -73,7 +73,7 @@ chain_behind pieces piece = record {
   fate = fate_of piece;
 }
 
-start-is : (at : Cursor) (pieces : List Piece) (piece : Piece) → StartsAt at pieces → start_of pieces piece ≡ at
+pub start-is : (at : Cursor) (pieces : List Piece) (piece : Piece) → StartsAt at pieces → start_of pieces piece ≡ at
 start-is at [] piece h = absurd h
 start-is at (first ∷ others) piece h = h
 

@@ -9,20 +9,19 @@ use Rattle.trace_model.specs.Packets.{Packet, Text, NestedLength, flat, open_len
 use Rattle.trace_model.specs.Pages.{Page, patches_of}
 use Rattle.trace_model.specs.Row.{Piece, Chain, Fate, Whole, Marked, IntoLost, CutOff, Open, bytes_of}
 use Rattle.trace_model.specs.RowLaws.{is_open}
-use Rattle.trace_model.specs.Sequences.{Cursor, is_among}
+use Rattle.trace_model.specs.Sequences.{is_among}
 use Rattle.trace_model.specs.Sent.{SentPatch, text_of, all_sent, chunk_at, open_in, is_in_one}
 use Rattle.trace_model.specs.Cut.{IsWellFormedPage, Begins, IsGivenUp, AreBytesOf, left_behind, last_runs_on, newest_goes_on, length_places, all_end_well, begins_well, all_begin_well, is_marked_fate}
 use Rattle.commit_body.specs.declared.hole.Hole.{Hole}
 use Rattle.commit_body.specs.Patches.{hole_chunks, with_lasts}
-use Rattle.cut_steps.specs.RawChains.{earlier_pieces, chains_before, current_piece, current_chain, start_of}
+use Rattle.cut_steps.specs.RawChains.{earlier_pieces, chains_before, current_piece, current_chain}
 use Rattle.cut_steps.specs.RawCut.{IsRawChainOf, CutsRaw}
 use Rattle.cut_steps.specs.Pieces.{AllStandIn}
 use Rattle.cut_steps.specs.Pending.{sent_now, hole_at, patches_so_far, AllEndWithin}
 use Rattle.cut_steps.specs.Growth.{settled_bytes}
 use Rattle.cut_steps.specs.GoesOn.{GoesOn, AllFrom}
 use Rattle.cut_steps.specs.Writing.{IsWriting}
-use Rattle.cut_steps.proofs.RowSteps.{StartsAt}
-use Rattle.cut_steps.proofs.ChainLemmas.{RunsOnOut, runs_on_out}
+use Rattle.cut_steps.proofs.ChainLemmas.{RunsOnOut, runs_on_out, start-is}
 use Rattle.cut_steps.proofs.GrowingPlaces.{length_bytes-one, same_more, stands-earlier, holes-same, sent_now-same}
 use Rattle.cut_steps.proofs.Growing.{long_bytes}
 use Rattle.cut_steps.proofs.Places.{stands_within}
@@ -92,10 +91,6 @@ all_stand-earlier [] earlier piece e h = tt
 all_stand-earlier (at ∷ places) earlier piece e h =
     (stands-earlier earlier piece at (omega (arith, e, stands_within (earlier ++ piece ∷ []) at h.0)) h.0, all_stand-earlier places earlier piece e h.1)
 
-started : (at : Cursor) (earlier : List Piece) (piece : Piece) → StartsAt at earlier → start_of earlier piece ≡ at
-started at [] piece h = absurd h
-started at (first ∷ others) piece h = h
-
 stalled_sealed : (size : ℕ) (packet later : Packet) (older : List Packet) (pages : List Page) (holes : List Hole) (coming : List ℕ)
     (w : IsWriting size packet older pages true [] [] [] holes coming) → GoesOn packet later coming → (r : RunsOnOut pages)
     → IsSealed size later older pages (patches_of pages) (hole_chunks holes) (sent_by_now packet older pages true [] [])
@@ -147,7 +142,7 @@ stalled_sealed size packet later older pages holes coming w g r =
           ∙ sym (map-map (λ (hole : Hole). hole.chunk_id) (hole_at earlier) (open_places levels))
           ∙ ap hole_chunks (holes-same (open_places levels) earlier pieces stand (same_more earlier (current ∷ [])) ∙ sym w.holes_are);
       begins = and_from (begins_well size later older (chain ∷ before)) (all_begin_well size older (cond later.kept before (chain ∷ before)))
-          (begins_well-same size packet later older unfinished chain before w.kept is_kept (sym g.follows_flush) (started r.chain.at earlier current r.starts) w.begins)
+          (begins_well-same size packet later older unfinished chain before w.kept is_kept (sym g.follows_flush) (start-is r.chain.at earlier current r.starts) w.begins)
           (subst (λ (b : Bool). IsTrue (all_begin_well size older (cond b before (chain ∷ before)))) (sym is_kept) w.older_begin);
     }
 

@@ -42,7 +42,7 @@ tells_few emitted q first next (bytes ∷ records) h low =
     let from = h.1.not_before in
     omega (arith, rest, from)
 
-filter_few : (test : Packet → Bool) (xs : List Packet) → length (filter test xs) ≤ length xs
+pub filter_few : (test : Packet → Bool) (xs : List Packet) → length (filter test xs) ≤ length xs
 filter_few test [] = omega arith
 filter_few test (x ∷ xs) = step (test x) (filter_few test xs)
   where

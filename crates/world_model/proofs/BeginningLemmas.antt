@@ -12,7 +12,7 @@ use Rattle.world_model.specs.FirstBuffers.{payload_at}
 use Rattle.world_model.specs.Accounts.{HasCut}
 use Rattle.world_model.specs.AccountLaws.{TablesBeginAsAccounts}
 
-nothing_cut : (size : ℕ) → CutsInto size [] []
+pub nothing_cut : (size : ℕ) → CutsInto size [] []
 nothing_cut size = record {
   full = All-nil (IsWellFormedPage size);
   flags = tt;

@@ -29,7 +29,7 @@ none_last (Held chunk head ∷ begun) none = absurd none
 none_last (Completed chunk content ∷ []) none = refl
 none_last (Completed chunk content ∷ next ∷ begun) none = none_last (next ∷ begun) none
 
-held_last : (begun : List BegunChunk) (chunk : ℕ) (head : Draft) → last_is_held (begun ++ Held chunk head ∷ []) ≡ true
+pub held_last : (begun : List BegunChunk) (chunk : ℕ) (head : Draft) → last_is_held (begun ++ Held chunk head ∷ []) ≡ true
 held_last [] chunk head = refl
 held_last (one ∷ []) chunk head = refl
 held_last (one ∷ next ∷ begun) chunk head = held_last (next ∷ begun) chunk head

@@ -49,6 +49,7 @@ use Rattle.trace_writer.proofs.holding.Holes.{outside_here, outside_later}
 use Rattle.trace_writer.proofs.holding.Payloads.{written_moved, written_offset, written_long, written_put, written_dropped, lost_page, full_lost}
 use Rattle.trace_writer.proofs.holding.Seats.{shows_long, content_is, shows_one, completed_here, draft_here}
 use Rattle.trace_writer.proofs.holding.Publishing.{fits}
+use Rattle.trace_writer.proofs.packets.InPlace.{same_both}
 
 -- The packet, of which this text was to be written, is being given up in the fragment.
 pub record GivesIn (site : Site) (packet : Packet) (older : List Packet) (pages : List Page) (done : List (List ℕ)) (pending : Pending) (fragment : OpenFragment) (text : Text) : Type 0 where
@@ -75,17 +76,6 @@ closes_none site packet older view pending fragment inside = record {
 }
 
 -- One hole
-
-same_further : (a b c : OpenFragment) → IsSameChunk a b → IsSameChunk b c → IsSameChunk a c
-same_further a b c one two = record {
-  chunk = two.chunk ∙ one.chunk;
-  id = two.id ∙ one.id;
-  patches = two.patches ∙ one.patches;
-  start = two.start ∙ one.start;
-  count = two.count ∙ one.count;
-  continues = two.continues ∙ one.continues;
-  len = two.len ∙ one.len;
-}
 
 -- it is in the held chunk
 gives_here : (site : Site) (packet : Packet) (older : List Packet) (pages : List Page) (done : List (List ℕ)) (old new : Pending) (fragment next : OpenFragment) (text : Text)
@@ -145,7 +135,7 @@ closes_one site view before old new first fragment next (Here offset bytes) clos
     ap (holes_outside first.held.id) closes.innermost ∙ outside_here first.held.id new.holes closes.hole held in
     let unsent : length new.unsent ≡ length old.unsent = ap length closes.outcome.3 in
     record {
-      same = same_further first fragment next h.same put.same;
+      same = same_both first fragment next h.same put.same;
       at = at ∙ h.at;
       room = omega (arith, h.room, outside, unsent);
       gives = λ packet older text w giving.

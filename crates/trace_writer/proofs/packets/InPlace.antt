@@ -52,7 +52,7 @@ with_bytes_both old one two at fits =
     ∙ ap (λ (xs : List ℕ). front ++ two ++ xs) (drop-drop (length two) (at + length one) old ∙ ap (λ (n : ℕ). drop n old) more)
     ∙ ap (λ (xs : List ℕ). xs ++ drop (at + length (one ++ two)) old) (append_assoc (take at old) one two)
 
-same_both : (old mid new : OpenFragment) → IsSameChunk old mid → IsSameChunk mid new → IsSameChunk old new
+pub same_both : (old mid new : OpenFragment) → IsSameChunk old mid → IsSameChunk mid new → IsSameChunk old new
 same_both old mid new first second = record {
   chunk = second.chunk ∙ first.chunk;
   id = second.id ∙ first.id;

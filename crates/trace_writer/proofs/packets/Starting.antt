@@ -24,9 +24,10 @@ use Rattle.chunk_plain.specs.Words.{IsBegun}
 use Rattle.chunk_plain.specs.declared.tokens.Held.{Held as HeldToken}
 use Rattle.chunk_plain.specs.declared.setup.ChunkRange.{ChunkRange}
 use Rattle.chunk_plain.specs.Setup.{Setup, spot}
-use Rattle.cut_steps.specs.RawChains.{raw_chains, page_with, earlier_pieces, chains_before}
+use Rattle.cut_steps.specs.RawChains.{raw_chains, page_with}
 use Rattle.cut_steps.specs.Writing.{IsWriting}
 use Rattle.cut_steps.proofs.Beginning.{writing_begun, writing_begun_new, begins_well-begun}
+use Rattle.cut_steps.proofs.ChainLemmas.{chains_before-more, earlier_pieces-more}
 use Rattle.trace_writer.specs.declared.begin.Place.{Place}
 use Rattle.trace_writer.specs.declared.chunk.HeldChunk.{HeldChunk}
 use Rattle.trace_writer.specs.declared.fault.Begun.{Begun as BegunPacket}
@@ -152,31 +153,10 @@ new_roomy setup place route account view new pending held chunk id is_route held
           started counts same;
     }
 
-pub none_idle : (site : Site) (account : Account) (view new : WriterView) (pending : Pending) → new.begun ≡ view.begun
-    → IsIdle site account view pending → IsIdle site account new pending
-none_idle site account view new pending same idle = record {
-  pages = idle.pages;
-  shown = subst (λ (begun : List BegunChunk). ShowsPages site 0 begun idle.pages) (sym same) idle.shown;
-  holes = idle.holes;
-  unsent = idle.unsent;
-  ended = idle.ended;
-  between = idle.between;
-  fresh = idle.fresh;
-}
-
 -- Behind what the held chunk holds
 
 none_empty : (first : List ℕ) (others : List (List ℕ)) → (length (first ∷ others) == 0) ≡ false
 none_empty first others = ne_eqb (length (first ∷ others)) 0 (λ e. omega (arith, e))
-
-none_earlier : (pages : List Page) (continues : Bool) (first : List ℕ) (others : List (List ℕ)) → earlier_pieces pages continues (first ∷ others) ≡ []
-none_earlier pages true first others = refl
-none_earlier pages false first others = refl
-
-chains_of_held : (pages : List Page) (continues : Bool) (first : List ℕ) (others : List (List ℕ))
-    → chains_before pages continues (first ∷ others) ≡ raw_chains (pages ++ page_with continues (first ∷ others) ∷ [])
-chains_of_held pages true first others = refl
-chains_of_held pages false first others = refl
 
 pub behind_roomy : (site : Site) (account : Account) (view : WriterView) (pending : Pending) (chunk : HeldChunk)
     → chunk.held.id + 1 + PACKET_IDS ≤ ID_LIMIT → has_room site.size chunk ≡ true
@@ -202,9 +182,9 @@ behind_roomy site account view pending chunk ids roomy behind =
           started_inside site account packet view later pending chunk fragment behind.pages behind.completed behind.draft done counted room behind.filled behind.begun behind.shown behind.id
           behind.sized behind.whole behind.holes behind.few
           (writing_begun site.size packet account.packets behind.pages chunk.continues done [] chains pending.unsent behind.between
-          (none_earlier behind.pages chunk.continues behind.first behind.others) (chains_of_held behind.pages chunk.continues behind.first behind.others) behind.continues_is
+          (earlier_pieces-more behind.pages chunk.continues behind.first behind.others) (chains_before-more behind.pages chunk.continues behind.first behind.others) behind.continues_is
           bare.kept bare.given_up bare.finished bare.levels bare.closed
-          (begins_well-begun site.size packet account.packets behind.pages chunk.continues done [] chains bare.kept (none_earlier behind.pages chunk.continues behind.first behind.others)
+          (begins_well-begun site.size packet account.packets behind.pages chunk.continues done [] chains bare.kept (earlier_pieces-more behind.pages chunk.continues behind.first behind.others)
           (none_empty behind.first behind.others ∙ sym (ap (λ (b : Bool). is_fresh site.size b account.packets chains) bare.follows_flush ∙ behind.fresh ∙ ap not roomy))))
           started counts same;
     }

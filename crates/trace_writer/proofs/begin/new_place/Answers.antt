@@ -1,7 +1,8 @@
 use Rattle.std.proofs.Common.{◌∙◌, sym, ap, length}
 use Rattle.trace_writer.specs.Site.{site_of}
-use Rattle.trace_writer.proofs.packets.Starting.{new_roomy, none_idle}
+use Rattle.trace_writer.proofs.packets.Starting.{new_roomy}
 use Rattle.trace_writer.proofs.begin.new_place.Goals as goal
+use Rattle.trace_writer.proofs.accounts.Agreeing.{idle_seen}
 
 pub returns-in-Some-clause-place : goal.returns-in-Some-clause-place
 returns-in-Some-clause-place g c = λ account pending idle.
@@ -14,6 +15,6 @@ pub returns-in-None-clause-place : goal.returns-in-None-clause-place
 returns-in-None-clause-place g c = λ account pending idle.
     let none = c.in-None.ensures.none in (
       c.requires.next ∙ sym (ap length none.begun),
-      none_idle (site_of (g.W.Words.means.setup c.args.table.now) (g.W.Words.means.place c.args.seat.now) c.args.route.now) account
+      idle_seen (site_of (g.W.Words.means.setup c.args.table.now) (g.W.Words.means.place c.args.seat.now) c.args.route.now) account
           (g.W.Words.means.view c.args.table.now c.args.seat.now) (g.W.Words.means.view c.claim_next.new.table c.claim_next.new.seat) pending none.begun idle,
     )
