@@ -11,13 +11,14 @@ use Rattle.trace_model.specs.Sequences.{is_among}
 use Rattle.trace_model.specs.Row.{Piece, bytes_of}
 use Rattle.trace_model.specs.Sent.{SentPatch, all_sent, open_in}
 use Rattle.trace_model.specs.Cut.{length_places}
+use Rattle.trace_model.proofs.PacketLemmas.{flat_written}
 use Rattle.commit_body.specs.declared.hole.Hole.{Hole}
 use Rattle.commit_body.specs.Patches.{hole_chunks}
 use Rattle.cut_steps.specs.RawChains.{earlier_pieces, chains_before, current_piece, current_pieces}
 use Rattle.cut_steps.specs.Pending.{HasSent, AllEndWithin, sent_now, patches_so_far}
 use Rattle.cut_steps.specs.Writing.{with_open, IsWriting}
 use Rattle.cut_steps.specs.GivingUp.{IsGivingUp, AllClearOf, zero_patches}
-use Rattle.cut_steps.proofs.Places.{flat_written, flat_begun, open_places-innermost}
+use Rattle.cut_steps.proofs.Places.{flat_begun, open_places-innermost}
 use Rattle.cut_steps.proofs.Growing.{long_bytes}
 use Rattle.cut_steps.proofs.StepLemmas.{all_end_well-more, open_places-written, came}
 use Rattle.cut_steps.proofs.StrictPieces.{lengths_in_one}

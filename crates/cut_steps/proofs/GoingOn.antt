@@ -3,8 +3,9 @@ use Rattle.std.proofs.Common.{◌≡◌, ◌∙◌, ℕ, ◌==◌, false, IsTrue
 use Rattle.std.proofs.lemmas.Bool.{eq-eqb, or_left, true≢false}
 use Rattle.trace_model.specs.Packets.{Packet, flat, open_length, open_places}
 use Rattle.trace_model.specs.Sequences.{is_among}
+use Rattle.trace_model.proofs.PacketLemmas.{flat_written}
 use Rattle.cut_steps.specs.GoesOn.{GoesOn}
-use Rattle.cut_steps.proofs.Places.{flat_written, flat_begun, open_places-innermost}
+use Rattle.cut_steps.proofs.Places.{flat_begun, open_places-innermost}
 
 -- further bytes are to be written
 pub goes_on-more : (standing packet : Packet) (level rest : List ℕ) (outer : List (List ℕ))

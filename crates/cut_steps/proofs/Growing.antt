@@ -6,11 +6,12 @@ use Rattle.trace_model.specs.Images.{Patch, with_bytes}
 use Rattle.trace_model.specs.Packets.{flat, open_places, open_length}
 use Rattle.trace_model.specs.Row.{Piece, bytes_of}
 use Rattle.trace_model.specs.Sent.{chunk_at, offset_at, AllChunksBelow}
+use Rattle.trace_model.proofs.PacketLemmas.{flat_written}
 use Rattle.cut_steps.specs.RawChains.{settled_piece}
 use Rattle.cut_steps.specs.Pieces.{Follows, StandInOnePiece, AllStandIn}
 use Rattle.cut_steps.specs.Growth.{HasBytes, settled_bytes}
 use Rattle.cut_steps.specs.Pending.{AllHaveFour}
-use Rattle.cut_steps.proofs.Places.{with_bytes_left, with_bytes_right, length_with_bytes, flat_written, flat_begun, flat_closed, open_places-innermost, bytes_of-patched, stands_within}
+use Rattle.cut_steps.proofs.Places.{with_bytes_left, with_bytes_right, length_with_bytes, flat_begun, flat_closed, open_places-innermost, bytes_of-patched, stands_within}
 use Rattle.cut_steps.proofs.GrowingPlaces.{bytes_of-one, length_bytes-one, all_stand-grown, all_stand-before, stands-last}
 use Rattle.cut_steps.proofs.SamePlaces.{SamePlaces, chunk_at-places, offset_at-places}
 use Rattle.cut_steps.proofs.LaterPatches.{SettleAlike, SettleLater, bytes-alike, bytes-later, follows_settled, settled-places, stands-settled, settled-newer}

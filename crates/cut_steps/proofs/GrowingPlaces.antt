@@ -2,12 +2,12 @@
 use Rattle.std.proofs.Common.{◌≡◌, ◌∙◌, ℕ, ◌+◌, ◌-◌, ◌<◌, ◌≤◌, Bool, true, false, not, cond, List, [], ◌∷◌, ◌++◌, length, map, refl, sym, ap, arith, length-append, inl, inr}
 use Rattle.std.specs.Prelude.{◌==◌, filter}
 use Rattle.std.proofs.lemmas.List.{map-append, append-nil}
-use Rattle.std.proofs.lemmas.List.Concat.{flat_map-append}
 use Rattle.std.proofs.lemmas.List.Elements.{filter-append}
 use Rattle.std.proofs.lemmas.Bool.{cases_lt, eq-eqb, ne_eqb}
 use Rattle.trace_model.specs.Packets.{NestedLength}
 use Rattle.trace_model.specs.Row.{Piece, bytes_of}
 use Rattle.trace_model.specs.Sent.{SentPatch, crosses, sent_for, chunk_at, offset_at}
+use Rattle.trace_model.proofs.FadingLemmas.{bytes_append}
 use Rattle.commit_body.specs.declared.hole.Hole.{Hole}
 use Rattle.cut_steps.specs.Pieces.{StandInOnePiece, AllStandIn}
 use Rattle.cut_steps.specs.Pending.{sent_now, hole_at, AllEndWithin}
@@ -20,11 +20,8 @@ pub record SamePlacesBelow (count : ℕ) (a b : List Piece) : Type 0 where
 
 -- Bytes of more pieces
 
-pub bytes_of-append : (a b : List Piece) → bytes_of (a ++ b) ≡ bytes_of a ++ bytes_of b
-bytes_of-append a b = flat_map-append (λ (piece : Piece). piece.fragment.bytes) a b
-
 pub bytes_of-one : (a : List Piece) (piece : Piece) → bytes_of (a ++ piece ∷ []) ≡ bytes_of a ++ piece.fragment.bytes
-bytes_of-one a piece = bytes_of-append a (piece ∷ []) ∙ ap (λ (xs : List ℕ). bytes_of a ++ xs) (append-nil piece.fragment.bytes)
+bytes_of-one a piece = bytes_append a (piece ∷ []) ∙ ap (λ (xs : List ℕ). bytes_of a ++ xs) (append-nil piece.fragment.bytes)
 
 pub length_bytes-one : (a : List Piece) (piece : Piece) → length (bytes_of (a ++ piece ∷ [])) ≡ length (bytes_of a) + length piece.fragment.bytes
 length_bytes-one a piece = ap length (bytes_of-one a piece) ∙ length-append (bytes_of a) piece.fragment.bytes

@@ -7,6 +7,7 @@ use Rattle.trace_model.specs.Images.{Patch, with_bytes, holds_patch, patched_fra
 use Rattle.trace_model.specs.Packets.{flat, open_length, open_places}
 use Rattle.trace_model.specs.Row.{Piece, bytes_of}
 use Rattle.trace_model.specs.Sent.{chunk_at, offset_at}
+use Rattle.trace_model.proofs.PacketLemmas.{flat_written}
 use Rattle.cut_steps.specs.RawChains.{patched_piece}
 use Rattle.cut_steps.specs.Pieces.{Follows, StandInOnePiece}
 
@@ -38,10 +39,6 @@ length_with_bytes old bytes at h =
     omega (arith, length-append (take at old ++ bytes) (drop (at + length bytes) old), length-append (take at old) bytes, length-take at old, length-drop (at + length bytes) old)
 
 -- The bytes of open messages
-
-pub flat_written : (four bytes level : List ℕ) (others : List (List ℕ)) → flat four ((level ++ bytes) ∷ others) ≡ flat four (level ∷ others) ++ bytes
-flat_written four bytes level [] = refl
-flat_written four bytes level (next ∷ others) = sym (append_assoc (flat four (next ∷ others) ++ four) level bytes)
 
 pub flat_begun : (four level : List ℕ) (others : List (List ℕ)) → flat four ([] ∷ level ∷ others) ≡ flat four (level ∷ others) ++ four
 flat_begun four level others = append-nil (flat four (level ∷ others) ++ four)

@@ -8,12 +8,13 @@ use Rattle.trace_model.specs.Sequences.{is_among}
 use Rattle.trace_model.specs.Row.{Piece, bytes_of}
 use Rattle.trace_model.specs.Sent.{SentPatch, all_sent, chunk_at, offset_at}
 use Rattle.trace_model.specs.Cut.{length_places, all_end_well}
+use Rattle.trace_model.proofs.PacketLemmas.{flat_written}
 use Rattle.commit_body.specs.declared.hole.Hole.{Hole}
 use Rattle.commit_body.specs.Patches.{hole_chunks}
 use Rattle.cut_steps.specs.RawChains.{earlier_pieces, chains_before, current_piece, current_pieces, current_chain, offset_behind}
 use Rattle.cut_steps.specs.Pending.{HasSent, sent_now, hole_at, patches_so_far, AllEndWithin}
 use Rattle.cut_steps.specs.Writing.{with_open, IsWriting}
-use Rattle.cut_steps.proofs.Places.{flat_written, flat_begun, open_places-innermost}
+use Rattle.cut_steps.proofs.Places.{flat_begun, open_places-innermost}
 use Rattle.cut_steps.proofs.GrowingPlaces.{SamePlacesBelow, same_grown, holes-same, sent_now-same, chunk_at-last, offset_at-last, length_bytes-one}
 use Rattle.cut_steps.proofs.Sending.{sends_open}
 use Rattle.cut_steps.proofs.LaterPatches.{so_far_alike, so_far_marked, chains-alike}

@@ -11,10 +11,11 @@ use Rattle.trace_model.specs.Written.{settled_fragments}
 use Rattle.trace_model.specs.Sequences.{is_among}
 use Rattle.trace_model.specs.Sent.{AllChunksBelow, Behind, chunks_of, LastsAre, is_placed_in, is_placed}
 use Rattle.trace_model.specs.Cut.{IsWellFormedPage}
+use Rattle.trace_model.proofs.PageLemmas.{fragments_long}
 use Rattle.delivery_laws.specs.Sheets.{Sheet, sheet_patches}
 use Rattle.delivery_laws.specs.Histories.{Completes}
 use Rattle.delivery_laws.specs.WriterSheets.{sheet_of, sheets_from, sheets_of}
-use Rattle.delivery_laws.proofs.WrittenPackets.{AreFull, page_long}
+use Rattle.delivery_laws.proofs.WrittenPackets.{AreFull}
 
 -- Patches keep their places
 
@@ -257,7 +258,7 @@ each_completes size goes pages open_ones full behind lasts placed chunk_id sheet
           (subst (λ (ws : List Fragment). Completes (patches_of (drop chunk_id pages)) chunk_id is.page.awaits (chunk_of is.page).fragments ws) (sym written) done)));
       some =
           let some = (full_at size pages chunk_id is.page full is.get).some in
-          let long = page_long 4 is.page.dropped is.page.fragments in
+          let long = fragments_long 4 is.page.dropped is.page.fragments in
           let same = ap (λ (fs : List Fragment). length fs) is.fragments in
           omega (arith, some, long, same);
     }

@@ -21,6 +21,7 @@ use Rattle.trace_model.specs.Reads.{Dropped, delivered_by}
 use Rattle.trace_model.specs.History.{Event, event_sequence, Arrives, ArrivesInPart, Patched, Committed, Closed, Read, buffer_after, state_after, delivered_at, delivered_to}
 use Rattle.trace_model.specs.Causes.{Outcome, Absent, Fixed, is_same_place, fixed_by, fixed_after, outcome_at}
 use Rattle.trace_model.proofs.CursorLemmas.{Each}
+use Rattle.trace_model.proofs.PageLemmas.{fragments_long, settled_long}
 use Rattle.delivery_laws.specs.Sheets.{Sheet, SheetsAgree, sheet_patches}
 use Rattle.delivery_laws.specs.Histories.{IsPart}
 use Rattle.delivery_laws.specs.Orders.{InOrder}
@@ -30,7 +31,7 @@ use Rattle.delivery_laws.specs.FlushLaws.{fates_of, IsFlushed, AreSettled, Every
 use Rattle.delivery_laws.proofs.Walks.{Inside}
 use Rattle.delivery_laws.proofs.RowWalks.{inside_first}
 use Rattle.delivery_laws.proofs.HistoryLemmas.{fresh_known}
-use Rattle.delivery_laws.proofs.WrittenPackets.{settled_long, page_long, AreFull, are_full, sheets_agree, chains_have_heads}
+use Rattle.delivery_laws.proofs.WrittenPackets.{AreFull, are_full, sheets_agree, chains_have_heads}
 use Rattle.delivery_laws.proofs.EmissionLemmas.{record_bytes}
 use Rattle.delivery_laws.proofs.CompleteLemmas.{lasts_from, IsSheetOf, sheet_at, EachCompletes, each_completes}
 use Rattle.delivery_laws.proofs.OrderLemmas.{every_writer_is_told}
@@ -129,7 +130,7 @@ module _ (P : Cursor → Type 0) where
       (settled_fragments patches first (chunk_of page).fragments) 0
       (λ k low begins.
       let long = settled_long patches first (chunk_of page).fragments in
-      let texts = page_long 4 page.dropped page.fragments in
+      let texts = fragments_long 4 page.dropped page.fragments in
       let at : first + 0 ≡ first = omega arith in
       subst (λ (i : ℕ). P (place i k)) at (p 0 k page refl (omega (arith, low, long, texts)) begins))
 
@@ -374,7 +375,7 @@ module _ (size : ℕ) (calls : List Call) (pages : List Page) (sequences : List 
       let of = sheet_of_page d there.0 there.1 in
       let same : of.page ≡ page = same_Some of.page page (sym (page_then d of.page low of.get) ∙ get) in
       let settled = settled_long (patches_of pages) (0 + d) (chunk_of of.page).fragments in
-      let texts = page_long 4 of.page.dropped of.page.fragments in
+      let texts = fragments_long 4 of.page.dropped of.page.fragments in
       let written = ap (λ (fs : List Fragment). length fs) of.written in
       let fragments = ap (λ (p : Page). length p.fragments) same in
       let at : d ≡ 0 + d = omega arith in

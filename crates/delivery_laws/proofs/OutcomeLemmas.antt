@@ -19,12 +19,13 @@ use Rattle.trace_model.specs.History.{Event, state_after}
 use Rattle.trace_model.specs.Causes.{Outcome, Absent, Fixed, fixed_after, outcome_at}
 use Rattle.trace_model.specs.Balance.{outcomes_of, packet_outcomes}
 use Rattle.trace_model.proofs.CursorLemmas.{Each}
+use Rattle.trace_model.proofs.PageLemmas.{fragments_long, settled_long}
 use Rattle.delivery_laws.specs.DeliveryLaws.{IsAccountOf}
 use Rattle.delivery_laws.specs.FlushLaws.{fates_of, IsFlushed, EveryOutcomeStays}
 use Rattle.delivery_laws.proofs.EnoughLemmas.{zip_long}
 use Rattle.delivery_laws.proofs.FlushCalls.{AreBehind, packets_behind}
 use Rattle.delivery_laws.proofs.FlushLemmas.{fixed_parts, kept_fates}
-use Rattle.delivery_laws.proofs.WrittenPackets.{settled_long, page_long, AreFull, are_full, chains_have_heads}
+use Rattle.delivery_laws.proofs.WrittenPackets.{AreFull, are_full, chains_have_heads}
 
 -- ---- where packets begin, by the pages alone
 
@@ -92,7 +93,7 @@ heads_pages : (patches : List Patch) (pages : List Page) (first : ℕ) → heads
 heads_pages patches [] first = refl
 heads_pages patches (page ∷ pages) first =
     let long : length (settled_fragments patches first (chunk_of page).fragments) ≡ length page.fragments =
-    settled_long patches first (chunk_of page).fragments ∙ page_long 4 page.dropped page.fragments in
+    settled_long patches first (chunk_of page).fragments ∙ fragments_long 4 page.dropped page.fragments in
     heads_fragments (settled_chunk patches first (chunk_of page)) refl first (row_of false (suc first) 0 (written_slots patches (suc first) pages)) (settled_fragments patches first (chunk_of page).fragments) 0
     ∙ ap (λ (n : ℕ). starts page.continues first 0 n ++ heads (row_of false (suc first) 0 (written_slots patches (suc first) pages))) long
     ∙ ap (λ (cs : List Cursor). starts page.continues first 0 (length page.fragments) ++ cs) (heads_pages patches pages (suc first))

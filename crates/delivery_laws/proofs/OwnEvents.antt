@@ -12,8 +12,8 @@ use Rattle.trace_model.specs.Patches.{awaits_at, patched_chunk, with_patch, with
 use Rattle.trace_model.specs.Row.{row_from_cursor}
 use Rattle.trace_model.specs.Reads.{passed_by, sequence_after, with_read}
 use Rattle.trace_model.proofs.SequenceLemmas.{changed_here, known_changed, number_of}
+use Rattle.trace_model.proofs.PageLemmas.{same_long}
 use Rattle.model_laws.proofs.RisingLemmas.{rising_lists_are_sets}
-use Rattle.model_laws.proofs.StartLemmas.{same_long}
 use Rattle.delivery_laws.specs.Sheets.{Sheet}
 use Rattle.delivery_laws.specs.Histories.{Completes, IsPart}
 use Rattle.delivery_laws.proofs.KnownLemmas.{IsGood, EachOf, HasSheet, IsKnown}

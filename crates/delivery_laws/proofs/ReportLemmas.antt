@@ -10,13 +10,13 @@ use Rattle.trace_model.specs.Pages.{Page, chunk_of, patches_of}
 use Rattle.trace_model.specs.Cut.{newest_goes_on}
 use Rattle.trace_model.specs.History.{Event, Arrives, ArrivesInPart, Patched, Committed, Closed, Read}
 use Rattle.trace_model.specs.CauseLaws.{closes_last}
+use Rattle.trace_model.proofs.PageLemmas.{fragments_long, settled_long}
 use Rattle.model_laws.specs.Starts.{IsOfPage, ArePagesOf}
 use Rattle.delivery_laws.specs.Sheets.{Sheet}
 use Rattle.delivery_laws.specs.Histories.{IsPart}
 use Rattle.delivery_laws.specs.Orders.{InOrder}
 use Rattle.delivery_laws.specs.WriterSheets.{sheets_of}
 use Rattle.delivery_laws.specs.DeliveryLaws.{AccountsAreHistories}
-use Rattle.delivery_laws.proofs.WrittenPackets.{page_long, settled_long}
 use Rattle.delivery_laws.proofs.CompleteLemmas.{sheet_at}
 
 no_more : (partial awaits : Bool) (fragments written : List Fragment) → ShowFragments partial awaits fragments written → length fragments ≤ length written
@@ -29,7 +29,7 @@ whole_of : (goes : Bool) (pages : List Page) (come : ℕ) (sheet : Sheet) (chunk
     → IsOfPage pages come chunk
 whole_of goes pages come sheet chunk get same =
     let is = sheet_at (patches_of pages) goes pages 0 come sheet get in
-    let long = page_long 4 is.page.dropped is.page.fragments in
+    let long = fragments_long 4 is.page.dropped is.page.fragments in
     let as_long = ap (λ (c : Chunk). length c.fragments) same in
     let fragments = ap (λ (fs : List Fragment). length fs) is.fragments in
     record {
@@ -42,7 +42,7 @@ whole_of goes pages come sheet chunk get same =
 part_of : (goes : Bool) (pages : List Page) (come : ℕ) (chunk : Chunk) → IsPart (sheets_of goes pages) come chunk → IsOfPage pages come chunk
 part_of goes pages come chunk part =
     let is = sheet_at (patches_of pages) goes pages 0 come part.sheet part.there in
-    let long = page_long 4 is.page.dropped is.page.fragments in
+    let long = fragments_long 4 is.page.dropped is.page.fragments in
     let few = no_more true false chunk.fragments part.sheet.written part.shows in
     let written = ap (λ (fs : List Fragment). length fs) is.written in
     let settled = settled_long (patches_of pages) (0 + come) (chunk_of is.page).fragments in

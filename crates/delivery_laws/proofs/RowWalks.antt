@@ -2,12 +2,13 @@
 use Rattle.std.proofs.Common.{◌≡◌, ◌∙◌, ℕ, zero, suc, ◌<◌, ◌≤◌, ◌⊎◌, max, Bool, true, false, not, ◌&&◌, List, [], ◌∷◌, ◌++◌, length, drop, Some, refl, sym, ap, subst, arith, inl, inr}
 use Rattle.std.specs.Prelude.{cond, ◌==◌, slice_get}
 use Rattle.std.proofs.lemmas.Bool.{ne_eqb, cases_lt, and_right}
-use Rattle.std.proofs.Math.Bool.{and-false, and-true}
 use Rattle.std.proofs.lemmas.List.{drop_all}
+use Rattle.std.proofs.Math.Bool.{and-false, and-true}
 use Rattle.trace_base.proofs.Lists.{one_left}
 use Rattle.trace_model.specs.Images.{Chunk, Fragment}
 use Rattle.trace_model.specs.Fading.{ShowFragments}
 use Rattle.trace_model.specs.Row.{Slot, Here, Gone, Never, Link, Gap, Stop, Missing, Partial, Unpatched, place, place_behind, with_piece, is_last, is_part, chunk_links, row_of}
+use Rattle.trace_model.proofs.FadingLemmas.{show_dropped}
 use Rattle.delivery_laws.specs.Sheets.{Sheet, Part, WrittenPacket, parts_from, all_parts, tail_bytes, ends_whole, packets_in, SheetsAgree}
 use Rattle.delivery_laws.proofs.Walks.{Follows, Walks, parts_at, Inside, StandsAt, ShowsSheet, FitsFrom}
 use Rattle.delivery_laws.proofs.PieceLemmas.{IsPiece, piece_walks}
@@ -61,13 +62,6 @@ inside_first (first ∷ sheets) runs_on zero agree sheet get =
 inside_first (first ∷ sheets) runs_on (suc chunk_id) agree sheet get = inside_first sheets first.chunk.runs_on chunk_id agree.2 sheet get
 
 -- Fragments that are there, and those that were written
-
-show_further : (k : ℕ) (partial awaits : Bool) (fragments written : List Fragment) → ShowFragments partial awaits fragments written → k ≤ length fragments
-    → ShowFragments partial awaits (drop k fragments) (drop k written)
-show_further zero partial awaits fragments written h low = h
-show_further (suc k) partial awaits [] written h low = absurd (omega (arith, low))
-show_further (suc k) partial awaits (f ∷ fs) [] h low = absurd h
-show_further (suc k) partial awaits (f ∷ fs) (w ∷ ws) h low = show_further k partial awaits fs ws h.2 (omega (arith, low))
 
 ended : (awaits : Bool) (written : List Fragment) → ShowFragments false awaits [] written → written ≡ []
 ended awaits [] h = refl
@@ -254,7 +248,7 @@ module _ (sheets : List Sheet) (Over : ℕ → Type 0) (closed : Bool) (agree : 
           (links_walk chunk_id sheet chunk (cond (is_part closed chunk) (Stop (place chunk_id (max passed (length chunk.fragments))) Partial false ∷ []) (row_of closed (suc chunk_id) 0 slots)) get shows
           (whole passed) (λ p k high inside_k parts e same. stops passed k (omega (arith, low, same)) p inside_k parts e)
           (drop passed chunk.fragments) (drop passed sheet.written) passed refl refl (omega (arith, low))
-          (show_further passed chunk.partial chunk.awaits chunk.fragments sheet.written shows.shows (omega (arith, low))))
+          (show_dropped passed chunk.partial chunk.awaits chunk.fragments sheet.written shows.shows (omega (arith, low))))
       by_length (inr high) =
           subst (λ (fs : List Fragment). Walks (StandsAt sheets) Over (chunk_links closed chunk_id chunk passed fs (cond (is_part closed chunk) (Stop (place chunk_id (max passed (length chunk.fragments))) Partial false ∷ []) (row_of closed (suc chunk_id) 0 slots))) (parts_at sheets chunk_id passed))
           (sym (drop_all passed chunk.fragments high)) (by_part chunk.partial refl)

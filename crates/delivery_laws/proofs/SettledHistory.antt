@@ -15,11 +15,11 @@ use Rattle.trace_model.specs.Patches.{awaits_at, patched_chunk, with_patch, with
 use Rattle.trace_model.specs.Sent.{chunks_of, LastsAre}
 use Rattle.trace_model.specs.Row.{Link, Joined, Gap, Stop, place, row_from_cursor}
 use Rattle.trace_model.specs.RowLaws.{Before, UpTo}
-use Rattle.trace_model.specs.Reads.{turn_of, delivers, ends, passed_by, left_by, count_of, link_bytes, is_marked, delivered_of, delivered_by, with_read}
+use Rattle.trace_model.specs.Reads.{turn_of, delivers, ends, passed_by, left_by, is_marked, delivered_by, with_read}
 use Rattle.trace_model.specs.History.{Event, Arrives, ArrivesInPart, Patched, Committed, Closed, Read, event_sequence, buffer_after, state_after}
 use Rattle.trace_model.specs.Causes.{Fixed, lost_at, unread_start_places, fixed_by, fixed_by_arrival, fixed_by_link, fixed_after}
 use Rattle.trace_model.proofs.SequenceLemmas.{number_of}
-use Rattle.model_laws.proofs.PlaceCounts.{count-cons}
+use Rattle.model_laws.proofs.MarkLemmas.{delivered-long}
 use Rattle.delivery_laws.specs.Sheets.{Sheet, Part, SheetsAgree, sheet_patches}
 use Rattle.delivery_laws.specs.Histories.{IsComplete, IsPart}
 use Rattle.delivery_laws.specs.Orders.{InOrder}
@@ -39,19 +39,6 @@ use Rattle.delivery_laws.proofs.DeliversAll.{taken}
 use Rattle.delivery_laws.proofs.StartRows.{IsFixed, fixed_first, fixed_behind}
 use Rattle.delivery_laws.proofs.LossLemmas.{before_or_not, unread_fixed, none_changed, same_of}
 use Rattle.delivery_laws.proofs.SettledLemmas.{IsBegun, AreSettled, Quiet, same_length, settled_next, read_settled, read_cursor, read_all_settled}
-
--- a read delivers as many packets as links
-pub delivered_long : (links : List Link) (marked : Bool) → length (delivered_of marked links) ≡ count_of delivers links
-delivered_long [] marked = refl
-delivered_long (link ∷ links) marked =
-    let counted = count-cons (λ (l : Link). delivers (turn_of l)) link links in
-    step (delivers (turn_of link)) (delivered_long links false) (delivered_long links true) counted
-  where
-    step : (d : Bool) → length (delivered_of false links) ≡ count_of delivers links → length (delivered_of true links) ≡ count_of delivers links
-        → count_of delivers (link ∷ links) ≡ cond {A = ℕ} d 1 0 + count_of delivers links
-        → length (cond d (record { body = link_bytes link; marked = marked } ∷ delivered_of false links) (delivered_of true links)) ≡ count_of delivers (link ∷ links)
-    step true h k c = omega (arith, h, c)
-    step false h k c = omega (arith, k, c)
 
 -- what a read leaves of a row that walks does so too
 left_walks : (At : ℕ → ℕ → List Part → Type 0) (Over : ℕ → Type 0) (links : List Link) (limit : ℕ) (parts : List Part) → Walks At Over links parts
@@ -359,7 +346,7 @@ module _ (sheets : List Sheet) (agree : SheetsAgree false sheets) (completes : E
       (subst (λ (fs : List Fixed). IsFixed (place i k) (past ++ fs)) (sym (read_fixed come closed (sheet_patches (drop come sheets)) b limit state'.known))
       (read_all_settled sheets q come closed (sheet_patches (drop come sheets)) b state'.known n (omega (arith, come_all))
       (quiet_now come closed past b state' (omega (arith, come_all))) are.last past limit
-      (let long = delivered_long (passed_by (suc limit) (row_from_cursor b (sequence_in b.sequences q))) (is_marked (sequence_in b.sequences q)) in omega (arith, long, few))
+      (let long = delivered-long (passed_by (suc limit) (row_from_cursor b (sequence_in b.sequences q))) (is_marked (sequence_in b.sequences q)) in omega (arith, long, few))
       state'.settled i k low begun))
 
   -- one event before

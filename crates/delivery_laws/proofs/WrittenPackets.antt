@@ -12,7 +12,7 @@ use Rattle.trace_model.specs.Row.{Piece, Chain, Whole, Marked, CutOff, Open, Lin
 use Rattle.trace_model.specs.Written.{settled_fragments, settled_chunk, written_slots, written_row, chains_in}
 use Rattle.trace_model.specs.Cut.{IsWellFormedPage, FlagsAgree, is_marked_fate}
 use Rattle.trace_model.proofs.CursorLemmas.{Each}
-use Rattle.model_laws.proofs.StartLemmas.{same_long}
+use Rattle.trace_model.proofs.PageLemmas.{fragments_long, settled_long}
 use Rattle.delivery_laws.specs.Sheets.{Part, WrittenPacket, SheetsAgree, parts_from, all_parts, tail_bytes, ends_whole, packets_in}
 use Rattle.delivery_laws.specs.WriterSheets.{sheets_from, sheets_of}
 use Rattle.delivery_laws.proofs.Walks.{Follows}
@@ -187,20 +187,6 @@ drops_page runs_on dropped h at [] = tt
 drops_page runs_on dropped h at (text ∷ []) = (h, tt)
 drops_page runs_on dropped h at (text ∷ next ∷ texts) = ((λ e. absurd (false≢true e)), drops_page runs_on dropped h (at + length text + 4) (next ∷ texts))
 
-pub settled_long : (patches : List Patch) (chunk_id : ℕ) (fs : List Fragment) → length (settled_fragments patches chunk_id fs) ≡ length fs
-settled_long [] chunk_id fs = refl
-settled_long (patch ∷ patches) chunk_id fs =
-    settled_long patches chunk_id (cond (patch.chunk_id == chunk_id) (patched_last patch fs) fs) ∙ step (patch.chunk_id == chunk_id)
-  where
-    step : (b : Bool) → length (cond b (patched_last patch fs) fs) ≡ length fs
-    step true = same_long fs patch
-    step false = refl
-
-pub page_long : (at : ℕ) (dropped : Bool) (texts : List (List ℕ)) → length (fragments_from at dropped texts) ≡ length texts
-page_long at dropped [] = refl
-page_long at dropped (text ∷ []) = refl
-page_long at dropped (text ∷ next ∷ texts) = let e = page_long (at + length text + 4) dropped (next ∷ texts) in omega (arith, e)
-
 -- each page is full, said page by page
 abbrev pub AreFull : ℕ → List Page → Type 0
 AreFull size [] = Unit {0}
@@ -214,7 +200,7 @@ settled_some : (size : ℕ) (patches : List Patch) (chunk_id : ℕ) (page : Page
 settled_some size patches chunk_id page full =
     let some = full.some in
     let long = settled_long patches chunk_id (chunk_of page).fragments in
-    let texts = page_long 4 page.dropped page.fragments in
+    let texts = fragments_long 4 page.dropped page.fragments in
     omega (arith, some, long, texts)
 
 follows_page : (size : ℕ) (patches : List Patch) (chunk_id : ℕ) (goes runs_on : Bool) (page : Page) (more : List Page) → page.continues ≡ runs_on → IsWellFormedPage size page

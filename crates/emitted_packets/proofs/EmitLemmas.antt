@@ -14,7 +14,8 @@ use Rattle.wire_varint.proofs.Lengths.{length-redundant}
 use Rattle.trace_model.specs.Images.{with_bytes}
 use Rattle.trace_model.specs.Record.{mark_where}
 use Rattle.trace_model.specs.Packets.{Account, Packet, Text, begun_packet, closed_levels, flat, newest_is_lost, open_count, with_nested_ended, finished_packet, is_writing, noted, nothing_yet, open_length, open_places, packet_encoding, with_more, with_nested, written}
-use Rattle.field_stream.proofs.LevelLemmas.{flat_written, flat_begun, places_written}
+use Rattle.trace_model.proofs.PacketLemmas.{flat_written}
+use Rattle.field_stream.proofs.LevelLemmas.{flat_begun, places_written}
 use Rattle.packet_runs.specs.Pieces.{pieces, AreEnds}
 use Rattle.emitted_packets.specs.Emitting.{last_end, AreKept, Writes, IsGoingOn, IsEmitting}
 

@@ -4,13 +4,10 @@ use Rattle.std.proofs.lemmas.List.{append-nil}
 use Rattle.wire_varint.specs.Varint.{redundant}
 use Rattle.trace_model.specs.Encoding.{Fields, NoFields, NumberField, BytesField, NestedField, encoding_of, number_field, bytes_field, nested_tag}
 use Rattle.trace_model.specs.Packets.{flat, open_places}
+use Rattle.trace_model.proofs.PacketLemmas.{flat_written}
 use Rattle.field_tree.specs.declared.node.FieldNode.TheVariants.{End}
 use Rattle.field_tree.specs.Nodes.{Shown, nodes_of}
 use Rattle.field_stream.specs.Levels.{levels_at, levels_after}
-
-pub flat_written : (four bytes level : List ℕ) (outer : List (List ℕ)) → flat four ((level ++ bytes) ∷ outer) ≡ flat four (level ∷ outer) ++ bytes
-flat_written four bytes level [] = refl
-flat_written four bytes level (next ∷ others) = sym (append_assoc (flat four (next ∷ others) ++ four) level bytes)
 
 -- a message begins
 pub flat_begun : (four bytes level : List ℕ) (outer : List (List ℕ))

@@ -2,15 +2,15 @@
 use Rattle.std.proofs.Common.{◌≡◌, ◌∙◌, ℕ, zero, suc, ◌+◌, ◌-◌, ◌*◌, ◌≤◌, List, [], ◌∷◌, ◌++◌, length, map, reverse, drop, refl, sym, ap, subst, append_assoc, length-append, arith, Some}
 use Rattle.std.specs.Prelude.{slice_get}
 use Rattle.std.specs.Option.{option_map}
-use Rattle.std.specs.List.{repeat}
 use Rattle.std.proofs.lemmas.List.{append-nil, reverse-append}
 use Rattle.std.proofs.lemmas.List.Sums.{sum_by-cons}
 use Rattle.wire_varint.specs.Varint.{redundant}
 use Rattle.trace_base.specs.declared.limits.TheConstants.{MAX_NESTING, MAX_PACKET_LEN}
-use Rattle.trace_model.specs.Encoding.{Fields, NoFields, NumberField, BytesField, NestedField, encoding_of, depth_of, number_field, bytes_head, bytes_field, nested_tag}
+use Rattle.trace_model.specs.Encoding.{Fields, NoFields, NumberField, BytesField, NestedField, encoding_of, depth_of, number_field, bytes_field, nested_tag}
 use Rattle.trace_model.specs.Packets.{open_length, flat, open_places}
 use Rattle.trace_model.specs.Images.{with_bytes}
-use Rattle.trace_model.proofs.EncodingLemmas.{length-repeat}
+use Rattle.trace_model.proofs.EncodingLemmas.{length-bytes_field}
+use Rattle.trace_model.proofs.PacketLemmas.{flat_written}
 use Rattle.wire_varint.proofs.Lengths.{length-redundant}
 use Rattle.field_tree.specs.declared.node.FieldNode.{FieldNode}
 use Rattle.field_tree.specs.declared.node.FieldNode.TheVariants.{Number, Bytes, Begin, End}
@@ -20,16 +20,9 @@ use Rattle.field_stream.specs.Levels.{levels_at, levels_after}
 use Rattle.field_tree.specs.Trees.{HasFieldNumbers, IsTree}
 use Rattle.field_stream.specs.Progress.{MayFollow, depth_behind, Writing, IsUnderWay, IsGoingOn}
 use Rattle.field_stream.proofs.ByteLemmas.{put_more, put_inside, put_none, length_put}
-use Rattle.field_stream.proofs.LevelLemmas.{flat_written, flat_begun, places_written, tree_gives}
+use Rattle.field_stream.proofs.LevelLemmas.{flat_begun, places_written, tree_gives}
 
 -- ---- a field that is written whole
-
-pub length-bytes_field : (field : ℕ) (text : List ℕ) (times : ℕ)
-    → length (bytes_field field text times) ≡ length (bytes_head field (times * length text)) + times * length text
-unfolding bytes_field
-length-bytes_field field text times =
-    length-append (bytes_head field (times * length text)) (repeat times text)
-    ∙ ap (λ (n : ℕ). length (bytes_head field (times * length text)) + n) (length-repeat times text)
 
 piece_on : (w : Writing) (node : Shown) (coming : List Shown) (payload : List ℕ) (at : ℕ) (holes bytes : List ℕ)
     → ((level : List ℕ) (outer : List (List ℕ)) → levels_at (level ∷ outer) node.0 node.1 ≡ (level ++ bytes) ∷ outer)

@@ -30,7 +30,7 @@ delivered-append (link ∷ xs) ys marked = step (delivers (turn_of link)) (deliv
     step true k = ap (λ (ds : List Delivery). record { body = link_bytes link; marked = marked } ∷ ds) (k false)
     step false k = k true
 
-delivered-long : (xs : List Link) (marked : Bool) → length (delivered_of marked xs) ≡ count_of delivers xs
+pub delivered-long : (xs : List Link) (marked : Bool) → length (delivered_of marked xs) ≡ count_of delivers xs
 delivered-long [] marked = refl
 delivered-long (link ∷ xs) marked =
     let one = count-cons (λ (l : Link). delivers (turn_of l)) link xs in

@@ -11,7 +11,7 @@ use Rattle.trace_model.specs.Patches.{with_patch, with_patches, closed_sequence,
 use Rattle.trace_model.specs.Row.{row_from_cursor}
 use Rattle.trace_model.specs.Reads.{passed_by, sequence_after}
 use Rattle.trace_model.specs.History.{Event, Arrives, ArrivesInPart, Patched, Committed, Closed, Read, event_sequence, after, buffer_after, state_after}
-use Rattle.trace_model.proofs.SequenceLemmas.{changed_here}
+use Rattle.trace_model.proofs.SequenceLemmas.{changed_here, among_with}
 use Rattle.model_laws.specs.RisingLaws.{IsRising, AllRising, RisingListsAreSets, SecondCloseChangesNothing}
 
 -- A number put in
@@ -38,33 +38,13 @@ put_in n (m ∷ numbers) h = step (nat_lt n m) refl (n == m) refl
     step false e true f = h
     step false e false f = put_behind m n numbers (grind (arith, ltb-false n m e, λ (i : n ≡ m). false≢true (sym f ∙ eq-eqb n m i))) h
 
-members_of : (n m : ℕ) (numbers : List ℕ) → is_among m (with_number n numbers) ≡ ((n == m) || is_among m numbers)
-members_of n m [] = refl
-members_of n m (k ∷ numbers) = step (nat_lt n k) (n == k) refl (members_of n m numbers)
-  where
-    twice : (a b : Bool) → (a || b) ≡ (a || (a || b))
-    twice true b = refl
-    twice false b = refl
-
-    turned : (a b c : Bool) → (a || (b || c)) ≡ (b || (a || c))
-    turned true true c = refl
-    turned true false c = refl
-    turned false true c = refl
-    turned false false c = refl
-
-    step : (below same : Bool) → (n == k) ≡ same → is_among m (with_number n numbers) ≡ ((n == m) || is_among m numbers)
-        → is_among m (cond below (n ∷ k ∷ numbers) (cond same (k ∷ numbers) (k ∷ with_number n numbers))) ≡ ((n == m) || ((k == m) || is_among m numbers))
-    step true same e rest = refl
-    step false true e rest = twice (k == m) (is_among m numbers) ∙ ap (λ (x : ℕ). (x == m) || ((k == m) || is_among m numbers)) (sym (eqb-true n k e))
-    step false false e rest = ap (λ (b : Bool). (k == m) || b) rest ∙ turned (k == m) (n == m) (is_among m numbers)
-
 all_put : (numbers : List ℕ) → IsRising (rising numbers)
 all_put [] = tt
 all_put (n ∷ numbers) = put_in n (rising numbers) (all_put numbers)
 
 all_members : (m : ℕ) (numbers : List ℕ) → is_among m (rising numbers) ≡ is_among m numbers
 all_members m [] = refl
-all_members m (n ∷ numbers) = members_of n m (rising numbers) ∙ ap (λ (b : Bool). (n == m) || b) (all_members m numbers)
+all_members m (n ∷ numbers) = among_with n m (rising numbers) ∙ ap (λ (b : Bool). (n == m) || b) (all_members m numbers)
 
 -- Rising lists with the same members
 
@@ -190,7 +170,7 @@ rise_history (event ∷ events) b h = rise_history events (buffer_after b event)
 pub rising_lists_are_sets : RisingListsAreSets
 rising_lists_are_sets = record {
   put = put_in;
-  members = members_of;
+  members = among_with;
   all_put = all_put;
   all_members = all_members;
   same = same_lists;

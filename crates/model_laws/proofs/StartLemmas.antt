@@ -16,6 +16,7 @@ use Rattle.trace_model.specs.Counts.{one_if}
 use Rattle.trace_model.specs.History.{Event, Arrives, ArrivesInPart, Patched, Committed, Closed, Read, event_sequence, after}
 use Rattle.trace_model.specs.Causes.{Fixed, fixed_by_turn, fixed_by_link, places_from, starts_among, unread_start_places, lost_at, fixed_by_loss, fixed_by_arrival, fixed_once_read, fixed_by, fixed_after}
 use Rattle.trace_model.proofs.CursorLemmas.{Each, each-append, each-filter, each-map}
+use Rattle.trace_model.proofs.PageLemmas.{same_long}
 use Rattle.model_laws.specs.Starts.{IsOfPage, ArePagesOf}
 
 -- a packet of the pages begins at the place: a fragment is there, and it doesn't continue the page before
@@ -246,11 +247,6 @@ same_number (s ∷ ss) q = step (s.number == q) refl (same_number ss q)
     step : (b : Bool) → (s.number == q) ≡ b → (sequence_in ss q).number ≡ q → (cond b s (sequence_in ss q)).number ≡ q
     step true e k = eqb-true s.number q e
     step false e k = k
-
-pub same_long : (fragments : List Fragment) (patch : Patch) → length (patched_last patch fragments) ≡ length fragments
-same_long [] patch = refl
-same_long (fragment ∷ []) patch = refl
-same_long (fragment ∷ next ∷ others) patch = ap suc (same_long (next ∷ others) patch)
 
 live_patch : (q : ℕ) (pages : List Page) (b : Buffer) (p : ℕ) (patch : Patch) → Each (IsRecordOf q pages) b.live → Each (IsRecordOf q pages) (with_patch b p patch).live
 live_patch q pages b p patch all =

@@ -14,7 +14,7 @@ use Rattle.trace_model.specs.Sequences.{Cursor}
 use Rattle.trace_model.specs.Row.{Piece, Chain, Whole, Marked, IntoLost, CutOff, Open, Link, Joined, Gap, Stop, joined_to, with_piece, place, is_last, is_part, place_behind, chunk_links, row_of, chain_of, Unpatched}
 use Rattle.trace_model.specs.Written.{settled_fragments, settled_chunk, written_slots, written_row, chains_in, chains_of}
 use Rattle.trace_model.specs.Cut.{IsWellFormedPage, is_marked_fate}
-use Rattle.model_laws.proofs.WrittenStarts.{settled_long, fragments_long}
+use Rattle.trace_model.proofs.PageLemmas.{settled_long, fragments_long}
 
 -- Counting
 

@@ -1,18 +1,19 @@
 -- Where a packet of the pages begins, a chain of the row of what was written does.
 use Rattle.std.proofs.Common.{◌≡◌, ◌∙◌, ℕ, zero, suc, ◌+◌, ◌<◌, Bool, true, false, ◌&&◌, ◌||◌, List, [], ◌∷◌, reverse, length, refl, ap, subst, arith, inl, inr, Some}
-use Rattle.std.specs.Prelude.{cond, ◌==◌, slice_get}
+use Rattle.std.specs.Prelude.{◌==◌, slice_get}
 use Rattle.std.specs.List.{list_any}
 use Rattle.std.proofs.lemmas.Bool.{and_from, eq-eqb, or_left, or_right, false≢true}
 use Rattle.std.proofs.lemmas.List.{reverse-append}
 use Rattle.std.proofs.lemmas.List.Folds.{list_any-append}
-use Rattle.trace_model.specs.Images.{Fragment, Chunk, Patch, patched_last}
-use Rattle.trace_model.specs.Pages.{Page, chunk_of, fragments_from, patches_of}
+use Rattle.trace_model.specs.Images.{Chunk, Patch}
+use Rattle.trace_model.specs.Pages.{Page, chunk_of, patches_of}
 use Rattle.trace_model.specs.Sequences.{Cursor}
 use Rattle.trace_model.specs.Row.{Chain, Link, Joined, Gap, Stop, place, row_of}
-use Rattle.trace_model.specs.Written.{settled_fragments, settled_chunk, written_slots, written_row, chains_in, chains_of}
+use Rattle.trace_model.specs.Written.{settled_chunk, written_slots, written_row, chains_in, chains_of}
 use Rattle.trace_model.specs.Causes.{Fixed, is_same_place}
+use Rattle.trace_model.proofs.PageLemmas.{settled_long, fragments_long}
 use Rattle.model_laws.specs.Starts.{begins_one, AllBegin}
-use Rattle.model_laws.proofs.StartLemmas.{IsStart, AtStarts, same_long}
+use Rattle.model_laws.proofs.StartLemmas.{IsStart, AtStarts}
 use Rattle.model_laws.proofs.StartedRows.{Started, chunk_keeps, chunk_starts}
 
 -- no place counts at which the row stops
@@ -24,21 +25,6 @@ abbrev HasHead : Cursor → List Link → Type 0
 HasHead at links = Started NoStop at links
 
 -- Pages
-
-pub settled_long : (patches : List Patch) (chunk_id : ℕ) (fragments : List Fragment) → length (settled_fragments patches chunk_id fragments) ≡ length fragments
-settled_long [] chunk_id fragments = refl
-settled_long (patch ∷ others) chunk_id fragments =
-    settled_long others chunk_id (cond (patch.chunk_id == chunk_id) (patched_last patch fragments) fragments)
-    ∙ step (patch.chunk_id == chunk_id)
-  where
-    step : (b : Bool) → length (cond b (patched_last patch fragments) fragments) ≡ length fragments
-    step true = same_long fragments patch
-    step false = refl
-
-pub fragments_long : (at : ℕ) (dropped : Bool) (fragments : List (List ℕ)) → length (fragments_from at dropped fragments) ≡ length fragments
-fragments_long at dropped [] = refl
-fragments_long at dropped (bytes ∷ []) = refl
-fragments_long at dropped (bytes ∷ next ∷ others) = ap suc (fragments_long (at + length bytes + 4) dropped (next ∷ others))
 
 pages_head : (patches : List Patch) (pages : List Page) (first n k : ℕ) (page : Page) → slice_get pages n ≡ Some page → k < length page.fragments
     → (page.continues && (k == 0)) ≡ false → HasHead (place (first + n) k) (row_of false first 0 (written_slots patches first pages))

@@ -85,7 +85,7 @@ without_only place ss s only =
     ap (without_stored place) only.split
     ∙ without_split place only.before only.behind s only.none_before only.none_behind only.here
 
-change_none : (place : ℕ) (change : Stored → Stored) (ss : List Stored) → NoneAt place ss → change_at place change ss ≡ ss
+pub change_none : (place : ℕ) (change : Stored → Stored) (ss : List Stored) → NoneAt place ss → change_at place change ss ≡ ss
 change_none place change [] none = refl
 change_none place change (s ∷ ss) none =
     ap (λ b. cond b (change s) s ∷ change_at place change ss) none.0 ∙ ap (λ xs. s ∷ xs) (change_none place change ss none.1)

@@ -10,6 +10,7 @@ use Rattle.trace_model.specs.Calls.{Call}
 use Rattle.trace_model.specs.Calls as call
 use Rattle.trace_model.specs.Encoding.{bytes_field, bytes_head, nested_tag, number_field}
 use Rattle.trace_model.specs.Packets.{Account, Packet, is_writing, noted, open_count, open_places}
+use Rattle.trace_model.proofs.EncodingLemmas.{length-repeat}
 use Rattle.field_tree.specs.declared.node.FieldNode.{FieldNode}
 use Rattle.field_tree.specs.declared.node.FieldNode.TheVariants as node
 use Rattle.field_tree.specs.Judged.{node_len, node_len_at, nodes_len}
@@ -186,10 +187,6 @@ pub number_call : (n : FieldNode) (field value : ℕ) (text : List ℕ) → n �
 unfolding node_call node_len_at
 number_call n field value text is =
     (ap (λ (m : FieldNode). node_call (m, text)) is, ap (λ (m : FieldNode). node_len (m, text)) is)
-
-length-repeat : (times : ℕ) (text : List ℕ) → length (repeat times text) ≡ times * length text
-length-repeat zero text = omega arith
-length-repeat (suc times) text = length-append text (repeat times text) ∙ omega (arith, length-repeat times text)
 
 pub bytes_call : (n : FieldNode) (field times : ℕ) (text : List ℕ) → n ≡ node.Bytes field times
     → (node_call (n, text) ≡ call.Bytes field text times) × (node_len (n, text) ≡ length (bytes_field field text times))

@@ -2,7 +2,7 @@
 use Rattle.std.proofs.Common.{◌≡◌, ℕ, zero, suc, ◌+◌, ◌-◌, ◌<◌, ◌≤◌, ◌^◌, ◌==◌, Bool, true, false, cond, List, [], ◌∷◌, length, take, drop, nat_le, Option, Some, None, is_some, refl, sym, ap, ◌∙◌, subst, arith, length-append, leb-true, ne_eqb, true≢false}
 use Rattle.std.proofs.lemmas.Bool.Decides.{nat_tests}
 use Rattle.std.proofs.lemmas.List.{drop-drop, length-drop, length-take, take_rest}
-use Rattle.wire_varint.specs.Reading.{IsWhole}
+use Rattle.wire_varint.proofs.Whole.{whole_some}
 use Rattle.std.specs.Option.{option_map}
 use Rattle.chunk_image.specs.Values.{fragment_value}
 use Rattle.chunk_image.specs.declared.read.Fragment as code
@@ -13,11 +13,8 @@ use Rattle.trace_model.specs.Row.{is_last}
 use Rattle.trace_model.proofs.ReadingLemmas.{HasSize, size_sound}
 use Rattle.trace_buffer.specs.Records.{is_readable, fragments_of}
 use Rattle.trace_buffer.proofs.LossLemmas.{reading_length}
+use Rattle.trace_buffer.proofs.FindLemmas.{readable_is}
 use Rattle.sequence_reader.specs.Spots.{start_from}
-
-some_byte : (bytes : List ℕ) → IsWhole bytes → 0 < length bytes
-some_byte [] whole = absurd whole
-some_byte (byte ∷ bytes) whole = omega arith
 
 -- a fragment begins behind its size, and ends inside the bytes
 pub record IsInside (at : ℕ) (bytes : List ℕ) (fragment : Fragment) : Type 0 where
@@ -33,7 +30,7 @@ inside_with last at bytes fragment (Some size) is found = mark (size.value == dr
     has = size_sound 4 bytes size is
 
     wide : 0 < size.width
-    wide = omega (arith, has.width, some_byte has.front has.whole)
+    wide = omega (arith, has.width, whole_some has.front has.whole)
 
     short : size.width ≤ length bytes
     short = omega (arith, ap length has.cut, length-append has.front has.rest, has.width)
@@ -126,10 +123,6 @@ reads_further payload (suc passed) left n at fragments is now =
     let next : ReadsNext payload (passed + left) at fragments = reads_next payload (passed + left) at fragments (subst (λ m. ReadsBehind payload m at fragments) more now) in
     subst (λ fs. ReadsBehind payload left (start_from at (suc passed) fs) (drop (suc passed) fs)) (sym next.split)
     (reads_further payload passed left (passed + left) (fragment_end next.fragment) next.others refl next.rest)
-
-readable_is : (r : Reading) → is_readable r ≡ true → r ≡ Fragments (fragments_of r)
-readable_is (Fragments fragments) reads = refl
-readable_is (Unreadable n) reads = absurd (true≢false (sym reads))
 
 pub reads_start : (count : ℕ) (payload : List ℕ) → is_readable (reading_of count payload) ≡ true → ReadsBehind payload count 0 (fragments_of (reading_of count payload))
 reads_start zero payload reads = absurd (true≢false (sym reads))

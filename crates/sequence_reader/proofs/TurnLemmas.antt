@@ -7,17 +7,12 @@ use Rattle.trace_model.specs.Reads.{Turn, Dropped, Lost, Cut, turn_of, delivers,
 use Rattle.trace_model.specs.Row.{Link, horizon, row_of, slot_of, slots_of}
 use Rattle.trace_model.specs.Sequences.{Sequence, Cursor, sequence_in, is_known, changed_at}
 use Rattle.trace_model.proofs.SequenceLemmas.{changed_here, known_changed}
+use Rattle.trace_model.proofs.CountedLemmas.{raised-raised, raised-none}
 use Rattle.trace_buffer.specs.Calls.{with_advance}
 use Rattle.sequence_reader.specs.Ends.{row_met}
 use Rattle.sequence_reader.specs.Spots.{row_at, rows_of}
 
 -- Counts
-
-raised_twice : (count k more : ℕ) → raised (raised count k) more ≡ raised count (k + more)
-raised_twice count k more = omega arith
-
-raised_none : (count : ℕ) → raised count 0 ≡ count
-raised_none count = omega arith
 
 count_cons : (test : Turn → Bool) (link : Link) (links : List Link) → count_of test (link ∷ links) ≡ one_if (test (turn_of link)) + count_of test links
 count_cons test link links =
@@ -116,7 +111,7 @@ module _ (link : Link) (rest : List Link) (t : Turn) (turn : turn_of link ≡ t)
   counted : (test : Turn → Bool) (count : ℕ) (links : List Link) → raised count (count_of test (link ∷ links)) ≡ raised (raised count (one_if (test t))) (count_of test links)
   counted test count links =
       ap (raised count) (count_cons test link links ∙ ap (λ u. one_if (test u) + count_of test links) turn)
-      ∙ sym (raised_twice count (one_if (test t)) (count_of test links))
+      ∙ sym (raised-raised count (one_if (test t)) (count_of test links))
 
   pub sequence_on : (next : Cursor) → ((cursor : Cursor) → next_of cursor link ≡ next) → (links : List Link) (s : Sequence) → sequence_after (link ∷ links) s ≡ sequence_after links (advanced next t s)
   sequence_on next next_is links s = λ i. record s {
@@ -149,10 +144,10 @@ changed_none q f is (s ∷ ss) = ap₂ (λ t ts. t ∷ ts) (of (s.number == q)) 
 
 nothing_after : (s : Sequence) → sequence_after [] s ≡ s
 nothing_after s = λ i. record s {
-  delivered = raised_none s.delivered i;
-  dropped = raised_none s.dropped i;
-  lost = raised_none s.lost i;
-  cut = raised_none s.cut i;
+  delivered = raised-none s.delivered i;
+  dropped = raised-none s.dropped i;
+  lost = raised-none s.lost i;
+  cut = raised-none s.cut i;
 }
 
 -- A read, by its first link

@@ -1,11 +1,12 @@
 -- The parts of a buffer, once a chunk has arrived complete of which no part is there.
-use Rattle.std.proofs.Common.{◌≡◌, ℕ, ◌==◌, ◌||◌, ◌&&◌, Bool, true, false, cond, List, [], ◌∷◌, map, Some, None, Vec, Global, refl, sym, ap, ap₂, ◌∙◌, subst, eq-eqb, eqb-true, ne_eqb, true≢false}
+use Rattle.std.proofs.Common.{◌≡◌, ℕ, ◌==◌, ◌&&◌, Bool, true, false, cond, List, [], ◌∷◌, map, Some, None, Vec, Global, refl, sym, ap, ap₂, ◌∙◌, subst, eq-eqb, ne_eqb, true≢false}
 use Rattle.std.specs.List.{find}
 use Rattle.std.specs.Vec.{with_items}
 use Rattle.chunk_index.specs.Value.{IndexValue}
 use Rattle.ring_bytes.specs.Value.{Stored, RingValue}
 use Rattle.trace_model.specs.Arrivals.{is_too_far, with_arrived}
-use Rattle.trace_model.specs.Sequences.{Sequence, is_known, sequence_in, changed_at, has_arrived}
+use Rattle.trace_model.specs.Sequences.{Sequence, sequence_in, changed_at, has_arrived}
+use Rattle.trace_model.proofs.SequenceLemmas.{number_of}
 use Rattle.trace_buffer.specs.BufferFields.{AreParts, AllKept, IsKept}
 use Rattle.trace_buffer.specs.Records.{is_at_key}
 use Rattle.trace_buffer.proofs.PartLemmas.{KeepsSize, known_map, once_map, fit_map, sequence_map, rows_after}
@@ -28,14 +29,6 @@ keeps_arrived number id count = record {
     of_size : (s : Sequence) (b : Bool) → (cond b (with_arrived id count s) s).size ≡ s.size
     of_size s true = refl
     of_size s false = refl
-
-pub its_number : (rows : List Sequence) (n : ℕ) → is_known rows n ≡ true → (sequence_in rows n).number ≡ n
-its_number [] n known = absurd (true≢false (sym known))
-its_number (s ∷ rows) n known = of (s.number == n) refl (its_number rows n) known
-  where
-    of : (b : Bool) → (s.number == n) ≡ b → (is_known rows n ≡ true → (sequence_in rows n).number ≡ n) → (b || is_known rows n) ≡ true → (cond b s (sequence_in rows n)).number ≡ n
-    of true is later known_is = eqb-true s.number n is
-    of false is later known_is = later known_is
 
 -- another id stays absent and near
 stays_near : (number id count other : ℕ) (s : Sequence) → ((s.number == number) ≡ true → (id == other) ≡ false) → (has_arrived s other ≡ false) × (is_too_far s other ≡ false) → (has_arrived (arrived_at number id count s) other ≡ false) × (is_too_far (arrived_at number id count s) other ≡ false)
@@ -70,7 +63,7 @@ kept_one number id count rows s none is =
       part = λ partial.
           subst (λ (t : Sequence). (has_arrived t s.key.chunk_id ≡ false) × (is_too_far t s.key.chunk_id ≡ false)) (sym there)
           (stays_near number id count s.key.chunk_id (sequence_in rows n)
-          (λ same. no_part number id s none partial (ap (λ m. m == number) (sym (its_number rows n is.known)) ∙ same))
+          (λ same. no_part number id s none partial (ap (λ m. m == number) (sym (number_of rows n is.known)) ∙ same))
           (is.part partial));
     }
 

@@ -9,6 +9,7 @@ use Rattle.page_geometry.specs.Sizes.{record_size}
 use Rattle.chunk_index.specs.Value.{IndexValue}
 use Rattle.ring_bytes.specs.declared.key.RecordKey.{RecordKey}
 use Rattle.ring_bytes.specs.Value.{Stored, RingValue, NoneAt, change_at, changed_at, with_contents}
+use Rattle.ring_bytes.proofs.ListLemmas.{change_none}
 use Rattle.trace_model.specs.Buffers.{BufferRecord, is_of}
 use Rattle.trace_model.specs.Sequences.{Sequence, sequence_in}
 use Rattle.trace_buffer.specs.BufferFields.{AreParts, AllKept, IsKept, IsIndexed, NoneOf, KeysOnce, PlacesOnce}
@@ -73,11 +74,6 @@ indexed_alike places f ss alike is = record {
 abbrev pub at_key : ℕ → ℕ → (Stored → Stored) → Stored → Stored
 at_key q i f s = cond (is_at_key q i s) (f s) s
 
-no_change_at : (place : ℕ) (f : Stored → Stored) (ss : List Stored) → NoneAt place ss → change_at place f ss ≡ ss
-no_change_at place f [] none = refl
-no_change_at place f (s ∷ ss) none =
-    ap₂ (λ t ts. t ∷ ts) (ap (λ b. cond b (f s) s) none.0) (no_change_at place f ss none.1)
-
 pub no_change_of : (q i : ℕ) (f : Stored → Stored) (ss : List Stored) → NoneOf q i ss → map (at_key q i f) ss ≡ ss
 no_change_of q i f [] none = refl
 no_change_of q i f (s ∷ ss) none =
@@ -94,7 +90,7 @@ same_change q i place f (t ∷ ss) s keys once found here = of (is_at_key q i t)
         let two = and_parts (t.key.sequence == q) (t.key.chunk_id == i) is in
         ap₂ (λ u us. u ∷ us)
         (ap (λ b. cond b (f t) t) (eq-eqb t.at place at_t) ∙ sym (ap (λ b. cond b (f t) t) is))
-        (no_change_at place f ss (subst (λ n. NoneAt n ss) at_t once.0)
+        (change_none place f ss (subst (λ n. NoneAt n ss) at_t once.0)
         ∙ sym
         (no_change_of q i f ss
         (subst (λ n. NoneOf n i ss) (eqb-true t.key.sequence q two.0) (subst (λ n. NoneOf t.key.sequence n ss) (eqb-true t.key.chunk_id i two.1) keys.0))))

@@ -2,9 +2,10 @@
 use Rattle.std.proofs.Common.{◌≡◌, ◌≢◌, ℕ, zero, suc, ◌+◌, ◌<◌, ◌≤◌, ◌%◌, ◌==◌, ◌||◌, ◌⊎◌, Bool, true, false, cond, nat_lt, List, [], ◌∷◌, ◌++◌, length, get_or, replicate, refl, sym, ap, ap₂, ◌∙◌, subst, arith, eq-eqb, eqb-true, ne_eqb, ◌^◌, append_assoc, length-append, ⊎_elim, inl, inr}
 use Rattle.std.proofs.lemmas.Bool.{cases_eq}
 use Rattle.std.proofs.lemmas.List.{get_or-set_other, get_or-set_same, get_or-replicate}
-use Rattle.std.proofs.lemmas.Bool.Decides.{nat_tests}
 use Rattle.std.proofs.lemmas.List.Folds.{list_any-append}
+use Rattle.std.proofs.lemmas.Bool.Decides.{nat_tests}
 use Rattle.trace_model.specs.Sequences.{is_among, with_number, first_absent}
+use Rattle.trace_model.proofs.SequenceLemmas.{among_with}
 use Rattle.trace_buffer.specs.Circle.{bit, with_bit, numbers, marked, arrived_of}
 
 -- Numbers that follow one another
@@ -274,27 +275,6 @@ clear_bit bits id is = ap (λ b. get_or b (id % 1024) false) is ∙ get_or-repli
 
 pub cleared : (bits : List Bool) (n at : ℕ) → bits ≡ replicate 1024 false → marked bits n at ≡ []
 cleared bits n at is = marked_empty bits n at (λ j. clear_bit bits j is)
-
--- a number put in is among them, and all others as before
-pub among_with : (n i : ℕ) (ks : List ℕ) → is_among i (with_number n ks) ≡ ((n == i) || is_among i ks)
-among_with n i [] = refl
-among_with n i (k ∷ ks) = of (nat_lt n k) (n == k) refl (among_with n i ks)
-  where
-    or_twice : (x y : Bool) → (x || y) ≡ (x || (x || y))
-    or_twice true y = refl
-    or_twice false y = refl
-
-    or_swap : (x y z : Bool) → (x || (y || z)) ≡ (y || (x || z))
-    or_swap true true z = refl
-    or_swap true false z = refl
-    or_swap false true z = refl
-    or_swap false false z = refl
-
-    of : (b d : Bool) → (n == k) ≡ d → is_among i (with_number n ks) ≡ ((n == i) || is_among i ks) → is_among i (cond b (n ∷ k ∷ ks) (cond d (k ∷ ks) (k ∷ with_number n ks))) ≡ ((n == i) || ((k == i) || is_among i ks))
-    of true d is later = refl
-    of false true is later =
-        or_twice (k == i) (is_among i ks) ∙ ap (λ m. (m == i) || ((k == i) || is_among i ks)) (sym (eqb-true n k is))
-    of false false is later = ap (λ b. (k == i) || b) later ∙ or_swap (k == i) (n == i) (is_among i ks)
 
 pub small_more : (n i : ℕ) (ks : List ℕ) → n < 2 ^ 32 → ((j : ℕ) → is_among j ks ≡ true → j < 2 ^ 32) → is_among i (with_number n ks) ≡ true → i < 2 ^ 32
 small_more n i ks low all among = of (n == i) refl (sym (among_with n i ks) ∙ among)

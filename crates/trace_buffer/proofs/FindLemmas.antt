@@ -8,6 +8,7 @@ use Rattle.ring_bytes.specs.declared.key.RecordKey.{RecordKey}
 use Rattle.trace_model.specs.Buffers.{BufferRecord, is_of}
 use Rattle.trace_model.specs.Reading.{Reading, Fragments, Unreadable, reading_of}
 use Rattle.trace_model.specs.Sequences.{Sequence}
+use Rattle.ring_bytes.proofs.ListLemmas.{find_true}
 use Rattle.trace_buffer.specs.Calls.{TellsRecord, place_in}
 use Rattle.trace_buffer.specs.BufferFields.{PlacesOnce, AllKept, IsKept}
 use Rattle.trace_buffer.specs.Records.{record_of, chunk_of, is_at_key, is_readable, fragments_of}
@@ -128,17 +129,9 @@ pub place_had : (ring : RingValue) (sequence chunk_id place : ℕ) (result : Opt
 place_had ring sequence chunk_id place result s some is found =
     mapped (λ (t : Stored). t.at) (find (is_at_key sequence chunk_id) ring.live) s place found (sym is ∙ some)
 
-pub passes : (P : Stored → Bool) (ss : List Stored) (s : Stored) → find P ss ≡ Some s → P s ≡ true
-passes P [] s found = absurd (cc)
-passes P (t ∷ ss) s found = of (P t) refl (passes P ss s) found
-  where
-    of : (b : Bool) → P t ≡ b → (find P ss ≡ Some s → P s ≡ true) → cond b (Some t) (find P ss) ≡ Some s → P s ≡ true
-    of true is later some = let here : t ≡ s = cc in ap P (sym here) ∙ is
-    of false is later some = later some
-
 pub its_sequence : (sequence chunk_id : ℕ) (ss : List Stored) (s : Stored) → find (is_at_key sequence chunk_id) ss ≡ Some s → s.key.sequence ≡ sequence
 its_sequence sequence chunk_id ss s found =
-    of (s.key.sequence == sequence) (s.key.chunk_id == chunk_id) refl (passes (is_at_key sequence chunk_id) ss s found)
+    of (s.key.sequence == sequence) (s.key.chunk_id == chunk_id) refl (find_true (is_at_key sequence chunk_id) ss s found)
   where
     of : (b d : Bool) → (s.key.sequence == sequence) ≡ b → (b && d) ≡ true → s.key.sequence ≡ sequence
     of true d is holds = eqb-true s.key.sequence sequence is

@@ -12,6 +12,7 @@ use Rattle.trace_model.specs.Images.{Fragment, has_flag_1}
 use Rattle.trace_model.specs.Reading.{Reading, Fragments, Unreadable, behind, read_on, reading_from, reading_of, fragment_of, size_of, fragment_end}
 use Rattle.trace_model.specs.Sequences as sequences
 use Rattle.trace_model.specs.Sequences.{Sequence, fresh, is_known, changed_at, unread_of}
+use Rattle.trace_model.proofs.CountedLemmas.{raised-none}
 use Rattle.trace_buffer.specs.BufferFields.{NumbersOnce}
 use Rattle.trace_buffer.specs.Keys.{packets_lost, is_loss, is_unread_loss, LosesAt, discarded_by}
 use Rattle.trace_buffer.specs.Records.{record_of, chunk_of, fragments_of, is_readable, unread_losses}
@@ -49,9 +50,6 @@ discarded_is state key payload reads =
     (λ n. record state { lost = raised state.lost (unread_of state key.chunk_id n - one_if (has_flag_1 key.flags && (unread_of state key.chunk_id n == n))) })
     (sym (reading_length key.count payload reads))
 
-pub raised_none : (a : ℕ) → raised a 0 ≡ a
-raised_none a = omega arith
-
 lost_one : (state : Sequence) (r : BufferRecord) → with_losses (r ∷ []) state ≡ record state { lost = raised state.lost (model.packets_lost state r) }
 lost_one state r =
     ap (λ n. record state { lost = raised state.lost n })
@@ -61,7 +59,7 @@ lost_other : (state : Sequence) (r : BufferRecord) → (r.sequence == state.numb
 lost_other state r other =
     lost_one state r
     ∙ ap (λ b. record state { lost = raised state.lost (cond (b && not (r.chunk.partial && not state.closed)) (sequences.unread_starts state r.chunk_id r.chunk) 0) }) other
-    ∙ ap (λ n. record state { lost = n }) (raised_none state.lost)
+    ∙ ap (λ n. record state { lost = n }) (raised-none state.lost)
 
 flip : (m n : ℕ) → (m == n) ≡ false → (n == m) ≡ false
 flip m n other = ne_eqb n m (λ same. true≢false (sym (eq-eqb m n (sym same)) ∙ other))

@@ -3,7 +3,7 @@ use Rattle.std.proofs.Common.{◌≡◌, ℕ, zero, suc, ◌+◌, ◌≤◌, ◌
 use Rattle.std.proofs.lemmas.Bool.Decides.{nat_tests}
 use Rattle.trace_model.specs.Arrivals.{is_too_far, with_arrived}
 use Rattle.trace_model.specs.Sequences.{Sequence, is_among, with_number, first_absent, has_arrived}
-use Rattle.trace_buffer.proofs.CircleLemmas.{among_with}
+use Rattle.trace_model.proofs.SequenceLemmas.{among_with}
 
 least_from : (tries n : ℕ) (ks : List ℕ) → n ≤ first_absent tries n ks
 least_from zero n ks = omega arith

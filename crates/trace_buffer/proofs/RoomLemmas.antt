@@ -7,6 +7,7 @@ use Rattle.ring_bytes.proofs.ListLemmas.{without_only}
 use Rattle.trace_model.specs.Buffers.{BufferRecord, with_losses, packets_lost, is_unread_loss}
 use Rattle.trace_model.specs.Counts.{raised}
 use Rattle.trace_model.specs.Sequences.{Sequence}
+use Rattle.trace_model.proofs.CountedLemmas.{raised-raised}
 use Rattle.trace_buffer.specs.Records.{record_of, meets_record, met_records, displaced, unread_losses}
 
 -- Lists with and without one that passes a test
@@ -75,13 +76,10 @@ split_met ring n place is =
 sum_split : {X : Type 0} (f : X → ℕ) (xs ys : List X) (x : X) → sum_by f (xs ++ x ∷ ys) ≡ f x + sum_by f (xs ++ ys)
 sum_split f xs ys x = omega (arith, sum_by-append f xs (x ∷ ys), sum_by-append f xs ys, sum_by-cons f x ys)
 
-raised_twice : (a m n : ℕ) → raised (raised a m) n ≡ raised a (m + n)
-raised_twice a m n = omega arith
-
 losses_twice : (one two : List BufferRecord) (r : BufferRecord) (s : Sequence) → with_losses (one ++ two) (with_losses (r ∷ []) s) ≡ with_losses (one ++ r ∷ two) s
 losses_twice one two r s =
     ap (λ n. record s { lost = n })
-    (raised_twice s.lost (sum_by (packets_lost s) (r ∷ [])) (sum_by (packets_lost s) (one ++ two))
+    (raised-raised s.lost (sum_by (packets_lost s) (r ∷ [])) (sum_by (packets_lost s) (one ++ two))
     ∙ ap (raised s.lost) (omega (arith, sum_split (packets_lost s) one two r, sum_by-cons (packets_lost s) r [])))
 
 pub rows_twice : (one two : List BufferRecord) (r : BufferRecord) (rows : List Sequence) → map (with_losses (one ++ two)) (map (with_losses (r ∷ [])) rows) ≡ map (with_losses (one ++ r ∷ two)) rows
@@ -102,7 +100,7 @@ sum_same f g (r ∷ rs) same = sum_by-cons f r rs ∙ (λ i. same r i + sum_same
 pub lost_twice : (one two : List BufferRecord) (r : BufferRecord) (rows : List Sequence) (count lost : ℕ) → lost ≡ raised count (unread_losses rows r) → raised lost (sum_by (unread_losses (map (with_losses (r ∷ [])) rows)) (one ++ two)) ≡ raised count (sum_by (unread_losses rows) (one ++ r ∷ two))
 lost_twice one two r rows count lost is =
     ap₂ raised is (sum_same (unread_losses (map (with_losses (r ∷ [])) rows)) (unread_losses rows) (one ++ two) (λ x. count_map (λ s. is_unread_loss s x) (with_losses (r ∷ [])) rows (λ s. refl)))
-    ∙ raised_twice count (unread_losses rows r) (sum_by (unread_losses rows) (one ++ two))
+    ∙ raised-raised count (unread_losses rows r) (sum_by (unread_losses rows) (one ++ two))
     ∙ ap (raised count) (sym (sum_split (unread_losses rows) one two r))
 
 -- the records that stay, said of the ring and of the buffer

@@ -8,11 +8,11 @@ use Rattle.ring_bytes.specs.Value.{Stored, RingValue, IsMetAt, meets_stored, nex
 use Rattle.trace_model.specs.Buffers.{BufferRecord, with_losses}
 use Rattle.trace_model.specs.Counts.{raised}
 use Rattle.trace_model.specs.Sequences.{Sequence}
+use Rattle.trace_model.proofs.CountedLemmas.{raised-none}
 use Rattle.trace_buffer.specs.BufferFields.{AreParts, AllKept, IsKept}
 use Rattle.trace_buffer.specs.Keys.{LosesAt}
 use Rattle.trace_buffer.specs.Records.{record_of, meets_record, met_records, displaced, unread_losses}
 use Rattle.trace_buffer.proofs.DropLemmas.{parts_less, kept_middle}
-use Rattle.trace_buffer.proofs.LossLemmas.{raised_none}
 use Rattle.trace_buffer.proofs.PartLemmas.{parts_map, keeps_losses}
 use Rattle.trace_buffer.proofs.RoomLemmas.{displaced_more, split_met, rows_twice, lost_twice}
 use Rattle.trace_buffer.proofs.UnderWay.{IsUnderWay}
@@ -80,7 +80,7 @@ none_met_of P (s ∷ ss) none = of (P (record_of s)) (none_met_of P ss) none
 
 no_losses : (rows : List Sequence) → map (with_losses []) rows ≡ rows
 no_losses [] = refl
-no_losses (s ∷ rows) = ap₂ (λ x xs. x ∷ xs) (ap (λ n. record s { lost = n }) (raised_none s.lost)) (no_losses rows)
+no_losses (s ∷ rows) = ap₂ (λ x xs. x ∷ xs) (ap (λ n. record s { lost = n }) (raised-none s.lost)) (no_losses rows)
 
 pub ended_ring : (old : RingValue) (rows : List Sequence) (lost n : ℕ) (ring : RingValue) (index : IndexValue) (now : List Sequence) (count : ℕ) → IsUnderWay old rows lost n ring index now count → None ≡ next_met_of ring n → ring ≡ displaced old n
 ended_ring old rows lost n ring index now count w none =
@@ -93,4 +93,4 @@ ended_rows old rows lost n ring index now count w none =
 
 pub ended_lost : (old : RingValue) (rows : List Sequence) (lost n : ℕ) (ring : RingValue) (index : IndexValue) (now : List Sequence) (count : ℕ) → IsUnderWay old rows lost n ring index now count → None ≡ next_met_of ring n → count ≡ raised lost (sum_by (unread_losses rows) (met_records old n))
 ended_lost old rows lost n ring index now count w none =
-    sym (ap (λ rs. raised count (sum_by (unread_losses now) rs)) (none_met_of (meets_record ring n) ring.live (none_met ring n none)) ∙ raised_none count) ∙ w.lost_is
+    sym (ap (λ rs. raised count (sum_by (unread_losses now) rs)) (none_met_of (meets_record ring n) ring.live (none_met ring n none)) ∙ raised-none count) ∙ w.lost_is

@@ -4,8 +4,8 @@ use Rattle.std.proofs.lemmas.List.{take_at, drop_at, length-take-le}
 use Rattle.wire_varint.specs.Reading.{IsVarint, IsShort, IsOver64, NoVarintInFront, joined}
 use Rattle.wire_varint.proofs.Varints.{one_varint}
 use Rattle.wire_varint.proofs.Joined.{joined-lt}
-use Rattle.trace_file.proofs.ReadLemmas.{whole_some}
 use Rattle.wire_varint.proofs.Scanning.{none_short, none_over}
+use Rattle.wire_varint.proofs.Whole.{whole_some}
 use Rattle.trace_file.specs.declared.field.FieldFault.{FieldFault}
 use Rattle.trace_file.specs.declared.field.FieldFault.TheVariants.{Group, Malformed, CutShort}
 use Rattle.trace_base.specs.declared.limits.TheConstants.{MAX_FIELD}

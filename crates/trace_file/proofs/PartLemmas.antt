@@ -4,12 +4,12 @@ use Rattle.std.proofs.lemmas.List.{append_cancel_left, append_cancel_right, appe
 use Rattle.wire_varint.specs.Reading.{IsWhole}
 use Rattle.wire_varint.specs.Varint.{varint}
 use Rattle.wire_varint.proofs.Varints.{varint_is_varint}
+use Rattle.wire_varint.proofs.Whole.{whole_some}
 use Rattle.trace_model.specs.Record.{dropped_mark, mark_where, content_of, record_of}
 use Rattle.trace_file.specs.Fields.{Content, MessageField, Spells}
 use Rattle.trace_file.specs.Apart.{SaysPacket, SaysOnly, SaysNone}
 use Rattle.trace_file.specs.Traces.{record_field}
 use Rattle.trace_file.proofs.OnceLemmas.{spells_once}
-use Rattle.trace_file.proofs.ReadLemmas.{whole_some}
 
 abbrev pub tail_of : ℕ → Bool → List ℕ
 tail_of sequence behind = (0x50 ∷ varint sequence) ++ mark_where behind

@@ -5,16 +5,12 @@ use Rattle.std.proofs.lemmas.List.{length-take-le, length-drop, take-append-drop
 use Rattle.std.proofs.lemmas.List.Elements.{All-nil, All-push}
 use Rattle.std.proofs.Math.Seq.{take-add}
 use Rattle.trace_file.specs.declared.field.FieldFault.{FieldFault}
-use Rattle.wire_varint.specs.Reading.{IsWhole}
+use Rattle.wire_varint.proofs.Whole.{whole_some}
 use Rattle.trace_file.specs.Fields.{FieldValue, MessageField, Spells, SpellsAll, number_at, last_number}
 use Rattle.trace_file.specs.Faults.{Lacks}
 use Rattle.trace_file.specs.Readers.{ReadsBehind}
 use Rattle.trace_file.specs.declared.fault.TraceFault.{TraceFault}
 use Rattle.trace_file.specs.Traces.{TracePacket, record_field, SaysNumbers, StopsInside, IsPacketAt, IsOther, IsPassed, HasInnerFault, inner_fault, top_fault, EndsBehind, IsNext, ReadsFrom}
-
-pub whole_some : (bytes : List ℕ) → IsWhole bytes → 0 < length bytes
-whole_some [] whole = absurd whole
-whole_some (byte ∷ bytes) whole = omega arith
 
 pub spells_push : (fields : List MessageField) (field : MessageField) (front bytes : List ℕ) → SpellsAll fields front → Spells field bytes
     → SpellsAll (fields ++ field ∷ []) (front ++ bytes)

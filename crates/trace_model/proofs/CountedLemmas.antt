@@ -21,10 +21,10 @@ use Rattle.trace_model.proofs.SequenceLemmas.{sequence_in-map, known-map, number
 use Rattle.trace_model.proofs.OutcomeLemmas.{complete_after, partial_after}
 use Rattle.trace_model.proofs.TallyLemmas.{tally, tally-append, tally-lost, tally-losses, tally-read, length-unread}
 
-raised-none : (n : ℕ) → raised n 0 ≡ n
+pub raised-none : (n : ℕ) → raised n 0 ≡ n
 raised-none n = omega arith
 
-raised-raised : (n a b : ℕ) → raised (raised n a) b ≡ raised n (a + b)
+pub raised-raised : (n a b : ℕ) → raised (raised n a) b ≡ raised n (a + b)
 raised-raised n a b = omega arith
 
 -- the counts of the second state are those of the first, and what was fixed in between

@@ -33,7 +33,7 @@ never_whole fate h e = false≢true (sym h ∙ ap is_whole e)
 
 -- Chains
 
-bytes_append : (xs ys : List Piece) → bytes_of (xs ++ ys) ≡ bytes_of xs ++ bytes_of ys
+pub bytes_append : (xs ys : List Piece) → bytes_of (xs ++ ys) ≡ bytes_of xs ++ bytes_of ys
 bytes_append xs ys = flat_map-append (λ (piece : Piece). piece.fragment.bytes) xs ys
 
 -- two chains that follow one another stand in what was written
@@ -262,7 +262,7 @@ module _ (closed : Bool) (written : List Chunk) (chunk_id : ℕ) (chunk first : 
 
 -- Rows
 
-show_dropped : (k : ℕ) (partial awaits : Bool) (fs ws : List Fragment) → ShowFragments partial awaits fs ws → k ≤ length fs → ShowFragments partial awaits (drop k fs) (drop k ws)
+pub show_dropped : (k : ℕ) (partial awaits : Bool) (fs ws : List Fragment) → ShowFragments partial awaits fs ws → k ≤ length fs → ShowFragments partial awaits (drop k fs) (drop k ws)
 show_dropped zero partial awaits fs ws h k = h
 show_dropped (suc n) partial awaits [] ws h k = absurd (omega (arith, k))
 show_dropped (suc n) partial awaits (f ∷ fs) [] h k = absurd h

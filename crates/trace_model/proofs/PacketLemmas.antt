@@ -7,6 +7,7 @@ use Rattle.wire_varint.specs.Varint.{redundant}
 use Rattle.trace_model.specs.Calls.{Call, Begun, Number, Bytes, Nested, Ended, GivenUp, Finished, Flushed}
 use Rattle.trace_model.specs.Encoding.{number_field, bytes_field, nested_tag}
 use Rattle.trace_model.specs.Packets.{Packet, NestedLength, Account, open_length, flat, written, closed_levels, front_of, body_of, newest_is_lost, noted, nothing_yet, packets_of, with_more, with_nested, with_nested_ended, given_up_packet, finished_packet, on_newest}
+use Rattle.trace_model.specs.Cut.{Begins}
 use Rattle.trace_model.specs.PacketLaws.{AreFronted, PacketsAreFronted}
 use Rattle.trace_model.specs.Record.{mark_where}
 
@@ -16,35 +17,32 @@ bottom [] = []
 bottom (level ∷ []) = level
 bottom (level ∷ outer ∷ others) = bottom (outer ∷ others)
 
--- the second list begins with the first
-record Front (front whole : List ℕ) : Type 0 where
-  rest : List ℕ
-  is : whole ≡ front ++ rest
+-- what is written to the innermost level is written last
+pub flat_written : (four bytes level : List ℕ) (others : List (List ℕ)) → flat four ((level ++ bytes) ∷ others) ≡ flat four (level ∷ others) ++ bytes
+flat_written four bytes level [] = refl
+flat_written four bytes level (next ∷ others) = sym (append_assoc (flat four (next ∷ others) ++ four) level bytes)
 
-front_more : (front whole more : List ℕ) → Front front whole → Front front (whole ++ more)
-front_more front whole more h = record {
-  rest = h.rest ++ more;
-  is = ap (λ (xs : List ℕ). xs ++ more) h.is ∙ append_assoc front h.rest more;
-}
+front_more : (front whole more : List ℕ) → Begins front whole → Begins front (whole ++ more)
+front_more front whole more h = (h.0 ++ more, ap (λ (xs : List ℕ). xs ++ more) h.1 ∙ append_assoc front h.0 more)
 
-front_flat : (four : List ℕ) (levels : List (List ℕ)) (front : List ℕ) → Front front (bottom levels) → Front front (flat four levels)
+front_flat : (four : List ℕ) (levels : List (List ℕ)) (front : List ℕ) → Begins front (bottom levels) → Begins front (flat four levels)
 front_flat four [] front h = h
 front_flat four (level ∷ []) front h = h
 front_flat four (level ∷ outer ∷ others) front h =
     front_more front (flat four (outer ∷ others) ++ four) level
     (front_more front (flat four (outer ∷ others)) four (front_flat four (outer ∷ others) front h))
 
-front_written : (bytes : List ℕ) (levels : List (List ℕ)) (front : List ℕ) → Front front (bottom levels) → Front front (bottom (written bytes levels))
+front_written : (bytes : List ℕ) (levels : List (List ℕ)) (front : List ℕ) → Begins front (bottom levels) → Begins front (bottom (written bytes levels))
 front_written bytes [] front h = h
 front_written bytes (level ∷ []) front h = front_more front level bytes h
 front_written bytes (level ∷ outer ∷ others) front h = h
 
-front_nested : (levels : List (List ℕ)) (front : List ℕ) → Front front (bottom levels) → Front front (bottom ([] ∷ levels))
+front_nested : (levels : List (List ℕ)) (front : List ℕ) → Begins front (bottom levels) → Begins front (bottom ([] ∷ levels))
 front_nested [] front h = h
 front_nested (level ∷ others) front h = h
 
-front_closed : (levels : List (List ℕ)) (closed : List NestedLength) (front : List ℕ) → Front front (bottom levels)
-    → Front front (bottom (closed_levels levels closed).levels)
+front_closed : (levels : List (List ℕ)) (closed : List NestedLength) (front : List ℕ) → Begins front (bottom levels)
+    → Begins front (bottom (closed_levels levels closed).levels)
 front_closed [] closed front h = h
 front_closed (level ∷ []) closed front h = h
 front_closed (level ∷ outer ∷ []) closed front h =
@@ -55,10 +53,10 @@ front_closed (level ∷ outer ∷ next ∷ others) closed front h = h
 abbrev Knows : List Packet → Type 0
 Knows [] = Unit {0}
 Knows (packet ∷ older) =
-    (packet.follows_loss ≡ newest_is_lost older) × Front (front_of packet) (bottom packet.text.levels) × Knows older
+    (packet.follows_loss ≡ newest_is_lost older) × Begins (front_of packet) (bottom packet.text.levels) × Knows older
 
-front_begun : (front : List ℕ) → Front front front
-front_begun front = record { rest = []; is = sym (append-nil front) }
+front_begun : (front : List ℕ) → Begins front front
+front_begun front = ([], sym (append-nil front))
 
 knows_noted : (account : Account) (call : Call) → Knows account.packets → Knows (noted account call).packets
 knows_noted account (Begun kept) h = (refl, front_begun (mark_where (kept && newest_is_lost account.packets)), h)
@@ -100,9 +98,9 @@ knows_all [] account h = h
 knows_all (call ∷ calls) account h = knows_all calls (noted account call) (knows_noted account call h)
 
 -- what begins with a list is that list and what is behind it
-behind_front : (front whole : List ℕ) → Front front whole → whole ≡ front ++ drop (length front) whole
+behind_front : (front whole : List ℕ) → Begins front whole → whole ≡ front ++ drop (length front) whole
 behind_front front whole h =
-    h.is ∙ ap (λ (xs : List ℕ). front ++ xs) (sym (ap (drop (length front)) h.is ∙ drop-append_seam front h.rest))
+    h.1 ∙ ap (λ (xs : List ℕ). front ++ xs) (sym (ap (drop (length front)) h.1 ∙ drop-append_seam front h.0))
 
 fronted : (packets : List Packet) → Knows packets → AreFronted packets
 fronted [] h = tt

@@ -1,12 +1,14 @@
 -- A writer's image reads as the fragments that it wrote.
-use Rattle.std.proofs.Common.{◌≡◌, ℕ, ◌+◌, ◌<◌, ◌≤◌, Bool, true, false, List, [], ◌∷◌, ◌++◌, length, refl, sym, ap, subst, arith, length-append, inl, inr}
+use Rattle.std.proofs.Common.{◌≡◌, ◌∙◌, ℕ, suc, ◌+◌, ◌<◌, ◌≤◌, Bool, true, false, List, [], ◌∷◌, ◌++◌, length, refl, sym, ap, subst, arith, length-append, inl, inr}
+use Rattle.std.specs.Prelude.{cond, ◌==◌}
 use Rattle.std.proofs.lemmas.List.{append-nil}
 use Rattle.wire_varint.specs.Varint.{redundant}
 use Rattle.wire_varint.proofs.Varints.{redundant_is_varint}
 use Rattle.wire_varint.proofs.Lengths.{length-redundant}
-use Rattle.trace_model.specs.Images.{Fragment}
+use Rattle.trace_model.specs.Images.{Fragment, Patch, patched_last}
 use Rattle.trace_model.specs.Fragments.{drop_mark, drop_size, IsSize, ReadsOne, ReadsFrom}
 use Rattle.trace_model.specs.Pages.{framed, laid, fragments_from}
+use Rattle.trace_model.specs.Written.{settled_fragments}
 use Rattle.trace_model.specs.ReadingLaws.{PagesReadAsWritten}
 
 -- the four bytes in front of a fragment are its size
@@ -73,3 +75,25 @@ reads_page true (bytes ∷ others) rest size small some full none =
 pub pages_read_as_written : PagesReadAsWritten
 pages_read_as_written size page small full =
     reads_page page.dropped page.fragments page.rest size small full.some full.whole (λ e. (full.dropped e).1)
+
+-- How many fragments a page and a patched chunk have
+
+pub same_long : (fragments : List Fragment) (patch : Patch) → length (patched_last patch fragments) ≡ length fragments
+same_long [] patch = refl
+same_long (fragment ∷ []) patch = refl
+same_long (fragment ∷ next ∷ others) patch = ap suc (same_long (next ∷ others) patch)
+
+pub settled_long : (patches : List Patch) (chunk_id : ℕ) (fragments : List Fragment) → length (settled_fragments patches chunk_id fragments) ≡ length fragments
+settled_long [] chunk_id fragments = refl
+settled_long (patch ∷ others) chunk_id fragments =
+    settled_long others chunk_id (cond (patch.chunk_id == chunk_id) (patched_last patch fragments) fragments)
+    ∙ step (patch.chunk_id == chunk_id)
+  where
+    step : (b : Bool) → length (cond b (patched_last patch fragments) fragments) ≡ length fragments
+    step true = same_long fragments patch
+    step false = refl
+
+pub fragments_long : (at : ℕ) (dropped : Bool) (fragments : List (List ℕ)) → length (fragments_from at dropped fragments) ≡ length fragments
+fragments_long at dropped [] = refl
+fragments_long at dropped (bytes ∷ []) = refl
+fragments_long at dropped (bytes ∷ next ∷ others) = ap suc (fragments_long (at + length bytes + 4) dropped (next ∷ others))

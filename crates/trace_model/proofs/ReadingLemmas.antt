@@ -7,6 +7,7 @@ use Rattle.std.proofs.lemmas.Option.{none-some, same_Some}
 use Rattle.std.proofs.lemmas.List.{take-append-drop, drop-drop}
 use Rattle.std.proofs.Math.Seq.{drop-append_seam, take-append_seam}
 use Rattle.wire_varint.specs.Reading.{joined, IsWhole}
+use Rattle.wire_varint.proofs.Whole.{IsWhole-cons}
 use Rattle.trace_model.specs.Images.{Fragment}
 use Rattle.trace_model.specs.Fragments.{drop_mark, drop_size, ReadsOne, ReadsDropped}
 use Rattle.trace_model.specs.Reading.{Size, longer_size, size_of, fragment_of, fragment_end}
@@ -43,10 +44,6 @@ pub record HasSize (most : ℕ) (bytes : List ℕ) (size : Size) : Type 0 where
   pub few : length front ≤ most
   pub value : joined front ≡ size.value
 
-longer_whole : (byte : ℕ) (front : List ℕ) → 128 ≤ byte → IsWhole front → IsWhole (byte ∷ front)
-longer_whole byte [] h k = absurd k
-longer_whole byte (next ∷ front) h k = (h, k)
-
 pub size_sound : (most : ℕ) (bytes : List ℕ) (size : Size) → size_of most bytes ≡ Some size → HasSize most bytes size
 size_sound zero bytes size e = absurd (none-some size e)
 size_sound (suc most) [] size e = absurd (none-some size e)
@@ -62,7 +59,7 @@ size_sound (suc most) (byte ∷ bytes) size e = step (cases_lt byte 128) (size_s
           front = byte ∷ has.front;
           rest = has.rest;
           cut = ap (λ (xs : List ℕ). byte ∷ xs) has.cut;
-          whole = longer_whole byte has.front k has.whole;
+          whole = IsWhole-cons byte has.front k has.whole;
           width = omega (arith, has.width) ∙ ap (λ (s : Size). s.width) same;
           few = omega (arith, has.few);
           value = ap (λ (n : ℕ). byte % 128 + 128 * n) has.value ∙ ap (λ (s : Size). s.value) same;

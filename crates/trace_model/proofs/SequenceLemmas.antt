@@ -57,27 +57,29 @@ pub known_changed : (p q : ℕ) (f : Sequence → Sequence) → ((s : Sequence) 
 known_changed p q f keeps ss = known-map (change_of p f) (change_keeps p f keeps) ss q
 
 -- numbers among a rising list with one more
-pub among_more : (i j : ℕ) (numbers : List ℕ) → is_among i numbers ≡ true → is_among i (with_number j numbers) ≡ true
-among_more i j [] h = absurd (false≢true h)
-among_more i j (n ∷ numbers) h = step (nat_lt j n) (j == n) (among_more i j numbers)
+-- a number put in is among them, and all others as before
+pub among_with : (n i : ℕ) (numbers : List ℕ) → is_among i (with_number n numbers) ≡ ((n == i) || is_among i numbers)
+among_with n i [] = refl
+among_with n i (k ∷ numbers) = step (nat_lt n k) (n == k) refl (among_with n i numbers)
   where
-    later : (here : Bool) → (here || is_among i numbers) ≡ true → (is_among i numbers ≡ true → is_among i (with_number j numbers) ≡ true)
-        → (here || is_among i (with_number j numbers)) ≡ true
-    later true h k = refl
-    later false h k = k h
+    twice : (a b : Bool) → (a || b) ≡ (a || (a || b))
+    twice true b = refl
+    twice false b = refl
 
-    step : (below same : Bool) → (is_among i numbers ≡ true → is_among i (with_number j numbers) ≡ true)
-        → is_among i (cond below (j ∷ n ∷ numbers) (cond same (n ∷ numbers) (n ∷ with_number j numbers))) ≡ true
-    step true same k = or_right (j == i) (is_among i (n ∷ numbers)) h
-    step false true k = h
-    step false false k = later (n == i) h k
+    turned : (a b c : Bool) → (a || (b || c)) ≡ (b || (a || c))
+    turned true true c = refl
+    turned true false c = refl
+    turned false true c = refl
+    turned false false c = refl
+
+    step : (below same : Bool) → (n == k) ≡ same → is_among i (with_number n numbers) ≡ ((n == i) || is_among i numbers)
+        → is_among i (cond below (n ∷ k ∷ numbers) (cond same (k ∷ numbers) (k ∷ with_number n numbers))) ≡ ((n == i) || ((k == i) || is_among i numbers))
+    step true same e rest = refl
+    step false true e rest = twice (k == i) (is_among i numbers) ∙ ap (λ (x : ℕ). (x == i) || ((k == i) || is_among i numbers)) (sym (eqb-true n k e))
+    step false false e rest = ap (λ (b : Bool). (k == i) || b) rest ∙ turned (k == i) (n == i) (is_among i numbers)
+
+pub among_more : (i j : ℕ) (numbers : List ℕ) → is_among i numbers ≡ true → is_among i (with_number j numbers) ≡ true
+among_more i j numbers h = among_with j i numbers ∙ or_right (j == i) (is_among i numbers) h
 
 pub among_new : (i : ℕ) (numbers : List ℕ) → is_among i (with_number i numbers) ≡ true
-among_new i [] = ap (λ (b : Bool). b || false) (eq-eqb i i refl)
-among_new i (n ∷ numbers) = step (nat_lt i n) (i == n) refl (among_new i numbers)
-  where
-    step : (below same : Bool) → (i == n) ≡ same → is_among i (with_number i numbers) ≡ true
-        → is_among i (cond below (i ∷ n ∷ numbers) (cond same (n ∷ numbers) (n ∷ with_number i numbers))) ≡ true
-    step true same e k = ap (λ (b : Bool). b || is_among i (n ∷ numbers)) (eq-eqb i i refl)
-    step false true e k = ap (λ (b : Bool). b || is_among i numbers) (eq-eqb n i (sym (eqb-true i n e)))
-    step false false e k = or_right (n == i) (is_among i (with_number i numbers)) k
+among_new i numbers = among_with i i numbers ∙ ap (λ (b : Bool). b || is_among i numbers) (eq-eqb i i refl)

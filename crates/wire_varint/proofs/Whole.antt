@@ -1,5 +1,5 @@
 -- Where a varint ends.
-use Rattle.std.proofs.Common.{◌≡◌, ℕ, zero, suc, ◌+◌, ◌/◌, ◌%◌, ◌^◌, ◌<◌, ◌≤◌, List, [], ◌∷◌, ◌++◌, ap, arith, inl, inr, All}
+use Rattle.std.proofs.Common.{◌≡◌, ℕ, zero, suc, ◌+◌, ◌/◌, ◌%◌, ◌^◌, ◌<◌, ◌≤◌, List, [], ◌∷◌, ◌++◌, length, ap, arith, inl, inr, All}
 use Rattle.std.proofs.lemmas.Bool.{cases_lt}
 use Rattle.std.proofs.lemmas.List.Elements.{All-head, All-tail}
 use Rattle.std.proofs.lemmas.Nat.{div_below}
@@ -11,6 +11,10 @@ use Rattle.wire_varint.proofs.Groups.{groups_last, groups_more}
 pub IsWhole-cons : (byte : ℕ) (bytes : List ℕ) → 128 ≤ byte → IsWhole bytes → IsWhole (byte ∷ bytes)
 IsWhole-cons byte [] high whole = absurd whole
 IsWhole-cons byte (next ∷ bytes) high whole = (high, whole)
+
+pub whole_some : (bytes : List ℕ) → IsWhole bytes → 0 < length bytes
+whole_some [] whole = absurd whole
+whole_some (byte ∷ bytes) whole = omega arith
 
 pub IsWhole-push : (bytes : List ℕ) (last : ℕ) → All (λ b. 128 ≤ b) bytes → last < 128 → IsWhole (bytes ++ last ∷ [])
 IsWhole-push [] last high low = low

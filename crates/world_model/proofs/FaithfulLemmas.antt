@@ -19,12 +19,13 @@ use Rattle.trace_model.specs.Delivery.{Delivered, records_of}
 use Rattle.trace_model.specs.Buffers.{empty_buffer}
 use Rattle.trace_model.specs.History as model
 use Rattle.trace_model.specs.History.{Event, delivered_to, records_after}
+use Rattle.trace_model.proofs.PageLemmas.{fragments_long}
 use Rattle.delivery_laws.specs.Sheets.{Sheet}
 use Rattle.delivery_laws.specs.Histories.{IsPart}
 use Rattle.delivery_laws.specs.Orders as orders
 use Rattle.delivery_laws.specs.WriterSheets.{sheet_of, sheets_of}
 use Rattle.delivery_laws.specs.DeliveryLaws.{IsAccountOf}
-use Rattle.delivery_laws.proofs.WrittenPackets.{page_long, AreFull, are_full}
+use Rattle.delivery_laws.proofs.WrittenPackets.{AreFull, are_full}
 use Rattle.delivery_laws.proofs.CompleteLemmas.{full_at}
 use Rattle.delivery_laws.proofs.OrderLemmas.{every_writer_is_told}
 use Rattle.chunk_plain.specs.Setup.{Setup, size_of}
@@ -116,7 +117,7 @@ module _ (size place : ℕ) (view : WriterView) (held : List Image) (cut : HasCu
       let reads = front_reads k page.fragments found.sealed sealed least more most (omega (arith, whole, small, shorter, parts)) in
       let front : List Fragment = fragments_from 4 false (take k page.fragments) in
       let some_sheet = sheet_some (patches_of pages) goes pages 0 n page image.get in
-      let long = page_long 4 false (take k page.fragments) in
+      let long = fragments_long 4 false (take k page.fragments) in
       let event : Chunk → Event = λ chunk. model.ArrivesInPart q n chunk in
       record {
         chunk = whole_chunk found.head.flags front;

@@ -1,8 +1,8 @@
 -- The contents that the service has of a writer's chunks are the pages of the writer's cut.
 use Rattle.std.proofs.Common.{◌≡◌, ◌∙◌, ℕ, zero, suc, ◌+◌, ◌<◌, Bool, true, false, List, [], ◌∷◌, length, map, Some, refl, sym, ap, subst, arith, length-append}
 use Rattle.std.specs.Prelude.{slice_get}
-use Rattle.std.proofs.lemmas.Option.{slice_get_within}
 use Rattle.std.proofs.lemmas.List.{nil_from_length}
+use Rattle.std.proofs.lemmas.Option.{slice_get_within}
 use mathlib.Core.Option.{some}
 use Rattle.trace_base.proofs.Lists.{get_more}
 use Rattle.trace_model.specs.Fragments.{drop_size}
@@ -11,10 +11,9 @@ use Rattle.trace_model.specs.Pages.{Page, laid, flag_where, flags_of, image_of, 
 use Rattle.trace_model.specs.Cut.{IsWellFormedPage, last_runs_on}
 use Rattle.trace_model.specs.Reading.{Fragments, reading_of}
 use Rattle.trace_model.specs.History as model
-use Rattle.trace_model.proofs.PageLemmas.{pages_read_as_written}
+use Rattle.trace_model.proofs.PageLemmas.{pages_read_as_written, fragments_long}
 use Rattle.trace_model.proofs.ReadsAsLemmas.{reading_is_exact}
 use Rattle.delivery_laws.specs.WriterSheets.{sheet_of, sheets_from}
-use Rattle.delivery_laws.proofs.WrittenPackets.{page_long}
 use Rattle.chunk_plain.specs.Views.{At, Content, BegunChunk, Held, Completed, WriterView}
 use Rattle.chunk_plain.specs.Histories.{completed_images, completed_patches, once_read, arrival_of}
 use Rattle.world_model.specs.Accounts.{HasCut}
@@ -157,7 +156,7 @@ sheet_some patches goes (other ∷ next ∷ pages) first (suc n) page get =
 pub page_reads : (size : ℕ) (page : Page) → size < drop_size → IsWellFormedPage size page
     → reading_of (length page.fragments) (laid page.dropped page.fragments page.rest) ≡ Fragments (chunk_of page).fragments
 page_reads size page small full =
-    ap (λ (n : ℕ). reading_of n (laid page.dropped page.fragments page.rest)) (sym (page_long 4 page.dropped page.fragments))
+    ap (λ (n : ℕ). reading_of n (laid page.dropped page.fragments page.rest)) (sym (fragments_long 4 page.dropped page.fragments))
     ∙ reading_is_exact.complete (laid page.dropped page.fragments page.rest) (chunk_of page).fragments (pages_read_as_written size page small full)
 
 flag_1 : (a b c : Bool) → has_flag_1 (flag_where a 1 + flag_where b 2 + flag_where c 4) ≡ a

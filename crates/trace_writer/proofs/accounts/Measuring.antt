@@ -4,8 +4,9 @@ use Rattle.std.proofs.lemmas.List.{map-append, reverse-append, reverse-reverse}
 use Rattle.wire_varint.specs.Varint.{redundant}
 use Rattle.wire_varint.proofs.Lengths.{length-redundant}
 use Rattle.trace_model.specs.Packets.{Packet, NestedLength, flat, open_length, open_places, written, closed_levels, with_more, with_nested_ended, front_of, body_of}
+use Rattle.trace_model.proofs.PacketLemmas.{flat_written}
 use Rattle.cut_steps.specs.Writing.{with_open}
-use Rattle.cut_steps.proofs.Places.{flat_written, flat_begun, open_places-innermost, length_flat_closed}
+use Rattle.cut_steps.proofs.Places.{flat_begun, open_places-innermost, length_flat_closed}
 use Rattle.cut_steps.proofs.StepLemmas.{open_places-written}
 use Rattle.trace_writer.specs.declared.packet.OpenPacket.{OpenPacket}
 use Rattle.trace_writer.specs.Agreement.{IsMeasured}

@@ -4,7 +4,7 @@ use Rattle.trace_model.specs.Encoding.{bytes_head, bytes_field}
 use Rattle.trace_model.specs.Images.{with_bytes}
 use Rattle.proto_stream.specs.Cursor.{cursor_payload, cursor_at}
 use Rattle.field_stream.proofs.ByteLemmas.{length_put, both_put}
-use Rattle.field_stream.proofs.NodeLemmas.{length-bytes_field}
+use Rattle.trace_model.proofs.EncodingLemmas.{length-bytes_field}
 use Rattle.field_stream.proofs.piece.put_bytes_field.Goals as goal
 
 pub put_piece-requires : goal.put_piece-requires

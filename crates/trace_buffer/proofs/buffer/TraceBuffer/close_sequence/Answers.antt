@@ -6,11 +6,11 @@ use Rattle.trace_model.specs.Sequences.{Sequence, fresh, is_known, sequence_in}
 use Rattle.trace_buffer.specs.BufferFields.{buffer_view}
 use Rattle.trace_buffer.specs.Closing.{PartsAreNear}
 use Rattle.trace_buffer.specs.Records.{record_of}
-use Rattle.trace_buffer.proofs.ArrivedLemmas.{its_number}
 use Rattle.trace_buffer.proofs.ClosingLemmas.{parts_near, keeps_closed, closed_is}
 use Rattle.trace_buffer.proofs.PartLemmas.{parts_at}
 use Rattle.trace_buffer.proofs.RowLemmas.{row_of, changed_is}
 use Rattle.trace_buffer.proofs.buffer.TraceBuffer.close_sequence.Goals as goal
+use Rattle.trace_model.proofs.SequenceLemmas.{number_of}
 
 pub close-requires : goal.close-requires
 close-requires c =
@@ -23,7 +23,7 @@ mark_parts-self-inside-requires-clause-near c =
     let row = row_of c.self.inside.rows.items c.deref.result.now c.find_row-i.result c.args.sequence _ _ c.index_mut-row.result.now c.self.invariant.parts.once
     c.deref.ensures.value c.find_row-i.ensures.within c.find_row-i.ensures.number c.index_mut-row.ensures.value in
     subst (λ (s : Sequence). PartsAreNear s c.self.inside.ring.live) (sym c.close.ensures.after)
-    (parts_near c.self.inside.rows.items c.index_mut-row.result.now c.args.sequence c.self.inside.ring.live row (ap (λ (s : Sequence). s.number) row ∙ its_number c.self.inside.rows.items c.args.sequence (ap (λ (b : Buffer). is_known b.sequences c.args.sequence) c.self.view_is ∙ c.requires.known)) c.self.invariant.parts.kept)
+    (parts_near c.self.inside.rows.items c.index_mut-row.result.now c.args.sequence c.self.inside.ring.live row (ap (λ (s : Sequence). s.number) row ∙ number_of c.self.inside.rows.items c.args.sequence (ap (λ (b : Buffer). is_known b.sequences c.args.sequence) c.self.view_is ∙ c.requires.known)) c.self.invariant.parts.kept)
 
 pub invariant_of-self : goal.invariant_of-self
 invariant_of-self c =
@@ -48,7 +48,7 @@ returns c =
     (subst (λ (ss : List Sequence). c.find_row-i.result < length ss) c.deref.ensures.value c.find_row-i.ensures.within)
     (ap (λ (ss : List Sequence). (get_or ss c.find_row-i.result (fresh 0 0)).number) (sym c.deref.ensures.value) ∙ c.find_row-i.ensures.number)
     (closed_is live c.index_mut-row.result.now c.close.new.self c.mark_parts-self-inside.new.row c.close.ensures.after c.mark_parts-self-inside.ensures.row ∙ ap (closed_sequence live) c.index_mut-row.ensures.value) in
-    let number : c.close.new.self.number ≡ c.args.sequence = ap (λ (s : Sequence). s.number) c.close.ensures.after ∙ (ap (λ (s : Sequence). s.number) row ∙ its_number c.self.inside.rows.items c.args.sequence (ap (λ (b : Buffer). is_known b.sequences c.args.sequence) c.self.view_is ∙ c.requires.known)) in
+    let number : c.close.new.self.number ≡ c.args.sequence = ap (λ (s : Sequence). s.number) c.close.ensures.after ∙ (ap (λ (s : Sequence). s.number) row ∙ number_of c.self.inside.rows.items c.args.sequence (ap (λ (b : Buffer). is_known b.sequences c.args.sequence) c.self.view_is ∙ c.requires.known)) in
     let count : c.mark_parts-self-inside.result ≡ raised c.self.inside.unpatched (count_by (λ (r : BufferRecord). (r.sequence == c.args.sequence) && r.chunk.awaits) live) =
     c.mark_parts-self-inside.ensures.unpatched ∙ ap (λ n. raised c.self.inside.unpatched (count_by (λ (r : BufferRecord). (r.sequence == n) && r.chunk.awaits) live)) number in
     (λ j. record (buffer_view c.self.inside) { unpatched = count j; sequences = rows j })
