@@ -20,9 +20,9 @@ use Rattle.replay_host.specs.declared.host.Host.{Host}
 use Rattle.replay_host.specs.Playing.{AreApart, IsHost, HasDone}
 use Rattle.replay_host.specs.Standing.{IsServed, Stands}
 use Rattle.service_core.proofs.QuietLemmas.{adds_quiet, close_adds}
+use Rattle.service_core.proofs.AnswerLemmas.{takes_own}
 use Rattle.replay_host.proofs.RowLemmas.{AreLaws}
 use Rattle.replay_host.proofs.ServedLemmas.{quiet_writes}
-use Rattle.replay_host.proofs.TakenLemmas.{takes_own}
 
 -- a flag that stands once another one is taken down stood before
 flag_stood : (flags : List Bool) (taken asked : ℕ) → 1 ≤ taken → 1 ≤ asked → taken ≤ length flags

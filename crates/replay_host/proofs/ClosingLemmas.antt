@@ -14,19 +14,7 @@ use Rattle.replay_host.specs.Serving.{HasFlags, HaveClosed, HaveClosedTo}
 use Rattle.replay_host.proofs.GoingLemmas.{done_none, done_both}
 use Rattle.replay_host.proofs.MomentLemmas.{ranges_many}
 use Rattle.replay_host.proofs.OpenLemmas.{producers_open, producers_closed, producers_none, rest_more, rest_same, rest_none}
-
--- acts that leave the writers, one behind another
-pub leaves_none : {T W S : Type 0} (means : Meaning T W S) (host : Host T W S) → LeavesWriters means host host
-leaves_none means host = record { writers = refl; flushes = refl; specs = refl; views = λ place core at. refl }
-
-pub leaves_both : {T W S : Type 0} (means : Meaning T W S) (old mid new : Host T W S) → LeavesWriters means old mid → LeavesWriters means mid new → LeavesWriters means old new
-leaves_both means old mid new one two = record {
-  writers = two.writers ∙ one.writers;
-  flushes = two.flushes ∙ one.flushes;
-  specs = two.specs ∙ one.specs;
-  views = λ place core at.
-      two.views place core (ap (λ (v : _). slice_get v.items place) one.writers ∙ at) ∙ one.views place core at;
-}
+use Rattle.replay_host.proofs.CollectedLemmas.{leaves_none, leaves_both}
 
 module _ {T W S : Type 0} (means : Meaning T W S) (old : Host T W S) (flags : HasFlags means old) where
   -- the flags are as many as the scenario's producers

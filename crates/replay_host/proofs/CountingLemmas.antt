@@ -58,12 +58,12 @@ map_each f (x ∷ xs) [] long each = absurd (omega (arith, long))
 map_each f (x ∷ xs) (y ∷ ys) long each =
     ap (λ z. z ∷ ys) (each 0 x y refl) ∙ ap (λ zs. f x ∷ zs) (map_each f xs ys (omega (arith, long)) (λ i z d at. each (suc i) z d at))
 
-counts_long : (buffers : List Buffer) (world : World) (place : ℕ) (specs : List WriterSpec)
+pub counts_long : (buffers : List Buffer) (world : World) (place : ℕ) (specs : List WriterSpec)
     → length (counts_from buffers world place specs) ≡ length specs
 counts_long buffers world place [] = refl
 counts_long buffers world place (spec ∷ specs) = ap suc (counts_long buffers world (suc place) specs)
 
-first_long : (setup : Setup) (n : ℕ) (specs : List BufferSpec) → length (first_buffers setup n specs) ≡ length specs
+pub first_long : (setup : Setup) (n : ℕ) (specs : List BufferSpec) → length (first_buffers setup n specs) ≡ length specs
 first_long setup n [] = refl
 first_long setup n (spec ∷ specs) = ap suc (first_long setup (suc n) specs)
 
@@ -131,7 +131,7 @@ left_is Discard calls state balanced =
     (cut_is _ _ counts.cut counts.begun counts.dropped state.delivered 0 state.lost (begun_is (begun_count calls)) dropped balanced.sum)
 
 -- what is left in these buffers of the packets of the writer at this place
-abbrev left_in : (place : ℕ) → List Buffer → (index : ℕ) → List Call → SequenceCounts
+abbrev pub left_in : (place : ℕ) → List Buffer → (index : ℕ) → List Call → SequenceCounts
 left_in place buffers index calls =
     packets_left (counted (begun_count calls)) (counted (dropped_at_begin calls))
     (answers.state_of (buffer_at buffers index).policy (sequence_in (buffer_at buffers index).sequences (sequence_of place)))

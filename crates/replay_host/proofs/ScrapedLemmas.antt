@@ -23,9 +23,9 @@ use Rattle.replay_host.specs.Playing.{HasDone}
 use Rattle.replay_host.specs.Standing.{Stands}
 use Rattle.replay_host.proofs.FieldLemmas.{some_at}
 use Rattle.service_core.proofs.QuietLemmas.{Adds, AreSilent, adds_both, adds_quiet, collect_adds, grow_both, silent_append}
+use Rattle.service_core.proofs.AnswerLemmas.{takes_own}
 use Rattle.replay_host.proofs.RowLemmas.{AreLaws, row_is}
 use Rattle.replay_host.proofs.ServedLemmas.{quiet_writes}
-use Rattle.replay_host.proofs.TakenLemmas.{takes_own}
 
 -- ---- the notes of parts
 

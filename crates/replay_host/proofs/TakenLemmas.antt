@@ -61,7 +61,7 @@ shut_by view q stage (Read other limit ∷ notes) last leads still = shut_by vie
 shut_by view q stage (Commit at ∷ notes) last leads still = shut_by view q stage notes last leads.2 still
 
 -- no commits are none of any sequence
-none_committed : (view : ServiceView) (sequence : ℕ) → view.commits ≡ [] → NoneCommitted view sequence
+pub none_committed : (view : ServiceView) (sequence : ℕ) → view.commits ≡ [] → NoneCommitted view sequence
 none_committed view sequence none place committed there =
     let inside = slice_get_within view.commits place committed there in
     let long = ap (λ (cs : List Committed). length cs) none in
@@ -73,9 +73,3 @@ pub open_is : {S : Type 0} (setup : Setup) (view : ServiceView) (service : Servi
 open_is setup view service producer agrees none opened place below of_producer =
     shut_by view (sequence_of place) beginning view.events _
     (agrees.order place below (none_committed view (sequence_of place) none)) (opened place below of_producer)
-
--- no image comes by a commit where chunks are taken
-pub takes_own : (setup : Setup) (places : List ℕ) (taken : ℕ) (old new : ServiceView) → Takes setup places taken old new → new.commits ≡ old.commits
-takes_own setup [] taken old new takes = ap (λ (v : ServiceView). v.commits) takes.1
-takes_own setup (place ∷ places) taken old new takes =
-    takes_own setup places takes.1 takes.2 new takes.5 ∙ ap (λ (v : ServiceView). v.commits) takes.4.view

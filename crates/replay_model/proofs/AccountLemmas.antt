@@ -6,6 +6,7 @@ use Rattle.std.proofs.Math.Nat.{ℕ_set}
 use Rattle.std.proofs.lemmas.Bool.{cases_lt}
 use Rattle.std.proofs.lemmas.List.{length-map}
 use Rattle.std.proofs.lemmas.Option.{same_Some, slice_get-map, slice_get-get_or, slice_get_within}
+use Rattle.trace_base.proofs.Lists.{get_more}
 use Rattle.trace_base.specs.declared.policy.WriterPolicy.TheVariants.{Drops}
 use Rattle.trace_base.specs.declared.policy.WriterSpec.{WriterSpec}
 use Rattle.trace_model.specs.Fragments.{drop_size}
@@ -36,7 +37,6 @@ use Rattle.world_model.proofs.FaithfulLemmas.{told_of, order_events}
 use Rattle.world_model.proofs.OwnLemmas.{image_at, images_long, elem_at}
 use Rattle.trace_writer.specs.Laws.{IsHeldImage}
 use Rattle.service_core.specs.OrderLaws.{HasImages}
-use Rattle.service_core.proofs.HistoryLemmas.{get_more}
 use Rattle.replay_model.specs.Does.{Wrote, is_shut}
 use Rattle.replay_model.specs.Written.{HasWritten}
 use Rattle.replay_model.proofs.OwnedLemmas.{owned_itself, named, learnt, finds, in_order}

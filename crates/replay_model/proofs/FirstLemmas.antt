@@ -14,6 +14,7 @@ use Rattle.chunk_plain.specs.Plain.{first_world}
 use Rattle.chunk_plain.specs.Views.{Taken, none_taken, newcomer, taken_of}
 use Rattle.chunk_plain.proofs.MadeLemmas.{all_same}
 use Rattle.world_model.specs.FirstBuffers.{payload_at}
+use Rattle.world_model.proofs.BeginningLemmas.{nothing_cut}
 use Rattle.scenario_text.specs.Scenario.{Parts}
 use Rattle.replay_model.specs.Does.{Wrote}
 use Rattle.replay_model.specs.Played.{IsSetupOf}
@@ -29,16 +30,6 @@ pub small_payload : (scenario : Parts) (setup : Setup) → IsSetupOf scenario se
 small_payload scenario setup is place =
     subst (λ (s : Setup). payload_at s place < drop_size) (sym is.laid)
     (small_sizes is.specs (producer_of (setup_of is.specs scenario.writers) place - 1))
-
-nothing_cut : (size : ℕ) → CutsInto size [] []
-nothing_cut size = record {
-  full = All-nil (IsWellFormedPage size);
-  flags = tt;
-  last = λ e. absurd (false≢true e);
-  chains = tt;
-  patches = record { sent = tt; lasts = tt; awaits = tt; placed = refl; behind = tt };
-  begins = refl;
-}
 
 newcomer_wrote : (setup : Setup) (place : ℕ) → payload_at setup place < drop_size → Wrote setup place newcomer
 newcomer_wrote setup place small = record {

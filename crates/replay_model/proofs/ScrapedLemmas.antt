@@ -3,6 +3,7 @@ use Rattle.std.proofs.Common.{◌≡◌, ◌∙◌, ℕ, zero, suc, ◌+◌, ◌
 use Rattle.std.specs.Prelude.{◌==◌, nat_lt, MatchBool}
 use Rattle.std.specs.List.{flat_map}
 use Rattle.std.proofs.lemmas.Bool.{eq-eqb, ne_eqb, ltb-true, cases_eq}
+use Rattle.trace_base.proofs.Choices.{match_true, match_false}
 use Rattle.trace_model.specs.Images.{Image}
 use Rattle.chunk_plain.specs.Setup.{Setup, sequence_of}
 use Rattle.chunk_plain.specs.Views.{At, BegunChunk, Held, Completed, Draft, no_draft, Look, Noted, Partial, ServiceView, taken_of, WriterView}
@@ -14,7 +15,7 @@ use Rattle.service_core.specs.Agreement.{AreKnownNotes}
 use Rattle.service_core.specs.Order.{IsFoundPart, LeadTo}
 use Rattle.service_core.specs.Taking.{places_of, looked, noted_more}
 use Rattle.service_core.proofs.HistoryLemmas.{Grows, found_more}
-use Rattle.service_core.proofs.OrderLemmas.{match_true, match_false, lead_both}
+use Rattle.service_core.proofs.OrderLemmas.{lead_both}
 use Rattle.service_core.specs.Scraping.{part_of_entry, part_held, parts_held}
 use Rattle.replay_model.specs.Does.{Scrapes, Wrote, is_shut}
 use Rattle.replay_model.proofs.SortedLemmas.{at_stage, IsSorted, Among, or_none, shut_append, sorted_more, sorted_takes, open_places_fit}

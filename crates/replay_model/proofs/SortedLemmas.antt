@@ -4,6 +4,8 @@ use Rattle.std.specs.Prelude.{◌==◌, slice_get}
 use Rattle.std.specs.List.{flat_map}
 use Rattle.std.proofs.lemmas.Bool.{eq-eqb, ne_eqb, eqb-true, cases_eq}
 use Rattle.std.proofs.lemmas.List.{length-set}
+use Rattle.trace_base.proofs.Choices.{match_true, match_false}
+use Rattle.trace_base.proofs.Lists.{get_behind}
 use Rattle.trace_base.specs.declared.policy.WriterSpec.{WriterSpec}
 use Rattle.trace_model.specs.Images.{Patch}
 use Rattle.trace_model.specs.History as model
@@ -15,10 +17,9 @@ use Rattle.service_core.specs.Closing.{closes_of}
 use Rattle.service_core.specs.Order.{Stage, beginning, LeadTo}
 use Rattle.service_core.specs.Reading.{noted_read}
 use Rattle.service_core.specs.Taking.{patched_where, takings, taken_more, took, noted_more, TakesOf, Takes, places_of}
-use Rattle.service_core.proofs.ChainLemmas.{get_behind}
 use Rattle.service_core.proofs.CloseLemmas.{noted_grows}
 use Rattle.service_core.proofs.HistoryLemmas.{Grows, known_append, all_known_grow}
-use Rattle.service_core.proofs.OrderLemmas.{match_true, match_false, lead_both, lead_grows}
+use Rattle.service_core.proofs.OrderLemmas.{lead_both, lead_grows}
 use Rattle.service_core.proofs.TakingLemmas.{taken_here, taken_other, took_grows}
 use Rattle.replay_model.specs.Does.{AreOpen, is_close_of, is_shut}
 

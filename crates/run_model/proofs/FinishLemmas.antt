@@ -2,12 +2,12 @@
 use Rattle.std.proofs.Common.{◌≡◌, ℕ, suc, true, List, [], ◌∷◌, ◌++◌}
 use Rattle.std.specs.Prelude.{◌==◌}
 use Rattle.std.specs.List.{flat_map}
+use Rattle.trace_base.proofs.Choices.{match_map}
 use Rattle.trace_model.specs.History as model
 use Rattle.trace_model.specs.History.{Event}
 use Rattle.chunk_plain.specs.Views.{Noted, Arrive, Partial, Patched, Closed, Read, Commit, ServiceView}
 use Rattle.service_core.specs.Order.{Stage, LeadTo}
 use Rattle.service_core.specs.Reading.{noted_read}
-use Rattle.service_core.proofs.OrderLemmas.{match_map}
 
 -- reads lead nowhere else
 reads_stay : (service : ServiceView) (q : ℕ) (reads : List Event) (stage last : Stage) → LeadTo service q stage (flat_map noted_read reads) last → stage ≡ last

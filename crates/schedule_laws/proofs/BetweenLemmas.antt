@@ -2,6 +2,7 @@
 use Rattle.std.proofs.Common.{◌≡◌, ◌∙◌, ℕ, zero, suc, ◌+◌, ◌<◌, ◌⊎◌, List, [], ◌∷◌, ◌++◌, length, get_or, Some, refl, sym, ap, subst, arith, inl, inr, length-append}
 use Rattle.std.specs.Prelude.{slice_get}
 use Rattle.std.proofs.lemmas.Option.{same_Some, slice_get-get_or, slice_get_within}
+use Rattle.trace_base.proofs.Lists.{get_more}
 use Rattle.trace_base.specs.declared.policy.WriterPolicy.TheVariants.{Drops}
 use Rattle.trace_base.specs.declared.policy.WriterSpec.{WriterSpec}
 use Rattle.trace_model.specs.Fragments.{drop_size}
@@ -31,7 +32,6 @@ use Rattle.trace_writer.proofs.accounts.CutLaws.{agreeing_is_cut}
 use Rattle.trace_writer.proofs.holding.HeldLaws.{held_is_published}
 use Rattle.trace_writer.proofs.holding.KeptChunks.{shown_none_held}
 use Rattle.service_core.specs.OrderLaws.{HasImages}
-use Rattle.service_core.proofs.HistoryLemmas.{get_more}
 use Rattle.replay_model.specs.Written.{HasWritten}
 use Rattle.replay_model.proofs.AccountLemmas.{get_seam}
 use Rattle.schedule_laws.specs.Resting.{IsBetweenCalls}

@@ -1,4 +1,4 @@
--- What the answer of a collect says: 0 that nothing was taken, and each other number that something was.
+-- What the answer of a collect says: 0 that nothing was taken, and each other number that something was. And what a collect leaves alone.
 use Rattle.std.proofs.Common.{◌≡◌, ◌≢◌, ◌∙◌, ℕ, suc, ◌+◌, ◌≤◌, List, [], ◌∷◌, ◌++◌, length, set, refl, ap, arith, append-nil, length-append}
 use Rattle.std.proofs.lemmas.List.{set-get_or}
 use Rattle.chunk_plain.specs.Setup.{Setup}
@@ -65,3 +65,9 @@ takes_nothing setup (place ∷ places) taken old new takes none =
       events = rest.events ∙ (ap (λ (v : ServiceView). v.events) here ∙ append-nil old.events);
       taken = rest.taken ∙ (ap (λ (v : ServiceView). v.taken) here ∙ took_nothing old place);
     }
+
+-- no image comes by a commit where chunks are taken
+pub takes_own : (setup : Setup) (places : List ℕ) (taken : ℕ) (old new : ServiceView) → Takes setup places taken old new → new.commits ≡ old.commits
+takes_own setup [] taken old new takes = ap (λ (v : ServiceView). v.commits) takes.1
+takes_own setup (place ∷ places) taken old new takes =
+    takes_own setup places takes.1 takes.2 new takes.5 ∙ ap (λ (v : ServiceView). v.commits) takes.4.view

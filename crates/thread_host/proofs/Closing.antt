@@ -19,7 +19,7 @@ use Rattle.service_core.specs.Routing.{buffer_at}
 use Rattle.service_core.specs.Taking.{Takes, places_of, noted_more}
 use Rattle.service_core.proofs.QuietLemmas.{places_below, long_still}
 use Rattle.service_core.proofs.RoomLemmas.{takes_grow}
-use Rattle.replay_host.proofs.TakenLemmas.{takes_own}
+use Rattle.service_core.proofs.AnswerLemmas.{takes_own}
 use Rattle.run_model.specs.Settled.{ClosesTo, ReadsTo}
 use Rattle.thread_service.specs.Reading.{GoesUnread, PassReads}
 use Rattle.thread_host.specs.Finishing.{ReadsOut}

@@ -27,7 +27,7 @@ use Rattle.service_core.specs.Reading.{noted_read}
 use Rattle.service_core.proofs.AgreeLemmas.{first_stays}
 use Rattle.service_core.proofs.QuietLemmas.{adds_quiet}
 use Rattle.replay_model.specs.Played.{buffers_of, records_in}
-use Rattle.replay_host.proofs.TakenLemmas.{open_is}
+use Rattle.replay_host.proofs.TakenLemmas.{open_is, none_committed}
 use Rattle.run_model.specs.Reads.{GoesByReads}
 use Rattle.run_model.specs.Settled.{HasDoneLines, IsRun, ClosesTo}
 use Rattle.thread_service.specs.declared.service.Service.{Service}
@@ -44,12 +44,6 @@ use Rattle.thread_host.proofs.Closing.{closes_own, closes_rise, reads_noted, rea
 use Rattle.thread_host.proofs.Seating.{HasSeatAt, get_of, seat_at}
 use Rattle.thread_host.proofs.Tallying.{report_is}
 use Rattle.thread_host.proofs.Telling.{reads_further}
-
-none_committed : (view : ServiceView) (sequence : ℕ) → view.commits ≡ [] → NoneCommitted view sequence
-none_committed view sequence none place committed there =
-    let inside = slice_get_within view.commits place committed there in
-    let long = ap (λ (cs : List Committed). length cs) none in
-    absurd (omega (arith, inside, long))
 
 -- ---- all is closed and read
 

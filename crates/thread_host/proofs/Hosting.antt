@@ -12,8 +12,8 @@ use Rattle.scenario_text.specs.declared.scenario.NumberedLine.{NumberedLine}
 use Rattle.service_core.specs.Agreement.{ServiceAgrees}
 use Rattle.service_core.specs.Scraping.{TakesAndScrapes}
 use Rattle.service_core.specs.Taking.{Takes, places_of}
+use Rattle.service_core.proofs.AnswerLemmas.{takes_own}
 use Rattle.replay_host.proofs.ScrapedLemmas.{scrapes_own}
-use Rattle.replay_host.proofs.TakenLemmas.{takes_own}
 use Rattle.thread_service.specs.declared.service.Service.{Service}
 use Rattle.thread_service.specs.Serving as serving
 use Rattle.thread_service.specs.Serving.{Serves}

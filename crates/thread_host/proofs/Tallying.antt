@@ -30,16 +30,12 @@ use Rattle.replay_model.specs.Played.{IsSetupOf, buffers_of, buffers_in as buffe
 use Rattle.replay_model.proofs.BalanceLemmas.{count_at}
 use Rattle.replay_model.proofs.PlayedLemmas.{setup_writers}
 use Rattle.replay_host.specs.Counting.{packets_left}
-use Rattle.replay_host.proofs.CountingLemmas.{left_is, map_each}
+use Rattle.replay_host.proofs.CountingLemmas.{left_is, map_each, counts_long, first_long, left_in}
 use Rattle.thread_service.specs.declared.service.Service.{Service}
 use Rattle.thread_service.specs.Serving.{core_of, view_in}
 use Rattle.thread_host.specs.Counting.{buffers_in, packets_in}
 use Rattle.thread_host.specs.Ending.{begun_counts, no_counts}
 use Rattle.thread_host.proofs.Seating.{seat_at}
-
-first_long : (setup : Setup) (n : ℕ) (specs : List BufferSpec) → length (first_buffers setup n specs) ≡ length specs
-first_long setup n [] = refl
-first_long setup n (spec ∷ specs) = ap suc (first_long setup (suc n) specs)
 
 -- there are as many buffers as the service was made with
 pub buffers_long : (setup : Setup) (service : Service) → length (buffers_in setup service) ≡ length (core_of service).specs.items
@@ -48,19 +44,9 @@ buffers_long setup service =
     ∙ first_long setup 1 (map spec_value (core_of service).specs.items)
     ∙ length-map (core_of service).specs.items spec_value
 
-counts_long : (buffers : List Buffer) (world : World) (place : ℕ) (specs : List WriterSpec) → length (counts_from buffers world place specs) ≡ length specs
-counts_long buffers world place [] = refl
-counts_long buffers world place (spec ∷ specs) = ap suc (counts_long buffers world (suc place) specs)
-
 -- what an element inside is does not hang on what stands in for those outside
 inside_same : (items : List SequenceCounts) (place : ℕ) (d : SequenceCounts) → place < length items → get_or items place d ≡ get_or items place no_counts
 inside_same items place d inside = get_or_from_slice_get items place (get_or items place no_counts) d (slice_get-get_or items place no_counts inside)
-
--- what is left in these buffers of the packets of the writer at this place
-abbrev left_in : (place : ℕ) → List Buffer → (index : ℕ) → List Call → SequenceCounts
-left_in place buffers index calls =
-    packets_left (counted (begun_count calls)) (counted (dropped_at_begin calls))
-    (answers.state_of (buffer_at buffers index).policy (sequence_in (buffer_at buffers index).sequences (sequence_of place)))
 
 module _ (scenario : Parts) (setup : Setup) (laid : IsSetupOf scenario setup) (seats : List WriterSeat) (many : length seats ≡ length setup.writers)
     (service : Service) (first : first_of setup (core_of service) ≡ buffers_of scenario setup) where

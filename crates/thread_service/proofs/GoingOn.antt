@@ -5,6 +5,7 @@ use Rattle.std.specs.List.{All, flat_map}
 use Rattle.std.proofs.lemmas.List.{append_cancel_left}
 use Rattle.std.proofs.lemmas.List.Concat.{flat_map-append}
 use Rattle.std.proofs.lemmas.List.Elements.{All-nil, All-cons, All-head, All-tail}
+use Rattle.trace_base.proofs.Lists.{get_more}
 use Rattle.trace_model.specs.History as model
 use Rattle.trace_model.specs.Reading.{Reading, Fragments, Unreadable, reading_of}
 use Rattle.page_geometry.specs.declared.chunk_header.ChunkHeader.{ChunkHeader}
@@ -23,7 +24,7 @@ use Rattle.chunk_words.proofs.Passing.{goes_same, goes_further, goes_look, goes_
 use Rattle.service_core.specs.Agreement.{AreKnownNotes}
 use Rattle.service_core.specs.Reading.{noted_read}
 use Rattle.service_core.proofs.CloseLemmas.{noted_grows}
-use Rattle.service_core.proofs.HistoryLemmas.{Grows, all_known_grow, history_stays, known_append, found_more, get_more}
+use Rattle.service_core.proofs.HistoryLemmas.{Grows, all_known_grow, history_stays, known_append, found_more}
 use Rattle.service_core.proofs.QuietLemmas.{AreSilent, Adds}
 use Rattle.thread_service.specs.Passing.{KnowsReads}
 use Rattle.thread_service.specs.Reading.{GoesUnread}

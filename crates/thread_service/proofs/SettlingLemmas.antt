@@ -4,6 +4,7 @@ use Rattle.std.specs.Prelude.{cond, ◌==◌}
 use Rattle.std.specs.List.{All}
 use Rattle.std.proofs.lemmas.Bool.{cases_eq, eq-eqb, ne_eqb}
 use Rattle.std.proofs.lemmas.List.Elements.{All-nil, All-cons, All-append}
+use Rattle.trace_base.proofs.Lists.{get_behind}
 use Rattle.trace_base.specs.declared.policy.WriterSpec.{WriterSpec}
 use Rattle.chunk_plain.specs.declared.tokens.TheConstants.{ID_LIMIT}
 use Rattle.chunk_plain.specs.Setup.{Setup, range_of, producer_of, IsChunkOf}
@@ -14,8 +15,8 @@ use Rattle.chunk_words.proofs.Telling.{told_taken}
 use Rattle.world_model.proofs.OwnLemmas.{elem_at}
 use Rattle.service_core.specs.Agreement.{spec_at}
 use Rattle.service_core.specs.Taking.{ShowsOther, ShowNone, Leaves, TakesOf, Takes, places_of}
-use Rattle.service_core.proofs.AnswerLemmas.{takes_nothing}
-use Rattle.service_core.proofs.ChainLemmas.{shows_left, get_behind}
+use Rattle.service_core.proofs.AnswerLemmas.{takes_nothing, takes_own}
+use Rattle.service_core.proofs.ChainLemmas.{shows_left}
 use Rattle.service_core.proofs.QuietLemmas.{AllBelow}
 use Rattle.service_core.proofs.TakingLemmas.{taken_other}
 use Rattle.thread_service.specs.Settling.{IsSeenOut, TakesRounds, TakesOut, TakesAllOut}
@@ -78,11 +79,6 @@ takes_apart setup (one ∷ places) taken old new takes place apart =
     takes_apart setup places takes.1 takes.2 new takes.5 place apart.1
     ∙ ap (λ (v : ServiceView). taken_of v place) takes.4.view
     ∙ taken_other old one place takes.4.looks takes.4.contents apart.0
-
-takes_own : (setup : Setup) (places : List ℕ) (taken : ℕ) (old new : ServiceView) → Takes setup places taken old new → new.commits ≡ old.commits
-takes_own setup [] taken old new takes = ap (λ (v : ServiceView). v.commits) takes.1
-takes_own setup (place ∷ places) taken old new takes =
-    takes_own setup places takes.1 takes.2 new takes.5 ∙ ap (λ (v : ServiceView). v.commits) takes.4.view
 
 -- Further looks were made, nothing was taken of the writers of other producers, and no image came by a commit.
 pub record LooksOn (setup : Setup) (producer : ℕ) (old new : ServiceView) : Type 0 where

@@ -4,7 +4,7 @@ use Rattle.chunk_plain.specs.Setup.{Setup}
 use Rattle.service_core.specs.Agreement.{ServiceAgrees, IsOpen}
 use Rattle.service_core.specs.Taking.{places_of}
 use Rattle.service_core.proofs.RoomLemmas.{ids_fall}
-use Rattle.replay_host.proofs.TakenLemmas.{takes_own}
+use Rattle.service_core.proofs.AnswerLemmas.{takes_own}
 use Rattle.replay_host.proofs.helper.CollectingServiceHelperOn.help.Goals as goal
 
 pub returns-clause-needs : goal.returns-clause-needs

@@ -3,9 +3,10 @@ use Rattle.std.proofs.Common.{◌∙◌, refl}
 use Rattle.chunk_plain.specs.Setup.{Setup}
 use Rattle.chunk_plain.specs.Views.{ServiceView}
 use Rattle.service_core.specs.Taking.{places_of}
+use Rattle.service_core.proofs.AnswerLemmas.{takes_own}
 use Rattle.replay_host.proofs.RowLemmas.{AreLaws}
 use Rattle.replay_host.proofs.ServedLemmas.{served_stands, served_is, opened_still, collect_done}
-use Rattle.replay_host.proofs.TakenLemmas.{open_is, takes_own}
+use Rattle.replay_host.proofs.TakenLemmas.{open_is}
 use Rattle.replay_host.proofs.serving.Host+W+W+Writer+W+Service.collect.Goals as goal
 
 pub returns-clause-host : goal.returns-clause-host
