@@ -6,7 +6,7 @@ use Rattle.std.proofs.Math.ListN.{replicate}
 use Rattle.std.proofs.lemmas.Bool.{false≢true}
 use Rattle.std.proofs.lemmas.List.{append-nil, map-append, reverse-append, reverse-reverse, length-drop, drop_all, take_all, take_at, drop_at, take-append-le, drop-append-le}
 use Rattle.std.proofs.lemmas.List.Elements.{filter-append}
-use Rattle.std.proofs.lemmas.Grind.{reverse_onto}
+use Rattle.std.proofs.lemmas.Grind.{common_steps, reverse_onto}
 use Rattle.trace_model.specs.Calls as calls
 use Rattle.trace_model.specs.Encoding.{number_field, bytes_field, nested_tag}
 use Rattle.wire_varint.specs.Varint.{redundant}
@@ -15,7 +15,6 @@ use Rattle.trace_model.specs.Images.{with_bytes}
 use Rattle.trace_model.specs.Record.{mark_where}
 use Rattle.trace_model.specs.Packets.{Account, Packet, Text, begun_packet, closed_levels, flat, newest_is_lost, open_count, with_nested_ended, finished_packet, is_writing, noted, nothing_yet, open_length, open_places, packet_encoding, with_more, with_nested, written}
 use Rattle.trace_model.proofs.PacketLemmas.{flat_written}
-use Rattle.field_stream.proofs.LevelLemmas.{flat_begun, places_written}
 use Rattle.packet_runs.specs.Pieces.{pieces, AreEnds}
 use Rattle.emitted_packets.specs.Emitting.{last_end, AreKept, Writes, IsGoingOn, IsEmitting}
 
@@ -24,6 +23,30 @@ Emitted packets = map packet_encoding (filter (λ (packet : Packet). packet.fini
 
 pub emitting_none : IsEmitting nothing_yet [] [] []
 emitting_none = record { done = []; current = []; cut = refl; last = refl; rising = tt; finished = refl; kept = tt; goes_on = (refl, refl) }
+
+-- ---- levels of open messages
+
+-- a message begins
+flat_begun : (four bytes level : List ℕ) (outer : List (List ℕ))
+    → flat four ([] ∷ (level ++ bytes) ∷ outer) ≡ flat four (level ∷ outer) ++ (bytes ++ four)
+flat_begun four bytes level outer =
+    append-nil (flat four ((level ++ bytes) ∷ outer) ++ four)
+    ∙ ap (λ (xs : List ℕ). xs ++ four) (flat_written four bytes level outer)
+    ∙ append_assoc (flat four (level ∷ outer)) bytes four
+
+places_written : (bytes level : List ℕ) (outer : List (List ℕ)) → open_places ((level ++ bytes) ∷ outer) ≡ open_places (level ∷ outer)
+places_written bytes level [] = refl
+places_written bytes level (next ∷ others) = refl
+
+-- ---- bytes that are put in, and texts that are repeated
+
+pub length_put : (old : List ℕ) (at : ℕ) (bytes : List ℕ) → at + length bytes ≤ length old → length (with_bytes old at bytes) ≡ length old
+length_put old at bytes fits = grind (arith, common_steps)
+
+-- a text once more
+pub one_more_turn : (n : ℕ) (xs : List ℕ) → repeat n xs ++ xs ≡ repeat (suc n) xs
+one_more_turn zero xs = sym (append-nil xs)
+one_more_turn (suc n) xs = append_assoc xs (repeat n xs) xs ∙ ap (λ (ys : List ℕ). xs ++ ys) (one_more_turn n xs)
 
 -- ---- runs of one byte
 

@@ -1,6 +1,6 @@
 use Rattle.std.proofs.Common.{◌∙◌, ◌++◌, List, ℕ, ap, sym, add-one, append_assoc}
 use Rattle.std.specs.List.{repeat}
-use Rattle.field_stream.proofs.ByteLemmas.{one_more_turn}
+use Rattle.emitted_packets.proofs.EmitLemmas.{one_more_turn}
 use Rattle.emitted_packets.proofs.emitter.push_times.Goals as goal
 
 pub loop-turn-preserved : goal.loop-turn-preserved

@@ -4,9 +4,8 @@ use Rattle.wire_varint.proofs.Lengths.{length-redundant}
 use Rattle.trace_model.specs.Images.{with_bytes}
 use Rattle.trace_model.specs.Packets.{noted}
 use Rattle.trace_model.specs.Calls as calls
-use Rattle.field_stream.proofs.ByteLemmas.{length_put}
 use Rattle.emitted_packets.specs.Emitting.{IsEmitting}
-use Rattle.emitted_packets.proofs.EmitLemmas.{ended_on, put_back}
+use Rattle.emitted_packets.proofs.EmitLemmas.{ended_on, put_back, length_put}
 use Rattle.emitted_packets.proofs.emitter.Emitter.ended.Goals as goal
 
 pub returns-in-Some-clause-emitting : goal.returns-in-Some-clause-emitting

@@ -1,4 +1,0 @@
-pub mod ByteLemmas
-pub mod LevelLemmas
-pub mod NodeLemmas
-pub mod TreeLemmas
