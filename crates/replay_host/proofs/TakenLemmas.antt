@@ -6,7 +6,6 @@ use Rattle.chunk_plain.specs.Views.{Noted, Arrive, Partial, Patched, Closed, Rea
 use Rattle.service_core.specs.declared.service.ServiceCore.{ServiceCore}
 use Rattle.service_core.specs.Agreement.{ServiceAgrees, IsOpen, NoneCommitted}
 use Rattle.service_core.specs.Order.{LeadTo, Stage, beginning}
-use Rattle.service_core.specs.Taking.{Takes}
 use Rattle.replay_model.specs.Does.{AreOpen, is_shut}
 
 -- a choice by a test holds one of two things, of which a third follows

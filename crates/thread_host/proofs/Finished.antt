@@ -4,7 +4,6 @@ use Rattle.std.specs.Prelude.{slice_index_or}
 use Rattle.std.specs.List.{flat_map}
 use Rattle.std.proofs.lemmas.List.{length-map}
 use Rattle.std.proofs.lemmas.List.Concat.{flat_map-append}
-use Rattle.std.proofs.lemmas.Option.{slice_get_within}
 use Rattle.byte_io.specs.Bytes.{Intake}
 use Rattle.trace_buffer.specs.Answers as answers
 use Rattle.trace_model.specs.Buffers.{Buffer}
@@ -12,7 +11,7 @@ use Rattle.trace_model.specs.History as model
 use Rattle.trace_model.specs.History.{buffers_after, records_after}
 use Rattle.chunk_plain.specs.Histories.{history_of}
 use Rattle.chunk_plain.specs.Setup.{Setup, producer_of, sequence_of}
-use Rattle.chunk_plain.specs.Views.{Committed, Noted, ServiceView, Taken, WriterView, none_taken, taken_of}
+use Rattle.chunk_plain.specs.Views.{Noted, ServiceView, Taken, WriterView, none_taken, taken_of}
 use Rattle.chunk_plain.specs.World.{World, writer}
 use Rattle.chunk_words.specs.declared.seats.ReadPass.{ReadPass}
 use Rattle.chunk_words.specs.Closed.{HasAllSeats, IsAccount, AllTaken, views_of}
@@ -21,7 +20,7 @@ use Rattle.chunk_words.specs.Sits.{setup_in, known_by, known_by_pass}
 use Rattle.loss_report.specs.declared.counts.Done.{Done}
 use Rattle.loss_report.specs.Report.{report_text}
 use Rattle.scenario_text.specs.Scenario.{Parts}
-use Rattle.service_core.specs.Agreement.{KeepsRest, NoneCommitted, first_of, is_closed}
+use Rattle.service_core.specs.Agreement.{KeepsRest, first_of, is_closed}
 use Rattle.service_core.specs.Order.{LeadTo, beginning}
 use Rattle.service_core.specs.Reading.{noted_read}
 use Rattle.service_core.proofs.AgreeLemmas.{first_stays}

@@ -1,5 +1,5 @@
 -- What is counted once all is read is what the report says.
-use Rattle.std.proofs.Common.{◌≡◌, ◌∙◌, ℕ, suc, ◌+◌, ◌-◌, ◌<◌, Some, List, [], ◌∷◌, length, map, get_or, refl, sym, ap, subst, arith}
+use Rattle.std.proofs.Common.{◌≡◌, ◌∙◌, ℕ, ◌+◌, ◌-◌, ◌<◌, Some, List, [], length, map, get_or, sym, ap, subst, arith}
 use Rattle.std.specs.Prelude.{slice_get, slice_index_or}
 use Rattle.std.proofs.lemmas.List.{length-map}
 use Rattle.std.proofs.lemmas.Option.{slice_get_within, slice_get-get_or, get_or_from_slice_get}
@@ -9,7 +9,6 @@ use Rattle.trace_model.specs.Balance.{PacketCounts, IsBalanced, counts_of}
 use Rattle.trace_model.specs.Buffers.{Buffer}
 use Rattle.trace_model.specs.Calls.{Call}
 use Rattle.trace_model.specs.History.{buffers_after}
-use Rattle.trace_model.specs.Packets.{begun_count, dropped_at_begin}
 use Rattle.trace_model.specs.Sequences.{sequence_in}
 use Rattle.chunk_plain.specs.Histories.{history_of}
 use Rattle.chunk_plain.specs.Setup.{Setup, sequence_of}
@@ -18,18 +17,15 @@ use Rattle.chunk_plain.specs.World.{World, writer}
 use Rattle.chunk_words.specs.declared.seats.WriterSeat.{WriterSeat}
 use Rattle.chunk_words.specs.Closed.{views_of}
 use Rattle.chunk_words.specs.Sits.{known_by}
-use Rattle.world_model.specs.FirstBuffers.{BufferSpec, first_buffers}
 use Rattle.loss_report.specs.declared.counts.SequenceCounts.{SequenceCounts}
 use Rattle.loss_report.specs.Report.{report_text}
 use Rattle.scenario_text.specs.Scenario.{Parts}
 use Rattle.service_core.specs.Agreement.{first_of, buffer_of, spec_at, spec_value, no_writer}
 use Rattle.service_core.specs.Routing.{buffer_at}
 use Rattle.service_core.proofs.RouteLemmas.{length_after}
-use Rattle.trace_writer.specs.Agreement.{counted}
-use Rattle.replay_model.specs.Played.{IsSetupOf, buffers_of, buffers_in as buffers_of_world, counts_from, packet_counts, printed, report_of, AreBalanced}
+use Rattle.replay_model.specs.Played.{IsSetupOf, buffers_of, buffers_in as buffers_of_world, packet_counts, printed, report_of, AreBalanced}
 use Rattle.replay_model.proofs.BalanceLemmas.{count_at}
 use Rattle.replay_model.proofs.PlayedLemmas.{setup_writers}
-use Rattle.replay_host.specs.Counting.{packets_left}
 use Rattle.replay_host.proofs.CountingLemmas.{left_is, map_each, counts_long, first_long, left_in}
 use Rattle.thread_service.specs.declared.service.Service.{Service}
 use Rattle.thread_service.specs.Serving.{core_of, view_in}
