@@ -38,7 +38,8 @@ impl Source for MemSource {
         ensures exact { result ≡ Ok (min (length into.old) (length (mem_source_left self.old))) }
         ensures within { IfOk result (λ count. count ≤ length into.new) }
         ensures end { IfOk result (λ count. count ≡ 0 → 0 < length into.new → mem_source_left self.new ≡ []) }
-        ensures bytes { IfOk result (λ count. Some (mem_source_left self.old) ≡ before_told (take count into.new) (Some (mem_source_left self.new))) }
+        ensures bytes { IfOk result (λ count. Some (mem_source_left self.old)
+            ≡ before_told (take count into.new) (Some (mem_source_left self.new))) }
     {
         let count = copy_front(&self.bytes[self.at..], into);
         self.at += count;
@@ -104,7 +105,8 @@ impl Sink for MemSink {
     fn write(&mut self, piece: &[u8]) -> Result<usize, Failed>
         ensures fails { IsErr result ↔ ((0 < length piece.now) × (mem_sink_room self.old ≤ length (mem_sink_taken self.old))) }
         ensures exact { IfOk result (λ count. count ≡ min (length piece.now) (mem_sink_room self.old - length (mem_sink_taken self.old))) }
-        ensures bytes { IfOk result (λ count. told (mem_sink_taken self.new) [] ≡ after_told (told (mem_sink_taken self.old) []) (take count piece.now)) }
+        ensures bytes { IfOk result (λ count. told (mem_sink_taken self.new) []
+            ≡ after_told (told (mem_sink_taken self.old) []) (take count piece.now)) }
         ensures err { OnErr result (told (mem_sink_taken self.new) [] ≡ told (mem_sink_taken self.old) []) }
         ensures count { CountsFaults (mem_sink_faults self.old) (mem_sink_faults self.new) result }
         ensures room { mem_sink_room self.new ≡ mem_sink_room self.old }

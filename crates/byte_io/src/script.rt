@@ -82,9 +82,11 @@ impl Source for ScriptSource {
 
     fn read(&mut self, into: &mut [u8]) -> Result<usize, Failed>
         ensures fails { IsErr result ↔ FailsNext (script_source_failing self.old) (script_source_calls self.old) }
-        ensures exact { IfOk result (λ count. count ≡ min (min (length into.old) (script_source_piece self.old)) (length (script_source_left self.old))) }
+        ensures exact { IfOk result (λ count. count
+            ≡ min (min (length into.old) (script_source_piece self.old)) (length (script_source_left self.old))) }
         ensures within { IfOk result (λ count. count ≤ length into.new) }
-        ensures bytes { IfOk result (λ count. Some (script_source_left self.old) ≡ before_told (take count into.new) (Some (script_source_left self.new))) }
+        ensures bytes { IfOk result (λ count. Some (script_source_left self.old)
+            ≡ before_told (take count into.new) (Some (script_source_left self.new))) }
         ensures end { IfOk result (λ count. count ≡ 0 → 0 < length into.new → script_source_left self.new ≡ []) }
         ensures err { OnErr result (Some (script_source_left self.new) ≡ Some (script_source_left self.old)) }
         ensures count { CountsFaults (script_source_faults self.old) (script_source_faults self.new) result }
@@ -155,8 +157,10 @@ impl Sink for ScriptSink {
     fn write(&mut self, piece: &[u8]) -> Result<usize, Failed>
         ensures fails { IsErr result ↔ (FailsNext (script_sink_failing self.old) (script_sink_calls self.old)
             ⊎ ((0 < length piece.now) × (script_sink_room self.old ≤ length (script_sink_taken self.old)))) }
-        ensures exact { IfOk result (λ count. count ≡ min (length piece.now) (script_sink_room self.old - length (script_sink_taken self.old))) }
-        ensures bytes { IfOk result (λ count. told (script_sink_taken self.new) [] ≡ after_told (told (script_sink_taken self.old) []) (take count piece.now)) }
+        ensures exact { IfOk result (λ count. count
+            ≡ min (length piece.now) (script_sink_room self.old - length (script_sink_taken self.old))) }
+        ensures bytes { IfOk result (λ count. told (script_sink_taken self.new) []
+            ≡ after_told (told (script_sink_taken self.old) []) (take count piece.now)) }
         ensures err { OnErr result (told (script_sink_taken self.new) [] ≡ told (script_sink_taken self.old) []) }
         ensures count { CountsFaults (script_sink_faults self.old) (script_sink_faults self.new) result }
 

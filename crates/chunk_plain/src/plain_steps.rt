@@ -116,7 +116,8 @@ impl PlainTable {
         requires inside { 8 * end < length payload.now + 8 }
         requires kept { KeepsSealed (writer self.old.told.world place) id payload.now }
         ensures layout { self.new.layout ≡ self.old.layout }
-        ensures words { StoredUpTo payload.now first end (draft_at (writer self.old.told.world place) id).words (stored_at self.new.slots.items chunk).words }
+        ensures words { StoredUpTo payload.now first end (draft_at (writer self.old.told.world place) id).words
+            (stored_at self.new.slots.items chunk).words }
         ensures world { self.new.told.world ≡ drafted self.old.told.world place chunk id
             (with_words (draft_at (writer self.old.told.world place) id) (stored_at self.new.slots.items chunk).words) }
     {

@@ -37,7 +37,8 @@ fn play<W: Words, O: Sink>(
 ) -> Option<Round>
     requires serves { W.means.serves table.old service.old.seat }
     requires agrees { ServiceAgrees (W.means.setup table.old) (W.means.service_view table.old service.old.seat) service.old }
-    requires open { (place : ℕ) → place < length (W.means.setup table.old).writers → is_closed (W.means.setup table.old) service.old place ≡ false }
+    requires open { (place : ℕ) → place < length (W.means.setup table.old).writers
+        → is_closed (W.means.setup table.old) service.old place ≡ false }
     requires reads { W.means.takes_reads table.old service.old.seat }
     requires writer { 0 < length (W.means.setup table.old).writers }
     requires requests { service.old.session.requests ≡ 0 }

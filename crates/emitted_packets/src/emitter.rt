@@ -239,7 +239,8 @@ impl Emitter {
     pub fn ended(&mut self)
         requires short { length self.old.bytes.items ≤ 2 ^ 28 }
         requires nested { self.old.opens.items ≢ [] }
-        requires writing { (account : Account) × IsEmitting account self.old.bytes.items self.old.ends.items self.old.opens.items × (is_writing account.packets ≡ true) }
+        requires writing { (account : Account) × IsEmitting account self.old.bytes.items self.old.ends.items self.old.opens.items
+            × (is_writing account.packets ≡ true) }
         ensures emitting { (account : Account) → IsEmitting account self.old.bytes.items self.old.ends.items self.old.opens.items
             → is_writing account.packets ≡ true
             → IsEmitting (noted account calls.Ended) self.new.bytes.items self.new.ends.items self.new.opens.items }

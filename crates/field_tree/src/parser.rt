@@ -260,7 +260,8 @@ impl Parser {
     /// for all pairs that may stand there.
     pub fn scan_pairs<'t>(&mut self, bytes: &'t [u8]) -> Result<&'t [u8], AllocError>
         requires { Keeps self.old }
-        ensures over { (field : ℕ) → IfOk result (λ behind. RunsOver (reading self.old (Pairs field)) bytes.now (reading self.new (Pairs field)) behind.now) }
+        ensures over { (field : ℕ) → IfOk result (λ behind. RunsOver (reading self.old (Pairs field)) bytes.now
+            (reading self.new (Pairs field)) behind.now) }
         ensures depth { OnOk result (self.new.depth ≡ self.old.depth) }
         ensures kept { OnOk result (Keeps self.new) }
     {

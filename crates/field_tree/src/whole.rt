@@ -113,7 +113,8 @@ impl Parser {
         requires between { text_read self.old ≡ [] }
         requires depth { self.old.depth < usize.MAX }
         requires pending { pending scanned.mode ≡ Some (Bytes field times) }
-        ensures over { IfOk result (λ to. RunsOver (with_text scanned.entry.text.now (reading self.old scanned.entry.mode)) scanned.entry.behind.now (reading self.new to.0) to.1.now) }
+        ensures over { IfOk result (λ to. RunsOver (with_text scanned.entry.text.now (reading self.old scanned.entry.mode))
+            scanned.entry.behind.now (reading self.new to.0) to.1.now) }
         ensures kept { OnOk result (Keeps self.new) }
     {
         match first_byte(scanned.behind) {
@@ -173,7 +174,8 @@ impl Parser {
         requires kept { Keeps self.old }
         requires between { text_read self.old ≡ [] }
         requires depth { self.old.depth < usize.MAX }
-        ensures over { IfOk result (λ to. RunsOver (with_text scanned.entry.text.now (reading self.old scanned.entry.mode)) scanned.entry.behind.now (reading self.new to.0) to.1.now) }
+        ensures over { IfOk result (λ to. RunsOver (with_text scanned.entry.text.now (reading self.old scanned.entry.mode))
+            scanned.entry.behind.now (reading self.new to.0) to.1.now) }
         ensures kept { OnOk result (Keeps self.new) }
     {
         self.push_bytes(scanned.text)?;

@@ -60,7 +60,8 @@ impl<'c> ChunkCursor<'c> {
     pub fn put(&mut self, piece: &[u8]) -> usize
         ensures same_payload { (cursor_payload self.new).ghost_name ≡ (cursor_payload self.old).ghost_name }
         ensures count { result ≡ min (length piece.now) (length (cursor_payload self.old).now - cursor_at self.old) }
-        ensures bytes { (cursor_payload self.new).now ≡ with_bytes (cursor_payload self.old).now (cursor_at self.old) (take result piece.now) }
+        ensures bytes { (cursor_payload self.new).now
+            ≡ with_bytes (cursor_payload self.old).now (cursor_at self.old) (take result piece.now) }
         ensures at { cursor_at self.new ≡ cursor_at self.old + result }
     {
         let count = piece.len().min(self.payload.len() - self.at);
@@ -76,7 +77,8 @@ impl<'c> ChunkCursor<'c> {
         ensures none { IsNone result ↔ (length (cursor_payload self.old).now < cursor_at self.old + 4) }
         ensures unchanged { IfNone result (self.new ≡ self.old) }
         ensures offset { IfSome result (λ offset. offset ≡ cursor_at self.old) }
-        ensures bytes { OnSome result ((cursor_payload self.new).now ≡ with_bytes (cursor_payload self.old).now (cursor_at self.old) open_length) }
+        ensures bytes { OnSome result ((cursor_payload self.new).now
+            ≡ with_bytes (cursor_payload self.old).now (cursor_at self.old) open_length) }
         ensures at { OnSome result (cursor_at self.new ≡ cursor_at self.old + 4) }
     {
         if self.payload.len() - self.at < OPEN_LENGTH.len() {

@@ -23,9 +23,12 @@ fn ask_begin<W: Words, H: HelperOn<W>, L: Ledger>(
     requires needs { H.needs help.old table.old }
     requires agrees { CoreAgrees (W.means.setup table.old) (W.means.place core.old.seat) (W.means.view table.old core.old.seat) core.old }
     requires going { is_stalled core.old ≡ false }
-    requires ready { (coming : List Call) × IsReadyFor (route_of core.old).payload_size (W.means.view table.old core.old.seat) (calls.Begun true ∷ coming) }
-    ensures called { result ≡ true → IsCalled W.means H.needs H.helps (calls.Begun true) help.old table.old core.old help.new table.new core.new }
-    ensures stalled { result ≡ false → IsStalledCall W.means H.needs H.helps (calls.Begun true) help.old table.old core.old help.new table.new core.new }
+    requires ready { (coming : List Call)
+        × IsReadyFor (route_of core.old).payload_size (W.means.view table.old core.old.seat) (calls.Begun true ∷ coming) }
+    ensures called { result ≡ true → IsCalled W.means H.needs H.helps (calls.Begun true) help.old table.old core.old help.new table.new
+        core.new }
+    ensures stalled { result ≡ false → IsStalledCall W.means H.needs H.helps (calls.Begun true) help.old table.old core.old help.new
+        table.new core.new }
 {
     match core.begin(table, help, steps) {
         Ok(_) => true,
@@ -46,9 +49,12 @@ fn ask_number<W: Words, H: HelperOn<W>, L: Ledger>(
     requires needs { H.needs help.old table.old }
     requires agrees { CoreAgrees (W.means.setup table.old) (W.means.place core.old.seat) (W.means.view table.old core.old.seat) core.old }
     requires going { is_stalled core.old ≡ false }
-    requires ready { (coming : List Call) × IsReadyFor (route_of core.old).payload_size (W.means.view table.old core.old.seat) (calls.Number field value ∷ coming) }
-    ensures called { result ≡ true → IsCalled W.means H.needs H.helps (calls.Number field value) help.old table.old core.old help.new table.new core.new }
-    ensures stalled { result ≡ false → IsStalledCall W.means H.needs H.helps (calls.Number field value) help.old table.old core.old help.new table.new core.new }
+    requires ready { (coming : List Call)
+        × IsReadyFor (route_of core.old).payload_size (W.means.view table.old core.old.seat) (calls.Number field value ∷ coming) }
+    ensures called { result ≡ true → IsCalled W.means H.needs H.helps (calls.Number field value) help.old table.old core.old help.new
+        table.new core.new }
+    ensures stalled { result ≡ false → IsStalledCall W.means H.needs H.helps (calls.Number field value) help.old table.old core.old help.new
+        table.new core.new }
 {
     match core.varint(table, help, field, value, steps) {
         Ok(()) => true,
@@ -70,10 +76,13 @@ fn ask_bytes<W: Words, H: HelperOn<W>, L: Ledger>(
     requires needs { H.needs help.old table.old }
     requires agrees { CoreAgrees (W.means.setup table.old) (W.means.place core.old.seat) (W.means.view table.old core.old.seat) core.old }
     requires going { is_stalled core.old ≡ false }
-    requires ready { (coming : List Call) × IsReadyFor (route_of core.old).payload_size (W.means.view table.old core.old.seat) (calls.Bytes field text.now times ∷ coming) }
+    requires ready { (coming : List Call)
+        × IsReadyFor (route_of core.old).payload_size (W.means.view table.old core.old.seat) (calls.Bytes field text.now times ∷ coming) }
     requires text { length text.now ≤ MAX_INPUT }
-    ensures called { result ≡ true → IsCalled W.means H.needs H.helps (calls.Bytes field text.now times) help.old table.old core.old help.new table.new core.new }
-    ensures stalled { result ≡ false → IsStalledCall W.means H.needs H.helps (calls.Bytes field text.now times) help.old table.old core.old help.new table.new core.new }
+    ensures called { result ≡ true → IsCalled W.means H.needs H.helps (calls.Bytes field text.now times) help.old table.old core.old
+        help.new table.new core.new }
+    ensures stalled { result ≡ false → IsStalledCall W.means H.needs H.helps (calls.Bytes field text.now times) help.old table.old core.old
+        help.new table.new core.new }
 {
     match core.bytes(table, help, field, text, times, steps) {
         Ok(()) => true,
@@ -93,9 +102,12 @@ fn ask_nested<W: Words, H: HelperOn<W>, L: Ledger>(
     requires needs { H.needs help.old table.old }
     requires agrees { CoreAgrees (W.means.setup table.old) (W.means.place core.old.seat) (W.means.view table.old core.old.seat) core.old }
     requires going { is_stalled core.old ≡ false }
-    requires ready { (coming : List Call) × IsReadyFor (route_of core.old).payload_size (W.means.view table.old core.old.seat) (calls.Nested field ∷ coming) }
-    ensures called { result ≡ true → IsCalled W.means H.needs H.helps (calls.Nested field) help.old table.old core.old help.new table.new core.new }
-    ensures stalled { result ≡ false → IsStalledCall W.means H.needs H.helps (calls.Nested field) help.old table.old core.old help.new table.new core.new }
+    requires ready { (coming : List Call)
+        × IsReadyFor (route_of core.old).payload_size (W.means.view table.old core.old.seat) (calls.Nested field ∷ coming) }
+    ensures called { result ≡ true → IsCalled W.means H.needs H.helps (calls.Nested field) help.old table.old core.old help.new table.new
+        core.new }
+    ensures stalled { result ≡ false → IsStalledCall W.means H.needs H.helps (calls.Nested field) help.old table.old core.old help.new
+        table.new core.new }
 {
     match core.begin_nested(table, help, field, steps) {
         Ok(()) => true,
@@ -113,7 +125,8 @@ fn ask_ended<W: Words, H: HelperOn<W>>(
     requires needs { H.needs help.old table.old }
     requires agrees { CoreAgrees (W.means.setup table.old) (W.means.place core.old.seat) (W.means.view table.old core.old.seat) core.old }
     requires going { is_stalled core.old ≡ false }
-    requires ready { (coming : List Call) × IsReadyFor (route_of core.old).payload_size (W.means.view table.old core.old.seat) (calls.Ended ∷ coming) }
+    requires ready { (coming : List Call)
+        × IsReadyFor (route_of core.old).payload_size (W.means.view table.old core.old.seat) (calls.Ended ∷ coming) }
     ensures called { IsCalled W.means H.needs H.helps (calls.Ended) help.old table.old core.old help.new table.new core.new }
 {
     let _help = help;
@@ -130,7 +143,8 @@ fn ask_finished<W: Words, H: HelperOn<W>>(
     requires needs { H.needs help.old table.old }
     requires agrees { CoreAgrees (W.means.setup table.old) (W.means.place core.old.seat) (W.means.view table.old core.old.seat) core.old }
     requires going { is_stalled core.old ≡ false }
-    requires ready { (coming : List Call) × IsReadyFor (route_of core.old).payload_size (W.means.view table.old core.old.seat) (calls.Finished ∷ coming) }
+    requires ready { (coming : List Call)
+        × IsReadyFor (route_of core.old).payload_size (W.means.view table.old core.old.seat) (calls.Finished ∷ coming) }
     ensures called { IsCalled W.means H.needs H.helps (calls.Finished) help.old table.old core.old help.new table.new core.new }
 {
     let _help = help;
@@ -147,7 +161,8 @@ pub(crate) fn ask_flushed<W: Words, H: HelperOn<W>>(
     requires needs { H.needs help.old table.old }
     requires agrees { CoreAgrees (W.means.setup table.old) (W.means.place core.old.seat) (W.means.view table.old core.old.seat) core.old }
     requires going { is_stalled core.old ≡ false }
-    requires ready { (coming : List Call) × IsReadyFor (route_of core.old).payload_size (W.means.view table.old core.old.seat) (calls.Flushed ∷ coming) }
+    requires ready { (coming : List Call)
+        × IsReadyFor (route_of core.old).payload_size (W.means.view table.old core.old.seat) (calls.Flushed ∷ coming) }
     ensures called { IsCalled W.means H.needs H.helps (calls.Flushed) help.old table.old core.old help.new table.new core.new }
 {
     let _help = help;
@@ -179,10 +194,13 @@ pub fn ask_one<W: Words, H: HelperOn<W>, L: Ledger>(
     requires needs { H.needs help.old table.old }
     requires agrees { CoreAgrees (W.means.setup table.old) (W.means.place core.old.seat) (W.means.view table.old core.old.seat) core.old }
     requires going { is_stalled core.old ≡ false }
-    requires ready { (coming : List Call) × IsReadyFor (route_of core.old).payload_size (W.means.view table.old core.old.seat) (call_of call ∷ coming) }
+    requires ready { (coming : List Call)
+        × IsReadyFor (route_of core.old).payload_size (W.means.view table.old core.old.seat) (call_of call ∷ coming) }
     requires short { IsShortCall (call_of call) }
-    ensures called { OnOk result (IsCalled W.means H.needs H.helps (call_of call.entry) help.old table.old core.old help.new table.new core.new) }
-    ensures stalled { OnErr result (IsStalledCall W.means H.needs H.helps (call_of call.entry) help.old table.old core.old help.new table.new core.new) }
+    ensures called { OnOk result (IsCalled W.means H.needs H.helps (call_of call.entry) help.old table.old core.old help.new table.new
+        core.new) }
+    ensures stalled { OnErr result (IsStalledCall W.means H.needs H.helps (call_of call.entry) help.old table.old core.old help.new
+        table.new core.new) }
 {
     match call {
         WriterCall::Begun { kept: _ } => answer_of(ask_begin(core, table, help, steps)),

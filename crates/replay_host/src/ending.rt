@@ -20,7 +20,9 @@ impl<W: Words> Host<W, W::Writer, W::Service> {
     /// Each writer of an open producer flushes.
     fn flush_all(&mut self)
         requires over { IsOver W.means self.old }
-        ensures flushed { (over : IsOver W.means self.old) → HaveFlushed W.means (map (λ place. Ask place Flushed) (open_places over.scenario.lines 0 over.scenario.writers)) self.old self.new }
+        ensures flushed { (over : IsOver W.means self.old)
+            → HaveFlushed W.means (map (λ place. Ask place Flushed) (open_places over.scenario.lines 0 over.scenario.writers)) self.old
+            self.new }
     {
         for place in 0..self.writers.len() {
             if self.is_open(place) {

@@ -47,10 +47,12 @@ impl<W: Words> Host<W, W::Writer, W::Service> {
         requires host { IsHost W.means self.old }
         requires place { place < length (W.means.setup self.old.table).writers }
         requires open { IsOpenAt W.means self.old place }
-        requires ready { (coming : ℕ → List Call) × AreReady W.means self.old.table self.old.writers.items (asked_all place (map node_call fields.now) coming) }
+        requires ready { (coming : ℕ → List Call)
+            × AreReady W.means self.old.table self.old.writers.items (asked_all place (map node_call fields.now) coming) }
         ensures host { OnOk result (IsHost W.means self.new) }
         ensures asked { OnOk result (HasAsked W.means place (map node_call fields.now) self.old self.new) }
-        ensures stops { (taken : Intake) → IfErr result (λ fault. StopsIn W.means (asks place (map node_call fields.now)) self.old taken fault taken) }
+        ensures stops { (taken : Intake)
+            → IfErr result (λ fault. StopsIn W.means (asks place (map node_call fields.now)) self.old taken fault taken) }
         ensures fault { IfErr result IsStall }
     {
         let mut left = fields.fields();
@@ -74,8 +76,11 @@ impl<W: Words> Host<W, W::Writer, W::Service> {
         requires ready { (coming : ℕ → List Call) × AreReady W.means self.old.table self.old.writers.items
             (asked_all place (calls.Begun true ∷ map node_call fields.now ++ calls.Finished ∷ []) coming) }
         ensures host { OnOk result (IsHost W.means self.new) }
-        ensures asked { OnOk result (HasAsked W.means place (calls.Begun true ∷ map node_call fields.now ++ calls.Finished ∷ []) self.old self.new) }
-        ensures stops { (taken : Intake) → IfErr result (λ fault. StopsIn W.means (asks place (calls.Begun true ∷ map node_call fields.now ++ calls.Finished ∷ [])) self.old taken fault taken) }
+        ensures asked { OnOk result (HasAsked W.means place (calls.Begun true ∷ map node_call fields.now ++ calls.Finished ∷ []) self.old
+            self.new) }
+        ensures stops { (taken : Intake)
+            → IfErr result (λ fault. StopsIn W.means (asks place (calls.Begun true ∷ map node_call fields.now ++ calls.Finished ∷ []))
+            self.old taken fault taken) }
         ensures fault { IfErr result IsStall }
     {
         self.ask(steps, place, WriterCall::Begun { kept: true })?;

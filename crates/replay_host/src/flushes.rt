@@ -32,7 +32,8 @@ impl Flushes {
     /// A request was made, for which there is room.
     pub fn request(&mut self)
         requires { self.old.made < vec_len self.old.chunks }
-        ensures tally { (notes : List FlushNote) (writers : ℕ) → IsTally notes writers self.old → IsTally (notes ++ Requested ∷ []) writers self.new }
+        ensures tally { (notes : List FlushNote) (writers : ℕ) → IsTally notes writers self.old
+            → IsTally (notes ++ Requested ∷ []) writers self.new }
         ensures made { self.new.made ≡ self.old.made + 1 }
         ensures answered { self.new.answered ≡ self.old.answered }
         ensures room { vec_len self.new.chunks ≡ vec_len self.old.chunks }
@@ -43,7 +44,8 @@ impl Flushes {
     /// The writer at this place answered each request that it hadn't answered, with so many chunks.
     pub fn answer(&mut self, place: usize, chunks: u32)
         requires { (notes : List FlushNote) × (writers : ℕ) × IsTally notes writers self.old × (place < writers) }
-        ensures tally { (notes : List FlushNote) (writers : ℕ) → IsTally notes writers self.old → IsTally (notes ++ Answered place chunks ∷ []) writers self.new }
+        ensures tally { (notes : List FlushNote) (writers : ℕ) → IsTally notes writers self.old
+            → IsTally (notes ++ Answered place chunks ∷ []) writers self.new }
         ensures made { self.new.made ≡ self.old.made }
         ensures answered { self.new.answered.items ≡ slice_set self.old.answered.items place self.old.made }
         ensures room { vec_len self.new.chunks ≡ vec_len self.old.chunks }

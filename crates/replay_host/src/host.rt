@@ -54,7 +54,8 @@ impl<W: Words> Host<W, W::Writer, W::Service> {
         requires host { IsHost W.means self.old }
         requires place { place < length (W.means.setup self.old.table).writers }
         requires open { IsOpenAt W.means self.old place }
-        requires ready { (coming : ℕ → List Call) × AreReady W.means self.old.table self.old.writers.items (asked_all place (call_of call ∷ []) coming) }
+        requires ready { (coming : ℕ → List Call)
+            × AreReady W.means self.old.table self.old.writers.items (asked_all place (call_of call ∷ []) coming) }
         requires short { IsShortCall (call_of call) }
         ensures host { OnOk result (IsHost W.means self.new) }
         ensures asked { OnOk result (HasAsked W.means place (call_of call.entry ∷ []) self.old self.new) }
@@ -76,7 +77,8 @@ impl<W: Words> Host<W, W::Writer, W::Service> {
         requires host { IsHost W.means self.old }
         requires place { place < length (W.means.setup self.old.table).writers }
         requires open { IsOpenAt W.means self.old place }
-        requires ready { (coming : ℕ → List Call) × AreReady W.means self.old.table self.old.writers.items (asked_all place (calls.Flushed ∷ []) coming) }
+        requires ready { (coming : ℕ → List Call)
+            × AreReady W.means self.old.table self.old.writers.items (asked_all place (calls.Flushed ∷ []) coming) }
         ensures host { IsHost W.means self.new }
         ensures asked { HasAsked W.means place (calls.Flushed ∷ []) self.old self.new }
     {

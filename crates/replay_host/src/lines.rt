@@ -75,7 +75,8 @@ impl<W: Words> Host<W, W::Writer, W::Service> {
         place: usize,
         fields: &Fields<'_>,
     ) -> Result<(), HostFault>
-        requires next { (moment : Moment) × ComesAsking W.means moment place (calls.Begun true ∷ map node_call fields.now ++ calls.Finished ∷ []) self.old }
+        requires next { (moment : Moment)
+            × ComesAsking W.means moment place (calls.Begun true ∷ map node_call fields.now ++ calls.Finished ∷ []) self.old }
         ensures played { OnOk result ((moment : Moment)
             → ComesAsking W.means moment place (calls.Begun true ∷ map node_call fields.now ++ calls.Finished ∷ []) self.old
             → (taken : Intake) → IsLinePlayed W.means moment self.old taken self.new taken) }
@@ -105,7 +106,8 @@ impl<W: Words> Host<W, W::Writer, W::Service> {
         requires next { (moment : Moment) × (moment.line.what ≡ line.End (suc place)) × ComesNext W.means moment self.old }
         ensures played { OnOk result ((moment : Moment) → moment.line.what ≡ line.End (suc place) → ComesNext W.means moment self.old
             → (taken : Intake) → IsLinePlayed W.means moment self.old taken self.new taken) }
-        ensures stops { IfErr result (λ fault. (moment : Moment) → moment.line.what ≡ line.End (suc place) → ComesNext W.means moment self.old
+        ensures stops { IfErr result (λ fault. (moment : Moment) → moment.line.what ≡ line.End (suc place)
+            → ComesNext W.means moment self.old
             → (taken : Intake) → StopsIn W.means (acts_of moment.scenario moment.before moment.line.what) self.old taken fault taken) }
         ensures fault { IfErr result IsStall }
     {

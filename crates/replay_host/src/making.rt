@@ -91,7 +91,8 @@ fn make_writer(
     spec: WriterSpec,
     producers: &[ProducerSpec],
 ) -> WriterCore<PlainWriter>
-    requires setup { (⟦<PlainTable as Words>⟧.means.setup table.now) ≡ setup_of producers.now (⟦<PlainTable as Words>⟧.means.setup table.now).writers }
+    requires setup { (⟦<PlainTable as Words>⟧.means.setup table.now)
+        ≡ setup_of producers.now (⟦<PlainTable as Words>⟧.means.setup table.now).writers }
     requires spec { slice_get (⟦<PlainTable as Words>⟧.means.setup table.now).writers seat.place ≡ Some spec }
     requires producer { HasProducer (⟦<PlainTable as Words>⟧.means.setup table.now) spec.producer }
     ensures { IsNewcomer (⟦<PlainTable as Words>⟧.means.setup table.now) seat.place result }

@@ -20,7 +20,8 @@ impl<W: Words> Host<W, W::Writer, W::Service> {
     /// The writer at this place, which has no packet begun, answers the newest request and those
     /// before it: it flushes, and names the chunks that it has completed.
     pub(crate) fn answer(&mut self, place: usize)
-        requires may { (may : MayAnswer W.means place self.old) × (is_writing (packets_of (calls_asked (suc place) may.amid.before)) ≡ false) }
+        requires may { (may : MayAnswer W.means place self.old)
+            × (is_writing (packets_of (calls_asked (suc place) may.amid.before)) ≡ false) }
         ensures answered { HasAnswered W.means place self.old self.new }
     {
         self.flush(place);

@@ -52,7 +52,8 @@ fn emit_end(emitter: &mut Emitter) -> Result<(), AllocError>
 /// Writes a whole packet.
 fn emit_packet(emitter: &mut Emitter, fields: &Fields<'_>) -> Result<(), AllocError>
     requires { MayTake (call.Begun true ∷ map node_call fields.now ++ call.Finished ∷ []) (nodes_len fields.now) emitter.old }
-    ensures { OnOk result (Takes (call.Begun true ∷ map node_call fields.now ++ call.Finished ∷ []) (nodes_len fields.now) 1 emitter.old emitter.new) }
+    ensures { OnOk result (Takes (call.Begun true ∷ map node_call fields.now ++ call.Finished ∷ []) (nodes_len fields.now) 1 emitter.old
+        emitter.new) }
 {
     emit_fields(emitter, fields)?;
     emit_end(emitter)

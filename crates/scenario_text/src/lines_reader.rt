@@ -59,7 +59,8 @@ impl LinesReader {
     pub fn read_lines(&mut self, bytes: &[u8]) -> Result<usize, ScenarioFault>
         requires room { next_line self.old + length bytes.now ≤ MAX_INPUT + 1 }
         ensures inside { IfOk result (λ count. count ≤ length bytes.now) }
-        ensures goes_on { IfOk result (λ count. (more : List ℕ) → says_after self.old (bytes.now ++ more) ≡ says_after self.new (drop count bytes.now ++ more)) }
+        ensures goes_on { IfOk result (λ count. (more : List ℕ)
+            → says_after self.old (bytes.now ++ more) ≡ says_after self.new (drop count bytes.now ++ more)) }
         ensures whole { IfOk result (λ count. pieces 10 (drop count bytes.now) ≡ drop count bytes.now ∷ []) }
         ensures numbers { IfOk result (λ count. next_line self.new ≤ next_line self.old + count) }
         ensures refuses { IfErr result (λ fault. (more : List ℕ) → RefusedBy fault (says_after self.old (bytes.now ++ more))) }

@@ -84,7 +84,8 @@ impl Reader {
     fn add_packet(&mut self, line: u32, writer: u8, addition: Addition<'_>) -> Result<(), LineFault>
         requires none { packet_of (state_of self.old) (Fits writer) ≡ None }
         requires bytes { self.old.bytes + addition.len ≤ MAX_SCENARIO_PACKET_BYTES }
-        ensures ok { OnOk result (state_of self.new ≡ written (state_of self.old) line (Fits writer) (Packet true) addition.entry.fields addition.entry.len) }
+        ensures ok { OnOk result (state_of self.new
+            ≡ written (state_of self.old) line (Fits writer) (Packet true) addition.entry.fields addition.entry.len) }
         ensures memory { IsOkUnless result OutOfMemory }
     {
         let Addition { fields, len } = addition;
@@ -112,7 +113,8 @@ impl Reader {
     ) -> Result<(), LineFault>
         requires line { length line.now ≤ MAX_INPUT }
         requires fields { found.fields.now ≡ fields_part line.now }
-        ensures { LeadsTo (state_of self.new) result (after_form (state_of self.old) number line.now (Some (OfWriter (Fits found.entry.writer) (Packet true)))) }
+        ensures { LeadsTo (state_of self.new) result (after_form (state_of self.old) number line.now
+            (Some (OfWriter (Fits found.entry.writer) (Packet true)))) }
     {
         let PacketLine { writer, fields } = found;
         if !self.takes_packet(writer) {

@@ -120,7 +120,8 @@ impl Reader {
         requires shallow { is_shallow (packet_after line packet step addition.len) ≡ true }
         requires len { len_of packet + addition.len ≤ MAX_PACKET_LEN }
         requires bytes { self.old.bytes + addition.len ≤ MAX_SCENARIO_PACKET_BYTES }
-        ensures ok { OnOk result (state_of self.new ≡ written (state_of self.old) line writer step addition.entry.fields addition.entry.len) }
+        ensures ok { OnOk result (state_of self.new
+            ≡ written (state_of self.old) line writer step addition.entry.fields addition.entry.len) }
         ensures memory { IsOkUnless result OutOfMemory }
     {
         let Addition { fields, len } = addition;
@@ -170,7 +171,8 @@ impl Reader {
     #[tactic(auto, using(crate::proofs::FrontLemmas::producer_named), unfolding(crate::specs::Effects::served))]
     fn serve(&mut self, number: u32, producer: Numeral, step: ProducerStep) -> Result<(), LineFault>
         requires { first (front_reasons (state_of self.old) (OfProducer producer step)) ≡ None }
-        ensures ok { OnOk result (state_of self.new ≡ served (with_line (state_of self.old) number (producer_kind (value producer) step)) producer step) }
+        ensures ok { OnOk result (state_of self.new
+            ≡ served (with_line (state_of self.old) number (producer_kind (value producer) step)) producer step) }
         ensures memory { IsOkUnless result OutOfMemory }
     {
         self.add_line(number, producer_kind(small(producer) as u16, step))?;

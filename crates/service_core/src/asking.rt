@@ -42,7 +42,8 @@ impl<S> ServiceCore<S> {
         requires most { sequence < FIRST_SEQUENCE + length self.now.writers.items }
         requires agrees { IsAgreeing self.now }
         ensures { (setup : Setup) (view : ServiceView) → ServiceAgrees setup view self.now
-            → (let buffer = buffer_at (buffers_after (first_of setup self.now) (history_of view)) (buffer_of setup (sequence - FIRST_SEQUENCE) - 1) in
+            → (let buffer = buffer_at (buffers_after (first_of setup self.now) (history_of view))
+            (buffer_of setup (sequence - FIRST_SEQUENCE) - 1) in
             result ≡ state_of buffer.policy (sequence_in buffer.sequences sequence)) }
     {
         self.state_at((sequence - FIRST_SEQUENCE) as usize)

@@ -25,7 +25,8 @@ impl<S> ServiceCore<S> {
         ensures agrees { ServiceAgrees (W.means.setup table.old) (W.means.service_view table.new self.new.seat) self.new }
         ensures closes { ClosesOne (W.means.setup table.old) place self.old self.new }
         ensures step { IsServiceStep W.means table.old self.old.seat table.new self.new.seat }
-        ensures view { W.means.service_view table.new self.new.seat ≡ noted_more (W.means.service_view table.old self.old.seat) (Closed (sequence_of place) ∷ []) }
+        ensures view { W.means.service_view table.new self.new.seat
+            ≡ noted_more (W.means.service_view table.old self.old.seat) (Closed (sequence_of place) ∷ []) }
         ensures told { (world : World) → W.means.told table.old ≡ Some world
             → W.means.told table.new ≡ Some (serviced world (W.means.service_view table.new self.new.seat)) }
     {

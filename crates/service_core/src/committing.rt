@@ -44,7 +44,8 @@ impl<S> ServiceCore<S> {
         requires least { FIRST_SEQUENCE ≤ image.now.sequence }
         requires most { image.now.sequence < FIRST_SEQUENCE + length (W.means.setup table.old).writers }
         requires open { is_closed (W.means.setup table.old) self.old (image.now.sequence - FIRST_SEQUENCE) ≡ false }
-        requires size { length image.now.payload.now ≡ size_of (W.means.setup table.old) (producer_of (W.means.setup table.old) (image.now.sequence - FIRST_SEQUENCE)) }
+        requires size { length image.now.payload.now
+            ≡ size_of (W.means.setup table.old) (producer_of (W.means.setup table.old) (image.now.sequence - FIRST_SEQUENCE)) }
         requires count { image.now.count ≤ MAX_FRAGMENTS }
         requires flags { image.now.flags ≤ MAX_FLAGS }
         ensures agrees { ServiceAgrees (W.means.setup table.old) (W.means.service_view table.new self.new.seat) self.new }
@@ -54,7 +55,8 @@ impl<S> ServiceCore<S> {
             → (result ≡ Err (record { buffer = buffer_of (W.means.setup table.old) (image.now.sequence - FIRST_SEQUENCE) }))
             × (self.new ≡ self.old) × (table.new ≡ table.old) }
         ensures outcome { buffer_of (W.means.setup table.old) (image.now.sequence - FIRST_SEQUENCE) ≡ target
-            → IsOkAnd result (λ arrived. arrived_value arrived ≡ image_arrival_of (buffer_at self.old.buffers.items (target - 1)) (image_value image.now)) }
+            → IsOkAnd result (λ arrived. arrived_value arrived
+            ≡ image_arrival_of (buffer_at self.old.buffers.items (target - 1)) (image_value image.now)) }
         ensures noted { buffer_of (W.means.setup table.old) (image.now.sequence - FIRST_SEQUENCE) ≡ target
             → W.means.service_view table.new self.new.seat ≡ notes_commit (W.means.service_view table.old self.old.seat)
             (record { image = image_value image.now; patches = map patch_value patches.now }) }

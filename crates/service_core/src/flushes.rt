@@ -57,7 +57,8 @@ impl<S> ServiceCore<S> {
     /// Ends the session.
     pub fn stop(&mut self) -> Result<(), SessionFault>
         ensures answer { result ≡ answered_as (refusal_in Stop self.old.session.state) tt }
-        ensures after { self.new.session ≡ left_as (refusal_in Stop self.old.session.state) self.old.session (moved Stopped self.old.session) }
+        ensures after { self.new.session
+            ≡ left_as (refusal_in Stop self.old.session.state) self.old.session (moved Stopped self.old.session) }
         ensures keeps { KeepsTaking self.old self.new }
         ensures agrees { (setup : Setup) (view : ServiceView) → ServiceAgrees setup view self.old → ServiceAgrees setup view self.new }
     {

@@ -26,7 +26,8 @@ fn sequences_for(
     requires routed { (count : ℕ) × IsRouted (setup_of producers.now writers.now) count }
     requires fits { (place : ℕ) → place < length writers.now → buffer_of (setup_of producers.now writers.now) place ≡ buffer
         → record_size (size_of (setup_of producers.now writers.now) (producer_of (setup_of producers.now writers.now) place)) ≤ size }
-    ensures sequences { IfOk result (λ specs. map sequence_of specs.items ≡ sequences_from (setup_of producers.now writers.now) buffer 0 writers.now) }
+    ensures sequences { IfOk result (λ specs. map sequence_of specs.items
+        ≡ sequences_from (setup_of producers.now writers.now) buffer 0 writers.now) }
     ensures distinct { IfOk result (λ specs. AreDistinct specs.items) }
     ensures small { IfOk result (λ specs. AllSmall size specs.items) }
 {

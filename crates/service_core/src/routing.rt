@@ -78,7 +78,8 @@ pub(crate) fn commit_in(
     requires count { image.now.count ≤ MAX_FRAGMENTS }
     requires flags { image.now.flags ≤ MAX_FLAGS }
     ensures outcome { arrived_value result ≡ image_arrival_of (buffer_at buffers.old.items index) (image_value image.now) }
-    ensures after { buffers.new.items ≡ buffers_after buffers.old.items (model.Committed (image_value image.now) (map patch_value patches.now) ∷ []) }
+    ensures after { buffers.new.items ≡ buffers_after buffers.old.items
+        (model.Committed (image_value image.now) (map patch_value patches.now) ∷ []) }
 {
     let buffer = &mut buffers[index];
     let arrived = buffer.arrive(image);

@@ -26,7 +26,8 @@ use trace_base::limits::FIRST_SEQUENCE;
 fn part_in(seen: Seen, at: u8, writer: u16, id: u32) -> Option<u16>
     requires { at < MAX_CHUNKS_PER_PAGE }
     ensures some { IfSome result (λ finished. IsPart seen at writer id finished) }
-    ensures none { IfNone result (HasState seen.word.0 at BeingWritten → seen.header.writer_id ≡ writer → seen.header.chunk_id ≡ id → seen.header.count < 2) }
+    ensures none { IfNone result (HasState seen.word.0 at BeingWritten → seen.header.writer_id ≡ writer → seen.header.chunk_id ≡ id
+        → seen.header.count < 2) }
     ensures fits { FitsWord seen.header }
 {
     if seen.header.writer_id != writer || seen.header.chunk_id != id {
@@ -102,7 +103,8 @@ impl<S> ServiceCore<S> {
         ensures agrees { ServiceAgrees (W.means.setup table.old) (W.means.service_view table.new self.new.seat) self.new }
         ensures keeps { KeepsRest (W.means.setup table.old) self.old self.new }
         ensures step { IsServiceStep W.means table.old self.old.seat table.new self.new.seat }
-        ensures part { result ≡ true → TakesPart place (W.means.service_view table.old self.old.seat) (W.means.service_view table.new self.new.seat) }
+        ensures part { result ≡ true → TakesPart place (W.means.service_view table.old self.old.seat)
+            (W.means.service_view table.new self.new.seat) }
         ensures none { result ≡ false → SeesNoPart (W.means.setup table.old) place chunk
             (W.means.service_view table.old self.old.seat) (W.means.service_view table.new self.new.seat) }
         ensures told_part { result ≡ true → (world : World) → W.means.told table.old ≡ Some world

@@ -42,7 +42,8 @@ fn note_patches<W: Words>(
     patches: &[Patch],
 )
     requires { W.means.serves table.old seat.old }
-    ensures view { W.means.service_view table.new seat.new ≡ noted_more (W.means.service_view table.old seat.old) (patched_where (map patch_value patches.now) sequence chunk_id) }
+    ensures view { W.means.service_view table.new seat.new
+        ≡ noted_more (W.means.service_view table.old seat.old) (patched_where (map patch_value patches.now) sequence chunk_id) }
     ensures step { IsServiceStep W.means table.old seat.old table.new seat.new }
     ensures told { (world : World) → W.means.told table.old ≡ Some world
         → W.means.told table.new ≡ Some (serviced world (W.means.service_view table.new seat.new)) }
@@ -65,11 +66,15 @@ impl<S> ServiceCore<S> {
         requires writer { place < length self.old.writers.items }
         requires few { place < MAX_WRITERS }
         requires buffer { 1 ≤ (spec_at self.old.writers.items place).buffer }
-        requires at { IsAt self.old.buffers.items ((spec_at self.old.writers.items place).buffer - 1) (sequence_of place) (record_size (vec_len taken.body.payload)) }
-        requires open { is_closed_at self.old.buffers.items ((spec_at self.old.writers.items place).buffer - 1) (sequence_of place) ≡ false }
+        requires at { IsAt self.old.buffers.items ((spec_at self.old.writers.items place).buffer - 1) (sequence_of place)
+            (record_size (vec_len taken.body.payload)) }
+        requires open { is_closed_at self.old.buffers.items ((spec_at self.old.writers.items place).buffer - 1) (sequence_of place)
+            ≡ false }
         ensures view { W.means.service_view table.new self.new.seat
-            ≡ lets_go (noted_more (W.means.service_view table.old self.old.seat) (takings (sequence_of place) taken.header.chunk_id (taken_content place taken ∷ []))) taken.chunk }
-        ensures buffers { self.new.buffers.items ≡ buffers_after (buffers_after self.old.buffers.items (arrivals_of (taken_content place taken).image))
+            ≡ lets_go (noted_more (W.means.service_view table.old self.old.seat)
+            (takings (sequence_of place) taken.header.chunk_id (taken_content place taken ∷ []))) taken.chunk }
+        ensures buffers { self.new.buffers.items
+            ≡ buffers_after (buffers_after self.old.buffers.items (arrivals_of (taken_content place taken).image))
             (model.Patched (sequence_of place) (taken_content place taken).patches ∷ []) }
         ensures taken { self.new.taken.items ≡ slice_set self.old.taken.items place (taken.header.chunk_id + 1) }
         ensures fields { KeepsFields self.old self.new }
@@ -120,8 +125,10 @@ impl<S> ServiceCore<S> {
         ensures agrees { ServiceAgrees (W.means.setup table.old) (W.means.service_view table.new self.new.seat) self.new }
         ensures keeps { KeepsRest (W.means.setup table.old) self.old self.new }
         ensures step { IsServiceStep W.means table.old self.old.seat table.new self.new.seat }
-        ensures taken { result ≡ true → TakesOne place (W.means.service_view table.old self.old.seat) (W.means.service_view table.new self.new.seat) }
-        ensures other { result ≡ false → SeesOther (W.means.setup table.old) place chunk (W.means.service_view table.old self.old.seat) (W.means.service_view table.new self.new.seat) }
+        ensures taken { result ≡ true → TakesOne place (W.means.service_view table.old self.old.seat)
+            (W.means.service_view table.new self.new.seat) }
+        ensures other { result ≡ false → SeesOther (W.means.setup table.old) place chunk (W.means.service_view table.old self.old.seat)
+            (W.means.service_view table.new self.new.seat) }
         ensures told_taken { result ≡ true → (world : World) → W.means.told table.old ≡ Some world
             → FreesOne place (taken_of (W.means.service_view table.old self.old.seat) place).count chunk world
             (W.means.told table.new) (W.means.service_view table.new self.new.seat) }
@@ -155,7 +162,8 @@ impl<S> ServiceCore<S> {
         requires serves { W.means.serves table.old self.old.seat }
         requires agrees { ServiceAgrees (W.means.setup table.old) (W.means.service_view table.old self.old.seat) self.old }
         requires place { place < length (W.means.setup table.old).writers }
-        requires range { (chunk : ℕ) → first ≤ chunk → chunk < last → IsChunkOf (W.means.setup table.old) (producer_of (W.means.setup table.old) place) chunk }
+        requires range { (chunk : ℕ) → first ≤ chunk → chunk < last
+            → IsChunkOf (W.means.setup table.old) (producer_of (W.means.setup table.old) place) chunk }
         requires order { first ≤ last }
         requires open { is_closed (W.means.setup table.old) self.old place ≡ false }
         requires id { (taken_of (W.means.service_view table.old self.old.seat) place).count < ID_LIMIT }
@@ -163,8 +171,10 @@ impl<S> ServiceCore<S> {
         ensures keeps { KeepsRest (W.means.setup table.old) self.old self.new }
         ensures step { IsServiceStep W.means table.old self.old.seat table.new self.new.seat }
         ensures inside { IfSome result (λ chunk. (first ≤ chunk) × (chunk < last)) }
-        ensures taken { IsSome result → TakesNext place (W.means.service_view table.old self.old.seat) (W.means.service_view table.new self.new.seat) }
-        ensures none { result ≡ None → SeesNoneOf (W.means.setup table.old) place first last (W.means.service_view table.old self.old.seat) (W.means.service_view table.new self.new.seat) }
+        ensures taken { IsSome result → TakesNext place (W.means.service_view table.old self.old.seat)
+            (W.means.service_view table.new self.new.seat) }
+        ensures none { result ≡ None → SeesNoneOf (W.means.setup table.old) place first last (W.means.service_view table.old self.old.seat)
+            (W.means.service_view table.new self.new.seat) }
         ensures told_taken { IsSome result → (world : World) → W.means.told table.old ≡ Some world
             → FreesNext (W.means.setup table.old) place (taken_of (W.means.service_view table.old self.old.seat) place).count world
             (W.means.told table.new) (W.means.service_view table.new self.new.seat) }
@@ -203,8 +213,10 @@ impl<S> ServiceCore<S> {
         ensures keeps { KeepsRest (W.means.setup table.old) self.old self.new }
         ensures step { IsServiceStep W.means table.old self.old.seat table.new self.new.seat }
         ensures inside { IfSome result (λ chunk. (first ≤ chunk) × (chunk < first + count)) }
-        ensures taken { IsSome result → TakesNext place (W.means.service_view table.old self.old.seat) (W.means.service_view table.new self.new.seat) }
-        ensures none { result ≡ None → SeesNone (W.means.setup table.old) place (W.means.service_view table.old self.old.seat) (W.means.service_view table.new self.new.seat) }
+        ensures taken { IsSome result → TakesNext place (W.means.service_view table.old self.old.seat)
+            (W.means.service_view table.new self.new.seat) }
+        ensures none { result ≡ None → SeesNone (W.means.setup table.old) place (W.means.service_view table.old self.old.seat)
+            (W.means.service_view table.new self.new.seat) }
         ensures told_taken { IsSome result → (world : World) → W.means.told table.old ≡ Some world
             → FreesNext (W.means.setup table.old) place (taken_of (W.means.service_view table.old self.old.seat) place).count world
             (W.means.told table.new) (W.means.service_view table.new self.new.seat) }
@@ -228,7 +240,8 @@ impl<S> ServiceCore<S> {
         ensures agrees { ServiceAgrees (W.means.setup table.old) (W.means.service_view table.new self.new.seat) self.new }
         ensures keeps { KeepsRest (W.means.setup table.old) self.old self.new }
         ensures step { IsServiceStep W.means table.old self.old.seat table.new self.new.seat }
-        ensures takes { TakesOf (W.means.setup table.old) place result (W.means.service_view table.old self.old.seat) (W.means.service_view table.new self.new.seat) }
+        ensures takes { TakesOf (W.means.setup table.old) place result (W.means.service_view table.old self.old.seat)
+            (W.means.service_view table.new self.new.seat) }
         ensures told { (world : World) → W.means.told table.old ≡ Some world
             → LeavesNext (W.means.setup table.old) place world (W.means.told table.new) (W.means.service_view table.new self.new.seat) }
     {

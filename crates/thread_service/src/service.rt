@@ -48,7 +48,8 @@ impl Service {
         requires fits { RecordsFit (setup_of producers.now writers.now) buffers.now }
         ensures seat { IfOk result (λ service. (core_of service).seat ≡ seat) }
         ensures specs { IfOk result (λ service. (core_of service).specs.items ≡ buffers.now) }
-        ensures serves { IfOk result (λ service. (table : HostTable) → Attends table seat → setup_in table ≡ setup_of producers.now writers.now
+        ensures serves { IfOk result (λ service. (table : HostTable) → Attends table seat
+            → setup_in table ≡ setup_of producers.now writers.now
             → IsUnused (length writers.now) (known_by_service seat) → Serves table service) }
         ensures open { IfOk result (λ service. (place : ℕ) → place < length writers.now
             → is_closed (setup_of producers.now writers.now) (core_of service) place ≡ false) }

@@ -34,12 +34,14 @@ impl Service {
     fn collect_all_out(&mut self, table: &HostTable, writers: &[WriterSpec])
         requires serves { Serves table.now self.old }
         requires writers { writers.now ≡ (setup_in table.now).writers }
-        requires open { (place : ℕ) → place < length (setup_in table.now).writers → is_closed (setup_in table.now) (core_of self.old) place ≡ false }
+        requires open { (place : ℕ) → place < length (setup_in table.now).writers
+            → is_closed (setup_in table.now) (core_of self.old) place ≡ false }
         ensures serves { Serves table.now self.new }
         ensures keeps { KeepsRest (setup_in table.now) (core_of self.old) (core_of self.new) }
         ensures desk { desk_in self.new ≡ desk_in self.old }
         ensures takes { TakesAllOut (setup_in table.now) (setup_in table.now).writers (view_in self.old) (view_in self.new) }
-        ensures seen { AreSeenOut (setup_in table.now) (length (view_in self.old).looks) (length (setup_in table.now).writers) (view_in self.new) }
+        ensures seen { AreSeenOut (setup_in table.now) (length (view_in self.old).looks) (length (setup_in table.now).writers)
+            (view_in self.new) }
     {
         'writers: for place in 0..writers.len() {
             self.collect_out(table, writers[place].producer);
@@ -51,7 +53,8 @@ impl Service {
     pub fn settle(&mut self, table: &HostTable, writers: &[WriterSpec])
         requires serves { Serves table.now self.old }
         requires writers { writers.now ≡ (setup_in table.now).writers }
-        requires open { (place : ℕ) → place < length (setup_in table.now).writers → is_closed (setup_in table.now) (core_of self.old) place ≡ false }
+        requires open { (place : ℕ) → place < length (setup_in table.now).writers
+            → is_closed (setup_in table.now) (core_of self.old) place ≡ false }
         ensures serves { Serves table.now self.new }
         ensures keeps { KeepsRest (setup_in table.now) (core_of self.old) (core_of self.new) }
         ensures desk { desk_in self.new ≡ desk_in self.old }

@@ -58,7 +58,8 @@ fn new_place<W: Words, L: Ledger, H: HelperOn<W>>(
     ensures calls { (W.means.view table.new seat.new).calls ≡ (W.means.view table.old seat.old).calls }
     ensures place { (account : Account) (pending : Pending)
         → IsIdle (site_of (W.means.setup table.old) (W.means.place seat.old) route.now) account (W.means.view table.old seat.old) pending
-        → IsPlace (site_of (W.means.setup table.old) (W.means.place seat.old) route.now) account (W.means.view table.new seat.new) pending result }
+        → IsPlace (site_of (W.means.setup table.old) (W.means.place seat.old) route.now) account (W.means.view table.new seat.new) pending
+        result }
     ensures work { IsWork W.means H.needs H.helps
         route.now help.old table.old seat.old steps.old (not (is_behind result)) help.new table.new seat.new steps.new }
     ensures few_steps { route.now.spec.policy ≡ Drops → steps.new ≤ steps.old + route.now.arbiter.chunks + 1 }
@@ -82,13 +83,18 @@ fn held_or_new_place<W: Words, L: Ledger, H: HelperOn<W>>(
     requires seat { W.means.sits table.old seat.old }
     requires needs { H.needs help.old table.old }
     requires route { IsRoute (W.means.setup table.old) (W.means.place seat.old) route.now }
-    requires behind { (account : Account) × IsBehind (site_of (W.means.setup table.old) (W.means.place seat.old) route.now) account (W.means.view table.old seat.old) pending.old chunk }
+    requires behind { (account : Account)
+        × IsBehind (site_of (W.means.setup table.old) (W.means.place seat.old) route.now) account (W.means.view table.old seat.old)
+        pending.old chunk }
     requires ids { chunk.held.id + 1 + PACKET_IDS ≤ ID_LIMIT }
     ensures calls { (W.means.view table.new seat.new).calls ≡ (W.means.view table.old seat.old).calls }
     ensures place { (account : Account)
-        → IsBehind (site_of (W.means.setup table.old) (W.means.place seat.old) route.now) account (W.means.view table.old seat.old) pending.old chunk
-        → IsPlace (site_of (W.means.setup table.old) (W.means.place seat.old) route.now) account (W.means.view table.new seat.new) pending.new result }
-    ensures asked { has_room (vec_len chunk.held.body.payload) chunk ≡ true → (W.means.view table.new seat.new).asked ≡ (W.means.view table.old seat.old).asked }
+        → IsBehind (site_of (W.means.setup table.old) (W.means.place seat.old) route.now) account (W.means.view table.old seat.old)
+        pending.old chunk
+        → IsPlace (site_of (W.means.setup table.old) (W.means.place seat.old) route.now) account (W.means.view table.new seat.new)
+        pending.new result }
+    ensures asked { has_room (vec_len chunk.held.body.payload) chunk ≡ true
+        → (W.means.view table.new seat.new).asked ≡ (W.means.view table.old seat.old).asked }
     ensures work { IsWork W.means H.needs H.helps
         route.now help.old table.old seat.old steps.old (not (is_behind result)) help.new table.new seat.new steps.new }
     ensures few_steps { route.now.spec.policy ≡ Drops → steps.new ≤ steps.old + route.now.arbiter.chunks + 1 }
@@ -105,7 +111,8 @@ fn held_or_new_place<W: Words, L: Ledger, H: HelperOn<W>>(
 #[inline(always)]
 fn begin_kept<W: Words>(writer: &mut Writer, table: &mut W, seat: &mut W::Writer, chunk: HeldChunk)
     requires seat { W.means.sits table.old seat.old }
-    requires roomy { IsRoomy (site_of (W.means.setup table.old) (W.means.place seat.old) writer.old.route) (account_of (W.means.view table.old seat.old).calls) (W.means.view table.old seat.old) writer.old.pending chunk }
+    requires roomy { IsRoomy (site_of (W.means.setup table.old) (W.means.place seat.old) writer.old.route)
+        (account_of (W.means.view table.old seat.old).calls) (W.means.view table.old seat.old) writer.old.pending chunk }
     requires empty { is_empty writer.old.state ≡ true }
     requires agrees { AgreesBetween (W.means.setup table.old) (W.means.place seat.old) (W.means.view table.old seat.old) writer.old }
     ensures agrees { Agrees (W.means.setup table.old) (W.means.place seat.old) (W.means.view table.new seat.new) writer.new }
@@ -128,7 +135,8 @@ fn begin_kept<W: Words>(writer: &mut Writer, table: &mut W, seat: &mut W::Writer
 fn begin_dropped<W: Words>(writer: &mut Writer, table: &mut W, seat: &mut W::Writer, next_id: u32)
     requires seat { W.means.sits table.old seat.old }
     requires next { next_id ≡ length (W.means.view table.old seat.old).begun }
-    requires idle { IsIdle (site_of (W.means.setup table.old) (W.means.place seat.old) writer.old.route) (account_of (W.means.view table.old seat.old).calls) (W.means.view table.old seat.old) writer.old.pending }
+    requires idle { IsIdle (site_of (W.means.setup table.old) (W.means.place seat.old) writer.old.route)
+        (account_of (W.means.view table.old seat.old).calls) (W.means.view table.old seat.old) writer.old.pending }
     requires empty { is_empty writer.old.state ≡ true }
     requires agrees { AgreesBetween (W.means.setup table.old) (W.means.place seat.old) (W.means.view table.old seat.old) writer.old }
     ensures agrees { Agrees (W.means.setup table.old) (W.means.place seat.old) (W.means.view table.new seat.new) writer.new }
@@ -152,12 +160,14 @@ fn begin_at<W: Words>(
     place: Place,
 ) -> Result<Begun, CallFault>
     requires seat { W.means.sits table.old seat.old }
-    requires place { IsPlace (site_of (W.means.setup table.old) (W.means.place seat.old) writer.old.route) (account_of (W.means.view table.old seat.old).calls) (W.means.view table.old seat.old) writer.old.pending place }
+    requires place { IsPlace (site_of (W.means.setup table.old) (W.means.place seat.old) writer.old.route)
+        (account_of (W.means.view table.old seat.old).calls) (W.means.view table.old seat.old) writer.old.pending place }
     requires empty { is_empty writer.old.state ≡ true }
     requires agrees { AgreesBetween (W.means.setup table.old) (W.means.place seat.old) (W.means.view table.old seat.old) writer.old }
     ensures agrees { Agrees (W.means.setup table.old) (W.means.place seat.old) (W.means.view table.new seat.new) writer.new }
     ensures route { writer.new.route ≡ writer.old.route }
-    ensures begins { BeginsAt writer.old.route.spec.policy place result (W.means.view table.old seat.old).calls (W.means.view table.new seat.new).calls writer.new.state }
+    ensures begins { BeginsAt writer.old.route.spec.policy place result (W.means.view table.old seat.old).calls
+        (W.means.view table.new seat.new).calls writer.new.state }
     ensures quiet { IsQuiet W.means table.old seat.old table.new seat.new }
 {
     match place {
@@ -194,9 +204,11 @@ pub(crate) fn begin<W: Words, L: Ledger, H: HelperOn<W>>(
     ensures agrees { Agrees (W.means.setup table.old) (W.means.place seat.old) (W.means.view table.new seat.new) writer.new }
     ensures route { writer.new.route ≡ writer.old.route }
     ensures stays { is_stalled_state writer.old.state ≡ true
-        → (result ≡ Err call_fault.Stalled) × (writer.new ≡ writer.old) × (table.new ≡ table.old) × (seat.new ≡ seat.old) × (help.new ≡ help.old) × (steps.new ≡ steps.old) }
+        → (result ≡ Err call_fault.Stalled) × (writer.new ≡ writer.old) × (table.new ≡ table.old) × (seat.new ≡ seat.old)
+        × (help.new ≡ help.old) × (steps.new ≡ steps.old) }
     ensures answers { is_stalled_state writer.old.state ≡ false
-        → MatchResult result (λ _. is_stalled_state writer.new.state ≡ false) (λ fault. (fault ≡ call_fault.Stalled) × (is_stalled_state writer.new.state ≡ true)) }
+        → MatchResult result (λ _. is_stalled_state writer.new.state ≡ false) (λ fault. (fault ≡ call_fault.Stalled)
+        × (is_stalled_state writer.new.state ≡ true)) }
     ensures done { is_stalled_state writer.old.state ≡ false
         → IsAsked W.means H.needs H.helps
         writer.old.route help.old table.old seat.old steps.old (stops_with result) (begun_as (stops_with result) writer.old.route.spec.policy)
@@ -266,9 +278,11 @@ fn begin_elsewhere<W: Words, L: Ledger, H: HelperOn<W>>(
     ensures agrees { Agrees (W.means.setup table.old) (W.means.place seat.old) (W.means.view table.new seat.new) writer.new }
     ensures route { writer.new.route ≡ writer.old.route }
     ensures stays { is_stalled_state writer.old.state ≡ true
-        → (result ≡ Err call_fault.Stalled) × (writer.new ≡ writer.old) × (table.new ≡ table.old) × (seat.new ≡ seat.old) × (help.new ≡ help.old) × (steps.new ≡ steps.old) }
+        → (result ≡ Err call_fault.Stalled) × (writer.new ≡ writer.old) × (table.new ≡ table.old) × (seat.new ≡ seat.old)
+        × (help.new ≡ help.old) × (steps.new ≡ steps.old) }
     ensures answers { is_stalled_state writer.old.state ≡ false
-        → MatchResult result (λ _. is_stalled_state writer.new.state ≡ false) (λ fault. (fault ≡ call_fault.Stalled) × (is_stalled_state writer.new.state ≡ true)) }
+        → MatchResult result (λ _. is_stalled_state writer.new.state ≡ false) (λ fault. (fault ≡ call_fault.Stalled)
+        × (is_stalled_state writer.new.state ≡ true)) }
     ensures done { is_stalled_state writer.old.state ≡ false
         → IsAsked W.means H.needs H.helps
         writer.old.route help.old table.old seat.old steps.old (stops_with result) (begun_as (stops_with result) writer.old.route.spec.policy)

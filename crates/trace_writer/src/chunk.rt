@@ -146,7 +146,8 @@ impl HeldChunk {
         runs_on: bool,
     )
         requires seat { W.means.sits table.old seat.old }
-        requires fit { IsFit (W.means.setup table.old) (W.means.view table.old seat.old) self (self.count - 1) (vec_len self.held.body.payload) }
+        requires fit { IsFit (W.means.setup table.old) (W.means.view table.old seat.old) self (self.count - 1)
+            (vec_len self.held.body.payload) }
         requires head { head_at (W.means.view table.old seat.old) self.held.id ≡ held_head self.count self.continues }
         ensures pending { pending.new ≡ record pending.old { unsent = [] } }
         ensures view { W.means.view table.new seat.new ≡ completes (W.means.view table.old seat.old) self.held.chunk self.held.id

@@ -116,10 +116,12 @@ pub(crate) fn write_text<W: Words, L: Ledger, H: HelperOn<W>>(
     requires field { (1 ≤ field) × (field ≤ MAX_FIELD) }
     requires size { size ≡ length (bytes_head field len) }
     requires fits { len_of writer.old.packet + (size + times * length text.now) ≤ MAX_PACKET_LEN }
-    requires call { (account : Account) → noted account (call.Bytes field text.now times) ≡ on_newest (with_more (bytes_head field len ++ repeat times text.now)) account }
+    requires call { (account : Account) → noted account (call.Bytes field text.now times)
+        ≡ on_newest (with_more (bytes_head field len ++ repeat times text.now)) account }
     ensures written { IsWritten W.means H.needs H.helps (call.Bytes field text.now times)
         writer.old help.old table.old seat.old steps.old result writer.new help.new table.new seat.new steps.new }
-    ensures asked { NeedsNoChunk writer.old.state (size + times * length text.now) → (W.means.view table.new seat.new).asked ≡ (W.means.view table.old seat.old).asked }
+    ensures asked { NeedsNoChunk writer.old.state (size + times * length text.now)
+        → (W.means.view table.new seat.new).asked ≡ (W.means.view table.old seat.old).asked }
 {
     if put_text_here(writer, field, len, size, text, times) {
         let value = text;
@@ -159,7 +161,8 @@ fn write_text_on<W: Words, L: Ledger, H: HelperOn<W>>(
     requires begun { is_begun writer.old.packet ≡ true }
     requires field { (1 ≤ field) × (field ≤ MAX_FIELD) }
     requires fits { len_of writer.old.packet + (length (bytes_head field len) + times * length text.now) ≤ MAX_PACKET_LEN }
-    requires call { (account : Account) → noted account (call.Bytes field text.now times) ≡ on_newest (with_more (bytes_head field len ++ repeat times text.now)) account }
+    requires call { (account : Account) → noted account (call.Bytes field text.now times)
+        ≡ on_newest (with_more (bytes_head field len ++ repeat times text.now)) account }
     ensures written { IsWritten W.means H.needs H.helps (call.Bytes field text.now times)
         writer.old help.old table.old seat.old steps.old result writer.new help.new table.new seat.new steps.new }
     ensures asked { is_empty writer.old.state ≡ true → (W.means.view table.new seat.new).asked ≡ (W.means.view table.old seat.old).asked }
@@ -255,7 +258,8 @@ pub(crate) fn write_nested<W: Words, L: Ledger, H: HelperOn<W>>(
     requires depth { open_message_count writer.old.packet < MAX_OPEN_HOLES }
     ensures written { IsWritten W.means H.needs H.helps (call.Nested field)
         writer.old help.old table.old seat.old steps.old result writer.new help.new table.new seat.new steps.new }
-    ensures asked { NeedsNoChunk writer.old.state (size + 4) → (W.means.view table.new seat.new).asked ≡ (W.means.view table.old seat.old).asked }
+    ensures asked { NeedsNoChunk writer.old.state (size + 4)
+        → (W.means.view table.new seat.new).asked ≡ (W.means.view table.old seat.old).asked }
 {
     if put_nested_here(writer, field, size) {
         table.note_call(seat, WriterCall::Nested { field });
@@ -327,8 +331,10 @@ fn go_on<W: Words>(
 ) -> Result<(), CallFault>
     requires seat { W.means.sits table.old seat.old }
     requires empty { is_empty writer.old.state ≡ true }
-    ensures answers { MatchResult result (λ _. is_stalled_state writer.new.state ≡ false) (λ fault. (fault ≡ call_fault.Stalled) × (is_stalled_state writer.new.state ≡ true)) }
-    ensures goes { GoesBehind writer.old writer.new (W.means.view table.old seat.old) (W.means.view table.new seat.new) (call_of call.entry) flow }
+    ensures answers { MatchResult result (λ _. is_stalled_state writer.new.state ≡ false) (λ fault. (fault ≡ call_fault.Stalled)
+        × (is_stalled_state writer.new.state ≡ true)) }
+    ensures goes { GoesBehind writer.old writer.new (W.means.view table.old seat.old) (W.means.view table.new seat.new) (call_of call.entry)
+        flow }
     ensures quiet { IsQuiet W.means table.old seat.old table.new seat.new }
 {
     table.note_call(seat, call);
@@ -360,10 +366,13 @@ pub(crate) fn end_message<W: Words>(writer: &mut Writer, table: &mut W, seat: &m
     requires depth { 0 < open_message_count writer.old.packet }
     ensures agrees { Agrees (W.means.setup table.old) (W.means.place seat.old) (W.means.view table.new seat.new) writer.new }
     ensures route { writer.new.route ≡ writer.old.route }
-    ensures stalled { is_stalled_state writer.old.state ≡ true → (writer.new ≡ writer.old) × (table.new ≡ table.old) × (seat.new ≡ seat.old) }
+    ensures stalled { is_stalled_state writer.old.state ≡ true → (writer.new ≡ writer.old) × (table.new ≡ table.old)
+        × (seat.new ≡ seat.old) }
     ensures goes { is_stalled_state writer.new.state ≡ is_stalled_state writer.old.state }
-    ensures notes { is_stalled_state writer.old.state ≡ false → (W.means.view table.new seat.new).calls ≡ (W.means.view table.old seat.old).calls ++ call.Ended ∷ [] }
-    ensures others { record (W.means.view table.new seat.new) { calls = (W.means.view table.old seat.old).calls } ≡ W.means.view table.old seat.old }
+    ensures notes { is_stalled_state writer.old.state ≡ false
+        → (W.means.view table.new seat.new).calls ≡ (W.means.view table.old seat.old).calls ++ call.Ended ∷ [] }
+    ensures others { record (W.means.view table.new seat.new) { calls = (W.means.view table.old seat.old).calls }
+        ≡ W.means.view table.old seat.old }
     ensures quiet { IsQuiet W.means table.old seat.old table.new seat.new }
 {
     if is_stalled(&writer.state) {

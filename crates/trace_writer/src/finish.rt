@@ -16,12 +16,15 @@ pub(crate) fn finish<W: Words>(writer: &mut Writer, table: &mut W, seat: &mut W:
     requires depth { open_message_count writer.old.packet ≡ 0 }
     ensures agrees { Agrees (W.means.setup table.old) (W.means.place seat.old) (W.means.view table.new seat.new) writer.new }
     ensures route { writer.new.route ≡ writer.old.route }
-    ensures stalled { is_stalled_state writer.old.state ≡ true → (writer.new ≡ writer.old) × (table.new ≡ table.old) × (seat.new ≡ seat.old) }
+    ensures stalled { is_stalled_state writer.old.state ≡ true → (writer.new ≡ writer.old) × (table.new ≡ table.old)
+        × (seat.new ≡ seat.old) }
     ensures goes { is_stalled_state writer.new.state ≡ is_stalled_state writer.old.state }
     ensures ended { is_stalled_state writer.old.state ≡ false → is_begun writer.new.packet ≡ false }
     ensures held { is_stalled_state writer.old.state ≡ false → is_empty writer.new.state ≡ writer.new.follows_loss }
-    ensures notes { is_stalled_state writer.old.state ≡ false → (W.means.view table.new seat.new).calls ≡ (W.means.view table.old seat.old).calls ++ call.Finished ∷ [] }
-    ensures others { record (W.means.view table.new seat.new) { calls = (W.means.view table.old seat.old).calls } ≡ W.means.view table.old seat.old }
+    ensures notes { is_stalled_state writer.old.state ≡ false
+        → (W.means.view table.new seat.new).calls ≡ (W.means.view table.old seat.old).calls ++ call.Finished ∷ [] }
+    ensures others { record (W.means.view table.new seat.new) { calls = (W.means.view table.old seat.old).calls }
+        ≡ W.means.view table.old seat.old }
     ensures quiet { IsQuiet W.means table.old seat.old table.new seat.new }
 {
     if is_stalled(&writer.state) {
@@ -51,11 +54,13 @@ pub(crate) fn flush<W: Words>(writer: &mut Writer, table: &mut W, seat: &mut W::
     requires none_begun { is_begun writer.old.packet ≡ false }
     ensures agrees { Agrees (W.means.setup table.old) (W.means.place seat.old) (W.means.view table.new seat.new) writer.new }
     ensures route { writer.new.route ≡ writer.old.route }
-    ensures stalled { is_stalled_state writer.old.state ≡ true → (writer.new ≡ writer.old) × (table.new ≡ table.old) × (seat.new ≡ seat.old) }
+    ensures stalled { is_stalled_state writer.old.state ≡ true → (writer.new ≡ writer.old) × (table.new ≡ table.old)
+        × (seat.new ≡ seat.old) }
     ensures goes { is_stalled_state writer.new.state ≡ is_stalled_state writer.old.state }
     ensures none_begun { is_begun writer.new.packet ≡ false }
     ensures none_held { is_empty writer.new.state ≡ true }
-    ensures notes { is_stalled_state writer.old.state ≡ false → (W.means.view table.new seat.new).calls ≡ (W.means.view table.old seat.old).calls ++ call.Flushed ∷ [] }
+    ensures notes { is_stalled_state writer.old.state ≡ false
+        → (W.means.view table.new seat.new).calls ≡ (W.means.view table.old seat.old).calls ++ call.Flushed ∷ [] }
     ensures quiet { IsQuiet W.means table.old seat.old table.new seat.new }
 {
     if is_stalled(&writer.state) {

@@ -181,7 +181,8 @@ impl OpenFragment {
         requires some_open { 0 < length pending.old.holes }
         requires fits { value < 2 ^ 28 }
         requires room { length pending.old.unsent + holes_outside self.old.held.id pending.old.holes ≤ MAX_PATCHES }
-        requires here { (hole : _) (outer : _) → pending.old.holes ≡ outer ++ hole ∷ [] → hole.chunk_id ≡ self.old.held.id → hole.offset + 4 ≤ vec_len self.old.held.body.payload }
+        requires here { (hole : _) (outer : _) → pending.old.holes ≡ outer ++ hole ∷ [] → hole.chunk_id ≡ self.old.held.id
+            → hole.offset + 4 ≤ vec_len self.old.held.body.payload }
         ensures { AnswersClose self.old self.new pending.old pending.new value }
     {
         if let Closed::Here { offset, bytes } = pending.close_hole(self.held.id, value) {
@@ -192,7 +193,8 @@ impl OpenFragment {
     /// The fragment ends: its size is put in.
     pub fn end(self) -> HeldChunk
         ensures held { result.held ≡ record self.held { body = record self.held.body { payload = result.held.body.payload } } }
-        ensures bytes { result.held.body.payload.items ≡ with_bytes self.held.body.payload.items self.start (redundant (self.at - self.start - 4)) }
+        ensures bytes { result.held.body.payload.items
+            ≡ with_bytes self.held.body.payload.items self.start (redundant (self.at - self.start - 4)) }
         ensures len { vec_len result.held.body.payload ≡ vec_len self.held.body.payload }
         ensures sealed { result.sealed ≡ self.start }
         ensures at { result.at ≡ self.at }

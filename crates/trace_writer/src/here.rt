@@ -24,7 +24,8 @@ pub(crate) fn put_text_here(
     requires begun { is_begun writer.old.packet ≡ true }
     requires size { size ≡ length (bytes_head field len) }
     requires fits { len_of writer.old.packet + (size + times * length text.now) ≤ MAX_PACKET_LEN }
-    ensures fits { (fragment : OpenFragment) → writer.old.state ≡ Writing fragment → fragment.at + (size + times * length text.now) ≤ vec_len fragment.held.body.payload → result ≡ true }
+    ensures fits { (fragment : OpenFragment) → writer.old.state ≡ Writing fragment
+        → fragment.at + (size + times * length text.now) ≤ vec_len fragment.held.body.payload → result ≡ true }
     ensures unchanged { result ≡ false → writer.new ≡ writer.old }
     ensures puts { result ≡ true → PutsField writer.old writer.new (bytes_head field len ++ repeat times text.now) }
 {
@@ -47,7 +48,8 @@ pub(crate) fn put_number_here(writer: &mut Writer, field: u32, value: u64, size:
     requires begun { is_begun writer.old.packet ≡ true }
     requires size { size ≡ length (number_field field value) }
     requires fits { len_of writer.old.packet + size ≤ MAX_PACKET_LEN }
-    ensures fits { (fragment : OpenFragment) → writer.old.state ≡ Writing fragment → fragment.at + size ≤ vec_len fragment.held.body.payload → result ≡ true }
+    ensures fits { (fragment : OpenFragment) → writer.old.state ≡ Writing fragment
+        → fragment.at + size ≤ vec_len fragment.held.body.payload → result ≡ true }
     ensures unchanged { result ≡ false → writer.new ≡ writer.old }
     ensures puts { result ≡ true → PutsField writer.old writer.new (number_field field value) }
 {
@@ -73,7 +75,8 @@ pub(crate) fn put_nested_here(writer: &mut Writer, field: u32, size: u32) -> boo
     requires fits { len_of writer.old.packet + (size + 4) ≤ MAX_PACKET_LEN }
     requires depth { open_message_count writer.old.packet < MAX_OPEN_HOLES }
     requires few { (fragment : OpenFragment) → writer.old.state ≡ Writing fragment → length writer.old.pending.holes < MAX_OPEN_HOLES }
-    ensures fits { (fragment : OpenFragment) → writer.old.state ≡ Writing fragment → fragment.at + (size + 4) ≤ vec_len fragment.held.body.payload → result ≡ true }
+    ensures fits { (fragment : OpenFragment) → writer.old.state ≡ Writing fragment
+        → fragment.at + (size + 4) ≤ vec_len fragment.held.body.payload → result ≡ true }
     ensures unchanged { result ≡ false → writer.new ≡ writer.old }
     ensures puts { result ≡ true → PutsNested writer.old writer.new (nested_tag field) }
 {

@@ -44,7 +44,8 @@ impl OpenPacket {
     /// Whether a field of so many bytes may come next.
     #[inline(always)]
     pub fn check_field(&self, field: u32, more: u64) -> Result<(), CallFault>
-        ensures { MatchResult result (λ _. field_refusal (length self.now.starts.items) self.now.len field more ≡ None) (λ fault. field_refusal (length self.now.starts.items) self.now.len field more ≡ Some fault) }
+        ensures { MatchResult result (λ _. field_refusal (length self.now.starts.items) self.now.len field more
+            ≡ None) (λ fault. field_refusal (length self.now.starts.items) self.now.len field more ≡ Some fault) }
     {
         if self.starts.is_empty() && is_reserved(field) {
             return Err(CallFault::Reserved { field });
@@ -59,7 +60,8 @@ impl OpenPacket {
     #[inline(always)]
     pub fn check_nested(&self, field: u32, tag_len: u32) -> Result<(), CallFault>
         requires { tag_len ≤ 10 }
-        ensures refusal { MatchResult result (λ _. nested_refusal (length self.now.starts.items) self.now.len field tag_len ≡ None) (λ fault. nested_refusal (length self.now.starts.items) self.now.len field tag_len ≡ Some fault) }
+        ensures refusal { MatchResult result (λ _. nested_refusal (length self.now.starts.items) self.now.len field tag_len
+            ≡ None) (λ fault. nested_refusal (length self.now.starts.items) self.now.len field tag_len ≡ Some fault) }
         ensures shallow { IfOk result (λ _. length self.now.starts.items < MAX_OPEN_HOLES) }
     {
         if self.starts.is_empty() && is_reserved(field) {
@@ -99,7 +101,8 @@ impl OpenPacket {
         requires some { 0 < length self.old.starts.items }
         requires within { (start : ℕ) (outer : _) → self.old.starts.items ≡ outer ++ start ∷ [] → start ≤ self.old.len }
         ensures len { self.new.len ≡ self.old.len }
-        ensures starts { (start : ℕ) (outer : _) → self.old.starts.items ≡ outer ++ start ∷ [] → (self.new.starts.items ≡ outer) × (result ≡ self.old.len - start) }
+        ensures starts { (start : ℕ) (outer : _) → self.old.starts.items ≡ outer ++ start ∷ [] → (self.new.starts.items ≡ outer)
+            × (result ≡ self.old.len - start) }
     {
         let Some(start) = self.starts.pop() else {
             unreachable!()

@@ -40,10 +40,12 @@ pub(crate) fn run_on<W: Words, L: Ledger, H: HelperOn<W>>(
     requires seat { W.means.sits table.old seat.old }
     requires needs { H.needs help.old table.old }
     requires route { IsRoute (W.means.setup table.old) (W.means.place seat.old) route.now }
-    requires inside { IsInPacket (site_of (W.means.setup table.old) (W.means.place seat.old) route.now) (W.means.view table.old seat.old) pending.old fragment }
+    requires inside { IsInPacket (site_of (W.means.setup table.old) (W.means.place seat.old) route.now) (W.means.view table.old seat.old)
+        pending.old fragment }
     requires filled { vec_len fragment.held.body.payload < fragment.at + 4 }
     requires ids { HasIds fragment 1 }
-    ensures flow { Continues (W.means.setup table.old) (W.means.place seat.old) route.now (W.means.view table.old seat.old) (W.means.view table.new seat.new) pending.old pending.new fragment result }
+    ensures flow { Continues (W.means.setup table.old) (W.means.place seat.old) route.now (W.means.view table.old seat.old)
+        (W.means.view table.new seat.new) pending.old pending.new fragment result }
     ensures work { IsWork W.means H.needs H.helps
         route.now help.old table.old seat.old steps.old (is_stopped result) help.new table.new seat.new steps.new }
 {
@@ -65,10 +67,12 @@ fn run_on_or_drop<W: Words, L: Ledger>(
     requires seat { W.means.sits table.old seat.old }
     requires drops { route.now.spec.policy ≡ Drops }
     requires route { IsRoute (W.means.setup table.old) (W.means.place seat.old) route.now }
-    requires inside { IsInPacket (site_of (W.means.setup table.old) (W.means.place seat.old) route.now) (W.means.view table.old seat.old) pending.old fragment }
+    requires inside { IsInPacket (site_of (W.means.setup table.old) (W.means.place seat.old) route.now) (W.means.view table.old seat.old)
+        pending.old fragment }
     requires filled { vec_len fragment.held.body.payload < fragment.at + 4 }
     requires ids { HasIds fragment 1 }
-    ensures flow { Continues (W.means.setup table.old) (W.means.place seat.old) route.now (W.means.view table.old seat.old) (W.means.view table.new seat.new) pending.old pending.new fragment result }
+    ensures flow { Continues (W.means.setup table.old) (W.means.place seat.old) route.now (W.means.view table.old seat.old)
+        (W.means.view table.new seat.new) pending.old pending.new fragment result }
     ensures round { MakesRound W.means route.now (is_stopped result) table.old seat.old table.new seat.new }
     ensures counts { steps.new + (length (W.means.view table.old seat.old).asked + length (W.means.view table.old seat.old).begun)
         ≡ steps.old + (length (W.means.view table.new seat.new).asked + length (W.means.view table.new seat.new).begun) }
@@ -98,10 +102,12 @@ fn run_on_or_stall<W: Words, L: Ledger, H: HelperOn<W>>(
     requires needs { H.needs help.old table.old }
     requires stalls { route.now.spec.policy ≡ Stalls }
     requires route { IsRoute (W.means.setup table.old) (W.means.place seat.old) route.now }
-    requires inside { IsInPacket (site_of (W.means.setup table.old) (W.means.place seat.old) route.now) (W.means.view table.old seat.old) pending.old fragment }
+    requires inside { IsInPacket (site_of (W.means.setup table.old) (W.means.place seat.old) route.now) (W.means.view table.old seat.old)
+        pending.old fragment }
     requires filled { vec_len fragment.held.body.payload < fragment.at + 4 }
     requires ids { HasIds fragment 1 }
-    ensures flow { Continues (W.means.setup table.old) (W.means.place seat.old) route.now (W.means.view table.old seat.old) (W.means.view table.new seat.new) pending.old pending.new fragment result }
+    ensures flow { Continues (W.means.setup table.old) (W.means.place seat.old) route.now (W.means.view table.old seat.old)
+        (W.means.view table.new seat.new) pending.old pending.new fragment result }
     ensures work { IsWork W.means H.needs H.helps
         route.now help.old table.old seat.old steps.old (is_stopped result) help.new table.new seat.new steps.new }
 {
@@ -126,8 +132,10 @@ fn give_up<W: Words>(
     requires drops { route.now.spec.policy ≡ Drops }
     requires route { IsRoute (W.means.setup table.old) (W.means.place seat.old) route.now }
     requires filled { vec_len fragment.held.body.payload < fragment.at + 4 }
-    requires inside { IsInPacket (site_of (W.means.setup table.old) (W.means.place seat.old) route.now) (W.means.view table.old seat.old) pending.old fragment }
-    ensures stops { StopsHere (site_of (W.means.setup table.old) (W.means.place seat.old) route.now) (W.means.view table.old seat.old) (W.means.view table.new seat.new) pending.old pending.new fragment }
+    requires inside { IsInPacket (site_of (W.means.setup table.old) (W.means.place seat.old) route.now) (W.means.view table.old seat.old)
+        pending.old fragment }
+    ensures stops { StopsHere (site_of (W.means.setup table.old) (W.means.place seat.old) route.now) (W.means.view table.old seat.old)
+        (W.means.view table.new seat.new) pending.old pending.new fragment }
     ensures quiet { IsQuiet W.means table.old seat.old table.new seat.new }
 {
     let mut fragment = fragment;
@@ -153,9 +161,11 @@ pub(crate) fn put_piece<W: Words, L: Ledger, H: HelperOn<W>>(
     requires seat { W.means.sits table.old seat.old }
     requires needs { H.needs help.old table.old }
     requires route { IsRoute (W.means.setup table.old) (W.means.place seat.old) route.now }
-    requires inside { IsInPacket (site_of (W.means.setup table.old) (W.means.place seat.old) route.now) (W.means.view table.old seat.old) pending.old fragment }
+    requires inside { IsInPacket (site_of (W.means.setup table.old) (W.means.place seat.old) route.now) (W.means.view table.old seat.old)
+        pending.old fragment }
     requires ids { HasIds fragment (length piece.now) }
-    ensures flow { Flows (W.means.setup table.old) (W.means.place seat.old) route.now (W.means.view table.old seat.old) (W.means.view table.new seat.new) pending.old pending.new fragment piece.now result }
+    ensures flow { Flows (W.means.setup table.old) (W.means.place seat.old) route.now (W.means.view table.old seat.old)
+        (W.means.view table.new seat.new) pending.old pending.new fragment piece.now result }
     ensures work { IsWork W.means H.needs H.helps
         route.now help.old table.old seat.old steps.old (is_stopped result) help.new table.new seat.new steps.new }
 {
@@ -189,9 +199,11 @@ pub(crate) fn put_times<W: Words, L: Ledger, H: HelperOn<W>>(
     requires seat { W.means.sits table.old seat.old }
     requires needs { H.needs help.old table.old }
     requires route { IsRoute (W.means.setup table.old) (W.means.place seat.old) route.now }
-    requires inside { IsInPacket (site_of (W.means.setup table.old) (W.means.place seat.old) route.now) (W.means.view table.old seat.old) pending.old fragment }
+    requires inside { IsInPacket (site_of (W.means.setup table.old) (W.means.place seat.old) route.now) (W.means.view table.old seat.old)
+        pending.old fragment }
     requires ids { HasIds fragment (times * length piece.now) }
-    ensures flow { Flows (W.means.setup table.old) (W.means.place seat.old) route.now (W.means.view table.old seat.old) (W.means.view table.new seat.new) pending.old pending.new fragment (repeat times piece.now) result }
+    ensures flow { Flows (W.means.setup table.old) (W.means.place seat.old) route.now (W.means.view table.old seat.old)
+        (W.means.view table.new seat.new) pending.old pending.new fragment (repeat times piece.now) result }
     ensures work { IsWork W.means H.needs H.helps
         route.now help.old table.old seat.old steps.old (is_stopped result) help.new table.new seat.new steps.new }
 {
@@ -223,10 +235,12 @@ pub(crate) fn put_length<W: Words, L: Ledger, H: HelperOn<W>>(
     requires seat { W.means.sits table.old seat.old }
     requires needs { H.needs help.old table.old }
     requires route { IsRoute (W.means.setup table.old) (W.means.place seat.old) route.now }
-    requires inside { IsInPacket (site_of (W.means.setup table.old) (W.means.place seat.old) route.now) (W.means.view table.old seat.old) pending.old fragment }
+    requires inside { IsInPacket (site_of (W.means.setup table.old) (W.means.place seat.old) route.now) (W.means.view table.old seat.old)
+        pending.old fragment }
     requires ids { HasIds fragment 4 }
     requires few { length pending.old.holes < MAX_OPEN_HOLES }
-    ensures flow { SetsLength (W.means.setup table.old) (W.means.place seat.old) route.now (W.means.view table.old seat.old) (W.means.view table.new seat.new) pending.old pending.new fragment result }
+    ensures flow { SetsLength (W.means.setup table.old) (W.means.place seat.old) route.now (W.means.view table.old seat.old)
+        (W.means.view table.new seat.new) pending.old pending.new fragment result }
     ensures work { IsWork W.means H.needs H.helps
         route.now help.old table.old seat.old steps.old (is_stopped result) help.new table.new seat.new steps.new }
 {
@@ -260,9 +274,12 @@ pub(crate) fn put_field<W: Words, L: Ledger, H: HelperOn<W>>(
     requires seat { W.means.sits table.old seat.old }
     requires needs { H.needs help.old table.old }
     requires route { IsRoute (W.means.setup table.old) (W.means.place seat.old) route.now }
-    requires inside { IsInPacket (site_of (W.means.setup table.old) (W.means.place seat.old) route.now) (W.means.view table.old seat.old) pending.old fragment }
+    requires inside { IsInPacket (site_of (W.means.setup table.old) (W.means.place seat.old) route.now) (W.means.view table.old seat.old)
+        pending.old fragment }
     requires ids { HasIds fragment (length head.now + times * length text.now) }
-    ensures flow { Writes (W.means.setup table.old) (W.means.place seat.old) route.now (W.means.view table.old seat.old) (W.means.view table.new seat.new) pending.old pending.new fragment (length head.now + times * length text.now) (with_more (head.now ++ repeat times text.now)) result }
+    ensures flow { Writes (W.means.setup table.old) (W.means.place seat.old) route.now (W.means.view table.old seat.old)
+        (W.means.view table.new seat.new) pending.old pending.new fragment (length head.now + times * length text.now)
+        (with_more (head.now ++ repeat times text.now)) result }
     ensures work { IsWork W.means H.needs H.helps
         route.now help.old table.old seat.old steps.old (is_stopped result) help.new table.new seat.new steps.new }
 {
@@ -286,10 +303,13 @@ pub(crate) fn put_nested<W: Words, L: Ledger, H: HelperOn<W>>(
     requires seat { W.means.sits table.old seat.old }
     requires needs { H.needs help.old table.old }
     requires route { IsRoute (W.means.setup table.old) (W.means.place seat.old) route.now }
-    requires inside { IsInPacket (site_of (W.means.setup table.old) (W.means.place seat.old) route.now) (W.means.view table.old seat.old) pending.old fragment }
+    requires inside { IsInPacket (site_of (W.means.setup table.old) (W.means.place seat.old) route.now) (W.means.view table.old seat.old)
+        pending.old fragment }
     requires ids { HasIds fragment (length tag.now + 4) }
     requires few { length pending.old.holes < MAX_OPEN_HOLES }
-    ensures flow { Writes (W.means.setup table.old) (W.means.place seat.old) route.now (W.means.view table.old seat.old) (W.means.view table.new seat.new) pending.old pending.new fragment (length tag.now + 4) (λ (packet : Packet). with_open (with_more tag.now packet)) result }
+    ensures flow { Writes (W.means.setup table.old) (W.means.place seat.old) route.now (W.means.view table.old seat.old)
+        (W.means.view table.new seat.new) pending.old pending.new fragment (length tag.now + 4)
+        (λ (packet : Packet). with_open (with_more tag.now packet)) result }
     ensures work { IsWork W.means H.needs H.helps
         route.now help.old table.old seat.old steps.old (is_stopped result) help.new table.new seat.new steps.new }
 {

@@ -57,7 +57,8 @@ impl<S> WriterCore<S> {
         ensures going { is_stalled result ≡ false }
         ensures agrees { (setup : Setup) (place : ℕ) → slice_get setup.writers place ≡ Some spec
             → HasProducer setup spec.producer → range_of setup (producer_of setup place) ≡ range_in arbiter
-            → ((chunk : ℕ) → IsChunkOf setup (producer_of setup place) chunk → (spot setup chunk).payload_size ≡ payload_size geometry.page_size geometry.chunks)
+            → ((chunk : ℕ) → IsChunkOf setup (producer_of setup place) chunk
+            → (spot setup chunk).payload_size ≡ payload_size geometry.page_size geometry.chunks)
             → CoreAgrees setup place newcomer result }
     {
         let payload_size = geometry.payload_size();
@@ -86,10 +87,12 @@ impl<S> WriterCore<S> {
     ) -> Result<Begun, CallFault>
         requires seat { W.means.sits table.old self.old.seat }
         requires needs { H.needs help.old table.old }
-        requires agrees { CoreAgrees (W.means.setup table.old) (W.means.place self.old.seat) (W.means.view table.old self.old.seat) self.old }
+        requires agrees { CoreAgrees (W.means.setup table.old) (W.means.place self.old.seat) (W.means.view table.old self.old.seat)
+            self.old }
         requires none_begun { in_packet (W.means.view table.old self.old.seat) ≡ false }
         requires ids { length (W.means.view table.old self.old.seat).begun + PACKET_IDS ≤ ID_LIMIT }
-        ensures agrees { CoreAgrees (W.means.setup table.old) (W.means.place self.old.seat) (W.means.view table.new self.new.seat) self.new }
+        ensures agrees { CoreAgrees (W.means.setup table.old) (W.means.place self.old.seat) (W.means.view table.new self.new.seat)
+            self.new }
         ensures needs { H.needs help.new table.new }
         ensures others { LeavesOthers W.means table.old self.old.seat table.new self.new.seat }
         ensures refused { (fault : CallFault) → refusal_of self.old None ≡ Some fault
@@ -122,22 +125,29 @@ impl<S> WriterCore<S> {
     ) -> Result<(), CallFault>
         requires seat { W.means.sits table.old self.old.seat }
         requires needs { H.needs help.old table.old }
-        requires agrees { CoreAgrees (W.means.setup table.old) (W.means.place self.old.seat) (W.means.view table.old self.old.seat) self.old }
+        requires agrees { CoreAgrees (W.means.setup table.old) (W.means.place self.old.seat) (W.means.view table.old self.old.seat)
+            self.old }
         requires begun { in_packet (W.means.view table.old self.old.seat) ≡ true }
         requires least { 1 ≤ field }
         requires most { field ≤ MAX_FIELD }
-        ensures agrees { CoreAgrees (W.means.setup table.old) (W.means.place self.old.seat) (W.means.view table.new self.new.seat) self.new }
+        ensures agrees { CoreAgrees (W.means.setup table.old) (W.means.place self.old.seat) (W.means.view table.new self.new.seat)
+            self.new }
         ensures needs { H.needs help.new table.new }
         ensures others { LeavesOthers W.means table.old self.old.seat table.new self.new.seat }
-        ensures refused { (fault : CallFault) → refusal_of self.old (field_fault (W.means.view table.old self.old.seat) field (length (number_field field value))) ≡ Some fault
+        ensures refused { (fault : CallFault)
+            → refusal_of self.old (field_fault (W.means.view table.old self.old.seat) field (length (number_field field value)))
+            ≡ Some fault
             → LeavesAll fault result self.old self.new table.old table.new help.old help.new steps.old steps.new }
-        ensures answers { refusal_of self.old (field_fault (W.means.view table.old self.old.seat) field (length (number_field field value))) ≡ None
+        ensures answers { refusal_of self.old (field_fault (W.means.view table.old self.old.seat) field
+            (length (number_field field value))) ≡ None
             → MatchResult result (λ _. is_stalled self.new ≡ false) (λ fault. (fault ≡ call_fault.Stalled) × (is_stalled self.new ≡ true)) }
-        ensures done { refusal_of self.old (field_fault (W.means.view table.old self.old.seat) field (length (number_field field value))) ≡ None → (stopped : Bool) ×
+        ensures done { refusal_of self.old (field_fault (W.means.view table.old self.old.seat) field (length (number_field field value)))
+            ≡ None → (stopped : Bool) ×
             IsAsked W.means H.needs H.helps
             (route_of self.old) help.old table.old self.old.seat steps.old stopped (written_as stopped (route_of self.old).spec.policy (call.Number field value))
             (is_stalled self.new) help.new table.new self.new.seat steps.new }
-        ensures asked { FitsHere self.old (length (number_field field value)) → (W.means.view table.new self.new.seat).asked ≡ (W.means.view table.old self.old.seat).asked }
+        ensures asked { FitsHere self.old (length (number_field field value))
+            → (W.means.view table.new self.new.seat).asked ≡ (W.means.view table.old self.old.seat).asked }
         ensures in_packet { in_packet (W.means.view table.new self.new.seat) ≡ true }
         ensures depth { open_depth (W.means.view table.new self.new.seat) ≡ open_depth (W.means.view table.old self.old.seat) }
         ensures route { route_of self.new ≡ route_of self.old }
@@ -170,23 +180,29 @@ impl<S> WriterCore<S> {
     ) -> Result<(), CallFault>
         requires seat { W.means.sits table.old self.old.seat }
         requires needs { H.needs help.old table.old }
-        requires agrees { CoreAgrees (W.means.setup table.old) (W.means.place self.old.seat) (W.means.view table.old self.old.seat) self.old }
+        requires agrees { CoreAgrees (W.means.setup table.old) (W.means.place self.old.seat) (W.means.view table.old self.old.seat)
+            self.old }
         requires begun { in_packet (W.means.view table.old self.old.seat) ≡ true }
         requires least { 1 ≤ field }
         requires most { field ≤ MAX_FIELD }
         requires text { length value.now ≤ MAX_INPUT }
-        ensures agrees { CoreAgrees (W.means.setup table.old) (W.means.place self.old.seat) (W.means.view table.new self.new.seat) self.new }
+        ensures agrees { CoreAgrees (W.means.setup table.old) (W.means.place self.old.seat) (W.means.view table.new self.new.seat)
+            self.new }
         ensures needs { H.needs help.new table.new }
         ensures others { LeavesOthers W.means table.old self.old.seat table.new self.new.seat }
-        ensures refused { (fault : CallFault) → refusal_of self.old (field_fault (W.means.view table.old self.old.seat) field (bytes_size field times value.now)) ≡ Some fault
+        ensures refused { (fault : CallFault)
+            → refusal_of self.old (field_fault (W.means.view table.old self.old.seat) field (bytes_size field times value.now)) ≡ Some fault
             → LeavesAll fault result self.old self.new table.old table.new help.old help.new steps.old steps.new }
-        ensures answers { refusal_of self.old (field_fault (W.means.view table.old self.old.seat) field (bytes_size field times value.now)) ≡ None
+        ensures answers { refusal_of self.old (field_fault (W.means.view table.old self.old.seat) field (bytes_size field times value.now))
+            ≡ None
             → MatchResult result (λ _. is_stalled self.new ≡ false) (λ fault. (fault ≡ call_fault.Stalled) × (is_stalled self.new ≡ true)) }
-        ensures done { refusal_of self.old (field_fault (W.means.view table.old self.old.seat) field (bytes_size field times value.now)) ≡ None → (stopped : Bool) ×
+        ensures done { refusal_of self.old (field_fault (W.means.view table.old self.old.seat) field (bytes_size field times value.now))
+            ≡ None → (stopped : Bool) ×
             IsAsked W.means H.needs H.helps
             (route_of self.old) help.old table.old self.old.seat steps.old stopped (written_as stopped (route_of self.old).spec.policy (call.Bytes field value.now times))
             (is_stalled self.new) help.new table.new self.new.seat steps.new }
-        ensures asked { FitsHere self.old (bytes_size field times value.now) → (W.means.view table.new self.new.seat).asked ≡ (W.means.view table.old self.old.seat).asked }
+        ensures asked { FitsHere self.old (bytes_size field times value.now)
+            → (W.means.view table.new self.new.seat).asked ≡ (W.means.view table.old self.old.seat).asked }
         ensures in_packet { in_packet (W.means.view table.new self.new.seat) ≡ true }
         ensures depth { open_depth (W.means.view table.new self.new.seat) ≡ open_depth (W.means.view table.old self.old.seat) }
         ensures route { route_of self.new ≡ route_of self.old }
@@ -222,11 +238,13 @@ impl<S> WriterCore<S> {
     ) -> Result<(), CallFault>
         requires seat { W.means.sits table.old self.old.seat }
         requires needs { H.needs help.old table.old }
-        requires agrees { CoreAgrees (W.means.setup table.old) (W.means.place self.old.seat) (W.means.view table.old self.old.seat) self.old }
+        requires agrees { CoreAgrees (W.means.setup table.old) (W.means.place self.old.seat) (W.means.view table.old self.old.seat)
+            self.old }
         requires begun { in_packet (W.means.view table.old self.old.seat) ≡ true }
         requires least { 1 ≤ field }
         requires most { field ≤ MAX_FIELD }
-        ensures agrees { CoreAgrees (W.means.setup table.old) (W.means.place self.old.seat) (W.means.view table.new self.new.seat) self.new }
+        ensures agrees { CoreAgrees (W.means.setup table.old) (W.means.place self.old.seat) (W.means.view table.new self.new.seat)
+            self.new }
         ensures needs { H.needs help.new table.new }
         ensures others { LeavesOthers W.means table.old self.old.seat table.new self.new.seat }
         ensures refused { (fault : CallFault) → refusal_of self.old (nested_fault (W.means.view table.old self.old.seat) field) ≡ Some fault
@@ -237,7 +255,8 @@ impl<S> WriterCore<S> {
             IsAsked W.means H.needs H.helps
             (route_of self.old) help.old table.old self.old.seat steps.old stopped (written_as stopped (route_of self.old).spec.policy (call.Nested field))
             (is_stalled self.new) help.new table.new self.new.seat steps.new }
-        ensures asked { FitsHere self.old (length (nested_tag field) + 4) → (W.means.view table.new self.new.seat).asked ≡ (W.means.view table.old self.old.seat).asked }
+        ensures asked { FitsHere self.old (length (nested_tag field) + 4)
+            → (W.means.view table.new self.new.seat).asked ≡ (W.means.view table.old self.old.seat).asked }
         ensures in_packet { in_packet (W.means.view table.new self.new.seat) ≡ true }
         ensures route { route_of self.new ≡ route_of self.old }
         ensures alone { (route_of self.old).spec.policy ≡ Drops → (help.new ≡ help.old)
@@ -259,15 +278,20 @@ impl<S> WriterCore<S> {
     /// Ends the innermost nested message. Where the writer stalls nothing changes.
     pub fn end_nested<W: Words<Writer = S>>(&mut self, table: &mut W)
         requires seat { W.means.sits table.old self.old.seat }
-        requires agrees { CoreAgrees (W.means.setup table.old) (W.means.place self.old.seat) (W.means.view table.old self.old.seat) self.old }
+        requires agrees { CoreAgrees (W.means.setup table.old) (W.means.place self.old.seat) (W.means.view table.old self.old.seat)
+            self.old }
         requires depth { 0 < open_depth (W.means.view table.old self.old.seat) }
-        ensures agrees { CoreAgrees (W.means.setup table.old) (W.means.place self.old.seat) (W.means.view table.new self.new.seat) self.new }
+        ensures agrees { CoreAgrees (W.means.setup table.old) (W.means.place self.old.seat) (W.means.view table.new self.new.seat)
+            self.new }
         ensures stalled { is_stalled self.old ≡ true → (self.new ≡ self.old) × (table.new ≡ table.old) }
         ensures goes { is_stalled self.new ≡ is_stalled self.old }
-        ensures notes { is_stalled self.old ≡ false → (W.means.view table.new self.new.seat).calls ≡ (W.means.view table.old self.old.seat).calls ++ call.Ended ∷ [] }
-        ensures others { record (W.means.view table.new self.new.seat) { calls = (W.means.view table.old self.old.seat).calls } ≡ (W.means.view table.old self.old.seat) }
+        ensures notes { is_stalled self.old ≡ false
+            → (W.means.view table.new self.new.seat).calls ≡ (W.means.view table.old self.old.seat).calls ++ call.Ended ∷ [] }
+        ensures others { record (W.means.view table.new self.new.seat) { calls = (W.means.view table.old self.old.seat).calls }
+            ≡ (W.means.view table.old self.old.seat) }
         ensures in_packet { in_packet (W.means.view table.new self.new.seat) ≡ true }
-        ensures depth_falls { is_stalled self.old ≡ false → open_depth (W.means.view table.new self.new.seat) + 1 ≡ open_depth (W.means.view table.old self.old.seat) }
+        ensures depth_falls { is_stalled self.old ≡ false
+            → open_depth (W.means.view table.new self.new.seat) + 1 ≡ open_depth (W.means.view table.old self.old.seat) }
         ensures route { route_of self.new ≡ route_of self.old }
         ensures quiet { IsQuiet W.means table.old self.old.seat table.new self.new.seat }
     {
@@ -277,14 +301,18 @@ impl<S> WriterCore<S> {
     /// Ends the packet. Where the writer stalls nothing changes.
     pub fn finish<W: Words<Writer = S>>(&mut self, table: &mut W)
         requires seat { W.means.sits table.old self.old.seat }
-        requires agrees { CoreAgrees (W.means.setup table.old) (W.means.place self.old.seat) (W.means.view table.old self.old.seat) self.old }
+        requires agrees { CoreAgrees (W.means.setup table.old) (W.means.place self.old.seat) (W.means.view table.old self.old.seat)
+            self.old }
         requires begun { in_packet (W.means.view table.old self.old.seat) ≡ true }
         requires depth { open_depth (W.means.view table.old self.old.seat) ≡ 0 }
-        ensures agrees { CoreAgrees (W.means.setup table.old) (W.means.place self.old.seat) (W.means.view table.new self.new.seat) self.new }
+        ensures agrees { CoreAgrees (W.means.setup table.old) (W.means.place self.old.seat) (W.means.view table.new self.new.seat)
+            self.new }
         ensures stalled { is_stalled self.old ≡ true → (self.new ≡ self.old) × (table.new ≡ table.old) }
         ensures goes { is_stalled self.new ≡ is_stalled self.old }
-        ensures notes { is_stalled self.old ≡ false → (W.means.view table.new self.new.seat).calls ≡ (W.means.view table.old self.old.seat).calls ++ call.Finished ∷ [] }
-        ensures others { record (W.means.view table.new self.new.seat) { calls = (W.means.view table.old self.old.seat).calls } ≡ (W.means.view table.old self.old.seat) }
+        ensures notes { is_stalled self.old ≡ false
+            → (W.means.view table.new self.new.seat).calls ≡ (W.means.view table.old self.old.seat).calls ++ call.Finished ∷ [] }
+        ensures others { record (W.means.view table.new self.new.seat) { calls = (W.means.view table.old self.old.seat).calls }
+            ≡ (W.means.view table.old self.old.seat) }
         ensures in_packet { is_stalled self.old ≡ false → in_packet (W.means.view table.new self.new.seat) ≡ false }
         ensures route { route_of self.new ≡ route_of self.old }
         ensures quiet { IsQuiet W.means table.old self.old.seat table.new self.new.seat }
@@ -295,13 +323,16 @@ impl<S> WriterCore<S> {
     /// Completes the held chunk, where there is one. Where the writer stalls nothing changes.
     pub fn flush<W: Words<Writer = S>>(&mut self, table: &mut W)
         requires seat { W.means.sits table.old self.old.seat }
-        requires agrees { CoreAgrees (W.means.setup table.old) (W.means.place self.old.seat) (W.means.view table.old self.old.seat) self.old }
+        requires agrees { CoreAgrees (W.means.setup table.old) (W.means.place self.old.seat) (W.means.view table.old self.old.seat)
+            self.old }
         requires none_begun { in_packet (W.means.view table.old self.old.seat) ≡ false }
-        ensures agrees { CoreAgrees (W.means.setup table.old) (W.means.place self.old.seat) (W.means.view table.new self.new.seat) self.new }
+        ensures agrees { CoreAgrees (W.means.setup table.old) (W.means.place self.old.seat) (W.means.view table.new self.new.seat)
+            self.new }
         ensures none_held { holds_chunk self.new ≡ false }
         ensures stalled { is_stalled self.old ≡ true → (self.new ≡ self.old) × (table.new ≡ table.old) }
         ensures goes { is_stalled self.new ≡ is_stalled self.old }
-        ensures notes { is_stalled self.old ≡ false → (W.means.view table.new self.new.seat).calls ≡ (W.means.view table.old self.old.seat).calls ++ call.Flushed ∷ [] }
+        ensures notes { is_stalled self.old ≡ false
+            → (W.means.view table.new self.new.seat).calls ≡ (W.means.view table.old self.old.seat).calls ++ call.Flushed ∷ [] }
         ensures in_packet { in_packet (W.means.view table.new self.new.seat) ≡ false }
         ensures route { route_of self.new ≡ route_of self.old }
         ensures quiet { IsQuiet W.means table.old self.old.seat table.new self.new.seat }
@@ -311,7 +342,8 @@ impl<S> WriterCore<S> {
 
     /// Chunk ids that are left.
     pub fn ids_left(&self) -> u64
-        ensures { (setup : Setup) (place : ℕ) (view : WriterView) → CoreAgrees setup place view self.now → result ≡ ID_LIMIT - length view.begun }
+        ensures { (setup : Setup) (place : ℕ) (view : WriterView) → CoreAgrees setup place view self.now
+            → result ≡ ID_LIMIT - length view.begun }
     {
         let next_id = match &self.writer.state {
             State::Between(chunk) => chunk.held.id + 1,
@@ -325,21 +357,24 @@ impl<S> WriterCore<S> {
 
     /// Packets that were begun.
     pub fn begun(&self) -> u64
-        ensures { (setup : Setup) (place : ℕ) (view : WriterView) → CoreAgrees setup place view self.now → result ≡ counted (begun_count view.calls) }
+        ensures { (setup : Setup) (place : ℕ) (view : WriterView) → CoreAgrees setup place view self.now
+            → result ≡ counted (begun_count view.calls) }
     {
         self.writer.begun
     }
 
     /// Those of them that were dropped at their begin.
     pub fn dropped_at_begin(&self) -> u64
-        ensures { (setup : Setup) (place : ℕ) (view : WriterView) → CoreAgrees setup place view self.now → result ≡ counted (dropped_at_begin view.calls) }
+        ensures { (setup : Setup) (place : ℕ) (view : WriterView) → CoreAgrees setup place view self.now
+            → result ≡ counted (dropped_at_begin view.calls) }
     {
         self.writer.dropped
     }
 
     /// Chunks that were completed.
     pub fn completed(&self) -> u32
-        ensures { (setup : Setup) (place : ℕ) (view : WriterView) → CoreAgrees setup place view self.now → result ≡ length (completed_images view.begun) }
+        ensures { (setup : Setup) (place : ℕ) (view : WriterView) → CoreAgrees setup place view self.now
+            → result ≡ length (completed_images view.begun) }
     {
         match &self.writer.state {
             State::Between(chunk) => chunk.held.id,
@@ -420,7 +455,8 @@ fn check_field(packet: &Option<OpenPacket>, field: u32, more: u64) -> Result<(),
 fn check_nested(packet: &Option<OpenPacket>, field: u32, tag_len: u32) -> Result<(), CallFault>
     requires begun { is_begun packet.now ≡ true }
     requires tag { tag_len ≤ 10 }
-    ensures refused { IfErr result (λ fault. nested_refusal (open_message_count packet.now) (len_of packet.now) field tag_len ≡ Some fault) }
+    ensures refused { IfErr result (λ fault. nested_refusal (open_message_count packet.now) (len_of packet.now) field tag_len
+        ≡ Some fault) }
     ensures accepted { IfOk result (λ _. nested_refusal (open_message_count packet.now) (len_of packet.now) field tag_len ≡ None) }
     ensures shallow { IfOk result (λ _. open_message_count packet.now < MAX_OPEN_HOLES) }
 {

@@ -117,11 +117,13 @@ fn make_call<W: Words, L: Ledger, H: HelperOn<W>>(
     requires seat { W.means.sits table.old writer.old.seat }
     requires needs { H.needs help.old table.old }
     requires producer { HasProducer (W.means.setup table.old) 1 }
-    requires agrees { CoreAgrees (W.means.setup table.old) (W.means.place writer.old.seat) (W.means.view table.old writer.old.seat) writer.old }
+    requires agrees { CoreAgrees (W.means.setup table.old) (W.means.place writer.old.seat) (W.means.view table.old writer.old.seat)
+        writer.old }
     ensures seat { W.means.sits table.new writer.new.seat }
     ensures needs { H.needs help.new table.new }
     ensures producer { HasProducer (W.means.setup table.new) 1 }
-    ensures agrees { CoreAgrees (W.means.setup table.new) (W.means.place writer.new.seat) (W.means.view table.new writer.new.seat) writer.new }
+    ensures agrees { CoreAgrees (W.means.setup table.new) (W.means.place writer.new.seat) (W.means.view table.new writer.new.seat)
+        writer.new }
 {
     let Call {
         kind,
@@ -158,11 +160,13 @@ pub(crate) fn make_calls<W: Words, L: Ledger, H: HelperOn<W>>(
     requires seat { W.means.sits table.old writer.old.seat }
     requires needs { H.needs help.old table.old }
     requires producer { HasProducer (W.means.setup table.old) 1 }
-    requires agrees { CoreAgrees (W.means.setup table.old) (W.means.place writer.old.seat) (W.means.view table.old writer.old.seat) writer.old }
+    requires agrees { CoreAgrees (W.means.setup table.old) (W.means.place writer.old.seat) (W.means.view table.old writer.old.seat)
+        writer.old }
     ensures seat { W.means.sits table.new writer.new.seat }
     ensures needs { H.needs help.new table.new }
     ensures producer { HasProducer (W.means.setup table.new) 1 }
-    ensures agrees { CoreAgrees (W.means.setup table.new) (W.means.place writer.new.seat) (W.means.view table.new writer.new.seat) writer.new }
+    ensures agrees { CoreAgrees (W.means.setup table.new) (W.means.place writer.new.seat) (W.means.view table.new writer.new.seat)
+        writer.new }
 {
     let mut wrong = None;
     for (i, call) in calls.iter().enumerate() {

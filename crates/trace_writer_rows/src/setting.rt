@@ -50,7 +50,8 @@ fn set_up(
 ) -> Result<(PlainTable, WriterCore<PlainWriter>, Collector), Fail>
     ensures seat { IfOk result (λ made. ⟦<PlainTable as Words>⟧.means.sits made.0 made.1.seat) }
     ensures producer { IfOk result (λ made. HasProducer (⟦<PlainTable as Words>⟧.means.setup made.0) 1) }
-    ensures agrees { IfOk result (λ made. CoreAgrees (⟦<PlainTable as Words>⟧.means.setup made.0) (⟦<PlainTable as Words>⟧.means.place made.1.seat) (⟦<PlainTable as Words>⟧.means.view made.0 made.1.seat) made.1) }
+    ensures agrees { IfOk result (λ made. CoreAgrees (⟦<PlainTable as Words>⟧.means.setup made.0)
+        (⟦<PlainTable as Words>⟧.means.place made.1.seat) (⟦<PlainTable as Words>⟧.means.view made.0 made.1.seat) made.1) }
     ensures needs { IfOk result (λ made. ⟦<Collector as HelperOn<PlainTable>>⟧.needs made.2 made.0) }
 {
     let geometry = Geometry::new(4096, chunks)?;
@@ -85,7 +86,8 @@ fn end<R: Abort, L: Ledger, H: HelperOn<PlainTable>>(
     requires seat { ⟦<PlainTable as Words>⟧.means.sits table.old writer.seat }
     requires needs { H.needs help.old table.old }
     requires producer { HasProducer (⟦<PlainTable as Words>⟧.means.setup table.old) 1 }
-    requires agrees { CoreAgrees (⟦<PlainTable as Words>⟧.means.setup table.old) (⟦<PlainTable as Words>⟧.means.place writer.seat) (⟦<PlainTable as Words>⟧.means.view table.old writer.seat) writer }
+    requires agrees { CoreAgrees (⟦<PlainTable as Words>⟧.means.setup table.old) (⟦<PlainTable as Words>⟧.means.place writer.seat)
+        (⟦<PlainTable as Words>⟧.means.view table.old writer.seat) writer }
     ensures needs { H.needs help.new table.new }
     ensures producer { HasProducer (⟦<PlainTable as Words>⟧.means.setup table.new) 1 }
 {
@@ -113,7 +115,8 @@ fn play<R: Abort, L: Ledger, H: HelperOn<PlainTable>>(
     requires seat { ⟦<PlainTable as Words>⟧.means.sits table.old writer.seat }
     requires needs { H.needs help.old table.old }
     requires producer { HasProducer (⟦<PlainTable as Words>⟧.means.setup table.old) 1 }
-    requires agrees { CoreAgrees (⟦<PlainTable as Words>⟧.means.setup table.old) (⟦<PlainTable as Words>⟧.means.place writer.seat) (⟦<PlainTable as Words>⟧.means.view table.old writer.seat) writer }
+    requires agrees { CoreAgrees (⟦<PlainTable as Words>⟧.means.setup table.old) (⟦<PlainTable as Words>⟧.means.place writer.seat)
+        (⟦<PlainTable as Words>⟧.means.view table.old writer.seat) writer }
     ensures needs { H.needs help.new table.new }
     ensures producer { HasProducer (⟦<PlainTable as Words>⟧.means.setup table.new) 1 }
 {

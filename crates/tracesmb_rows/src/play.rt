@@ -54,7 +54,8 @@ pub fn status_of<R: Threads + Wait + Sync + AllocGlobal, S: Source, T: Sink + Se
         × (O.taken text.new ≡ after_told (O.taken text.old) report)) }
     ensures read_fault { IfOk result (λ status. (status ≡ 4 → Faulted (S.faults input.old) (S.faults input.new))
         × (S.faults input.old < S.faults input.new → status ≡ 4)) }
-    ensures write_fault { IfOk result (λ status. (status ≡ 5 → Faulted (T.faults trace.old) (T.faults trace.new) ⊎ Faulted (O.faults text.old) (O.faults text.new))
+    ensures write_fault { IfOk result (λ status. (status ≡ 5 → Faulted (T.faults trace.old) (T.faults trace.new)
+        ⊎ Faulted (O.faults text.old) (O.faults text.new))
         × (T.faults trace.old < T.faults trace.new → status ≡ 5)) }
     ensures untouched { IfOk result (λ status. status ≢ 0 → status ≢ 5 → status ≢ 6 → T.taken trace.new ≡ T.taken trace.old) }
 {
@@ -104,7 +105,8 @@ pub fn play<R: Threads + Wait + Sync + AllocGlobal>(
     ensures quiet { IfOk result (λ played. played.status ≡ 0 → (command : Command) → Ask (map (λ word. word.now) words.now) command
         → (LeavesReport command → ⊥) → mem_sink_taken played.text ≡ []) }
     ensures too_long { IfOk result (λ played. played.status ≡ 7 → MAX_INPUT < length input.now) }
-    ensures untouched { IfOk result (λ played. played.status ≢ 0 → played.status ≢ 5 → played.status ≢ 6 → mem_sink_taken played.trace ≡ []) }
+    ensures untouched { IfOk result (λ played. played.status ≢ 0 → played.status ≢ 5 → played.status ≢ 6
+        → mem_sink_taken played.trace ≡ []) }
 {
     let words = owned_words(rt.alloc(), words)?;
     let mut source = MemSource::new(input.to_vec(rt.alloc())?);

@@ -42,7 +42,8 @@ pub fn replay<T: Sink>(
     trace: &mut T,
 ) -> Result<Option<Done>, CommandFault>
     requires { IfOk said IsScenario }
-    ensures ends { (text : List ℕ) → GivesScenario said (scenario_of text) → Ended Command.Replay text result (T.taken trace.old) (T.taken trace.new) }
+    ensures ends { (text : List ℕ) → GivesScenario said (scenario_of text)
+        → Ended Command.Replay text result (T.taken trace.old) (T.taken trace.new) }
     ensures count { CountsWrites result (T.faults trace.old) (T.faults trace.new) }
 {
     let scenario = match said {
@@ -72,7 +73,8 @@ pub fn run<R: Threads + Wait + Sync, T: Sink + Send, G: Gate + Sync>(
     gate: &G,
 ) -> Result<Option<Done>, CommandFault>
     requires { IfOk said IsScenario }
-    ensures ends { (text : List ℕ) → GivesScenario said (scenario_of text) → Ended Command.Run text result (T.taken trace.old) (T.taken trace.new) }
+    ensures ends { (text : List ℕ) → GivesScenario said (scenario_of text)
+        → Ended Command.Run text result (T.taken trace.old) (T.taken trace.new) }
     ensures count { CountsWrites result (T.faults trace.old) (T.faults trace.new) }
 {
     let scenario = match said {

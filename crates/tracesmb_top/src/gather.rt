@@ -28,7 +28,8 @@ fn play_gathered<T: Sink>(
     requires scenario { IsScenario scenario.now }
     requires empty { pending_bytes pending.old ≡ [] }
     ensures gathers { Gathers (parts_of scenario.now) result (T.taken trace.old) (T.taken trace.new) (pending_bytes pending.new) }
-    ensures count { MatchResult result (λ _. T.faults trace.new ≡ T.faults trace.old) (λ fault. (T.faults trace.old ≤ T.faults trace.new) × CountsOne fault (T.faults trace.old) (T.faults trace.new)) }
+    ensures count { MatchResult result (λ _. T.faults trace.new ≡ T.faults trace.old) (λ fault. (T.faults trace.old ≤ T.faults trace.new)
+        × CountsOne fault (T.faults trace.old) (T.faults trace.new)) }
 {
     let mut gathered = BufferedSink::new(trace, pending);
     replay_host::replay(alloc, scenario, &mut gathered)
@@ -38,7 +39,8 @@ fn play_gathered<T: Sink>(
 pub fn play<T: Sink>(alloc: Global, scenario: &Scenario, trace: &mut T) -> Result<Done, HostFault>
     requires { IsScenario scenario.now }
     ensures plays { HasPlayed (parts_of scenario.now) result (T.taken trace.old) (T.taken trace.new) }
-    ensures count { MatchResult result (λ _. T.faults trace.new ≡ T.faults trace.old) (λ fault. (T.faults trace.old ≤ T.faults trace.new) × CountsOne fault (T.faults trace.old) (T.faults trace.new)) }
+    ensures count { MatchResult result (λ _. T.faults trace.new ≡ T.faults trace.old) (λ fault. (T.faults trace.old ≤ T.faults trace.new)
+        × CountsOne fault (T.faults trace.old) (T.faults trace.new)) }
 {
     let mut pending = match PendingBytes::new(alloc) {
         Ok(pending) => pending,

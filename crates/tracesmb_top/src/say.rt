@@ -107,7 +107,8 @@ pub fn say_report<O: Sink>(alloc: Global, text: &mut O, done: &Done) -> u8
     ensures status { (result ≡ 0) ⊎ (result ≡ 5) }
     ensures all { result ≡ 0 → O.taken text.new ≡ after_told (O.taken text.old) (report_of done.now) }
     ensures steady { result ≡ 0 → O.faults text.new ≡ O.faults text.old }
-    ensures part { result ≡ 5 → SaysBehind (O.taken text.old) (O.taken text.new) (O.faults text.old) (O.faults text.new) (report_of done.now) write_line }
+    ensures part { result ≡ 5 → SaysBehind (O.taken text.old) (O.taken text.new) (O.faults text.old) (O.faults text.new)
+        (report_of done.now) write_line }
     ensures later { O.faults text.old ≤ O.faults text.new }
 {
     match write_report(alloc, done, text) {
