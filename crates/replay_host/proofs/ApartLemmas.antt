@@ -1,12 +1,9 @@
 -- The chunks of a table's producers are apart.
-use Rattle.std.proofs.Common.{ℕ, zero, suc, ◌+◌, ◌-◌, ◌<◌, ◌≤◌, inl, inr, List, [], ◌∷◌, length, get_or, sym, subst, arith}
+use Rattle.std.proofs.Common.{ℕ, zero, suc, ◌+◌, ◌-◌, ◌<◌, ◌≤◌, inl, inr, List, [], ◌∷◌, length, get_or, arith}
 use Rattle.std.proofs.lemmas.Bool.{cases_lt}
 use Rattle.trace_base.specs.declared.policy.WriterSpec.{WriterSpec}
-use Rattle.scenario_text.specs.Scenario.{Parts}
 use Rattle.chunk_plain.specs.declared.setup.ProducerSpec.{ProducerSpec}
-use Rattle.chunk_plain.specs.Setup.{Setup}
 use Rattle.chunk_plain.specs.Laying.{chunks_in, ranges_of, setup_of}
-use Rattle.replay_model.specs.Played.{IsSetupOf}
 use Rattle.replay_host.specs.Playing.{AreApart}
 
 -- no range begins before the first one
@@ -44,7 +41,3 @@ ranges_apart producers writers producer other chunk has has_other here there = e
             (arith, order, other_order, least, least_other))
       ])
 ]
-
--- so are those of a scenario's producers
-pub setup_apart : (scenario : Parts) (setup : Setup) → IsSetupOf scenario setup → AreApart setup
-setup_apart scenario setup is = subst AreApart (sym is.laid) (ranges_apart is.specs scenario.writers)

@@ -78,9 +78,6 @@ acts_asked kind writer calls scenario before least acts asked =
 
 -- ---- where a request is due
 
-false_side : (b c d : Bool) → b ≡ false → c ≡ false → (b && d) ≡ (c && d)
-false_side b c d none other = ap (λ (x : Bool). x && d) (none ∙ sym other)
-
 -- the calls leave whether a packet is begun
 due_same : (kind : LineKind) (place : ℕ) (calls : List Call) → ((number : ℕ) (due : Bool) → is_due_after number due kind ≡ due)
     → ((account : Account) → AreAccepted account calls → is_writing (fold noted account calls).packets ≡ is_writing account.packets) → LeavesDue kind place calls

@@ -1,5 +1,5 @@
 -- What a service knows grows by one call more.
-use Rattle.std.proofs.Common.{◌≡◌, ℕ, List, [], ◌∷◌, ◌++◌, Option, Some, Result, IfSome, IfOk, OnErr, refl, sym, subst, inl, inr}
+use Rattle.std.proofs.Common.{ℕ, List, [], ◌∷◌, ◌++◌, Result, IfOk, OnErr, refl, subst, inl, inr}
 use Rattle.std.proofs.Math.Logic.{∥∥₁_map}
 use Rattle.byte_io.specs.Bytes.{Intake}
 use Rattle.byte_io.specs.declared.put.WriteFault.{WriteFault}

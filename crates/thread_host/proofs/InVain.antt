@@ -51,16 +51,6 @@ IsPlain (Begun kept) = kept ≡ true
 IsPlain GivenUp = ⊥
 IsPlain other = Unit {0}
 
-plain_is : (packets : List Packet) (call : Call) → Accepts packets call → IsPlain call
-plain_is packets (Begun kept) accepts = accepts.0
-plain_is packets (Number field value) accepts = tt
-plain_is packets (Bytes field text times) accepts = tt
-plain_is packets (Nested field) accepts = tt
-plain_is packets Ended accepts = tt
-plain_is packets GivenUp accepts = absurd accepts
-plain_is packets Finished accepts = tt
-plain_is packets Flushed accepts = tt
-
 not_dropped : (call : Call) → IsPlain call → call ≡ Begun false → ⊥
 not_dropped call plain is = true≢false (sym (subst IsPlain is plain))
 
