@@ -1,16 +1,16 @@
 -- A step of a writer that changes the entry of a chunk that it holds: its header or a payload word is stored, or it is completed.
-use Rattle.std.proofs.Common.{◌≡◌, ◌≢◌, ℕ, ◌+◌, ◌-◌, ◌*◌, ◌<◌, ◌≤◌, inl, List, length, set, get_or, subst, sym, refl, ap, ◌∙◌, arith, ⊎_elim, length-set, lt_of_not-le}
+use Rattle.std.proofs.Common.{◌≡◌, ◌≢◌, ℕ, ◌+◌, ◌-◌, ◌*◌, ◌<◌, ◌≤◌, inl, zero, suc, List, [], ◌∷◌, length, map, set, get_or, subst, sym, refl, ap, ◌∙◌, arith, ⊎_elim, length-set, lt_of_not-le}
 use native.Mathlib.Decide.{dec_le, ℕ_discrete}
 use mathlib.Core.Logic.{dite}
+use mathlib.Core.Option.{some-injective, some-ne-none}
 use Rattle.atomic_table.proofs.Lists.{at_set, set_here, set_else}
 use Rattle.chunk_plain.specs.Setup.{sequence_of}
 use Rattle.chunk_plain.specs.Payload.{byte_of, byte_at, byte_in, sealed_to}
-use Rattle.chunk_plain.specs.Views.{At, Head, Draft, Content, BegunChunk, Held, Completed, Found, taken_of}
+use Rattle.chunk_plain.specs.Views.{At, Head, Draft, Content, BegunChunk, chunk_of, Held, Completed, Found, taken_of}
 use Rattle.chunk_plain.specs.World.{World, Status, Writing, Ready, status, writer}
 use Rattle.chunk_plain.specs.Steps.{redrafts, with_head, with_word, with_words, completes, drafted, moved}
-use Rattle.chunk_plain.specs.Owned.{claims_of, reads_of, IsOwned}
+use Rattle.chunk_plain.specs.Owned.{times, claims_of, reads_of, stamped_chunks, IsOwned}
 use Rattle.chunk_plain.specs.Drafts.{MayFollow, IsDraft, HasFinished, head_of, StillHas, IsThere}
-use Rattle.chunk_plain.specs.Words.{chunk_of}
 use Rattle.chunk_plain.proofs.Lists.{at_inside, at_one}
 use Rattle.chunk_plain.proofs.Owned.{Foreign, writer_step, won_stays}
 use Rattle.chunk_plain.proofs.Sealing.{reads_same, ends_grow, word_bytes}
@@ -51,6 +51,13 @@ kept begun id i was entry other changed at apart =
     dite (ℕ_discrete i id)
     (λ same. absurd (apart (at_one begun was other id changed (subst (λ j. At begun j other) same at))))
     (λ differs. set_else begun id i entry differs ∙ at)
+
+-- an entry of the same chunk changes none of the begun chunks
+same_chunks : (begun : List BegunChunk) (id : ℕ) (was entry : BegunChunk) → At begun id was → chunk_of entry ≡ chunk_of was
+    → map chunk_of (set begun id entry) ≡ map chunk_of begun
+same_chunks [] id was entry at same = absurd (some-ne-none was (sym at))
+same_chunks (first ∷ begun) zero was entry at same = ap (λ (c : ℕ). c ∷ map chunk_of begun) (same ∙ ap chunk_of (sym (some-injective first was at)))
+same_chunks (first ∷ begun) (suc id) was entry at same = ap (λ (l : List ℕ). chunk_of first ∷ l) (same_chunks begun id was entry at same)
 
 entry_owned : (world : World) (place chunk id : ℕ) (head : Draft) (entry : BegunChunk) → IsOwned world → place < length world.writers → chunk < length world.chunks
     → At (writer world place).begun id (Held chunk head) → chunk_of entry ≡ chunk
@@ -107,7 +114,8 @@ entry_owned world place chunk id head entry o inside_w inside_c at same_chunk na
     (λ other differs. foreign_entry other place id entry (λ e. differs (sym e)))
     ((quiet_entry place id entry).1 ∙ ap reads_of (sym was))
     record {
-      wins = let same = length-set v.begun id entry in omega (arith, same, q.wins);
+      wins = λ about. q.wins about ∙ ap (λ (l : List ℕ). times about v.claimed + times about (stamped_chunks v.stamped) + times about l)
+          (sym (same_chunks v.begun id (Held chunk head) entry at same_chunk));
       next = λ stamp e. q.next stamp e ∙ sym (length-set v.begun id entry);
       named = λ i d content e. ⊎_elim
           (λ (new : (i ≡ id) × (entry ≡ Completed d content)). subst (λ (j : ℕ). (content.image.chunk_id ≡ j) × (content.image.sequence ≡ sequence_of place)) (sym new.0)

@@ -36,9 +36,19 @@ matrix R xs ys da db w c a b inside_w inside_c all cell row column u d =
     (λ not_w. changed (λ y. R u (get_or xs u da) d y) ys c d b db inside_c (λ is_c. subst (λ j. R u (get_or xs u da) j b) (sym is_c) (column u not_w (all u c)))
     (λ _. all u d))
 
+pub times-first : (x : ℕ) (ys : List ℕ) → times x (x ∷ ys) ≡ times x ys + 1
+times-first x ys = grind (arith, nat_tests)
+
+pub times-passed : (x y : ℕ) (ys : List ℕ) → x ≢ y → times x (y ∷ ys) ≡ times x ys
+times-passed x y ys differs = grind (arith, nat_tests)
+
 pub times-append : (x y : ℕ) (ys : List ℕ) → times x (ys ++ y ∷ []) ≡ times x ys + times x (y ∷ [])
 times-append x y [] = grind (arith, nat_tests)
 times-append x y (z ∷ zs) = let tail = times-append x y zs in grind (arith, nat_tests, tail)
+
+pub times-both : (x : ℕ) (xs ys : List ℕ) → times x (xs ++ ys) ≡ times x xs + times x ys
+times-both x [] ys = omega arith
+times-both x (z ∷ zs) ys = let tail = times-both x zs ys in grind (arith, nat_tests, tail)
 
 pub times-here : (x : ℕ) (ys : List ℕ) → times x (ys ++ x ∷ []) ≡ times x ys + 1
 times-here x ys = times-append x x ys ∙ grind (arith, nat_tests)
@@ -67,6 +77,20 @@ length-without x (y ∷ ys) has =
     dite (ℕ_discrete y x)
     (λ same. grind (arith, nat_tests))
     (λ differs. let less : times x (y ∷ ys) ≡ times x ys = grind (arith, nat_tests) in let tail : length (without x ys) + 1 ≡ length ys = length-without x ys (subst (λ n. 0 < n) less has) in grind (arith, nat_tests, tail, less))
+
+-- lists in which each number stands as often are as long
+pub same_many : (xs ys : List ℕ) → ((x : ℕ) → times x xs ≡ times x ys) → length xs ≡ length ys
+same_many [] [] same = refl
+same_many [] (y ∷ ys) same = absurd (let none = same y in let more = times-first y ys in omega (arith, none, more))
+same_many (x ∷ xs) ys same =
+    let first : times x (x ∷ xs) ≡ times x xs + 1 = times-first x xs in
+    let has : 0 < times x ys = let all = same x in omega (arith, all, first) in
+    let rest : length xs ≡ length (without x ys) = same_many xs (without x ys) (λ z.
+    dite (ℕ_discrete z x)
+    (λ (is : z ≡ x). subst (λ (w : ℕ). times w xs ≡ times w (without x ys)) (sym is)
+    (let less = times-without_same x ys has in let all = same x in omega (arith, less, all, first)))
+    (λ (differs : z ≢ x). let stays = times-without_other z x ys differs in let all = same z in let passed = times-passed z x xs differs in omega (arith, stays, all, passed))) in
+    let less = length-without x ys has in omega (arith, rest, less)
 
 -- an element of a list with one more at its end is an old one, or the new one in the last place
 pub at_more : {A : Type 0} (xs : List A) (y x : A) (i : ℕ) → At (xs ++ y ∷ []) i x → At xs i x ⊎ ((i ≡ length xs) × (y ≡ x))

@@ -71,7 +71,7 @@ nothing_owned place chunk = record {
 
 nothing_counted : (place : ℕ) → Counts none_taken place newcomer
 nothing_counted place = record {
-  wins = refl;
+  wins = λ about. refl;
   next = λ stamp e. absurd cc;
   named = λ id chunk content e. absurd (some-ne-none _ (sym e));
   drafts = λ id chunk draft e. absurd (some-ne-none _ (sym e));

@@ -1,15 +1,15 @@
 -- A world that is owned stays owned where one writer's view and one chunk change, and where the service's view and one chunk do.
-use Rattle.std.proofs.Common.{◌≡◌, ◌≢◌, ℕ, ◌<◌, ◌≤◌, ◌⊎◌, true, inl, Option, Some, List, [], length, set, get_or, subst, sym, refl, ap, ◌∙◌, arith, ⊎_elim, length-set}
-use Rattle.std.proofs.lemmas.List.{get_or-set_other}
+use Rattle.std.proofs.Common.{◌≡◌, ◌≢◌, ℕ, ◌+◌, ◌<◌, ◌≤◌, ◌⊎◌, true, inl, Option, Some, List, [], ◌++◌, length, map, length-append, set, get_or, subst, sym, refl, ap, ◌∙◌, arith, ⊎_elim, length-set}
+use Rattle.std.proofs.lemmas.List.{get_or-set_other, length-map}
 use Rattle.std.proofs.lemmas.Bool.Decides.{nat_tests}
 use native.Mathlib.Decide.{ℕ_discrete}
 use mathlib.Core.Logic.{dite}
-use Rattle.chunk_plain.specs.Views.{At, Ask, Look, Found, WriterView, ServiceView, Taken, newcomer, taken_of}
+use Rattle.chunk_plain.specs.Views.{At, Ask, chunk_of, Look, Found, WriterView, ServiceView, Taken, newcomer, taken_of}
 use Rattle.chunk_plain.specs.World.{World, Status, Unclaimed, Claimed, Stamped, Writing, Ready, Reading, status, writer}
 use Rattle.chunk_plain.specs.Steps.{looks_at, taken_counts, moved, served, with_writer_view, serviced}
-use Rattle.chunk_plain.specs.Owned.{times, claims_of, reads_of, Owns, Counts, Won, WonBefore, IsOwned}
+use Rattle.chunk_plain.specs.Owned.{times, claims_of, reads_of, stamped_chunks, won_chunks, Owns, Counts, Won, WonBefore, IsOwned}
 use Rattle.chunk_plain.specs.Drafts.{IsFound, IsThere}
-use Rattle.chunk_plain.proofs.Lists.{at_inside, at_more, changed, matrix}
+use Rattle.chunk_plain.proofs.Lists.{at_inside, at_more, changed, matrix, times-both, same_many}
 
 -- the status isn't one of this writer's
 abbrev pub Foreign : ℕ → Status → Type 0
@@ -256,3 +256,16 @@ looks_owned world chunk word header found o finds =
     (λ (last : (n ≡ length world.service.looks) × (new ≡ look)).
     subst (λ (l : Look). l.found ≡ Some one → IsFound one × IsThere (writer world one.place) l.chunk one) last.1 (finds one) is)
     (at_more world.service.looks new look n at))
+
+-- a writer won as many claims as it has chunks claimed, its header stored or not, and begun
+pub won_as_many : (taken : Taken) (place : ℕ) (view : WriterView) → Counts taken place view
+    → length (won_chunks view.asked) ≡ length view.claimed + length (stamped_chunks view.stamped) + length view.begun
+won_as_many taken place view counts =
+    let own : List ℕ = view.claimed ++ (stamped_chunks view.stamped ++ map chunk_of view.begun) in
+    let many : length (won_chunks view.asked) ≡ length own = same_many (won_chunks view.asked) own (λ chunk.
+    let first = times-both chunk view.claimed (stamped_chunks view.stamped ++ map chunk_of view.begun) in
+    let rest = times-both chunk (stamped_chunks view.stamped) (map chunk_of view.begun) in
+    let wins = counts.wins chunk in omega (arith, first, rest, wins)) in
+    let first = length-append view.claimed (stamped_chunks view.stamped ++ map chunk_of view.begun) in
+    let rest = length-append (stamped_chunks view.stamped) (map chunk_of view.begun) in
+    let begun = length-map view.begun chunk_of in omega (arith, many, first, rest, begun)

@@ -169,5 +169,5 @@ ownership setup words slots world kept =
           subst (λ t. HasState (page_word setup words chunk) (spot setup chunk).place (state_of t)) is (shown.page chunk inside).state;
       won = λ chunk inside one. owned.claimed_won chunk (λ free. absurd (let claim = (shown.page chunk inside).claim in let none : claim_of (status world chunk) ≡ 0 = ap claim_of free in omega arith));
       asked = owned.asked_won;
-      wins = λ place. (owned.counts place).wins;
+      wins = λ place chunk. (owned.counts place).wins chunk;
     }

@@ -6,12 +6,12 @@ use mathlib.Core.Logic.{dite}
 use Rattle.atomic_table.proofs.Lists.{at_set}
 use Rattle.trace_model.specs.Calls.{Call}
 use Rattle.chunk_plain.specs.Setup.{Setup, producer_of, IsChunkOf}
-use Rattle.chunk_plain.specs.Views.{Ask, Draft, fresh, Content, BegunChunk, Held, WriterView, ServiceView, Taken, none_taken, taken_of, newcomer}
+use Rattle.chunk_plain.specs.Views.{Ask, Draft, fresh, Content, BegunChunk, chunk_of, Held, WriterView, ServiceView, Taken, none_taken, taken_of, newcomer}
 use Rattle.chunk_plain.specs.World.{World, Stamped, Writing, writer}
 use Rattle.chunk_plain.specs.Steps.{claims, stamps, begins, redrafts, notes_call, takes_in, learns, moved}
 use Rattle.chunk_plain.specs.Owned.{times}
 use Rattle.chunk_plain.specs.Drafts.{draft_at, IsHolding}
-use Rattle.chunk_plain.specs.Words.{chunk_of, IsAtRest, IsServing, HasClaimed}
+use Rattle.chunk_plain.specs.Words.{IsAtRest, IsServing, HasClaimed}
 use Rattle.chunk_plain.proofs.Lists.{changed, at_more, times-other, times-without_other}
 use Rattle.chunk_plain.proofs.Holding.{redrafts_draft}
 

@@ -1,14 +1,17 @@
 -- Each step of a writer keeps a world owned.
-use Rattle.std.proofs.Common.{◌≡◌, ℕ, ◌+◌, ◌<◌, inl, inr, Bool, true, false, cond, Option, Some, None, List, [], ◌∷◌, ◌++◌, length, subst, sym, refl, ap, ◌∙◌, arith, ⊎_elim, length-append}
-use Rattle.std.proofs.lemmas.List.{get_or-set_same}
+use Rattle.std.proofs.Common.{◌≡◌, ℕ, ◌+◌, ◌<◌, inl, inr, Bool, true, false, cond, Option, Some, None, List, [], ◌∷◌, ◌++◌, length, map, subst, sym, refl, ap, ◌∙◌, arith, ⊎_elim}
+use Rattle.std.proofs.lemmas.Bool.Decides.{nat_tests}
+use Rattle.std.proofs.lemmas.List.{get_or-set_same, map-append}
+use native.Mathlib.Decide.{ℕ_discrete}
+use mathlib.Core.Logic.{dite}
 use Rattle.atomic_table.proofs.Lists.{at_longer, at_last}
 use Rattle.trace_model.specs.Calls.{Call}
-use Rattle.chunk_plain.specs.Views.{At, Ask, fresh, BegunChunk, Held, Completed, Stamp, WriterView, newcomer}
+use Rattle.chunk_plain.specs.Views.{At, Ask, fresh, BegunChunk, chunk_of, Held, Completed, Stamp, WriterView, newcomer}
 use Rattle.chunk_plain.specs.World.{World, Status, Unclaimed, Claimed, Stamped, Writing, status, writer}
-use Rattle.chunk_plain.specs.Steps.{claims, stamps, begins, notes_call, moved, with_writer_view}
+use Rattle.chunk_plain.specs.Steps.{without, claims, stamps, begins, notes_call, moved, with_writer_view}
 use Rattle.chunk_plain.specs.Drafts.{IsDraft}
-use Rattle.chunk_plain.specs.Owned.{times, claims_of, reads_of, stamps_in, wins_in, Won, IsOwned}
-use Rattle.chunk_plain.proofs.Lists.{times-here, times-other, times-without_same, times-without_other, length-without, at_more}
+use Rattle.chunk_plain.specs.Owned.{times, claims_of, reads_of, stamped_chunks, won_chunks, Won, IsOwned}
+use Rattle.chunk_plain.proofs.Lists.{times-append, times-here, times-other, times-without_same, times-without_other, at_more}
 use Rattle.chunk_plain.proofs.Owned.{Foreign, claims_of-mine, claimed_status, writer_step, noted_owned, won_stays}
 
 -- a stamp's chunk and id, where there is one
@@ -20,17 +23,26 @@ abbrev id_in : ℕ → Option Stamp → ℕ
 id_in default None = default
 id_in default (Some stamp) = stamp.id
 
-wins_by : (b : Bool) (x y n : ℕ) → x ≡ y + n → cond b (x + 1) x ≡ cond b (y + 1) y + n
-wins_by true x y n e = omega arith
-wins_by false x y n e = e
+won_by : (b : Bool) (x y : ℕ) (more less : List ℕ) → more ≡ less ++ y ∷ [] → cond b (x ∷ more) more ≡ cond b (x ∷ less) less ++ y ∷ []
+won_by true x y more less e = ap (λ (l : List ℕ). x ∷ l) e
+won_by false x y more less e = e
 
-wins_in-won : (asks : List Ask) (ask : Ask) → ask.won ≡ true → wins_in (asks ++ ask ∷ []) ≡ wins_in asks + 1
-wins_in-won [] ask won = ap (λ b. cond b (0 + 1) 0) won
-wins_in-won (first ∷ asks) ask won = wins_by first.won (wins_in (asks ++ ask ∷ [])) (wins_in asks) 1 (wins_in-won asks ask won)
+-- a claim that won joins the won chunks, and one in vain doesn't
+won_chunks-won : (asks : List Ask) (ask : Ask) → ask.won ≡ true → won_chunks (asks ++ ask ∷ []) ≡ won_chunks asks ++ ask.chunk ∷ []
+won_chunks-won [] ask won = ap (λ b. cond b (ask.chunk ∷ []) []) won
+won_chunks-won (first ∷ asks) ask won = won_by first.won first.chunk ask.chunk (won_chunks (asks ++ ask ∷ [])) (won_chunks asks) (won_chunks-won asks ask won)
 
-wins_in-lost : (asks : List Ask) (ask : Ask) → ask.won ≡ false → wins_in (asks ++ ask ∷ []) ≡ wins_in asks + 0
-wins_in-lost [] ask lost = ap (λ b. cond b (0 + 1) 0) lost
-wins_in-lost (first ∷ asks) ask lost = wins_by first.won (wins_in (asks ++ ask ∷ [])) (wins_in asks) 0 (wins_in-lost asks ask lost)
+won_chunks-lost : (asks : List Ask) (ask : Ask) → ask.won ≡ false → won_chunks (asks ++ ask ∷ []) ≡ won_chunks asks
+won_chunks-lost [] ask lost = ap (λ b. cond b (ask.chunk ∷ []) []) lost
+won_chunks-lost (first ∷ asks) ask lost = ap (λ (l : List ℕ). cond first.won (first.chunk ∷ l) l) (won_chunks-lost asks ask lost)
+
+-- a chunk that leaves the claimed ones is one there less
+claimed_moves : (about chunk : ℕ) (claimed : List ℕ) → 0 < times chunk claimed → times about (without chunk claimed) + times about (chunk ∷ []) ≡ times about claimed
+claimed_moves about chunk claimed mine =
+    dite (ℕ_discrete about chunk)
+    (λ same. subst (λ (x : ℕ). times x (without chunk claimed) + times x (chunk ∷ []) ≡ times x claimed) (sym same)
+    (let less = times-without_same chunk claimed mine in grind (arith, nat_tests, less)))
+    (λ differs. let stays = times-without_other about chunk claimed differs in grind (arith, nat_tests, stays))
 
 -- a claim of this writer that won is one of the world after the step
 won_here : (world : World) (place chunk i : ℕ) (view : WriterView) (is : Status) (ask : Ask) → place < length world.writers → At view.asked i ask → ask.won ≡ true
@@ -61,7 +73,8 @@ claims_owned world place chunk found o inside_w inside_c free =
     (λ other differs e. differs (sym e))
     (ap reads_of (sym free))
     record {
-      wins = let more = wins_in-won v.asked ask refl in omega (arith, more, q.wins, length-append v.claimed (chunk ∷ []));
+      wins = λ about. ap (times about) (won_chunks-won v.asked ask refl)
+          ∙ omega (arith, times-append about chunk (won_chunks v.asked), times-append about chunk v.claimed, q.wins about);
       next = q.next;
       named = q.named;
       drafts = q.drafts;
@@ -83,7 +96,7 @@ misses_owned world place chunk found o inside taken =
     let ask : Ask = record { chunk = chunk; found = found; won = false; calls = length v.calls } in
     noted_owned world place (claims v chunk found false) o inside
     (λ other p. record { claimed = p.claimed; stamp_is = p.stamp_is; stamped_is = p.stamped_is; held_is = p.held_is; writing_is = p.writing_is; completed_is = p.completed_is; ready_is = p.ready_is; reading_is = p.reading_is })
-    record { wins = let same = wins_in-lost v.asked ask refl in omega (arith, same, q.wins); next = q.next; named = q.named; drafts = q.drafts; wholes = q.wholes; completed = q.completed; learnt = q.learnt; level = q.level }
+    record { wins = λ about. ap (times about) (won_chunks-lost v.asked ask refl) ∙ q.wins about; next = q.next; named = q.named; drafts = q.drafts; wholes = q.wholes; completed = q.completed; learnt = q.learnt; level = q.level }
     (λ i old at. at_longer v.asked (ask ∷ []) i old at)
     (λ i old at. ⊎_elim (λ before. inl before) (λ new. inr (subst (λ (a : Ask). Won world a.chunk) new.1 (o.claimed_won chunk taken), omega (arith, new.0))) (at_more v.asked ask old i at))
     (λ about found there. record { entry = there.entry; at = there.at; has = there.has })
@@ -132,7 +145,8 @@ stamps_owned world place chunk o inside_w inside_c mine unstamped =
     (λ other differs e. differs (sym e))
     (ap reads_of (sym was))
     record {
-      wins = let less = length-without chunk v.claimed mine in let none : stamps_in v.stamped ≡ 0 = ap stamps_in unstamped in omega (arith, less, none, q.wins);
+      wins = λ about. let none : times about (stamped_chunks v.stamped) ≡ 0 = ap (λ (s : Option Stamp). times about (stamped_chunks s)) unstamped in
+          let moves = claimed_moves about chunk v.claimed mine in omega (arith, moves, none, q.wins about);
       next = λ stamp e. sym (ap (id_in n) e);
       named = q.named;
       drafts = q.drafts;
@@ -184,7 +198,9 @@ begins_owned world place chunk words o inside_w inside_c stamped =
     (λ other differs e. differs (sym e))
     (ap reads_of (sym was))
     record {
-      wins = let one : stamps_in v.stamped ≡ 1 = ap stamps_in stamped in omega (arith, one, q.wins, length-append v.begun (Held chunk (fresh words) ∷ []));
+      wins = λ about. let one : times about (stamped_chunks v.stamped) ≡ times about (chunk ∷ []) = ap (λ (s : Option Stamp). times about (stamped_chunks s)) stamped in
+          let more = ap (times about) (map-append chunk_of v.begun (Held chunk (fresh words) ∷ [])) ∙ times-append about chunk (map chunk_of v.begun) in
+          omega (arith, one, more, q.wins about);
       next = λ stamp e. absurd cc;
       named = λ id c content e. ⊎_elim (λ old. q.named id c content old) (λ new. let entry = new.1 in absurd cc) (at_more v.begun (Held chunk (fresh words)) (Completed c content) id e);
       drafts = λ id c draft e. ⊎_elim

@@ -1,8 +1,8 @@
 -- Ownership in a world: who has each chunk, between any two steps. It is said as facts on one writer and one chunk, on one writer, and on one
 -- chunk. Since each status names one writer and one id, that exactly one seat has a chunk is then true by the form.
-use Rattle.std.specs.Prelude.{◌≡◌, ℕ, ◌+◌, ◌<◌, ◌≤◌, ◌==◌, true, Option, Some, None, List, [], ◌∷◌, length, if◌then◌else◌}
+use Rattle.std.specs.Prelude.{◌≡◌, ℕ, ◌+◌, ◌<◌, ◌≤◌, ◌==◌, true, Option, Some, None, List, [], ◌∷◌, length, map, if◌then◌else◌}
 use Rattle.chunk_plain.specs.Setup.{sequence_of}
-use Rattle.chunk_plain.specs.Views.{At, Ask, Draft, Content, BegunChunk, Held, Completed, Stamp, WriterView, Taken, Look, Found, taken_of}
+use Rattle.chunk_plain.specs.Views.{At, Ask, Draft, Content, BegunChunk, chunk_of, Held, Completed, Stamp, WriterView, Taken, Look, Found, taken_of}
 use Rattle.chunk_plain.specs.World.{World, Status, Unclaimed, Claimed, Stamped, Writing, Ready, Reading, status, writer}
 use Rattle.chunk_plain.specs.Drafts.{IsDraft, HasFinished, IsFound, IsThere}
 
@@ -36,10 +36,10 @@ pub record Owns (count place : ℕ) (view : WriterView) (chunk : ℕ) (is : Stat
   -- taken, and still read
   pub reading_is : (id : ℕ) (content : Content) → is ≡ Reading place id content → At view.begun id (Completed chunk content) × (id < count)
 
--- one where a header is stored that isn't begun yet, else none
-abbrev pub stamps_in : Option Stamp → ℕ
-stamps_in None = 0
-stamps_in (Some _) = 1
+-- the chunk whose header is stored and which isn't begun yet, if there is one
+abbrev pub stamped_chunks : Option Stamp → List ℕ
+stamped_chunks None = []
+stamped_chunks (Some stamp) = stamp.chunk ∷ []
 
 -- how many chunks a writer holds
 abbrev pub held_count : List BegunChunk → ℕ
@@ -47,15 +47,17 @@ held_count [] = 0
 held_count (Held chunk draft ∷ begun) = held_count begun + 1
 held_count (Completed chunk content ∷ begun) = held_count begun
 
--- how many of the claims won
-abbrev pub wins_in : List Ask → ℕ
-wins_in [] = 0
-wins_in (ask ∷ asks) = if ask.won then wins_in asks + 1 else wins_in asks
+-- the chunks that the claims won, in their order
+abbrev pub won_chunks : List Ask → List ℕ
+won_chunks [] = []
+won_chunks (ask ∷ asks) = if ask.won then ask.chunk ∷ won_chunks asks else won_chunks asks
 
 -- One writer: its ids are those that it began, and the service took the first ones of them.
 pub record Counts (taken : Taken) (place : ℕ) (view : WriterView) : Type 0 where
-  -- each claim that it won is a chunk that it has claimed or an id that it began
-  pub wins : wins_in view.asked ≡ length view.claimed + stamps_in view.stamped + length view.begun
+  -- each claim that it won is of a chunk that it has claimed or whose header it stored, or of one that it began under an id of its own: of each chunk
+  -- there are as many of these as of those
+  pub wins : (chunk : ℕ) → times chunk (won_chunks view.asked)
+      ≡ times chunk view.claimed + times chunk (stamped_chunks view.stamped) + times chunk (map chunk_of view.begun)
   pub next : (stamp : Stamp) → view.stamped ≡ Some stamp → stamp.id ≡ length view.begun
   -- a completed chunk's image has its id and the writer's sequence
   pub named : (id chunk : ℕ) (content : Content) → At view.begun id (Completed chunk content) → (content.image.chunk_id ≡ id) × (content.image.sequence ≡ sequence_of place)

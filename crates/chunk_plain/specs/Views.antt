@@ -57,6 +57,11 @@ pub data BegunChunk : Type 0 where
   Held : (chunk : ℕ) → Draft → BegunChunk
   Completed : (chunk : ℕ) → Content → BegunChunk
 
+-- which chunk it is
+abbrev pub chunk_of : BegunChunk → ℕ
+chunk_of (Held chunk draft) = chunk
+chunk_of (Completed chunk content) = chunk
+
 -- a claimed chunk whose header is stored with this id, and which isn't begun yet
 pub record Stamp : Type 0 where
   pub chunk : ℕ

@@ -20,17 +20,13 @@ use Rattle.chunk_plain.specs.declared.tokens.Taken.{Taken as TakenToken}
 use Rattle.chunk_plain.specs.declared.tokens.NotComplete.{NotComplete}
 use Rattle.chunk_plain.specs.Setup.{Setup, spot, producer_of, IsChunkOf, id_at}
 use Rattle.chunk_plain.specs.Payload.{byte_at, byte_in, sealed_to}
-use Rattle.chunk_plain.specs.Views.{At, Ask, Content, BegunChunk, Held, Completed, WriterView, Found, Look, ServiceView, taken_of, Noted, Arrive, Partial, Patched, Closed, Read, Committed}
+use Rattle.chunk_plain.specs.Views.{At, Ask, Content, BegunChunk, chunk_of, WriterView, Found, Look, ServiceView, taken_of, Noted, Arrive, Partial, Patched, Closed, Read, Committed}
 use Rattle.chunk_plain.specs.Steps.{claims, stamps, begins, redrafts, looks_at, takes_in, learns}
 use Rattle.chunk_plain.specs.Owned.{times}
 use Rattle.chunk_plain.specs.Drafts.{MayFollow, IsFound, StillHas, head_of, draft_at, head_at, published}
 use Rattle.chunk_plain.specs.Shows.{content_of}
 
 -- Between two calls
-
-abbrev pub chunk_of : BegunChunk → ℕ
-chunk_of (Held chunk draft) = chunk
-chunk_of (Completed chunk content) = chunk
 
 -- a writer's seat: no header of it is stored in a chunk that it hasn't begun, and it has to do with its own producer's chunks alone
 pub record IsAtRest (setup : Setup) (place : ℕ) (view : WriterView) : Type 0 where

@@ -9,9 +9,8 @@ use Rattle.chunk_plain.specs.declared.tokens.TheConstants.{ID_LIMIT}
 use Rattle.chunk_plain.specs.Histories.{completed_images}
 use Rattle.chunk_plain.specs.Owned.{IsOwned, times, claims_of, reads_of}
 use Rattle.chunk_plain.specs.Setup.{Setup, HasProducer, IsChunkOf, producer_of}
-use Rattle.chunk_plain.specs.Views.{At, BegunChunk, Held, Completed, Draft, Content, Taken, WriterView, newcomer, ServiceView, none_taken, taken_of}
+use Rattle.chunk_plain.specs.Views.{At, BegunChunk, chunk_of, Held, Completed, Draft, Content, Taken, WriterView, newcomer, ServiceView, none_taken, taken_of}
 use Rattle.chunk_plain.specs.World.{World, Status, Unclaimed, Claimed, Stamped, Writing, Ready, Reading, status, writer}
-use Rattle.chunk_plain.specs.Words.{chunk_of}
 use Rattle.chunk_plain.proofs.Lists.{at_inside, at_one}
 use Rattle.trace_writer.specs.declared.state.State.{State}
 use Rattle.trace_writer.specs.declared.state.State.TheVariants as state

@@ -20,7 +20,7 @@ use Rattle.chunk_plain.specs.Laying.{ranges_of, sizes_of}
 use Rattle.chunk_plain.specs.Setup.{Setup, range_of, producer_of, size_of, IsChunkOf}
 use Rattle.chunk_plain.specs.Views.{At, WriterView, newcomer}
 use Rattle.chunk_plain.specs.World.{World, Status, writer}
-use Rattle.chunk_plain.specs.Owned.{IsOwned, Won, stamps_in}
+use Rattle.chunk_plain.specs.Owned.{IsOwned, Won}
 use Rattle.chunk_plain.proofs.Owned.{somebody_won}
 use Rattle.world_model.specs.FirstBuffers.{payload_at}
 use Rattle.scenario_text.specs.declared.scenario.ProducerLine.{ProducerLine}
@@ -176,7 +176,7 @@ module _ (scenario : Parts) (setup : Setup) (world : World) (done : IsDone scena
         let at : 0 + i ≡ i = omega arith in
         let claims = done.claims i low in
         let few = range_few range.first range.count (writer world i).asked in
-        let begun = wins_are_begun (with_chunks world chunks) i owned claims.unclaimed (ap stamps_in claims.unstamped) in
+        let begun = wins_are_begun (with_chunks world chunks) i owned claims.unclaimed claims.unstamped in
         subst (λ (p : ℕ). range_wins range.first range.count (writer world p).asked ≤ length (writer world p).begun) (sym at) (omega (arith, few, begun))) in
         omega (arith, wins, less)
 

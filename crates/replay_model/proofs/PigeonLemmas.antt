@@ -1,5 +1,5 @@
 -- Where a writer lost a packet, each chunk of its producer was begun by some writer: so many chunks were begun at least.
-use Rattle.std.proofs.Common.{◌≡◌, ◌≢◌, ◌∙◌, ℕ, zero, suc, ◌+◌, ◌<◌, ◌≤◌, ◌⊎◌, Bool, true, false, ◌&&◌, List, [], ◌∷◌, length, get_or, refl, ap, subst, arith, inl, inr, cond}
+use Rattle.std.proofs.Common.{◌≡◌, ◌≢◌, ◌∙◌, ℕ, zero, suc, ◌+◌, ◌<◌, ◌≤◌, ◌⊎◌, Bool, true, false, ◌&&◌, Option, None, List, [], ◌∷◌, length, get_or, refl, ap, subst, arith, inl, inr, cond}
 use Rattle.std.specs.Prelude.{◌==◌}
 use Rattle.std.proofs.lemmas.Bool.{cases_eq, eq-eqb, ne_eqb, eqb-true}
 use Rattle.trace_base.specs.declared.policy.WriterSpec.{WriterSpec}
@@ -7,9 +7,10 @@ use Rattle.trace_model.specs.Counts.{one_if}
 use Rattle.chunk_plain.specs.declared.setup.ProducerSpec.{ProducerSpec}
 use Rattle.chunk_plain.specs.Laying.{ranges_of, chunks_in}
 use Rattle.chunk_plain.specs.Setup.{Setup, IsChunkOf}
-use Rattle.chunk_plain.specs.Views.{At, Ask}
+use Rattle.chunk_plain.specs.Views.{At, Ask, Stamp, taken_of}
 use Rattle.chunk_plain.specs.World.{World, writer}
-use Rattle.chunk_plain.specs.Owned.{IsOwned, wins_in, stamps_in}
+use Rattle.chunk_plain.specs.Owned.{IsOwned, stamped_chunks, won_chunks}
+use Rattle.chunk_plain.proofs.Owned.{won_as_many}
 use Rattle.trace_writer.specs.Claims.{AreOwnAsks, HasAsked}
 use Rattle.service_core.specs.Agreement.{spec_at}
 
@@ -105,11 +106,11 @@ range_none : (first n : ℕ) → range_wins first n [] ≡ 0
 range_none first zero = refl
 range_none first (suc n) = let rest = range_none first n in omega (arith, rest)
 
-pub range_few : (first n : ℕ) (asks : List Ask) → range_wins first n asks ≤ wins_in asks
+pub range_few : (first n : ℕ) (asks : List Ask) → range_wins first n asks ≤ length (won_chunks asks)
 range_few first n [] = let none = range_none first n in omega (arith, none)
 range_few first n (ask ∷ asks) = step ask.won refl (range_few first n asks)
   where
-    step : (b : Bool) → ask.won ≡ b → range_wins first n asks ≤ wins_in asks → range_wins first n (ask ∷ asks) ≤ cond b (wins_in asks + 1) (wins_in asks)
+    step : (b : Bool) → ask.won ≡ b → range_wins first n asks ≤ length (won_chunks asks) → range_wins first n (ask ∷ asks) ≤ length (cond b (ask.chunk ∷ won_chunks asks) (won_chunks asks))
     step true won rest =
         let both = range_cons first n ask asks in let one = hits_few first n ask in
         omega (arith, both, one, rest)
@@ -192,9 +193,10 @@ own_ask setup producer (one ∷ asks) zero ask own at = let same : one ≡ ask =
 own_ask setup producer (one ∷ asks) (suc i) ask own at = own_ask setup producer asks i ask own.1 at
 
 -- what a writer begins it has won
-pub wins_are_begun : (world : World) (place : ℕ) → IsOwned world → (writer world place).claimed ≡ [] → stamps_in (writer world place).stamped ≡ 0
-    → wins_in (writer world place).asked ≡ length (writer world place).begun
+pub wins_are_begun : (world : World) (place : ℕ) → IsOwned world → (writer world place).claimed ≡ [] → (writer world place).stamped ≡ None
+    → length (won_chunks (writer world place).asked) ≡ length (writer world place).begun
 wins_are_begun world place owned none unstamped =
-    let wins = (owned.counts place).wins in
+    let won = won_as_many (taken_of world.service place) place (writer world place) (owned.counts place) in
     let claimed = ap (λ (xs : List ℕ). length xs) none in
-    omega (arith, wins, claimed, unstamped)
+    let stamped = ap (λ (s : Option Stamp). length (stamped_chunks s)) unstamped in
+    omega (arith, won, claimed, stamped)

@@ -12,7 +12,7 @@ use Rattle.chunk_plain.specs.declared.setup.ChunkRange.{ChunkRange}
 use Rattle.chunk_plain.specs.Setup.{Setup, IsLaid, HasProducer, IsChunkOf, range_of, size_of, producer_of}
 use Rattle.chunk_plain.specs.Views.{At, WriterView, newcomer}
 use Rattle.chunk_plain.specs.World.{World, writer}
-use Rattle.chunk_plain.specs.Owned.{IsOwned, Won, stamps_in}
+use Rattle.chunk_plain.specs.Owned.{IsOwned, Won}
 use Rattle.chunk_plain.proofs.Owned.{somebody_won}
 use Rattle.world_model.specs.FirstBuffers.{payload_at}
 use Rattle.trace_writer.specs.Claims.{KeepsClaims}
@@ -105,7 +105,7 @@ module _ (setup : Setup) (world : World) (laid : IsLaid setup) (owned : IsOwned 
         let at : 0 + i ≡ i = omega arith in
         let claims = claims_of i low in
         let few = range_few range.first range.count (writer world i).asked in
-        let begun = wins_are_begun world i owned claims.unclaimed (ap stamps_in claims.unstamped) in
+        let begun = wins_are_begun world i owned claims.unclaimed claims.unstamped in
         subst (λ (p : ℕ). range_wins range.first range.count (writer world p).asked ≤ length (writer world p).begun) (sym at) (omega (arith, few, begun))) in
         omega (arith, wins, less)
 

@@ -8,8 +8,7 @@ use Rattle.chunk_plain.specs.declared.tokens.TheConstants.{ID_LIMIT}
 use Rattle.chunk_plain.specs.Histories.{completed_images}
 use Rattle.chunk_plain.specs.Owned.{held_count}
 use Rattle.chunk_plain.specs.Setup.{producer_of, IsChunkOf}
-use Rattle.chunk_plain.specs.Views.{At, BegunChunk, Held, Completed, Content, ServiceView, WriterView, newcomer}
-use Rattle.chunk_plain.specs.Words.{chunk_of}
+use Rattle.chunk_plain.specs.Views.{At, BegunChunk, chunk_of, Held, Completed, Content, ServiceView, WriterView, newcomer}
 use Rattle.chunk_words.specs.declared.host.HostTable.{HostTable}
 use Rattle.chunk_words.specs.declared.seats.ServiceSeat.{ServiceSeat}
 use Rattle.chunk_words.specs.declared.seats.WriterSeat.{WriterSeat}

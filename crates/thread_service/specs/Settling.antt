@@ -4,8 +4,7 @@ use Rattle.std.specs.List.{All}
 use Rattle.trace_base.specs.declared.policy.WriterSpec.{WriterSpec}
 use Rattle.chunk_plain.specs.declared.tokens.TheConstants.{ID_LIMIT}
 use Rattle.chunk_plain.specs.Setup.{Setup, producer_of, IsChunkOf}
-use Rattle.chunk_plain.specs.Views.{At, BegunChunk, Completed, Content, Look, ServiceView, taken_of}
-use Rattle.chunk_plain.specs.Words.{chunk_of}
+use Rattle.chunk_plain.specs.Views.{At, BegunChunk, chunk_of, Completed, Content, Look, ServiceView, taken_of}
 use Rattle.chunk_words.specs.Knows.{Tale}
 use Rattle.service_core.specs.Taking.{ShowNone, Takes, places_of}
 

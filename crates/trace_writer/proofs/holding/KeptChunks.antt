@@ -3,11 +3,10 @@ use Rattle.std.proofs.Common.{◌≡◌, ◌∙◌, ℕ, zero, suc, ◌+◌, ◌
 use mathlib.Core.Option.{some}
 use Rattle.std.proofs.lemmas.Bool.{true≢false}
 use Rattle.trace_model.specs.Pages.{Page}
-use Rattle.chunk_plain.specs.Views.{At, BegunChunk, Held, Completed, Draft, Content, WriterView}
+use Rattle.chunk_plain.specs.Views.{At, BegunChunk, chunk_of, Held, Completed, Draft, Content, WriterView}
 use Rattle.chunk_plain.specs.Steps.{moved, with_writer_view}
 use Rattle.chunk_plain.specs.World.{World, Status, Unclaimed, Writing, Ready}
 use Rattle.chunk_plain.specs.Owned.{held_count}
-use Rattle.chunk_plain.specs.Words.{chunk_of}
 use Rattle.trace_writer.specs.Site.{Site}
 use Rattle.trace_writer.specs.Filled.{ShowsPages}
 use Rattle.trace_writer.specs.OwnSteps.{KeepsChunks, NoneHeld, FreesNone}
