@@ -15,7 +15,7 @@ use Rattle.chunk_plain.specs.Views.{At, Draft, BegunChunk, Held, Completed, Writ
 use Rattle.chunk_plain.specs.World.{World, Status, Unclaimed, Claimed, Stamped, Writing, Ready, Reading, status, writer}
 use Rattle.chunk_plain.specs.Owned.{times, claims_of, reads_of, held_count, IsOwned}
 use Rattle.chunk_plain.specs.Shows.{ShowsPage, page_word}
-use Rattle.chunk_plain.proofs.Lists.{at_inside, at_one, at_more, at_some}
+use Rattle.chunk_plain.proofs.Lists.{at_inside, at_one, at_more, at_seam, at_some}
 use Rattle.chunk_plain.proofs.Owned.{claims_of-mine}
 use Rattle.chunk_words.specs.GoesOn.{GoesOn}
 use Rattle.chunk_words.specs.Knows.{Watch, Here, Desk, Knows, Spent, Writer, Service, Pass, Report, place_of, view_of, with_view, with_views}
@@ -127,10 +127,6 @@ idle_free world chunk (Reading k i m) owned done unstamped none was = absurd (
     let o = owned.reads chunk in let all = ap (times chunk) none in let is : reads_of (status world chunk) ≡ 1 = ap reads_of was in omega (arith, o, all, is))
 
 -- ---- lists
-
-at_seam : {A : Type 0} (xs ys : List A) (x : A) → At (xs ++ x ∷ ys) (length xs) x
-at_seam [] ys x = refl
-at_seam (z ∷ zs) ys x = at_seam zs ys x
 
 at_get : {A : Type 0} (xs : List A) (k : ℕ) (d x : A) → At xs k x → get_or xs k d ≡ x
 at_get [] k d x at = absurd (some-ne-none x (sym at))

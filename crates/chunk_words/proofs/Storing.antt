@@ -15,7 +15,6 @@ use Rattle.chunk_plain.proofs.Publishing.{stored_none, stored_next, sealed_stays
 use Rattle.chunk_words.specs.Knows.{Knows, Writer, view_of, place_of, by_writer}
 use Rattle.chunk_words.specs.Moves.{Mine, KeepsWord, Publishes, Stores, StaysOutside}
 use Rattle.chunk_words.specs.Seats.{IsIdle}
-use Rattle.chunk_words.proofs.Rests.{idle_now}
 use Rattle.chunk_words.proofs.ServiceFinds.{word_byte}
 
 redrafts_same : (view : WriterView) (chunk id : ℕ) → IsHolding view chunk id → redrafts view chunk id (draft_at view id) ≡ view
@@ -54,10 +53,6 @@ between_draft chunk id first index copy me mid stores holding =
 pub between_holds : (chunk id first index : ℕ) (copy : List ℕ) (me mid : Mine) → Stores chunk id first index copy me mid → IsHolding (view_of me.0) chunk id → IsHolding (view_of mid.0) chunk id
 between_holds chunk id first index copy me mid stores holding =
     subst (λ v. IsHolding v chunk id) (sym (between_view chunk id first index copy me mid stores)) (redrafts_holding (view_of me.0) chunk id (with_words (draft_at (view_of me.0) id) stores.words) holding)
-
-pub between_idle : (place chunk id first index : ℕ) (copy : List ℕ) (me mid : Mine) → Stores chunk id first index copy me mid → IsIdle place me → IsIdle place mid
-between_idle place chunk id first index copy me mid stores idle =
-    idle_now place me mid (redrafts (view_of me.0) chunk id (with_words (draft_at (view_of me.0) id) stores.words)) idle stores.new_is
 
 -- the word of a copy keeps what is finished
 pub between_keeps : (chunk id first index word : ℕ) (copy : List ℕ) (me mid : Mine) → Stores chunk id first index copy me mid → IsHolding (view_of me.0) chunk id

@@ -1,5 +1,5 @@
 -- Each step of a writer's seat keeps the rule, and tells what it does.
-use Rattle.std.proofs.Common.{◌≡◌, ◌≢◌, ℕ, ◌+◌, ◌*◌, ◌<◌, ◌≤◌, ◌↔◌, ◌==◌, not, IsTrue, Bool, true, false, Option, Some, None, List, [], ◌∷◌, length, set, get_or, subst, sym, refl, ap, ◌∙◌, arith, bit_or}
+use Rattle.std.proofs.Common.{◌≡◌, ◌≢◌, ℕ, ◌+◌, ◌*◌, ◌<◌, ◌≤◌, ◌↔◌, ◌==◌, IsTrue, Bool, true, false, Option, Some, None, List, [], ◌∷◌, length, set, get_or, subst, sym, refl, ap, ◌∙◌, arith, bit_or}
 use Rattle.std.specs.Int.{bit_at}
 use Rattle.std.proofs.lemmas.List.{get_or-set_same}
 use Rattle.std.proofs.lemmas.Bool.Decides.{nat_tests}
@@ -81,10 +81,6 @@ claim_change world place chunk found true inside_w inside_c free =
     (subst (λ t. Still place t (Claimed place)) (sym (free refl)) (record { started = λ x. x; full = λ x. absurd x; read = λ x. absurd x; others = λ other differs x. absurd x }))
     (stays_same (writer world place).begun)
 claim_change world place chunk found false inside_w inside_c free = noted_change world place (claims (writer world place) chunk found false) inside_w refl
-
-not_not : (b : Bool) → not (not (not b)) ≡ not b
-not_not true = refl
-not_not false = refl
 
 pub claims_allowed : (setup : Setup) (count id k chunk mask : ℕ) (v : WriterView) → chunk < length setup.spots
     → ((word : ℕ) → ClaimsBit word (bit_or word mask) (spot setup chunk).place (spot setup chunk).layout) → ((word : ℕ) → KeepsOthers word (bit_or word mask) (spot setup chunk).place)

@@ -1,6 +1,6 @@
 -- A chunk that is begun and completed in a row joins the begun ones, and none of them is held.
-use Rattle.std.proofs.Common.{◌≡◌, ℕ, ◌+◌, List, [], ◌∷◌, ◌++◌, length, set, refl, ap, sym, ◌∙◌}
-use Rattle.std.proofs.lemmas.List.{length-append, set-set}
+use Rattle.std.proofs.Common.{◌≡◌, ℕ, ◌+◌, List, [], ◌∷◌, ◌++◌, length, set, refl, ap, ◌∙◌}
+use Rattle.std.proofs.lemmas.List.{set-set}
 use Rattle.chunk_plain.specs.Views.{Draft, Content, BegunChunk, Held, Completed, WriterView}
 use Rattle.chunk_plain.specs.Steps.{stamps, begins, redrafts, completes}
 use Rattle.chunk_plain.specs.Owned.{held_count}
@@ -38,6 +38,3 @@ round_any old won begun published done chunk id c i d j words draft content same
 
 pub round_held : (old done : WriterView) (chunk : ℕ) (content : Content) → done.begun ≡ old.begun ++ Completed chunk content ∷ [] → held_count old.begun ≡ 0 → held_count done.begun ≡ 0
 round_held old done chunk content is none = ap held_count is ∙ (held_more old.begun chunk content ∙ none)
-
-pub round_count : (old done : WriterView) (chunk id : ℕ) (content : Content) → done.begun ≡ old.begun ++ Completed chunk content ∷ [] → id ≡ length old.begun → length done.begun ≡ id + 1
-round_count old done chunk id content is id_is = ap (λ (l : List BegunChunk). length l) is ∙ (length-append old.begun (Completed chunk content ∷ []) ∙ ap (λ n. n + 1) (sym id_is))

@@ -2,14 +2,11 @@
 use Rattle.std.proofs.Common.{◌≡◌, ℕ, ◌+◌, List, [], ◌∷◌, ◌++◌, length, subst, sym, refl, ap, ◌∙◌, arith}
 use Rattle.std.proofs.lemmas.List.{length-append}
 use Rattle.chunk_plain.specs.Views.{At}
+use Rattle.chunk_plain.proofs.Lists.{at_seam}
 use Rattle.chunk_words.specs.declared.host.HostTable.{HostTable}
 use Rattle.chunk_words.specs.declared.seats.WriterSeat.{WriterSeat}
 use Rattle.chunk_words.specs.Made.{HasWriterSeats}
 use Rattle.chunk_words_rows.specs.Fresh.{IsFreshSeat}
-
-at_end : (seats : List WriterSeat) (seat : WriterSeat) → At (seats ++ seat ∷ []) (length seats) seat
-at_end [] seat = refl
-at_end (x ∷ xs) seat = at_end xs seat
 
 at_end_before : (seats more : List WriterSeat) (seat : WriterSeat) → At ((seats ++ seat ∷ []) ++ more) (length seats) seat
 at_end_before [] more seat = refl
@@ -22,7 +19,7 @@ one_less all left seat n count is =
 pub second_of : (table : HostTable) (all left : List WriterSeat) (second : WriterSeat) → HasWriterSeats table 2 all → all ≡ left ++ second ∷ [] → IsFreshSeat table 1 second
 second_of table all left second has is =
     has.each 1 second (subst (λ l. At l 1 second) (sym is)
-    (subst (λ n. At (left ++ second ∷ []) n second) (one_less all left second 1 has.count_is is) (at_end left second)))
+    (subst (λ n. At (left ++ second ∷ []) n second) (one_less all left second 1 has.count_is is) (at_seam left [] second)))
 
 pub first_of : (table : HostTable) (all left rest : List WriterSeat) (first second : WriterSeat) → HasWriterSeats table 2 all → all ≡ left ++ second ∷ [] → left ≡ rest ++ first ∷ []
     → IsFreshSeat table 0 first

@@ -1,18 +1,12 @@
 -- The last seat of a list of seats.
-use Rattle.std.proofs.Common.{◌≡◌, ℕ, ◌+◌, zero, suc, List, [], ◌∷◌, ◌++◌, length, subst, sym, refl, ap, ◌∙◌}
+use Rattle.std.proofs.Common.{◌≡◌, ◌+◌, List, [], ◌∷◌, ◌++◌, length, subst, sym, refl, ap, ◌∙◌}
 use Rattle.std.proofs.lemmas.List.{length-append}
-use mathlib.Core.Option.{some-ne-none}
-use Rattle.atomic_table.proofs.Lists.{at_last}
+use Rattle.atomic_table.proofs.Lists.{at_longer, at_last}
 use Rattle.chunk_plain.specs.Views.{At, newcomer}
 use Rattle.chunk_words.specs.declared.host.HostTable.{HostTable}
 use Rattle.chunk_words.specs.declared.seats.WriterSeat.{WriterSeat}
 use Rattle.chunk_words.specs.Made.{HasWriterSeats}
 use Rattle.chunk_words.specs.Sits.{Sits, known_by}
-
-at_front : (seats more : List WriterSeat) (place : ℕ) (seat : WriterSeat) → At seats place seat → At (seats ++ more) place seat
-at_front [] more place seat at = absurd (some-ne-none seat (sym at))
-at_front (x ∷ xs) more zero seat at = at
-at_front (x ∷ xs) more (suc place) seat at = at_front xs more place seat at
 
 -- how many are left
 pub one_less : (all left : List WriterSeat) (seat : WriterSeat) → all ≡ left ++ seat ∷ [] → length all ≡ length left + 1
@@ -27,5 +21,5 @@ pub seats_left : (table : HostTable) (all left : List WriterSeat) (seat : Writer
     → HasWriterSeats table (length left) left
 seats_left table all left seat has is = record {
   count_is = refl;
-  each = λ place other at. has.each place other (subst (λ l. At l place other) (sym is) (at_front left (seat ∷ []) place other at));
+  each = λ place other at. has.each place other (subst (λ l. At l place other) (sym is) (at_longer left (seat ∷ []) place other at));
 }
