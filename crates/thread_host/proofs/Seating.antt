@@ -4,6 +4,8 @@ use Rattle.std.specs.Prelude.{slice_get, slice_index_or, slice_set}
 use Rattle.std.proofs.lemmas.List.{get_or-set_same, get_or-set_other, map-append}
 use Rattle.std.proofs.lemmas.Option.{slice_get_within}
 use mathlib.Core.Option.{some-ne-none, some-injective}
+use Rattle.atomic_table.proofs.Lists.{at_longer}
+use Rattle.chunk_plain.proofs.Lists.{at_seam}
 use Rattle.chunk_plain.specs.declared.tokens.TheConstants.{ID_LIMIT}
 use Rattle.chunk_plain.specs.Histories.{completed_images}
 use Rattle.chunk_plain.specs.Owned.{held_count}
@@ -43,15 +45,6 @@ left_first (y ∷ xs) ys x some is rest = let first : y ≡ x = sym is in let ot
 pub get_seam : {A : Type 0} (xs ys : List A) (x : A) → slice_get (xs ++ x ∷ ys) (length xs) ≡ Some x
 get_seam [] ys x = refl
 get_seam (z ∷ xs) ys x = get_seam xs ys x
-
-at_front : {A : Type 0} (xs more : List A) (i : ℕ) (x : A) → At xs i x → At (xs ++ more) i x
-at_front [] more i x at = absurd (some-ne-none x (sym at))
-at_front (y ∷ xs) more zero x at = at
-at_front (y ∷ xs) more (suc i) x at = at_front xs more i x at
-
-at_last : {A : Type 0} (xs : List A) (x : A) → At (xs ++ x ∷ []) (length xs) x
-at_last [] x = refl
-at_last (y ∷ xs) x = at_last xs x
 
 -- ---- the service, of which nothing changed but its seat
 
@@ -106,7 +99,7 @@ heard_last lines table place view desk writer seat played knows few =
     record {
       number = length desk.told;
       tale = tale;
-      told = at_last desk.told tale;
+      told = at_seam desk.told [] tale;
       place_is = played.place_is;
       begun_is = ap (λ (v : WriterView). v.begun) (sym knows);
       heard = omega arith;
@@ -119,7 +112,7 @@ heard_more : (looks : ℕ) (desk : Desk) (view : ServiceView) (number : ℕ) (be
 heard_more looks desk view number begun place seat heard = record {
   number = heard.number;
   tale = heard.tale;
-  told = at_front desk.told (record { place = number; looks = length view.looks; begun = begun } ∷ []) heard.number heard.tale heard.told;
+  told = at_longer desk.told (record { place = number; looks = length view.looks; begun = begun } ∷ []) heard.number heard.tale heard.told;
   place_is = heard.place_is;
   begun_is = heard.begun_is;
   heard = heard.heard;
