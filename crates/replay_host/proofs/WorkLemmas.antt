@@ -1,23 +1,24 @@
 -- A writer's work, with the helps that it asks for, as steps over worlds.
-use Rattle.std.proofs.Common.{◌≡◌, ◌≢◌, ◌∙◌, ℕ, ◌+◌, refl, sym, ap, subst, arith, Bool, true, false, not, ◌==◌, Some, None, List, [], ◌∷◌, ◌++◌}
+use Rattle.std.proofs.Common.{◌≡◌, ◌≢◌, ◌∙◌, ℕ, ◌+◌, refl, sym, ap, subst, arith, Bool, true, false, not, ◌==◌, Some, None, []}
 use Rattle.trace_base.specs.declared.policy.WriterPolicy.{WriterPolicy}
 use Rattle.trace_model.specs.Calls.{Call}
 use Rattle.claim_arbiter.specs.Claiming.{NoneFree, range_in}
 use Rattle.chunk_plain.specs.declared.setup.ChunkRange.{ChunkRange}
-use Rattle.chunk_plain.specs.Setup.{Setup, IsChunkOf, range_of, producer_of}
-use Rattle.chunk_plain.specs.Views.{BegunChunk, Held, Completed, Draft, WriterView, ServiceView, fresh}
+use Rattle.chunk_plain.specs.Setup.{Setup, range_of, producer_of}
+use Rattle.chunk_plain.specs.Views.{WriterView, ServiceView, fresh}
 use Rattle.chunk_plain.specs.Meaning.{Meaning, IsWriterStep}
 use Rattle.chunk_plain.specs.World.{World, Unclaimed, status, writer}
 use Rattle.trace_writer.specs.declared.route.Route.{Route}
 use Rattle.trace_writer.specs.Claims.{AreOwnChunks, KeepsClaims}
 use Rattle.trace_writer.specs.Helping.{LeavesWriters, refuses, Works, Done, Silent, Gets, Helped, Refused, Lost}
-use Rattle.trace_writer.specs.OwnSteps.{KeepsChunks, NoneHeld, IsQuiet, IsSilent, GetsChunk, IsOutNow}
+use Rattle.trace_writer.specs.OwnSteps.{NoneHeld, IsQuiet, IsSilent, GetsChunk, IsOutNow}
 use Rattle.service_core.specs.Taking.{Takes, places_of}
 use Rattle.service_core.specs.Told.{LeavesNone}
 use Rattle.replay_model.specs.Does as acts
 use Rattle.replay_model.specs.Does.{LeavesRest, HasNoFreeChunk, MayNeedChunk, IsOut, policy_of, AreOpen, Collects}
 use Rattle.replay_host.specs.declared.helper.Collecting.{Collecting}
 use Rattle.replay_host.specs.Helping.{Helps, Collected}
+use Rattle.trace_writer.proofs.claims.KeepingClaims.{chunks_kept, chunks_more}
 use Rattle.replay_host.proofs.TakenLemmas.{open_is}
 use Rattle.service_core.proofs.AnswerLemmas.{takes_something}
 use Rattle.replay_host.proofs.RowLemmas.{AreLaws, AllSit, row_is, sit_after, sit_helped, own_step}
@@ -106,32 +107,13 @@ pub record NoneOut (setup : Setup) (place : ℕ) (view : WriterView) : Type 0 wh
 pub none_between : (setup : Setup) (place : ℕ) (view : WriterView) → KeepsClaims setup place view → NoneOut setup place view
 none_between setup place view claims = record { unclaimed = claims.unclaimed; unstamped = claims.unstamped; own_chunks = claims.own_chunks }
 
--- chunks that are kept are those that were begun
-own_kept : (setup : Setup) (producer : ℕ) (old new : List BegunChunk) → KeepsChunks old new → AreOwnChunks setup producer old → AreOwnChunks setup producer new
-own_kept setup producer [] [] keeps own = tt
-own_kept setup producer [] (one ∷ new) keeps own = absurd keeps
-own_kept setup producer (one ∷ old) [] keeps own = absurd keeps
-own_kept setup producer (Held chunk draft ∷ old) (Held other next ∷ new) keeps own =
-    (subst (IsChunkOf setup producer) (sym keeps.0) own.0, own_kept setup producer old new keeps.1 own.1)
-own_kept setup producer (Held chunk draft ∷ old) (Completed other content ∷ new) keeps own =
-    (subst (IsChunkOf setup producer) (sym keeps.0) own.0, own_kept setup producer old new keeps.1 own.1)
-own_kept setup producer (Completed chunk content ∷ old) (Held other draft ∷ new) keeps own = absurd keeps
-own_kept setup producer (Completed chunk content ∷ old) (Completed other later ∷ new) keeps own =
-    (subst (IsChunkOf setup producer) (sym keeps.0) own.0, own_kept setup producer old new keeps.1 own.1)
-
-own_more : (setup : Setup) (producer chunk : ℕ) (draft : Draft) (begun : List BegunChunk) → IsChunkOf setup producer chunk → AreOwnChunks setup producer begun
-    → AreOwnChunks setup producer (begun ++ Held chunk draft ∷ [])
-own_more setup producer chunk draft [] own all = (own, tt)
-own_more setup producer chunk draft (Held about other ∷ begun) own all = (all.0, own_more setup producer chunk draft begun own all.1)
-own_more setup producer chunk draft (Completed about content ∷ begun) own all = (all.0, own_more setup producer chunk draft begun own all.1)
-
 module _ {T W S : Type 0} (means : Meaning T W S) (setup : Setup) (place : ℕ) where
   none_quiet : (old : T) (seat : W) (new : T) (after : W) → IsQuiet means old seat new after → NoneOut setup place (means.view old seat)
       → NoneOut setup place (means.view new after)
   none_quiet old seat new after quiet none = record {
     unclaimed = quiet.claimed ∙ none.unclaimed;
     unstamped = quiet.stamped ∙ none.unstamped;
-    own_chunks = own_kept setup (producer_of setup place) (means.view old seat).begun (means.view new after).begun quiet.chunks none.own_chunks;
+    own_chunks = chunks_kept setup (producer_of setup place) (means.view old seat).begun (means.view new after).begun quiet.chunks none.own_chunks;
   }
 
   none_gets : (route : Route) (old : T) (seat : W) (new : T) (after : W) → range_of setup (producer_of setup place) ≡ range_in route.arbiter
@@ -144,7 +126,7 @@ module _ {T W S : Type 0} (means : Meaning T W S) (setup : Setup) (place : ℕ) 
         unclaimed = ap (λ (v : WriterView). v.claimed) view ∙ none.unclaimed;
         unstamped = ap (λ (v : WriterView). v.stamped) view ∙ none.unstamped;
         own_chunks = subst (AreOwnChunks setup (producer_of setup place)) (sym (ap (λ (v : WriterView). v.begun) view))
-            (own_more setup (producer_of setup place) gets.chunk (fresh gets.claims.payload) (means.view old seat).begun
+            (chunks_more setup (producer_of setup place) gets.chunk (fresh gets.claims.payload) (means.view old seat).begun
             (record { least = omega (arith, first, gets.claims.least); below = omega (arith, first, count, gets.claims.below) }) none.own_chunks);
       }
 
@@ -153,7 +135,7 @@ module _ {T W S : Type 0} (means : Meaning T W S) (setup : Setup) (place : ℕ) 
   none_now route old seat new after out none = record {
     unclaimed = out.claimed ∙ none.unclaimed;
     unstamped = out.stamped ∙ none.unstamped;
-    own_chunks = own_kept setup (producer_of setup place) (means.view old seat).begun (means.view new after).begun out.chunks none.own_chunks;
+    own_chunks = chunks_kept setup (producer_of setup place) (means.view old seat).begun (means.view new after).begun out.chunks none.own_chunks;
   }
 
 -- ---- works

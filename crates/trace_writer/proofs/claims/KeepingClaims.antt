@@ -30,7 +30,8 @@ own_lost setup producer calls first [] least most = tt
 own_lost setup producer calls first (word ∷ words) least most =
     (record { least = least; below = omega (arith, most) }, own_lost setup producer calls (first + 1) words (omega (arith, least)) (omega (arith, most)))
 
-chunks_kept : (setup : Setup) (producer : ℕ) (old new : List BegunChunk) → KeepsChunks old new → AreOwnChunks setup producer old → AreOwnChunks setup producer new
+-- chunks that are kept are those that were begun
+pub chunks_kept : (setup : Setup) (producer : ℕ) (old new : List BegunChunk) → KeepsChunks old new → AreOwnChunks setup producer old → AreOwnChunks setup producer new
 chunks_kept setup producer [] [] keeps own = tt
 chunks_kept setup producer [] (one ∷ new) keeps own = absurd keeps
 chunks_kept setup producer (Held chunk head ∷ old) [] keeps own = absurd keeps
@@ -43,7 +44,7 @@ chunks_kept setup producer (Completed chunk content ∷ old) (Held other next �
 chunks_kept setup producer (Completed chunk content ∷ old) (Completed other later ∷ new) keeps own =
     (subst (λ (c : ℕ). IsChunkOf setup producer c) (sym keeps.0) own.0, chunks_kept setup producer old new keeps.1 own.1)
 
-chunks_more : (setup : Setup) (producer chunk : ℕ) (head : Draft) (begun : List BegunChunk) → IsChunkOf setup producer chunk → AreOwnChunks setup producer begun
+pub chunks_more : (setup : Setup) (producer chunk : ℕ) (head : Draft) (begun : List BegunChunk) → IsChunkOf setup producer chunk → AreOwnChunks setup producer begun
     → AreOwnChunks setup producer (begun ++ Held chunk head ∷ [])
 chunks_more setup producer chunk head [] own all = (own, tt)
 chunks_more setup producer chunk head (Held c h ∷ begun) own all = (all.0, chunks_more setup producer chunk head begun own all.1)
