@@ -2,7 +2,7 @@
 use Rattle.std.specs.Prelude.{◌≡◌, ℕ, suc, ◌+◌, ◌<◌, List, [], ◌∷◌, ◌++◌, length, map, All, Some, slice_get}
 use Rattle.trace_model.specs.Delivery.{Delivered, IsFaithful}
 use Rattle.trace_file.specs.Apart.{BeginsWithMark}
-use Rattle.trace_file.specs.Traces.{TracePacket, ReadsAsTrace, ReadsFrom}
+use Rattle.trace_file.specs.Traces.{TracePacket, ReadsAsTrace, IsFaultIn}
 use Rattle.gap_check.specs.declared.verdict.Verdict.{Verdict}
 use Rattle.gap_check.specs.declared.verdict.Verdict.TheVariants.{Agrees, Differs}
 use Rattle.gap_check.specs.declared.verdict.CheckFault.{CheckFault}
@@ -51,4 +51,4 @@ pub record IsVerdictOn (emitted : List (List (List ℕ))) (trace : List ℕ) (ve
 -- the fault is the trace's; memory is free to run out
 abbrev pub IsFaultOf : List ℕ → CheckFault → Type 0
 IsFaultOf trace OutOfMemory = Unit {0}
-IsFaultOf trace (Trace fault) = (packets : List TracePacket) × ReadsFrom 0 trace packets (Some fault)
+IsFaultOf trace (Trace fault) = IsFaultIn trace fault

@@ -1,7 +1,7 @@
 //! Going over a trace.
 ghost use Rattle.std.specs.Prelude.{◌≡◌, ◌≤◌, ◌<◌, ◌+◌, ◌^◌, ℕ, List, [], None, Some, length, IfOk, IfErr, OnOk};
 ghost use Rattle.trace_file.specs.Readers.{StillReads};
-ghost use Rattle.trace_file.specs.Traces.{TracePacket, ReadsFrom};
+ghost use Rattle.trace_file.specs.Traces.{TracePacket, IsFaultIn};
 ghost use Rattle.gap_check.specs.Taken.{AllTaken, AreFew};
 ghost use Rattle.gap_check.specs.Verdicts.{AreUnmarked, IsFaultOf, IsVerdictOn};
 
@@ -38,7 +38,7 @@ fn tell_trace(
     requires clean { AreUnmarked emitted.now }
     requires taken { AllTaken emitted.now [] tellers.old }
     ensures verdict { IfOk result (IsVerdictOn emitted.now trace.now) }
-    ensures fault { IfErr result (λ fault. (packets : List TracePacket) × ReadsFrom 0 trace.now packets (Some fault)) }
+    ensures fault { IfErr result (IsFaultIn trace.now) }
 {
     let mut reader = TraceReader::new(trace);
     let mut count: u64 = 0;

@@ -120,6 +120,10 @@ ReadsFrom at bytes (packet ∷ packets) ending =
 abbrev pub ReadsAsTrace : List ℕ → List TracePacket → Type 0
 ReadsAsTrace bytes packets = ReadsFrom 0 bytes packets None
 
+-- the trace has this first fault, behind the packets that stand in front of it
+abbrev pub IsFaultIn : List ℕ → TraceFault → Type 0
+IsFaultIn bytes fault = (packets : List TracePacket) × ReadsFrom 0 bytes packets (Some fault)
+
 -- no two readings of the same bytes differ, and none is with a fault and without
 abbrev pub TracesReadOnce : Type 0
 TracesReadOnce = (at : ℕ) (bytes : List ℕ) (packets others : List TracePacket) (ending other : Option TraceFault)
