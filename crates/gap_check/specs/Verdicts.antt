@@ -1,5 +1,5 @@
 -- What a verdict says.
-use Rattle.std.specs.Prelude.{◌≡◌, ℕ, suc, ◌+◌, ◌<◌, List, [], ◌∷◌, ◌++◌, length, map, All, Some, slice_get}
+use Rattle.std.specs.Prelude.{◌≡◌, ℕ, suc, ◌+◌, List, [], ◌∷◌, ◌++◌, length, map, All, Some, slice_get}
 use Rattle.trace_model.specs.Delivery.{Delivered, IsFaithful}
 use Rattle.trace_file.specs.Apart.{BeginsWithMark}
 use Rattle.trace_file.specs.Traces.{TracePacket, ReadsAsTrace, IsFaultIn}

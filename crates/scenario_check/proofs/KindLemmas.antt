@@ -6,9 +6,9 @@ use Rattle.field_tree.specs.Nodes.{Shown}
 use Rattle.emitted_packets.specs.declared.emitter.Emitter.{Emitter}
 use Rattle.scenario_text.specs.declared.scenario.LineKind.{LineKind}
 use Rattle.scenario_text.specs.declared.scenario.LineKind.TheVariants as line
-use Rattle.scenario_text.specs.Accepted.{node_call}
+use Rattle.scenario_text.specs.Accepted.{node_call, named_calls}
 use Rattle.scenario_text.specs.Lengths.{line_len}
-use Rattle.scenario_check.specs.Progress.{MayTake, Takes, named_calls}
+use Rattle.scenario_check.specs.Progress.{MayTake, Takes}
 use Rattle.scenario_check.proofs.CallLemmas.{takes_fewer, takes_none, begun_takes, flushed_takes}
 
 -- a message begins

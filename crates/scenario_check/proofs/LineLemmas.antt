@@ -12,11 +12,11 @@ use Rattle.emitted_packets.specs.declared.emitter.Emitter.{Emitter}
 use Rattle.scenario_text.specs.declared.scenario.LineKind.{LineKind}
 use Rattle.scenario_text.specs.declared.scenario.LineKind.TheVariants.{Packet, Begin, Add, Nest, Unnest, End, Flush, Collect, Scrape, Close, Read, Request}
 use Rattle.scenario_text.specs.declared.scenario.NumberedLine.{NumberedLine}
-use Rattle.scenario_text.specs.Accepted.{line_calls, calls_asked, AreAccepted}
+use Rattle.scenario_text.specs.Accepted.{line_calls, named_calls, calls_asked, AreAccepted}
 use Rattle.scenario_text.specs.Lengths.{line_len}
 use Rattle.scenario_text.proofs.AcceptedLemmas.{calls_more}
 use Rattle.scenario_text.proofs.ShortLemmas.{lines_push}
-use Rattle.scenario_check.specs.Progress.{Holds, MayTake, Takes, named_writer, named_calls, HasTaken, HaveTaken, MayCome}
+use Rattle.scenario_check.specs.Progress.{Holds, MayTake, Takes, named_writer, HasTaken, HaveTaken, MayCome}
 use Rattle.scenario_check.proofs.AskedLemmas.{push_there}
 use Rattle.scenario_check.proofs.CallLemmas.{accepted_front, accepted_back, split_there}
 

@@ -1,15 +1,14 @@
 -- How emitters go on with the lines of a scenario.
-use Rattle.std.specs.Prelude.{◌≡◌, ℕ, ◌+◌, ◌≤◌, true, List, [], ◌∷◌, ◌++◌, length, map, fold, Some, slice_get}
+use Rattle.std.specs.Prelude.{◌≡◌, ℕ, ◌+◌, ◌≤◌, List, length, fold, Some, slice_get}
 use Rattle.trace_base.specs.declared.limits.TheConstants.{MAX_SCENARIO_PACKET_BYTES}
 use Rattle.trace_model.specs.Calls.{Call}
-use Rattle.trace_model.specs.Calls as call
 use Rattle.trace_model.specs.Packets.{Account, account_of, noted, nothing_yet}
 use Rattle.emitted_packets.specs.declared.emitter.Emitter.{Emitter}
 use Rattle.emitted_packets.specs.Emitting.{IsEmitting}
 use Rattle.scenario_text.specs.declared.scenario.LineKind.{LineKind}
 use Rattle.scenario_text.specs.declared.scenario.LineKind.TheVariants.{Packet, Begin, Add, Nest, Unnest, End, Flush}
 use Rattle.scenario_text.specs.declared.scenario.NumberedLine.{NumberedLine}
-use Rattle.scenario_text.specs.Accepted.{node_call, calls_asked, AreAccepted}
+use Rattle.scenario_text.specs.Accepted.{calls_asked, AreAccepted}
 use Rattle.scenario_text.specs.Lengths.{lines_len}
 
 -- ---- one writer
@@ -43,17 +42,6 @@ named_writer (Unnest writer) = writer
 named_writer (End writer) = writer
 named_writer (Flush writer) = writer
 named_writer other = 0
-
--- the calls that a line asks of the writer that it names
-abbrev pub named_calls : LineKind → List Call
-named_calls (Packet writer nodes) = call.Begun true ∷ map node_call nodes ++ call.Finished ∷ []
-named_calls (Begin writer) = call.Begun true ∷ []
-named_calls (Add writer nodes) = map node_call nodes
-named_calls (Nest writer field) = call.Nested field ∷ []
-named_calls (Unnest writer) = call.Ended ∷ []
-named_calls (End writer) = call.Finished ∷ []
-named_calls (Flush writer) = call.Flushed ∷ []
-named_calls other = []
 
 -- the emitter of the writer with this number has taken what the lines ask of it
 pub record HasTaken (number : ℕ) (lines : List NumberedLine) (emitter : Emitter) : Type 0 where

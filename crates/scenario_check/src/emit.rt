@@ -3,9 +3,9 @@ ghost use Rattle.std.specs.Prelude.{[], ◌∷◌, ◌++◌, true, map, OnOk};
 ghost use Rattle.trace_model.specs.Calls as call;
 ghost use Rattle.emitted_packets.specs.declared.emitter.Emitter.{Emitter};
 ghost use Rattle.field_tree.specs.Judged.{node_len, nodes_len};
-ghost use Rattle.scenario_text.specs.Accepted.{node_call};
+ghost use Rattle.scenario_text.specs.Accepted.{node_call, named_calls};
 ghost use Rattle.scenario_text.specs.Lengths.{line_len};
-ghost use Rattle.scenario_check.specs.Progress.{MayTake, Takes, named_calls};
+ghost use Rattle.scenario_check.specs.Progress.{MayTake, Takes};
 
 use emitted_packets::Emitter;
 use field_tree::{FieldNode, Fields};

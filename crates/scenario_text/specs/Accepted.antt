@@ -48,6 +48,17 @@ pub record PassesOver (number : ℕ) (lines behind : List NumberedLine) : Type 0
   pub all : passed ++ behind ≡ lines
   pub others : All (λ line. is_of number line.what ≡ false) passed
 
+-- the calls that a line asks of the writer that it names
+abbrev pub named_calls : LineKind → List Call
+named_calls (line.Packet writer fields) = call.Begun true ∷ map node_call fields ++ call.Finished ∷ []
+named_calls (line.Begin writer) = call.Begun true ∷ []
+named_calls (line.Add writer fields) = map node_call fields
+named_calls (line.Nest writer field) = call.Nested field ∷ []
+named_calls (line.Unnest writer) = call.Ended ∷ []
+named_calls (line.End writer) = call.Finished ∷ []
+named_calls (line.Flush writer) = call.Flushed ∷ []
+named_calls other = []
+
 -- the calls, where the line is one of the writer with this number
 abbrev pub if_own : ℕ → ℕ → List Call → List Call
 if_own number writer calls = if number == writer then calls else []

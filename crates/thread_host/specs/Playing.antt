@@ -1,9 +1,8 @@
 -- A writer of threads while it plays its lines: what it was asked for, and what is still to come.
-use Rattle.std.specs.Prelude.{◌≡◌, ℕ, Bool, true, false, List, [], ◌∷◌, ◌++◌, map}
+use Rattle.std.specs.Prelude.{◌≡◌, ℕ, Bool, false, List, ◌++◌}
 use Rattle.atomic_table.specs.Seated.{TableId}
 use Rattle.trace_base.specs.declared.policy.WriterPolicy.{WriterPolicy}
 use Rattle.trace_base.specs.declared.policy.WriterPolicy.TheVariants.{Stalls}
-use Rattle.trace_model.specs.Calls as call
 use Rattle.trace_model.specs.Calls.{Call}
 use Rattle.trace_model.specs.Packets.{packets_of}
 use Rattle.model_laws.specs.ChunkCounts.{lost_count}
@@ -13,9 +12,6 @@ use Rattle.chunk_words.specs.declared.host.HostTable.{HostTable}
 use Rattle.chunk_words.specs.Sits.{setup_in}
 use Rattle.world_model.specs.FirstBuffers.{payload_at}
 use Rattle.trace_writer.specs.Core.{is_stalled}
-use Rattle.scenario_text.specs.declared.scenario.LineKind.{LineKind}
-use Rattle.scenario_text.specs.declared.scenario.LineKind.TheVariants as line
-use Rattle.scenario_text.specs.Accepted.{node_call}
 use Rattle.service_core.specs.Agreement.{spec_at}
 use Rattle.replay_host.specs.Asking.{IsReadyFor}
 use Rattle.run_model.specs.Noted.{done_calls}
@@ -24,21 +20,6 @@ use Rattle.thread_writer.specs.declared.helper.Asks.{Asks}
 use Rattle.thread_writer.specs.declared.writer.TraceWriter.{TraceWriter}
 use Rattle.thread_writer.specs.Lent.{identity_of}
 use Rattle.thread_writer.specs.Writing.{core_of, view_in, Writes}
-
--- ---- lines
-
--- the calls that a line asks of the writer that it names
-abbrev pub calls_in : LineKind → List Call
-calls_in (line.Packet writer fields) = call.Begun true ∷ map node_call fields ++ call.Finished ∷ []
-calls_in (line.Begin writer) = call.Begun true ∷ []
-calls_in (line.Add writer fields) = map node_call fields
-calls_in (line.Nest writer field) = call.Nested field ∷ []
-calls_in (line.Unnest writer) = call.Ended ∷ []
-calls_in (line.End writer) = call.Finished ∷ []
-calls_in (line.Flush writer) = call.Flushed ∷ []
-calls_in other = []
-
--- ---- a writer
 
 -- Whoever asks such a helper for a writer of this policy is never told that nothing came free. A writer that drops asks nobody.
 abbrev pub NeverRefuses : {H : Type 0} → (H → ℕ → Bool → H → Type 0) → WriterPolicy → Type 0

@@ -1,9 +1,9 @@
 //! Playing the lines of one writer.
 ghost use Rattle.std.specs.Prelude.{◌≡◌, ℕ, suc, ◌<◌, [], ◌∷◌, ◌++◌};
 ghost use Rattle.trace_model.specs.Calls.{Flushed};
-ghost use Rattle.scenario_text.specs.Accepted.{calls_asked};
+ghost use Rattle.scenario_text.specs.Accepted.{named_calls, calls_asked};
 ghost use Rattle.thread_host.specs.Hosts.{HasPlayed};
-ghost use Rattle.thread_host.specs.Playing.{calls_in, IsGoing, MayBeAsked, WasAsked};
+ghost use Rattle.thread_host.specs.Playing.{IsGoing, MayBeAsked, WasAsked};
 
 use crate::asking::{ask, ask_fields, ask_packet};
 use byte_io::traits::Gate;
@@ -22,8 +22,8 @@ fn play_line<H: Helper, L: Ledger>(
     writer: &mut TraceWriter,
     line: &LineKind<'_>,
 )
-    requires going { MayBeAsked H.helps H.of_table table.now (calls_in line.now) help.old writer.old }
-    ensures asked { WasAsked H.helps H.of_table table.now (calls_in line.now) help.old writer.old help.new writer.new }
+    requires going { MayBeAsked H.helps H.of_table table.now (named_calls line.now) help.old writer.old }
+    ensures asked { WasAsked H.helps H.of_table table.now (named_calls line.now) help.old writer.old help.new writer.new }
 {
     match line {
         LineKind::Packet { writer: _, fields } => ask_packet(table, help, steps, writer, fields),

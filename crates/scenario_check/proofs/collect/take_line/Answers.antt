@@ -2,8 +2,9 @@ use Rattle.std.proofs.Common.{◌≡◌, ◌+◌, ◌-◌, ◌<◌, ◌⊎◌, �
 use Rattle.std.specs.Prelude.{slice_get}
 use Rattle.std.proofs.lemmas.Option.{slice_get-get_or}
 use Rattle.emitted_packets.specs.declared.emitter.Emitter.{Emitter}
+use Rattle.scenario_text.specs.Accepted.{named_calls}
 use Rattle.scenario_text.specs.Lengths.{line_len}
-use Rattle.scenario_check.specs.Progress.{Takes, named_writer, named_calls}
+use Rattle.scenario_check.specs.Progress.{Takes, named_writer}
 use Rattle.scenario_check.proofs.CallLemmas.{on_ok}
 use Rattle.scenario_check.proofs.LineLemmas.{line_may, all_own, all_other}
 use Rattle.scenario_check.proofs.collect.take_line.Goals as goal

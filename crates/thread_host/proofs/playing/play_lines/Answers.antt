@@ -3,7 +3,8 @@ use Rattle.std.proofs.Common.{◌∙◌, List, [], ◌∷◌, ◌++◌, length, 
 use Rattle.std.specs.List.{flat_map}
 use Rattle.trace_model.specs.Calls.{Call}
 use Rattle.scenario_text.specs.declared.scenario.LineKind.{LineKind}
-use Rattle.thread_host.specs.Playing.{calls_in, MayBeAsked, WasAsked}
+use Rattle.scenario_text.specs.Accepted.{named_calls}
+use Rattle.thread_host.specs.Playing.{MayBeAsked, WasAsked}
 use Rattle.thread_host.proofs.Going.{asked_none}
 use Rattle.thread_host.proofs.PlayedLines.{own_asked, line_next, played_more}
 use Rattle.thread_host.proofs.playing.play_lines.Goals as goal
@@ -14,7 +15,7 @@ lines-init g c = record {
   all = c.walk_of-walk.ensures;
   asked = asked_none g.H.Helper.helps g.H.Helper.of_table c.args.table.now c.args.help.now c.args.writer.now;
   going = subst (λ (calls : List Call). MayBeAsked g.H.Helper.helps g.H.Helper.of_table c.args.table.now calls c.args.help.now c.args.writer.now)
-      (sym (own_asked c.args.number c.args.lines.now) ∙ ap (flat_map calls_in) (sym c.walk_of-walk.ensures)) c.requires.going;
+      (sym (own_asked c.args.number c.args.lines.now) ∙ ap (flat_map named_calls) (sym c.walk_of-walk.ensures)) c.requires.going;
 }
 
 pub lines-smaller : goal.lines-smaller
@@ -30,7 +31,7 @@ play_line-requires g c =
       going = (
         place,
         calls,
-        flat_map calls_in others ++ coming,
+        flat_map named_calls others ++ coming,
         line_next g.H.Helper.helps g.H.Helper.of_table c.args.table.now c.in-Some.line others c.lines.help c.lines.writer
             c.lines.walk c.in-Some.ensures.first place calls coming c.lines.invariant.going.3,
       );
@@ -52,9 +53,9 @@ lines-preserved g c =
           before c.args.help.now c.args.writer.now c.play_line.new.help c.play_line.new.writer c.lines.invariant.asked c.play_line.ensures.asked;
       going = (
         place,
-        calls ++ calls_in line,
+        calls ++ named_calls line,
         coming,
-        c.play_line.ensures.asked place calls (flat_map calls_in others ++ coming)
+        c.play_line.ensures.asked place calls (flat_map named_calls others ++ coming)
             (line_next g.H.Helper.helps g.H.Helper.of_table c.args.table.now line others c.lines.help c.lines.writer
             c.lines.walk c.in-Some.ensures.first place calls coming c.lines.invariant.going.3),
       );
@@ -68,5 +69,5 @@ returns g c =
     record {
       asked = subst (λ (asked : List Call). WasAsked g.H.Helper.helps g.H.Helper.of_table c.args.table.now asked
           c.args.help.now c.args.writer.now c.lines.help c.lines.writer)
-          (ap (flat_map calls_in) all ∙ own_asked c.args.number c.args.lines.now) c.lines.invariant.asked;
+          (ap (flat_map named_calls) all ∙ own_asked c.args.number c.args.lines.now) c.lines.invariant.asked;
     }
