@@ -35,11 +35,12 @@ use Rattle.scenario_text.specs.declared.scenario.NumberedLine.{NumberedLine}
 use Rattle.scenario_text.specs.Scenario.{Parts}
 use Rattle.scenario_text.specs.Accepted.{calls_asked}
 use Rattle.scenario_text.specs.Limits.{IsWriter}
+use Rattle.scenario_text.specs.Emissions.{emitted_from, emitted_in}
 use Rattle.service_core.specs.Agreement.{spec_at}
 use Rattle.service_core.specs.Reading.{reads_in, sequences_to}
 use Rattle.service_core.specs.Routing.{buffer_at}
 use Rattle.replay_model.specs.Enough.{HasEnough, IsPlayable, room_of}
-use Rattle.replay_model.specs.Played.{buffer_specs, buffers_of, emitted_from, emitted_in, records_in}
+use Rattle.replay_model.specs.Played.{buffer_specs, buffers_of, records_in}
 use Rattle.replay_model.specs.Written.{HasWritten}
 use Rattle.replay_model.proofs.AccountLemmas.{pages_begun}
 use Rattle.replay_model.proofs.BalanceLemmas.{get_map, after_at}

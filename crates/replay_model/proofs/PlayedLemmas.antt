@@ -14,10 +14,11 @@ use Rattle.chunk_plain.proofs.MadeLemmas.{first_owned}
 use Rattle.scenario_text.specs.declared.scenario.NumberedLine.{NumberedLine}
 use Rattle.scenario_text.specs.Scenario.{Parts}
 use Rattle.scenario_text.specs.Accepted.{calls_asked}
+use Rattle.scenario_text.specs.Emissions.{emitted_from, emitted_in}
 use Rattle.replay_model.specs.Acts.{Act}
 use Rattle.replay_model.specs.Flushes.{FlushNote}
 use Rattle.replay_model.specs.Plays.{Plays}
-use Rattle.replay_model.specs.Played.{IsSetupOf, IsPlayed, buffer_specs, buffers_of, emitted_from, emitted_in, records_in}
+use Rattle.replay_model.specs.Played.{IsSetupOf, IsPlayed, buffer_specs, buffers_of, records_in}
 use Rattle.replay_model.specs.Laws.{WritersWrote, WritersLose, ReplaysAreAccounts, EveryReplayIsFaithful}
 use Rattle.replay_model.specs.Schedule.{schedule_of}
 use Rattle.replay_model.proofs.AccountLemmas.{many_writers, standing_is_faithful, standing_is_account}

@@ -13,11 +13,12 @@ use Rattle.world_model.specs.Accounts.{IsAccount}
 use Rattle.scenario_text.specs.Scenario.{Parts}
 use Rattle.scenario_text.specs.Accepted.{calls_asked}
 use Rattle.scenario_text.specs.Limits.{IsSetUp}
+use Rattle.scenario_text.specs.Emissions.{emitted_in}
 use Rattle.replay_model.specs.Does.{Wrote}
 use Rattle.replay_model.specs.Enough.{HasEnough, IsPlayable}
 use Rattle.replay_model.specs.Flushes.{FlushNote}
 use Rattle.replay_model.specs.Plays.{Plays}
-use Rattle.replay_model.specs.Played.{IsPlayed, emitted_in, records_in, packet_counts, AreBalanced, CountsPackets}
+use Rattle.replay_model.specs.Played.{IsPlayed, records_in, packet_counts, AreBalanced, CountsPackets}
 
 -- no acts lead from a world to itself
 abbrev pub NothingPlaysNothing : Type 0

@@ -10,13 +10,13 @@ use Rattle.trace_model.specs.Causes.{fixed_after}
 use Rattle.trace_model.specs.Counts.{raised}
 use Rattle.trace_model.specs.Delivery.{Delivered, IsFaithful, IsComplete, trace_of}
 use Rattle.trace_model.specs.History.{buffers_after, records_after}
-use Rattle.trace_model.specs.Packets.{emissions_of, begun_count}
+use Rattle.trace_model.specs.Packets.{begun_count}
 use Rattle.trace_model.specs.Sequences.{sequence_in}
 use Rattle.scenario_text.specs.declared.scenario.BufferLine.{BufferLine}
 use Rattle.scenario_text.specs.declared.scenario.ProducerLine.{ProducerLine}
-use Rattle.scenario_text.specs.declared.scenario.NumberedLine.{NumberedLine}
 use Rattle.scenario_text.specs.Scenario.{Parts}
 use Rattle.scenario_text.specs.Accepted.{calls_asked}
+use Rattle.scenario_text.specs.Emissions.{emitted_in}
 use Rattle.chunk_plain.specs.declared.setup.ProducerSpec.{ProducerSpec}
 use Rattle.chunk_plain.specs.Setup.{Setup, sequence_of}
 use Rattle.chunk_plain.specs.Laying.{setup_of}
@@ -63,15 +63,6 @@ buffers_of scenario setup = first_buffers setup 1 (buffer_specs scenario)
 pub record IsPlayed (scenario : Parts) (setup : Setup) (world : World) (notes : List FlushNote) : Type 0 where
   pub setup_is : IsSetupOf scenario setup
   pub plays : Plays setup (buffers_of scenario setup) (schedule_of scenario) (first_world setup) world notes
-
--- the packets that the lines have each writer emit, of which the first has this number
-abbrev pub emitted_from : List NumberedLine → (number : ℕ) → List WriterSpec → List (List (List ℕ))
-emitted_from lines number [] = []
-emitted_from lines number (spec ∷ specs) = emissions_of (calls_asked number lines) ∷ emitted_from lines (suc number) specs
-
--- the packets that a scenario has its writers emit, by its lines alone
-abbrev pub emitted_in : Parts → List (List (List ℕ))
-emitted_in scenario = emitted_from scenario.lines 1 scenario.writers
 
 -- the records that a world's history writes
 abbrev pub records_in : Parts → Setup → World → List Delivered

@@ -18,11 +18,12 @@ use Rattle.world_model.proofs.ProjectLemmas.{all_mine}
 use Rattle.scenario_text.specs.declared.scenario.NumberedLine.{NumberedLine}
 use Rattle.scenario_text.specs.Scenario.{Parts}
 use Rattle.scenario_text.specs.Accepted.{calls_asked}
+use Rattle.scenario_text.specs.Emissions.{emitted_from, emitted_in}
 use Rattle.trace_writer.specs.declared.state.Writer.{Writer}
 use Rattle.trace_writer.specs.Outcomes.{held_images, held_patches}
 use Rattle.trace_writer.proofs.accounts.CutLaws.{agreeing_is_cut}
 use Rattle.service_core.specs.OrderLaws.{HasImages}
-use Rattle.replay_model.specs.Played.{buffer_specs, buffers_of, emitted_from, emitted_in, records_in}
+use Rattle.replay_model.specs.Played.{buffer_specs, buffers_of, records_in}
 use Rattle.replay_model.proofs.CompleteLemmas.{emitted_at}
 use Rattle.replay_model.proofs.OwnedLemmas.{named, learnt, finds, in_order}
 use Rattle.replay_model.proofs.PlayedLemmas.{setup_writers}

@@ -7,8 +7,9 @@ use Rattle.chunk_plain.specs.Setup.{Setup}
 use Rattle.chunk_plain.specs.World.{World}
 use Rattle.scenario_text.specs.Scenario.{Parts}
 use Rattle.scenario_text.specs.Limits.{IsSetUp}
+use Rattle.scenario_text.specs.Emissions.{emitted_in}
 use Rattle.replay_model.specs.Enough.{HasEnough, IsPlayable}
-use Rattle.replay_model.specs.Played.{emitted_in, records_in, packet_counts, AreBalanced, CountsPackets}
+use Rattle.replay_model.specs.Played.{records_in, packet_counts, AreBalanced, CountsPackets}
 use Rattle.run_model.specs.Settled.{IsRun}
 
 -- The records of a run are faithful to the packets that the lines have writers emit, whatever is lost on the way.

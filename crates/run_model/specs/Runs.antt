@@ -6,8 +6,9 @@ use Rattle.trace_model.specs.Delivery.{IsFaithful, IsComplete, trace_of}
 use Rattle.chunk_plain.specs.Setup.{Setup}
 use Rattle.chunk_plain.specs.World.{World}
 use Rattle.scenario_text.specs.Scenario.{Parts}
+use Rattle.scenario_text.specs.Emissions.{emitted_in}
 use Rattle.replay_model.specs.Enough.{HasEnough}
-use Rattle.replay_model.specs.Played.{emitted_in, records_in, packet_counts, report_of, AreBalanced, CountsPackets}
+use Rattle.replay_model.specs.Played.{records_in, packet_counts, report_of, AreBalanced, CountsPackets}
 use Rattle.run_model.specs.Settled.{IsRun}
 
 -- The scenario was run: there is a world that its threads led to. The trace has taken that world's records and nothing else, and the text is its

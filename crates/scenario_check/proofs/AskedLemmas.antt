@@ -5,7 +5,8 @@ use Rattle.trace_model.specs.Packets.{Account, account_of, packet_encoding}
 use Rattle.emitted_packets.specs.declared.emitter.Emitter.{Emitter}
 use Rattle.scenario_text.specs.declared.scenario.NumberedLine.{NumberedLine}
 use Rattle.scenario_text.specs.Accepted.{calls_asked}
-use Rattle.scenario_check.specs.Emissions.{emissions_asked, AreAsked}
+use Rattle.scenario_text.specs.Emissions.{emissions_asked}
+use Rattle.scenario_check.specs.Emissions.{AreAsked}
 use Rattle.scenario_check.specs.Progress.{Holds, HaveTaken}
 
 -- the packets of the first so many emitters

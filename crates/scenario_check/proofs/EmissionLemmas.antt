@@ -13,26 +13,27 @@ use Rattle.scenario_text.proofs.LimitLemmas.{scenario_is_set_up}
 use Rattle.scenario_text.proofs.AcceptedLemmas.{scenario_is_accepted}
 use Rattle.gap_check.specs.Taken.{AreFew}
 use Rattle.gap_check.specs.Verdicts.{AreUnmarked}
-use Rattle.scenario_check.specs.Emissions.{emissions_asked, emissions_from, scenario_emissions, AreAsked}
+use Rattle.scenario_check.specs.Emissions.{AreAsked}
 use Rattle.scenario_check.specs.Progress.{HaveTaken, MayCome}
 use Rattle.scenario_text.proofs.ShortLemmas.{scenario_is_short}
+use Rattle.scenario_text.specs.Emissions.{emissions_asked, emitted_from, emitted_in}
 use Rattle.scenario_check.proofs.UnmarkedLemmas.{asked_unmarked}
 
 asked_from : (lines : List NumberedLine) (writers : List WriterSpec) (number : ℕ) (emitted : List (List (List ℕ))) → length emitted ≡ length writers
     → ((place : ℕ) (packets : List (List ℕ)) → slice_get emitted place ≡ Some packets → packets ≡ emissions_asked (number + place) lines)
-    → emitted ≡ emissions_from number writers lines
+    → emitted ≡ emitted_from lines number writers
 asked_from lines [] number [] many each = refl
 asked_from lines [] number (packets ∷ emitted) many each = absurd (omega (arith, many))
 asked_from lines (writer ∷ writers) number [] many each = absurd (omega (arith, many))
 asked_from lines (writer ∷ writers) number (packets ∷ emitted) many each =
     let here : packets ≡ emissions_asked number lines = each 0 packets refl ∙ ap (λ (n : ℕ). emissions_asked n lines) (omega arith) in
-    let others : emitted ≡ emissions_from (number + 1) writers lines =
-    asked_from lines writers (number + 1) emitted (omega (arith, many))
+    let others : emitted ≡ emitted_from lines (suc number) writers =
+    asked_from lines writers (suc number) emitted (omega (arith, many))
     (λ place more there. each (suc place) more there ∙ ap (λ (n : ℕ). emissions_asked n lines) (omega arith)) in
     ap (λ (ps : List (List ℕ)). ps ∷ emitted) here ∙ ap (λ (es : List (List (List ℕ))). emissions_asked number lines ∷ es) others
 
 pub asked_is : (lines : List NumberedLine) (writers : List WriterSpec) (emitted : List (List (List ℕ))) → AreAsked lines (length writers) emitted
-    → emitted ≡ emissions_from 1 writers lines
+    → emitted ≡ emitted_from lines 1 writers
 asked_is lines writers emitted asked =
     asked_from lines writers 1 emitted asked.many (λ place packets there. asked.each place packets there ∙ ap (λ (n : ℕ). emissions_asked n lines) (omega arith))
 
@@ -43,7 +44,7 @@ record IsThere (lines : List NumberedLine) (writers : List WriterSpec) (number p
   are : packets ≡ emissions_asked (number + place) lines
 
 from_there : (lines : List NumberedLine) (writers : List WriterSpec) (number place : ℕ) (packets : List (List ℕ))
-    → slice_get (emissions_from number writers lines) place ≡ Some packets → IsThere lines writers number place packets
+    → slice_get (emitted_from lines number writers) place ≡ Some packets → IsThere lines writers number place packets
 from_there lines [] number place packets there = absurd cc
 from_there lines (writer ∷ writers) number zero packets there = record {
   writer = writer;
@@ -51,14 +52,14 @@ from_there lines (writer ∷ writers) number zero packets there = record {
   are = let same : emissions_asked number lines ≡ packets = cc in sym same ∙ ap (λ (n : ℕ). emissions_asked n lines) (omega arith);
 }
 from_there lines (writer ∷ writers) number (suc place) packets there =
-    let more = from_there lines writers (number + 1) place packets there in
+    let more = from_there lines writers (suc number) place packets there in
     record {
       writer = more.writer;
       is_writer = more.is_writer;
       are = more.are ∙ ap (λ (n : ℕ). emissions_asked n lines) (omega arith);
     }
 
-pub scenario_is_unmarked : (scenario : Scenario) → IsScenario scenario → AreUnmarked (scenario_emissions (parts_of scenario))
+pub scenario_is_unmarked : (scenario : Scenario) → IsScenario scenario → AreUnmarked (emitted_in (parts_of scenario))
 scenario_is_unmarked scenario is = λ writer packets there place packet inside.
     let t = from_there scenario.lines scenario.writers.items 1 writer packets there in
     let well = scenario_is_accepted scenario is writer t.writer t.is_writer in
@@ -85,7 +86,7 @@ scenario_may scenario is = record {
 
 -- what is known of the packets of a scenario's writers
 pub record AreCollected (scenario : Scenario) (emitted : List (List (List ℕ))) : Type 0 where
-  pub packets : emitted ≡ scenario_emissions (parts_of scenario)
+  pub packets : emitted ≡ emitted_in (parts_of scenario)
   pub writers : length emitted ≤ MAX_WRITERS
   pub few : AreFew emitted
   pub clean : AreUnmarked emitted
@@ -96,7 +97,7 @@ pub collected : (scenario : Scenario) → IsScenario scenario → (emitters : Li
 collected scenario is emitters emitted many taken asks =
     let asked : AreAsked scenario.lines (length scenario.writers.items) emitted =
     subst (λ (n : ℕ). AreAsked scenario.lines n emitted) many (asks scenario.lines taken) in
-    let same : emitted ≡ scenario_emissions (parts_of scenario) = asked_is scenario.lines scenario.writers.items emitted asked in
+    let same : emitted ≡ emitted_in (parts_of scenario) = asked_is scenario.lines scenario.writers.items emitted asked in
     record {
       packets = same;
       writers = omega (arith, asked.many, (scenario_is_set_up scenario is).few_writers);

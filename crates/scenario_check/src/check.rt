@@ -1,8 +1,8 @@
 //! Checking a trace against a scenario.
 ghost use Rattle.std.specs.Prelude.{◌≡◌, IfOk, IfErr};
 ghost use Rattle.scenario_text.specs.Scenario.{IsScenario, parts_of};
+ghost use Rattle.scenario_text.specs.Emissions.{emitted_in};
 ghost use Rattle.gap_check.specs.Verdicts.{IsFaultOf, IsVerdictOn};
-ghost use Rattle.scenario_check.specs.Emissions.{scenario_emissions};
 
 use crate::collect::scenario_packets;
 use gap_check::{CheckFault, Verdict, check_packets};
@@ -13,7 +13,7 @@ use std::alloc::Global;
 /// first record up to which they don't; or the trace's first fault, which counts wherever it stands.
 pub fn check_run(alloc: Global, scenario: &Scenario, trace: &[u8]) -> Result<Verdict, CheckFault>
     requires { IsScenario scenario.now }
-    ensures verdict { IfOk result (IsVerdictOn (scenario_emissions (parts_of scenario.now)) trace.now) }
+    ensures verdict { IfOk result (IsVerdictOn (emitted_in (parts_of scenario.now)) trace.now) }
     ensures fault { IfErr result (IsFaultOf trace.now) }
 {
     match scenario_packets(alloc, scenario) {

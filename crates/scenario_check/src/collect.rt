@@ -4,9 +4,10 @@ ghost use Rattle.trace_model.specs.Packets.{Account, packet_encoding};
 ghost use Rattle.emitted_packets.specs.declared.emitter.Emitter.{Emitter};
 ghost use Rattle.scenario_text.specs.declared.scenario.NumberedLine.{NumberedLine};
 ghost use Rattle.scenario_text.specs.Scenario.{IsScenario, parts_of};
+ghost use Rattle.scenario_text.specs.Emissions.{emitted_in};
 ghost use Rattle.gap_check.specs.Taken.{AreFew};
 ghost use Rattle.gap_check.specs.Verdicts.{AreUnmarked};
-ghost use Rattle.scenario_check.specs.Emissions.{scenario_emissions, AreAsked};
+ghost use Rattle.scenario_check.specs.Emissions.{AreAsked};
 ghost use Rattle.scenario_check.specs.Progress as progress;
 ghost use Rattle.scenario_check.specs.Progress.{Holds, HaveTaken, MayCome};
 
@@ -116,7 +117,7 @@ pub(crate) fn scenario_packets(
     scenario: &Scenario,
 ) -> Result<Vec<Packets>, AllocError>
     requires { IsScenario scenario.now }
-    ensures packets { IfOk result (λ packets. packets.items ≡ scenario_emissions (parts_of scenario.now)) }
+    ensures packets { IfOk result (λ packets. packets.items ≡ emitted_in (parts_of scenario.now)) }
     ensures writers { IfOk result (λ packets. length packets.items ≤ MAX_WRITERS) }
     ensures few { IfOk result (λ packets. AreFew packets.items) }
     ensures clean { IfOk result (λ packets. AreUnmarked packets.items) }

@@ -13,6 +13,7 @@ pub mod Limits
 pub mod Lengths
 pub mod Answers
 pub mod Accepted
+pub mod Emissions
 pub mod Reach
 pub mod Additions
 pub mod Texts

@@ -8,7 +8,7 @@ use Rattle.scenario_text.specs.declared.reason.Reason.{Reason}
 use Rattle.scenario_text.specs.Pieces.{pieces}
 use Rattle.scenario_text.specs.Scenario.{Parts, scenario_of}
 use Rattle.scenario_text.specs.Texts.{refusal_line}
-use Rattle.scenario_check.specs.Emissions.{scenario_emissions}
+use Rattle.scenario_text.specs.Emissions.{emitted_in}
 use Rattle.tracesmb_top.specs.declared.check.CheckingFault.{CheckingFault}
 use Rattle.tracesmb_top.specs.declared.check.CheckingFault.TheVariants.{OutOfMemory, Refused}
 use Rattle.tracesmb_top.specs.Refusals.{IsTraceRefusal}
@@ -45,7 +45,7 @@ verdict_line (Differs packet sequence) = codes "differs packet " ++ decimal pack
 pub record IsVerdictFrom (text trace : List ℕ) (verdict : Verdict) : Type 0 where
   pub parts : Parts
   pub says : scenario_of text ≡ Ok parts
-  pub on : IsVerdictOn (scenario_emissions parts) trace verdict
+  pub on : IsVerdictOn (emitted_in parts) trace verdict
 
 -- the verdict on an input, which is divided
 pub record IsVerdictFor (input : List ℕ) (verdict : Verdict) : Type 0 where
