@@ -16,7 +16,7 @@ use Rattle.page_geometry.proofs.SizeLemmas.{payload_size_least, payload_size_mos
 use Rattle.page_geometry.specs.declared.geometry.Geometry.{Geometry}
 use Rattle.chunk_plain.specs.declared.setup.ProducerSpec.{ProducerSpec}
 use Rattle.chunk_plain.specs.declared.setup.Spot.{Spot}
-use Rattle.chunk_plain.specs.Setup.{no_spot, IsLaid}
+use Rattle.chunk_plain.specs.Setup.{no_spot, ProducersAreApart, IsLaid}
 use Rattle.chunk_plain.specs.Laying.{spot_at, page_spots, pages_spots, spots_of, ranges_of, sizes_of, pages_in, chunks_in, setup_of}
 
 abbrev Bounded : ℕ → Type 0
@@ -232,6 +232,29 @@ pub range_behind : (first : ℕ) (producers : List ProducerSpec) (i c : ℕ) →
 range_behind first [] i c least below = absurd (omega arith)
 range_behind first (producer ∷ producers) zero c least below = least
 range_behind first (producer ∷ producers) (suc i) c least below = let tail = range_behind (first + chunks_in producer) producers i c least below in omega arith
+
+-- a chunk of one producer's range is of no other
+pub ranges_apart : (first : ℕ) (producers : List ProducerSpec) (i j c : ℕ)
+    → (get_or (ranges_of first producers) i (record { first = 0; count = 0 })).first ≤ c
+    → c < (get_or (ranges_of first producers) i (record { first = 0; count = 0 })).first + (get_or (ranges_of first producers) i (record { first = 0; count = 0 })).count
+    → (get_or (ranges_of first producers) j (record { first = 0; count = 0 })).first ≤ c
+    → c < (get_or (ranges_of first producers) j (record { first = 0; count = 0 })).first + (get_or (ranges_of first producers) j (record { first = 0; count = 0 })).count
+    → i ≡ j
+ranges_apart first [] i j c low high least most = absurd (omega (arith, low, high))
+ranges_apart first (producer ∷ producers) zero zero c low high least most = refl
+ranges_apart first (producer ∷ producers) zero (suc j) c low high least most =
+    let behind = range_behind (first + chunks_in producer) producers j c least most in absurd (omega (arith, behind, high))
+ranges_apart first (producer ∷ producers) (suc i) zero c low high least most =
+    let behind = range_behind (first + chunks_in producer) producers i c low high in absurd (omega (arith, behind, most))
+ranges_apart first (producer ∷ producers) (suc i) (suc j) c low high least most =
+    ap suc (ranges_apart (first + chunks_in producer) producers i j c low high least most)
+
+pub producers_apart : (producers : List ProducerSpec) (writers : List WriterSpec) → ProducersAreApart (setup_of producers writers)
+producers_apart producers writers producer other chunk has has_other here there =
+    let same = ranges_apart 0 producers (producer - 1) (other - 1) chunk here.least here.below there.least there.below in
+    let first = has.least in
+    let second = has_other.least in
+    omega (arith, same, first, second)
 
 range_sized : (first page : ℕ) (producers : List ProducerSpec) (i c : ℕ) → (get_or (ranges_of first producers) i (record { first = 0; count = 0 })).first ≤ c
     → c < (get_or (ranges_of first producers) i (record { first = 0; count = 0 })).first + (get_or (ranges_of first producers) i (record { first = 0; count = 0 })).count

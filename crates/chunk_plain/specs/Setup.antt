@@ -49,6 +49,11 @@ pub record IsChunkOf (setup : Setup) (producer chunk : ℕ) : Type 0 where
   pub least : (range_of setup producer).first ≤ chunk
   pub below : chunk < (range_of setup producer).first + (range_of setup producer).count
 
+-- no chunk is one of two producers
+abbrev pub ProducersAreApart : Setup → Type 0
+ProducersAreApart setup = (producer other chunk : ℕ) → HasProducer setup producer → HasProducer setup other
+    → IsChunkOf setup producer chunk → IsChunkOf setup other chunk → producer ≡ other
+
 -- each chunk has a place of its own in a page, and the chunks of a page know the same of it
 pub record IsLaid (setup : Setup) : Type 0 where
   -- a chunk's number fits 32 bits

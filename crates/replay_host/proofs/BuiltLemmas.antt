@@ -13,11 +13,12 @@ use Rattle.session_core.specs.declared.answers.SessionState.TheVariants.{Started
 use Rattle.scenario_text.specs.Scenario.{Parts}
 use Rattle.scenario_text.specs.Accepted.{AsksWell}
 use Rattle.scenario_text.specs.Lengths.{AreShort}
+use Rattle.chunk_plain.proofs.LayingLemmas.{producers_apart}
 use Rattle.chunk_plain.specs.declared.setup.ProducerSpec.{ProducerSpec}
 use Rattle.chunk_plain.specs.Laying.{setup_of}
 use Rattle.chunk_plain.specs.Meaning.{Meaning}
 use Rattle.chunk_plain.specs.Plain.{first_world}
-use Rattle.chunk_plain.specs.Setup.{Setup}
+use Rattle.chunk_plain.specs.Setup.{Setup, ProducersAreApart}
 use Rattle.chunk_plain.specs.Views.{ServiceView, WriterView, newcomer, none_taken, Taken}
 use Rattle.chunk_plain.proofs.MadeLemmas.{all_same}
 use Rattle.world_model.specs.FirstBuffers.{payload_at, first_buffers}
@@ -32,10 +33,9 @@ use Rattle.replay_host.specs.declared.host.Host.{Host}
 use Rattle.replay_host.specs.Asking.{IsReadyFor}
 use Rattle.replay_host.specs.Lines.{coming_at, requests_in}
 use Rattle.replay_host.specs.Making.{IsMade, buffer_asked}
-use Rattle.replay_host.specs.Playing.{AreApart, IsHost}
+use Rattle.replay_host.specs.Playing.{IsHost}
 use Rattle.replay_host.specs.Standing.{IsServed, Stands}
 use Rattle.replay_host.specs.Tally.{IsTally}
-use Rattle.replay_host.proofs.ApartLemmas.{ranges_apart}
 use Rattle.replay_host.proofs.MakingLemmas.{asked_values}
 use Rattle.replay_host.proofs.MadeLemmas.{all_ready, all_open, none_due, requests_few}
 
@@ -110,7 +110,7 @@ module _ {T W S : Type 0} (means : Meaning T W S) (scenario : Parts) (specs : Li
   built_host : IsHost means host
   built_host = record {
     stands = built_stands;
-    apart = subst AreApart (sym built.setup_is) (ranges_apart specs scenario.writers);
+    apart = subst ProducersAreApart (sym built.setup_is) (producers_apart specs scenario.writers);
     specs = built.writers ∙ ap (λ (s : Setup). s.writers) (sym built.setup_is);
     producers = ap length built.flags ∙ length-replicate (length scenario.producers) true ∙ sym
         (AllZip-long IsSpecOf scenario.producers specs built.made)

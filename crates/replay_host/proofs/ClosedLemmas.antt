@@ -5,7 +5,7 @@ use Rattle.std.proofs.lemmas.Bool.{cases_eq}
 use Rattle.std.proofs.lemmas.List.{get_or-set_same, get_or-set_other}
 use Rattle.byte_io.specs.Bytes.{Intake}
 use Rattle.chunk_plain.specs.Meaning.{Meaning, IsServiceStep}
-use Rattle.chunk_plain.specs.Setup.{Setup, HasProducer, producer_of}
+use Rattle.chunk_plain.specs.Setup.{Setup, HasProducer, producer_of, ProducersAreApart}
 use Rattle.chunk_plain.specs.Views.{ServiceView}
 use Rattle.chunk_plain.specs.World.{World}
 use Rattle.service_core.specs.Agreement.{is_closed, first_of}
@@ -17,7 +17,7 @@ use Rattle.replay_model.specs.Acts.{CloseProducer}
 use Rattle.replay_model.specs.Does.{AreOpen, Closes}
 use Rattle.replay_model.proofs.PlayLemmas.{plays_one}
 use Rattle.replay_host.specs.declared.host.Host.{Host}
-use Rattle.replay_host.specs.Playing.{AreApart, IsHost, HasDone}
+use Rattle.replay_host.specs.Playing.{IsHost, HasDone}
 use Rattle.replay_host.specs.Standing.{IsServed, Stands}
 use Rattle.service_core.proofs.QuietLemmas.{adds_quiet, close_adds}
 use Rattle.service_core.proofs.AnswerLemmas.{takes_own}
@@ -45,7 +45,7 @@ pub closed_still : {T W S : Type 0} (means : Meaning T W S) (producer : ℕ) (ol
     → new.specs ≡ old.specs → new.open_producers.items ≡ slice_set old.open_producers.items (producer - 1) false → IsHost means new
 closed_still means producer old new host mine stands same closes specs flags = record {
   stands = stands;
-  apart = subst AreApart (sym same) host.apart;
+  apart = subst ProducersAreApart (sym same) host.apart;
   specs = ap (λ (v : _). v.items) specs ∙ host.specs ∙ ap (λ (s : Setup). s.writers) (sym same);
   producers = ap (λ (fs : List Bool). length fs) flags ∙ length-set old.open_producers.items (producer - 1) false
       ∙ host.producers ∙ ap (λ (s : Setup). length s.ranges) (sym same);

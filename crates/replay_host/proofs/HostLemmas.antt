@@ -7,7 +7,7 @@ use Rattle.trace_model.specs.Buffers.{Buffer}
 use Rattle.trace_model.specs.Calls.{Call}
 use Rattle.model_laws.specs.Losses.{Loses}
 use Rattle.chunk_plain.specs.Meaning.{Meaning}
-use Rattle.chunk_plain.specs.Setup.{Setup, HasProducer, producer_of}
+use Rattle.chunk_plain.specs.Setup.{Setup, HasProducer, producer_of, ProducersAreApart}
 use Rattle.chunk_plain.specs.Views.{WriterView}
 use Rattle.trace_writer.specs.declared.writer.WriterCore.{WriterCore}
 use Rattle.replay_model.specs.Acts.{Act, Ask, asks}
@@ -17,7 +17,7 @@ use Rattle.replay_model.proofs.PlayLemmas.{plays_one, plays_both}
 use Rattle.replay_host.specs.declared.host.Host.{Host}
 use Rattle.replay_host.specs.Asking.{IsReadyFor, AreReady, KeepsService, DoesAsk}
 use Rattle.service_core.specs.Agreement.{is_closed}
-use Rattle.replay_host.specs.Playing.{AreApart, IsHost, HasPlayed, HasAsked, KeepsBooks, asked_all}
+use Rattle.replay_host.specs.Playing.{IsHost, HasPlayed, HasAsked, KeepsBooks, asked_all}
 use Rattle.replay_host.specs.Standing.{Stands}
 use Rattle.world_model.specs.FirstBuffers.{payload_at}
 use Rattle.replay_host.proofs.KeepLemmas.{keeps_nothing, keeps_each}
@@ -119,7 +119,7 @@ pub host_still : {T W S : Type 0} (means : Meaning T W S) (old new : Host T W S)
     → KeepsService means old.table old.helper.service new.table new.helper.service → KeepsBooks old new → IsHost means new
 host_still {T} {W} {S} means old new host stands kept books = record {
   stands = stands;
-  apart = subst AreApart (sym kept.setup_is) host.apart;
+  apart = subst ProducersAreApart (sym kept.setup_is) host.apart;
   specs = ap (λ (v : _). v.items) books.specs ∙ host.specs ∙ ap (λ (s : Setup). s.writers) (sym kept.setup_is);
   producers = ap (λ (v : _). length v.items) books.opened ∙ host.producers ∙ ap (λ (s : Setup). length s.ranges) (sym kept.setup_is);
   opened = λ producer has said place below of_producer.

@@ -1,5 +1,4 @@
 pub mod AnswerLemmas
-pub mod ApartLemmas
 pub mod AskedLemmas
 pub mod BuiltLemmas
 pub mod CallLemmas

@@ -7,7 +7,7 @@ use Rattle.trace_model.specs.Delivery.{Delivered, trace_of}
 use Rattle.trace_model.specs.History.{records_after}
 use Rattle.chunk_plain.specs.Histories.{history_of}
 use Rattle.chunk_plain.specs.Meaning.{Meaning, IsServiceStep}
-use Rattle.chunk_plain.specs.Setup.{Setup, HasProducer, producer_of}
+use Rattle.chunk_plain.specs.Setup.{Setup, HasProducer, producer_of, ProducersAreApart}
 use Rattle.chunk_plain.specs.Views.{ServiceView, WriterView}
 use Rattle.chunk_plain.specs.World.{World}
 use Rattle.trace_writer.specs.declared.writer.WriterCore.{WriterCore}
@@ -21,7 +21,7 @@ use Rattle.replay_model.specs.Acts.{Collect}
 use Rattle.replay_model.specs.Does.{AreOpen, Collects}
 use Rattle.replay_model.proofs.PlayLemmas.{plays_one}
 use Rattle.replay_host.specs.declared.host.Host.{Host}
-use Rattle.replay_host.specs.Playing.{AreApart, IsHost, HasDone, IsTraceOf}
+use Rattle.replay_host.specs.Playing.{IsHost, HasDone, IsTraceOf}
 use Rattle.replay_host.specs.Standing.{IsServed, Stands}
 use Rattle.service_core.proofs.QuietLemmas.{adds_quiet, collect_adds}
 use Rattle.replay_host.proofs.RowLemmas.{AreLaws}
@@ -61,7 +61,7 @@ pub opened_still : {T W S : Type 0} (means : Meaning T W S) (old new : Host T W 
     → new.specs ≡ old.specs → new.open_producers ≡ old.open_producers → IsHost means new
 opened_still means old new host stands same keeps specs flags = record {
   stands = stands;
-  apart = subst AreApart (sym same) host.apart;
+  apart = subst ProducersAreApart (sym same) host.apart;
   specs = ap (λ (v : _). v.items) specs ∙ host.specs ∙ ap (λ (s : Setup). s.writers) (sym same);
   producers = ap (λ (v : _). length v.items) flags ∙ host.producers ∙ ap (λ (s : Setup). length s.ranges) (sym same);
   opened = λ producer has said place below of_producer.

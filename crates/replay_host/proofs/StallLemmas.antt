@@ -11,7 +11,7 @@ use Rattle.chunk_plain.specs.declared.tokens.TheConstants.{ID_LIMIT}
 use Rattle.chunk_plain.specs.Histories.{completed_images}
 use Rattle.chunk_plain.specs.Meaning.{Meaning}
 use Rattle.chunk_plain.specs.Owned.{IsOwned}
-use Rattle.chunk_plain.specs.Setup.{Setup, HasProducer, range_of, producer_of}
+use Rattle.chunk_plain.specs.Setup.{Setup, HasProducer, range_of, producer_of, ProducersAreApart}
 use Rattle.chunk_plain.specs.Views.{WriterView, ServiceView, newcomer}
 use Rattle.chunk_plain.specs.World.{World, Unclaimed, status, writer}
 use Rattle.trace_writer.specs.declared.route.Route.{Route}
@@ -28,7 +28,6 @@ use Rattle.replay_model.proofs.StandsLemmas.{works_others}
 use Rattle.replay_host.specs.declared.helper.Collecting.{Collecting}
 use Rattle.replay_host.specs.Asking.{IsStalledCall, KeepsService}
 use Rattle.replay_host.specs.Helping.{MayHelp, Helps}
-use Rattle.replay_host.specs.Playing.{AreApart}
 use Rattle.replay_host.specs.Standing.{IsSeated, Stands}
 use Rattle.replay_host.specs.Stopping.{StallsIn}
 use Rattle.replay_host.proofs.AskedLemmas.{all_sit, route_is, set_here, set_there}
@@ -170,7 +169,7 @@ FitAll {W} cores = (place : ℕ) (one : WriterCore W) → slice_get cores place 
 module _ {T W S : Type 0} (means : Meaning T W S) (laws : AreLaws means) (call : Call) (place : ℕ)
     (old : T) (cores : List (WriterCore W)) (helper : Collecting S) (core : WriterCore W)
     (new : T) (left : Collecting S) (after : WriterCore W)
-    (stands : Stands means old cores helper.service) (apart : AreApart (means.setup old)) (at : slice_get cores place ≡ Some core)
+    (stands : Stands means old cores helper.service) (apart : ProducersAreApart (means.setup old)) (at : slice_get cores place ≡ Some core)
     (producer : helper.producer ≡ producer_of (means.setup old) place)
     (stalled : IsStalledCall means (MayHelp means) (Helps means) call helper old core left new after)
   where

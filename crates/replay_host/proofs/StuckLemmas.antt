@@ -8,7 +8,7 @@ use Rattle.trace_model.specs.Packets.{account_of}
 use Rattle.chunk_plain.specs.declared.tokens.TheConstants.{ID_LIMIT}
 use Rattle.chunk_plain.specs.Histories.{completed_images}
 use Rattle.chunk_plain.specs.Owned.{IsOwned, times, claims_of, reads_of}
-use Rattle.chunk_plain.specs.Setup.{Setup, HasProducer, IsChunkOf, producer_of}
+use Rattle.chunk_plain.specs.Setup.{Setup, HasProducer, IsChunkOf, producer_of, ProducersAreApart}
 use Rattle.chunk_plain.specs.Views.{At, BegunChunk, chunk_of, Held, Completed, Draft, Content, Taken, WriterView, newcomer, ServiceView, none_taken, taken_of}
 use Rattle.chunk_plain.specs.World.{World, Status, Unclaimed, Claimed, Stamped, Writing, Ready, Reading, status, writer}
 use Rattle.chunk_plain.proofs.Lists.{at_inside, at_one}
@@ -26,7 +26,6 @@ use Rattle.trace_writer.proofs.holding.KeptChunks.{shown_none_held}
 use Rattle.trace_model.specs.Pages.{Page}
 use Rattle.service_core.specs.Told.{NoneLeft}
 use Rattle.replay_model.specs.Does.{LeavesRest, HasNoFreeChunk}
-use Rattle.replay_host.specs.Playing.{AreApart}
 use Rattle.replay_host.specs.Stopping.{AreOthers}
 
 -- ---- what a writer has begun
@@ -190,7 +189,7 @@ pub record IsStuck (setup : Setup) (producer place : ℕ) (world : World) : Type
   pub none_left : NoneLeft setup producer world
   pub none_read : world.service.reading ≡ []
   pub own : NoneHeld (writer world place).begun
-  pub apart : AreApart setup
+  pub apart : ProducersAreApart setup
   pub has : HasProducer setup producer
 
 module _ (setup : Setup) (producer place : ℕ) (world : World) (stuck : IsStuck setup producer place world) where

@@ -8,7 +8,7 @@ use Rattle.trace_model.specs.History.{records_after}
 use Rattle.model_laws.specs.Losses.{Loses}
 use Rattle.chunk_plain.specs.Histories.{history_of}
 use Rattle.chunk_plain.specs.Meaning.{Meaning}
-use Rattle.chunk_plain.specs.Setup.{Setup, HasProducer, IsChunkOf, producer_of}
+use Rattle.chunk_plain.specs.Setup.{HasProducer, producer_of, ProducersAreApart}
 use Rattle.chunk_plain.specs.Views.{ServiceView}
 use Rattle.chunk_plain.specs.World.{World}
 use Rattle.trace_writer.specs.declared.writer.WriterCore.{WriterCore}
@@ -20,15 +20,10 @@ use Rattle.replay_host.specs.declared.host.Host.{Host}
 use Rattle.replay_host.specs.Asking.{AreReady, KeepsService}
 use Rattle.replay_host.specs.Standing.{Stands}
 
--- no chunk is one of two producers
-abbrev pub AreApart : Setup → Type 0
-AreApart setup = (producer other chunk : ℕ) → HasProducer setup producer → HasProducer setup other
-    → IsChunkOf setup producer chunk → IsChunkOf setup other chunk → producer ≡ other
-
 -- Writers and service stand, each chunk is of one producer, and what is kept of the set-up is right: a producer that counts as open is.
 pub record IsHost {T W S : Type 0} (means : Meaning T W S) (host : Host T W S) : Type 0 where
   pub stands : Stands means host.table host.writers.items host.helper.service
-  pub apart : AreApart (means.setup host.table)
+  pub apart : ProducersAreApart (means.setup host.table)
   pub specs : host.specs.items ≡ (means.setup host.table).writers
   pub producers : length host.open_producers.items ≡ length (means.setup host.table).ranges
   pub opened : (producer : ℕ) → HasProducer (means.setup host.table) producer → slice_index_or host.open_producers.items (producer - 1) false ≡ true

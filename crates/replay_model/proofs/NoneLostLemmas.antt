@@ -14,6 +14,7 @@ use Rattle.trace_model.specs.Enough.{most_chunks}
 use Rattle.trace_model.specs.Packets.{packets_of, emissions_of, is_writing}
 use Rattle.model_laws.specs.ChunkCounts.{lost_count}
 use Rattle.model_laws.proofs.ChunkCountLemmas.{every_page_is_counted}
+use Rattle.chunk_plain.proofs.LayingLemmas.{ranges_apart}
 use Rattle.chunk_plain.specs.declared.setup.ProducerSpec.{ProducerSpec}
 use Rattle.chunk_plain.specs.declared.setup.ChunkRange.{ChunkRange}
 use Rattle.chunk_plain.specs.Laying.{ranges_of, sizes_of}
@@ -35,7 +36,7 @@ use Rattle.replay_model.proofs.AccountLemmas.{pages_begun}
 use Rattle.replay_model.proofs.BalanceLemmas.{each_is}
 use Rattle.replay_model.proofs.DoneLemmas.{IsDone, played_done, within, spec_is, spec_there}
 use Rattle.replay_model.proofs.OwnedLemmas.{with_chunks, by_owned}
-use Rattle.replay_model.proofs.PigeonLemmas.{ranges_apart, wins_on, range_wins, won_on, range_few, total, total_sum, total_less, total_least, many_wins, asked_at, own_ask, wins_are_begun}
+use Rattle.replay_model.proofs.PigeonLemmas.{wins_on, range_wins, won_on, range_few, total, total_sum, total_less, total_least, many_wins, asked_at, own_ask, wins_are_begun}
 use Rattle.replay_model.proofs.PlayedLemmas.{setup_writers}
 use Rattle.replay_model.proofs.RoomLemmas.{most_from, chunks_enough, none_closed, size_is, count_is}
 

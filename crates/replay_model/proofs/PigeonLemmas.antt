@@ -1,11 +1,9 @@
 -- Where a writer lost a packet, each chunk of its producer was begun by some writer: so many chunks were begun at least.
-use Rattle.std.proofs.Common.{◌≡◌, ◌≢◌, ◌∙◌, ℕ, zero, suc, ◌+◌, ◌<◌, ◌≤◌, ◌⊎◌, Bool, true, false, ◌&&◌, Option, None, List, [], ◌∷◌, length, get_or, refl, ap, subst, arith, inl, inr, cond}
+use Rattle.std.proofs.Common.{◌≡◌, ◌≢◌, ◌∙◌, ℕ, zero, suc, ◌+◌, ◌<◌, ◌≤◌, ◌⊎◌, Bool, true, false, ◌&&◌, Option, None, List, [], ◌∷◌, length, refl, ap, subst, arith, inl, inr, cond}
 use Rattle.std.specs.Prelude.{◌==◌}
 use Rattle.std.proofs.lemmas.Bool.{cases_eq, eq-eqb, ne_eqb, eqb-true}
 use Rattle.trace_base.specs.declared.policy.WriterSpec.{WriterSpec}
 use Rattle.trace_model.specs.Counts.{one_if}
-use Rattle.chunk_plain.specs.declared.setup.ProducerSpec.{ProducerSpec}
-use Rattle.chunk_plain.specs.Laying.{ranges_of, chunks_in}
 use Rattle.chunk_plain.specs.Setup.{Setup, IsChunkOf}
 use Rattle.chunk_plain.specs.Views.{At, Ask, Stamp, taken_of}
 use Rattle.chunk_plain.specs.World.{World, writer}
@@ -13,30 +11,6 @@ use Rattle.chunk_plain.specs.Owned.{IsOwned, stamped_chunks, won_chunks}
 use Rattle.chunk_plain.proofs.Owned.{won_as_many}
 use Rattle.trace_writer.specs.Claims.{AreOwnAsks, HasAsked}
 use Rattle.service_core.specs.Agreement.{spec_at}
-
--- ---- ranges are apart
-
-range_from : (first : ℕ) (producers : List ProducerSpec) (i c : ℕ) → (get_or (ranges_of first producers) i (record { first = 0; count = 0 })).first ≤ c
-    → c < (get_or (ranges_of first producers) i (record { first = 0; count = 0 })).first + (get_or (ranges_of first producers) i (record { first = 0; count = 0 })).count
-    → first ≤ c
-range_from first [] i c low high = absurd (omega (arith, low, high))
-range_from first (producer ∷ producers) zero c low high = low
-range_from first (producer ∷ producers) (suc i) c low high = let rest = range_from (first + chunks_in producer) producers i c low high in omega (arith, rest)
-
-pub ranges_apart : (first : ℕ) (producers : List ProducerSpec) (i j c : ℕ)
-    → (get_or (ranges_of first producers) i (record { first = 0; count = 0 })).first ≤ c
-    → c < (get_or (ranges_of first producers) i (record { first = 0; count = 0 })).first + (get_or (ranges_of first producers) i (record { first = 0; count = 0 })).count
-    → (get_or (ranges_of first producers) j (record { first = 0; count = 0 })).first ≤ c
-    → c < (get_or (ranges_of first producers) j (record { first = 0; count = 0 })).first + (get_or (ranges_of first producers) j (record { first = 0; count = 0 })).count
-    → i ≡ j
-ranges_apart first [] i j c low high least most = absurd (omega (arith, low, high))
-ranges_apart first (producer ∷ producers) zero zero c low high least most = refl
-ranges_apart first (producer ∷ producers) zero (suc j) c low high least most =
-    let behind = range_from (first + chunks_in producer) producers j c least most in absurd (omega (arith, behind, high))
-ranges_apart first (producer ∷ producers) (suc i) zero c low high least most =
-    let behind = range_from (first + chunks_in producer) producers i c low high in absurd (omega (arith, behind, most))
-ranges_apart first (producer ∷ producers) (suc i) (suc j) c low high least most =
-    ap suc (ranges_apart (first + chunks_in producer) producers i j c low high least most)
 
 -- ---- claims that won
 

@@ -1,5 +1,5 @@
 -- Where chunks are enough no writer has lost a packet.
-use Rattle.std.proofs.Common.{◌≡◌, ℕ, suc, ◌+◌, ◌-◌, ◌<◌, ◌≤◌, ◌⊎◌, List, [], ◌∷◌, length, refl, sym, ap, subst, arith, inl, inr, cond}
+use Rattle.std.proofs.Common.{◌≡◌, ℕ, suc, ◌+◌, ◌<◌, ◌≤◌, ◌⊎◌, List, [], ◌∷◌, length, refl, sym, ap, subst, arith, inl, inr, cond}
 use Rattle.std.specs.Prelude.{◌==◌}
 use Rattle.std.proofs.lemmas.Bool.{cases_eq, cases_lt}
 use Rattle.std.proofs.lemmas.List.{get_or_past}
@@ -18,18 +18,11 @@ use Rattle.world_model.specs.FirstBuffers.{payload_at}
 use Rattle.trace_writer.specs.Claims.{KeepsClaims}
 use Rattle.service_core.specs.Agreement.{spec_at}
 use Rattle.replay_model.proofs.AccountLemmas.{pages_begun}
-use Rattle.replay_model.proofs.PigeonLemmas.{ranges_apart, wins_on, range_wins, won_on, range_few, total, total_sum, total_less, total_least, many_wins, asked_at, own_ask, wins_are_begun}
+use Rattle.replay_model.proofs.PigeonLemmas.{wins_on, range_wins, won_on, range_few, total, total_sum, total_less, total_least, many_wins, asked_at, own_ask, wins_are_begun}
 use Rattle.schedule_laws.specs.Resting.{AreBetweenCalls}
-use Rattle.schedule_laws.specs.EnoughLaws.{SetupsAreApart, HasChunksEnough, EnoughChunksLoseNothing, chunks_from}
+use Rattle.schedule_laws.specs.EnoughLaws.{HasChunksEnough, EnoughChunksLoseNothing, chunks_from}
 use Rattle.schedule_laws.proofs.AccountLemmas.{owned_behind, many_behind}
 use Rattle.schedule_laws.proofs.BetweenLemmas.{has_written, has_producer}
-
-pub setups_are_apart : SetupsAreApart
-setups_are_apart producers writers one other chunk has has_too of_one of_other =
-    let same = ranges_apart 0 producers (one - 1) (other - 1) chunk of_one.least of_one.below of_other.least of_other.below in
-    let first = has.least in
-    let second = has_too.least in
-    omega (arith, same, first, second)
 
 -- payloads are larger than what a fragment has beside its bytes
 large_payload : (setup : Setup) (producer : ℕ) → IsLaid setup → HasProducer setup producer → 7 < size_of setup producer

@@ -10,7 +10,7 @@ use Rattle.model_laws.specs.ChunkCounts.{lost_count}
 use Rattle.delivery_laws.specs.Finishing.{Finishes}
 use Rattle.chunk_plain.specs.declared.setup.ProducerSpec.{ProducerSpec}
 use Rattle.chunk_plain.specs.Laying.{setup_of}
-use Rattle.chunk_plain.specs.Setup.{Setup, IsLaid, HasProducer, IsChunkOf, range_of, size_of, sequence_of}
+use Rattle.chunk_plain.specs.Setup.{Setup, IsLaid, HasProducer, ProducersAreApart, range_of, size_of, sequence_of}
 use Rattle.chunk_plain.specs.World.{World, writer}
 use Rattle.chunk_plain.specs.Plain.{first_world}
 use Rattle.chunk_plain.specs.Histories.{history_of}
@@ -19,13 +19,9 @@ use Rattle.schedule_laws.specs.Moves.{Move}
 use Rattle.schedule_laws.specs.Schedules.{IsSchedule}
 use Rattle.schedule_laws.specs.Resting.{AreBetweenCalls, AreNotedInOrder}
 
--- no chunk is of two producers
-abbrev pub AreApart : Setup → Type 0
-AreApart setup = (one other chunk : ℕ) → HasProducer setup one → HasProducer setup other → IsChunkOf setup one chunk → IsChunkOf setup other chunk → one ≡ other
-
--- So it is in each set-up that is laid out for producers.
+-- In each set-up that is laid out for producers no chunk is one of two of them.
 abbrev pub SetupsAreApart : Type 0
-SetupsAreApart = (producers : List ProducerSpec) (writers : List WriterSpec) → AreApart (setup_of producers writers)
+SetupsAreApart = (producers : List ProducerSpec) (writers : List WriterSpec) → ProducersAreApart (setup_of producers writers)
 
 -- Chunks
 
@@ -38,7 +34,7 @@ chunks_from setup world producer place (spec ∷ specs) =
 
 -- Each writer is between two packets, and each producer has chunks enough for all that its writers emitted.
 pub record HasChunksEnough (setup : Setup) (world : World) : Type 0 where
-  pub apart : AreApart setup
+  pub apart : ProducersAreApart setup
   pub between : (place : ℕ) → place < length setup.writers → is_writing (packets_of (writer world place).calls) ≡ false
   pub room : (producer : ℕ) → HasProducer setup producer → chunks_from setup world producer 0 setup.writers ≤ (range_of setup producer).count
 
