@@ -12,7 +12,7 @@ use Rattle.wire_varint.proofs.Lengths.{length-redundant}
 use Rattle.trace_model.specs.Images.{Image}
 use Rattle.trace_model.specs.Record.{mark_where}
 use Rattle.trace_model.specs.Sequences.{is_among}
-use Rattle.trace_model.specs.Packets.{Packet, Text, flat, open_length, open_places, body_of, front_of, packet_encoding, is_lost, packets_of, kept_of}
+use Rattle.trace_model.specs.Packets.{Packet, Text, flat, open_length, open_places, body_of, front_of, packet_encoding, is_lost, packets_of, kept_of, lost_count}
 use Rattle.trace_model.specs.PacketLaws.{AreFronted}
 use Rattle.trace_model.specs.Pages.{Page, images_from}
 use Rattle.trace_model.specs.Row.{Piece, Chain, bytes_of}
@@ -21,7 +21,7 @@ use Rattle.trace_model.specs.Cut.{IsGivenUp, Begins, IsChainOf, length_places, l
 use Rattle.trace_model.specs.Enough.{most_chunks}
 use Rattle.trace_model.specs.Written.{chains_of}
 use Rattle.trace_model.proofs.PacketLemmas.{packets_are_fronted}
-use Rattle.model_laws.specs.ChunkCounts.{lost_count, EveryPageIsCounted, EveryImageIsCounted}
+use Rattle.model_laws.specs.ChunkCounts.{EveryPageIsCounted, EveryImageIsCounted}
 use Rattle.model_laws.proofs.LossLemmas.{emitted_by, emitted_one, emitted_more, losses_change_no_shape}
 use Rattle.model_laws.proofs.TextSizes.{text_size, AllInside, inside_among, all_inside, open_inside, IsSized, AllSized, AllFinished, all_sized, all_finished}
 use Rattle.model_laws.proofs.WrittenShapes.{is_first_of_chunk, firsts, chains_firsts, AreShaped, EachShaped, chains_counted, chains_shaped}

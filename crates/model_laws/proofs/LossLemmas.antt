@@ -8,8 +8,8 @@ use Rattle.wire_varint.specs.Varint.{redundant}
 use Rattle.trace_model.specs.Calls.{Call, Begun, Number, Bytes, Nested, Ended, GivenUp, Finished, Flushed}
 use Rattle.trace_model.specs.Encoding.{number_field, bytes_field, nested_tag}
 use Rattle.trace_model.specs.Record.{mark_where}
-use Rattle.trace_model.specs.Packets.{Packet, Account, Text, NestedLength, flat, open_length, written, closed_levels, begun_packet, on_newest, with_more, with_nested, with_nested_ended, given_up_packet, finished_packet, newest_is_lost, front_of, body_of, packet_encoding, noted, packets_of, emissions_of, is_writing, open_count}
-use Rattle.model_laws.specs.Losses.{written_calls, newest_length, HasShapeOf, LossesChangeNoShape}
+use Rattle.trace_model.specs.Packets.{Packet, Account, Text, NestedLength, flat, open_length, written, closed_levels, begun_packet, on_newest, with_more, with_nested, with_nested_ended, given_up_packet, finished_packet, newest_is_lost, front_of, body_of, packet_encoding, noted, packets_of, emissions_of, is_writing, open_count, newest_length}
+use Rattle.model_laws.specs.Losses.{written_calls, HasShapeOf, LossesChangeNoShape}
 
 -- Levels with a mark in front
 

@@ -1,19 +1,15 @@
 -- How many chunks a writer begins: no more than its packets ask for, whatever was dropped. An image that runs on carries all
 -- its payload but at most seven bytes of the packet: four for the fragment's size, and three before a nested length.
-use Rattle.std.specs.Prelude.{◌≡◌, ℕ, ◌+◌, ◌<◌, ◌≤◌, true, false, List, [], ◌∷◌, ◌++◌, length, filter}
+use Rattle.std.specs.Prelude.{◌≡◌, ℕ, ◌+◌, ◌<◌, ◌≤◌, true, false, List, [], ◌∷◌, ◌++◌, length}
 use Rattle.trace_model.specs.Calls.{Call, Begun}
 use Rattle.trace_model.specs.Images.{Image, Patch}
-use Rattle.trace_model.specs.Packets.{Packet, packets_of, emissions_of, is_lost, is_writing, AreCalls}
+use Rattle.trace_model.specs.Packets.{packets_of, emissions_of, is_writing, AreCalls, lost_count}
 use Rattle.trace_model.specs.Pages.{Page}
 use Rattle.trace_model.specs.Cut.{CutsInto, IsCut}
 use Rattle.trace_model.specs.Enough.{most_chunks}
 use Rattle.trace_model.specs.WorkedWriters.{empty_pages, long_calls, long_pages}
 use Rattle.trace_model.specs.WorkedRows.{shared_calls, shared_pages}
 use Rattle.model_laws.specs.Losses.{Loses}
-
--- how many of the packets were dropped, at their begin or later
-abbrev pub lost_count : List Packet → ℕ
-lost_count packets = length (filter is_lost packets)
 
 -- Of possible calls whose newest packet isn't being written: their pages and their lost packets are together no more than the
 -- chunks that their packets take at most.

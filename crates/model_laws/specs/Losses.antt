@@ -1,7 +1,7 @@
 -- Losses change no shape: what a writer's calls emit is a function of the calls that it was asked to do.
-use Rattle.std.specs.Prelude.{◌≡◌, ℕ, true, List, [], ◌∷◌, length}
+use Rattle.std.specs.Prelude.{◌≡◌, true, List, [], ◌∷◌}
 use Rattle.trace_model.specs.Calls.{Call, Begun, Number, Bytes, Nested, Ended, GivenUp, Finished, Flushed}
-use Rattle.trace_model.specs.Packets.{Packet, packets_of, packet_encoding, emissions_of, begun_count, is_writing, open_count}
+use Rattle.trace_model.specs.Packets.{packets_of, emissions_of, begun_count, is_writing, open_count, newest_length}
 
 -- What a writer was asked to write, of the calls that are noted: each packet as if it had been kept. That a packet was
 -- dropped or given up is noted where it happened, and flushes come between packets.
@@ -19,11 +19,6 @@ written_calls (Finished ∷ calls) = Finished ∷ written_calls calls
 -- the noted calls are the asked ones, with packets lost and flushes between packets
 abbrev pub Loses : List Call → List Call → Type 0
 Loses asked noted = written_calls noted ≡ written_calls asked
-
--- the length of the newest packet without its mark
-abbrev pub newest_length : List Packet → ℕ
-newest_length [] = 0
-newest_length (packet ∷ older) = length (packet_encoding packet)
 
 -- the same packets are emitted, as many are begun, and the newest is as long, has as many open messages and is finished or not
 pub record HasShapeOf (asked noted : List Call) : Type 0 where

@@ -6,8 +6,8 @@ use Rattle.std.proofs.lemmas.Bool.{and_from, and_parts, eqb-true}
 use Rattle.trace_base.specs.declared.limits.TheConstants.{MAX_PACKET_LEN, MAX_NESTING}
 use Rattle.trace_model.specs.Calls.{Call, Begun, Number, Bytes, Nested, Ended, GivenUp, Finished, Flushed}
 use Rattle.trace_model.specs.Enough.{most_chunks}
-use Rattle.trace_model.specs.Packets.{Account, Packet, nothing_yet, noted, account_of, packets_of, is_writing, open_count, is_possible, are_possible_after, AreCalls}
-use Rattle.model_laws.specs.Losses.{Loses, written_calls, newest_length}
+use Rattle.trace_model.specs.Packets.{Account, Packet, nothing_yet, noted, account_of, packets_of, is_writing, open_count, is_possible, are_possible_after, AreCalls, newest_length}
+use Rattle.model_laws.specs.Losses.{Loses, written_calls}
 use Rattle.model_laws.proofs.LossLemmas.{losses_change_no_shape}
 use Rattle.scenario_text.specs.Accepted.{Accepts, AcceptsField, AreAccepted}
 use Rattle.scenario_text.proofs.PossibleLemmas.{accepted_possible}
@@ -19,7 +19,7 @@ use Rattle.trace_writer.specs.declared.writer.WriterCore.{WriterCore}
 use Rattle.world_model.specs.FirstBuffers.{payload_at}
 use Rattle.replay_host.specs.Asking.{IsReadyFor, AreReady}
 use Rattle.replay_host.specs.Playing.{asked_all}
-use Rattle.replay_host.proofs.ReadyLemmas.{same_length, written_append}
+use Rattle.replay_host.proofs.ReadyLemmas.{written_append}
 
 -- ---- what a writer accepts hangs on the shape of its newest packet alone
 
@@ -34,7 +34,7 @@ field_alike packets others field more alike accepts = record {
   begun = alike.writing ∙ accepts.begun;
   numbered = accepts.numbered;
   free = λ top. accepts.free (sym alike.depth ∙ top);
-  short = subst (λ (n : ℕ). n + more ≤ MAX_PACKET_LEN) (sym (sym (same_length others) ∙ alike.long ∙ same_length packets)) accepts.short;
+  short = subst (λ (n : ℕ). n + more ≤ MAX_PACKET_LEN) (sym alike.long) accepts.short;
 }
 
 accepts_alike : (packets others : List Packet) (call : Call) → AreAlike packets others → Accepts packets call → Accepts others call

@@ -11,16 +11,16 @@ use Rattle.trace_base.specs.Reserved.{is_reserved}
 use Rattle.trace_model.specs.Calls.{Call, Begun, Number, Bytes, Nested, Ended, GivenUp, Finished, Flushed}
 use Rattle.trace_model.specs.Encoding.{nested_tag}
 use Rattle.trace_model.specs.Enough.{most_chunks}
-use Rattle.trace_model.specs.Packets.{Account, Packet, AreCalls, nothing_yet, noted, packets_of, emissions_of, is_writing, open_count}
-use Rattle.model_laws.specs.Losses.{Loses, HasShapeOf, written_calls, newest_length}
+use Rattle.trace_model.specs.Packets.{Account, AreCalls, nothing_yet, noted, packets_of, emissions_of, is_writing, open_count, newest_length}
+use Rattle.model_laws.specs.Losses.{Loses, HasShapeOf, written_calls}
 use Rattle.model_laws.proofs.LossLemmas.{losses_change_no_shape}
-use Rattle.scenario_text.specs.Accepted.{AcceptsField, AreAccepted, newest_len as accepted_len}
+use Rattle.scenario_text.specs.Accepted.{AcceptsField, AreAccepted}
 use Rattle.chunk_plain.specs.declared.tokens.TheConstants.{ID_LIMIT}
 use Rattle.chunk_plain.specs.Views.{WriterView}
 use Rattle.trace_writer.specs.declared.ids.TheConstants.{PACKET_IDS}
 use Rattle.trace_writer.specs.declared.fault.CallFault.{CallFault}
 use Rattle.trace_writer.specs.Asked.{written_as, begun_as}
-use Rattle.trace_writer.specs.Core.{in_packet, newest_depth, newest_len, open_depth, field_fault, nested_fault}
+use Rattle.trace_writer.specs.Core.{in_packet, newest_depth, open_depth, field_fault, nested_fault}
 use Rattle.trace_writer.proofs.accounts.Possible.{open_many}
 use Rattle.trace_writer.specs.Refusals.{field_refusal, nested_refusal}
 use Rattle.replay_host.specs.Asking.{IsReadyFor}
@@ -54,14 +54,6 @@ nested_none depth len field tag free shallow short =
 
 -- ---- the packet as it stands, by what was asked
 
-pub same_length : (packets : List Packet) → newest_length packets ≡ newest_len packets
-same_length [] = refl
-same_length (packet ∷ older) = refl
-
-same_accepted : (packets : List Packet) → newest_length packets ≡ accepted_len packets
-same_accepted [] = refl
-same_accepted (packet ∷ older) = refl
-
 module _ (asked : List Call) (view : WriterView) (loses : Loses asked view.calls) where
   shape : HasShapeOf asked view.calls
   shape = losses_change_no_shape asked view.calls loses
@@ -78,20 +70,20 @@ module _ (asked : List Call) (view : WriterView) (loses : Loses asked view.calls
   free_here : (field more : ℕ) → AcceptsField (packets_of asked) field more → IsFree (newest_depth (packets_of view.calls)) field
   free_here field more accepts none = accepts.free (let many = depth_is accepts.begun in omega (arith, many, none))
 
-  short_here : (field more : ℕ) → AcceptsField (packets_of asked) field more → newest_len (packets_of view.calls) + more ≤ MAX_PACKET_LEN
+  short_here : (field more : ℕ) → AcceptsField (packets_of asked) field more → newest_length (packets_of view.calls) + more ≤ MAX_PACKET_LEN
   short_here field more accepts =
-      let long : newest_len (packets_of view.calls) ≡ accepted_len (packets_of asked) = sym (same_length (packets_of view.calls)) ∙ shape.long ∙ same_accepted (packets_of asked) in
+      let long = shape.long in
       let short = accepts.short in
       omega (arith, long, short)
 
   pub field_accepted : (field more : ℕ) → AcceptsField (packets_of asked) field more → field_fault view field more ≡ None
   field_accepted field more accepts =
-      field_none (newest_depth (packets_of view.calls)) (newest_len (packets_of view.calls)) field more (free_here field more accepts) (short_here field more accepts)
+      field_none (newest_depth (packets_of view.calls)) (newest_length (packets_of view.calls)) field more (free_here field more accepts) (short_here field more accepts)
 
   pub nested_accepted : (field : ℕ) → AcceptsField (packets_of asked) field (length (nested_tag field) + 4) → open_count (packets_of asked) ≤ MAX_NESTING
       → nested_fault view field ≡ None
   nested_accepted field accepts shallow =
-      nested_none (newest_depth (packets_of view.calls)) (newest_len (packets_of view.calls)) field (length (nested_tag field))
+      nested_none (newest_depth (packets_of view.calls)) (newest_length (packets_of view.calls)) field (length (nested_tag field))
       (free_here field (length (nested_tag field) + 4) accepts)
       (let many = depth_is accepts.begun in omega (arith, many, shallow))
       (short_here field (length (nested_tag field) + 4) accepts)

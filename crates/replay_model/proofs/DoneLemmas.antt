@@ -5,9 +5,8 @@ use Rattle.std.proofs.lemmas.Option.{slice_get_within, get_or_from_slice_get, sl
 use Rattle.trace_base.specs.declared.policy.WriterPolicy.TheVariants.{Drops}
 use Rattle.trace_base.specs.declared.policy.WriterSpec.{WriterSpec}
 use Rattle.trace_model.specs.Cut.{newest_goes_on}
-use Rattle.trace_model.specs.Packets.{packets_of}
+use Rattle.trace_model.specs.Packets.{packets_of, lost_count}
 use Rattle.trace_model.specs.Sequences.{Sequence, fresh, sequence_in, is_known}
-use Rattle.model_laws.specs.ChunkCounts.{lost_count}
 use Rattle.model_laws.specs.Losses.{HasShapeOf}
 use Rattle.model_laws.proofs.LossLemmas.{losses_change_no_shape}
 use Rattle.delivery_laws.specs.DeliveryLaws.{IsAccountOf}

@@ -7,8 +7,7 @@ use Rattle.trace_base.specs.declared.policy.WriterPolicy.TheVariants.{Drops}
 use Rattle.trace_model.specs.Buffers.{Buffer}
 use Rattle.trace_model.specs.Calls.{Call, Begun, Number, Bytes, Nested, Ended, GivenUp, Finished, Flushed}
 use Rattle.trace_model.specs.Encoding.{number_field, bytes_field}
-use Rattle.trace_model.specs.Packets.{Packet, Text, Account, noted, nothing_yet, account_of, packets_of, is_lost, is_writing, on_newest, begun_packet, with_more, with_nested, with_nested_ended, finished_packet}
-use Rattle.model_laws.specs.ChunkCounts.{lost_count}
+use Rattle.trace_model.specs.Packets.{Packet, Text, Account, noted, nothing_yet, account_of, packets_of, is_lost, is_writing, on_newest, begun_packet, with_more, with_nested, with_nested_ended, finished_packet, lost_count}
 use Rattle.model_laws.proofs.TextSizes.{AllFinished}
 use Rattle.delivery_laws.specs.Finishing.{AllWhole}
 use Rattle.field_tree.specs.declared.node.FieldNode.TheVariants as node

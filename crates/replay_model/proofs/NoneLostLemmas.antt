@@ -11,8 +11,7 @@ use Rattle.trace_base.specs.declared.policy.WriterSpec.{WriterSpec}
 use Rattle.page_geometry.specs.Sizes.{payload_size}
 use Rattle.page_geometry.proofs.SizeLemmas.{payload_size_least}
 use Rattle.trace_model.specs.Enough.{most_chunks}
-use Rattle.trace_model.specs.Packets.{packets_of, emissions_of, is_writing}
-use Rattle.model_laws.specs.ChunkCounts.{lost_count}
+use Rattle.trace_model.specs.Packets.{packets_of, emissions_of, is_writing, lost_count}
 use Rattle.model_laws.proofs.ChunkCountLemmas.{every_page_is_counted}
 use Rattle.chunk_plain.proofs.LayingLemmas.{ranges_apart}
 use Rattle.chunk_plain.specs.declared.setup.ProducerSpec.{ProducerSpec}

@@ -4,8 +4,7 @@ use Rattle.trace_model.specs.Balance.{PacketCounts}
 use Rattle.trace_model.specs.Buffers.{Buffer}
 use Rattle.trace_model.specs.Counts.{last_count}
 use Rattle.trace_model.specs.Delivery.{IsFaithful, IsComplete}
-use Rattle.trace_model.specs.Packets.{packets_of}
-use Rattle.model_laws.specs.ChunkCounts.{lost_count}
+use Rattle.trace_model.specs.Packets.{packets_of, lost_count}
 use Rattle.model_laws.specs.Losses.{Loses}
 use Rattle.chunk_plain.specs.Setup.{Setup}
 use Rattle.chunk_plain.specs.World.{World, writer}

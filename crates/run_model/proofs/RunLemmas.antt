@@ -8,9 +8,8 @@ use Rattle.trace_base.specs.declared.limits.TheConstants.{MAX_PAGES}
 use Rattle.trace_base.specs.declared.policy.WriterPolicy.{WriterPolicy}
 use Rattle.trace_base.specs.declared.policy.WriterPolicy.TheVariants.{Drops, Stalls}
 use Rattle.trace_base.specs.declared.policy.WriterSpec.{WriterSpec}
-use Rattle.trace_model.specs.Packets.{packets_of}
+use Rattle.trace_model.specs.Packets.{packets_of, lost_count}
 use Rattle.trace_model.specs.Cut.{newest_goes_on}
-use Rattle.model_laws.specs.ChunkCounts.{lost_count}
 use Rattle.model_laws.specs.Losses.{HasShapeOf}
 use Rattle.model_laws.proofs.LossLemmas.{losses_change_no_shape}
 use Rattle.delivery_laws.specs.Orders as orders

@@ -7,8 +7,7 @@ use Rattle.trace_model.specs.Calls.{Flushed}
 use Rattle.trace_model.specs.Counts.{last_count}
 use Rattle.trace_model.specs.History as model
 use Rattle.trace_model.specs.History.{buffers_after}
-use Rattle.trace_model.specs.Packets.{packets_of}
-use Rattle.model_laws.specs.ChunkCounts.{lost_count}
+use Rattle.trace_model.specs.Packets.{packets_of, lost_count}
 use Rattle.model_laws.specs.Losses.{Loses}
 use Rattle.chunk_plain.specs.Setup.{Setup, producer_of, sequence_of}
 use Rattle.chunk_plain.specs.Views.{ServiceView, WriterView, taken_of}

@@ -7,7 +7,7 @@ use Rattle.trace_base.specs.Reserved.{is_reserved}
 use Rattle.wire_varint.specs.Varint.{redundant}
 use Rattle.trace_model.specs.Calls.{Call, Ended}
 use Rattle.trace_model.specs.Encoding.{Fields, NoFields, NumberField, BytesField, NestedField, number_field, bytes_head, bytes_field, nested_tag, encoding_of, encoding_len, depth_of, calls_of}
-use Rattle.trace_model.specs.Packets.{Packet, NestedLength, Account, open_length, flat, noted, front_of}
+use Rattle.trace_model.specs.Packets.{Packet, NestedLength, Account, open_length, flat, noted, front_of, newest_length}
 use Rattle.trace_model.proofs.CallLemmas.{at_text, Writes, writes_fields}
 use Rattle.trace_model.proofs.EncodingLemmas.{encoding_as_long, length-bytes_field}
 use Rattle.wire_varint.proofs.Lengths.{length-redundant}
@@ -15,7 +15,7 @@ use Rattle.field_tree.specs.declared.node.FieldNode.TheVariants as node
 use Rattle.field_tree.specs.Nodes.{nodes_of, IsField}
 use Rattle.field_tree.specs.Refusals.{reserved_or, first_reserved}
 use Rattle.field_tree.specs.Trees.{HasFieldNumbers}
-use Rattle.scenario_text.specs.Accepted.{node_call, newest_len, AcceptsField, AreAccepted}
+use Rattle.scenario_text.specs.Accepted.{node_call, AcceptsField, AreAccepted}
 
 -- ---- lists of calls
 
@@ -65,7 +65,7 @@ pub record MayFollow (depth len : ℕ) (fields : Fields) : Type 0 where
 module _ (packet : Packet) (older : List Packet) (flushed : Bool) (going : packet.finished ≡ false) (plain : front_of packet ≡ []) where
   -- the length of the encoding is that of the bytes
   pub len_is : (levels : List (List ℕ)) (closed : List NestedLength)
-      → newest_len (at_text packet older flushed levels closed).packets ≡ length (flat open_length levels)
+      → newest_length (at_text packet older flushed levels closed).packets ≡ length (flat open_length levels)
   len_is levels closed = rw plain refl
 
   accepts_field : (level : List ℕ) (outer : List (List ℕ)) (closed : List NestedLength) (field more : ℕ) (later : Option ℕ) → IsField field

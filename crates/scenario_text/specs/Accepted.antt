@@ -9,7 +9,7 @@ use Rattle.trace_base.specs.Reserved.{is_reserved}
 use Rattle.trace_model.specs.Calls as call
 use Rattle.trace_model.specs.Calls.{Call}
 use Rattle.trace_model.specs.Encoding.{number_field, bytes_head, nested_tag}
-use Rattle.trace_model.specs.Packets.{Account, Packet, nothing_yet, noted, packets_of, packet_encoding, is_writing, open_count}
+use Rattle.trace_model.specs.Packets.{Account, Packet, nothing_yet, noted, packets_of, is_writing, open_count, newest_length}
 use Rattle.field_tree.specs.declared.node.FieldNode.TheVariants as node
 use Rattle.field_tree.specs.Nodes.{Shown, IsField}
 use Rattle.scenario_text.specs.declared.scenario.LineKind.{LineKind}
@@ -80,17 +80,12 @@ calls_asked number lines = flat_map (λ line. line_calls number line.what) lines
 
 -- ---- which calls a writer accepts behind these packets, the newest first
 
--- the length of the newest packet's encoding so far
-abbrev pub newest_len : List Packet → ℕ
-newest_len [] = 0
-newest_len (packet ∷ older) = length (packet_encoding packet)
-
 -- a field that takes so many bytes: one of protobuf's, no one of the service's own at the top level, and not too long
 pub record AcceptsField (packets : List Packet) (field more : ℕ) : Type 0 where
   pub begun : is_writing packets ≡ true
   pub numbered : IsField field
   pub free : open_count packets ≡ 1 → is_reserved field ≡ false
-  pub short : newest_len packets + more ≤ MAX_PACKET_LEN
+  pub short : newest_length packets + more ≤ MAX_PACKET_LEN
 
 -- That a packet is given up or dropped is no call that is asked: a writer notes it by itself.
 abbrev pub Accepts : List Packet → Call → Type 0

@@ -5,8 +5,7 @@ use Rattle.std.proofs.lemmas.Bool.{cases_eq, cases_lt}
 use Rattle.std.proofs.lemmas.List.{get_or_past}
 use Rattle.trace_base.specs.declared.policy.WriterSpec.{WriterSpec}
 use Rattle.trace_model.specs.Enough.{most_chunks}
-use Rattle.trace_model.specs.Packets.{packets_of, emissions_of}
-use Rattle.model_laws.specs.ChunkCounts.{lost_count}
+use Rattle.trace_model.specs.Packets.{packets_of, emissions_of, lost_count}
 use Rattle.model_laws.proofs.ChunkCountLemmas.{every_page_is_counted}
 use Rattle.chunk_plain.specs.declared.setup.ChunkRange.{ChunkRange}
 use Rattle.chunk_plain.specs.Setup.{Setup, IsLaid, HasProducer, IsChunkOf, range_of, size_of, producer_of}

@@ -5,8 +5,7 @@ use Rattle.page_geometry.specs.Sizes.{record_size}
 use Rattle.trace_model.specs.Delivery.{records_of}
 use Rattle.trace_model.specs.Enough.{most_chunks}
 use Rattle.trace_model.specs.History.{records_after}
-use Rattle.trace_model.specs.Packets.{packets_of, emissions_of, begun_count, is_writing}
-use Rattle.model_laws.specs.ChunkCounts.{lost_count}
+use Rattle.trace_model.specs.Packets.{packets_of, emissions_of, begun_count, is_writing, lost_count}
 use Rattle.delivery_laws.specs.Finishing.{Finishes}
 use Rattle.chunk_plain.specs.declared.setup.ProducerSpec.{ProducerSpec}
 use Rattle.chunk_plain.specs.Laying.{setup_of}

@@ -7,8 +7,7 @@ use Rattle.trace_base.specs.declared.policy.WriterPolicy.TheVariants.{Drops, Sta
 use Rattle.trace_base.specs.declared.policy.WriterSpec.{WriterSpec}
 use Rattle.trace_model.specs.Calls.{Call, Begun, Number, Bytes, Nested, Ended, GivenUp, Finished, Flushed}
 use Rattle.trace_model.specs.Encoding.{number_field, bytes_field}
-use Rattle.trace_model.specs.Packets.{Packet, packets_of, account_of, with_more, with_nested}
-use Rattle.model_laws.specs.ChunkCounts.{lost_count}
+use Rattle.trace_model.specs.Packets.{Packet, packets_of, account_of, with_more, with_nested, lost_count}
 use Rattle.field_tree.specs.Nodes.{Shown}
 use Rattle.scenario_text.specs.Accepted.{Accepts, node_call}
 use Rattle.chunk_plain.specs.Setup.{Setup, HasProducer, producer_of, range_of}

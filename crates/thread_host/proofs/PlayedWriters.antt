@@ -5,8 +5,7 @@ use Rattle.atomic_table.specs.Seated.{TableId}
 use Rattle.trace_base.specs.declared.policy.WriterPolicy.TheVariants.{Drops, Stalls}
 use Rattle.trace_base.specs.declared.policy.WriterSpec.{WriterSpec}
 use Rattle.trace_model.specs.Calls.{Flushed}
-use Rattle.trace_model.specs.Packets.{packets_of}
-use Rattle.model_laws.specs.ChunkCounts.{lost_count}
+use Rattle.trace_model.specs.Packets.{packets_of, lost_count}
 use Rattle.model_laws.specs.Losses.{Loses, written_calls}
 use Rattle.chunk_plain.specs.Owned.{held_count}
 use Rattle.chunk_plain.specs.Setup.{Setup, producer_of}

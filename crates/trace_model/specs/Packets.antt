@@ -169,6 +169,15 @@ begun_count calls = length (packets_of calls)
 abbrev pub dropped_at_begin : List Call → ℕ
 dropped_at_begin calls = length (filter (λ packet. not packet.kept) (packets_of calls))
 
+-- how many of the packets were dropped, at their begin or later
+abbrev pub lost_count : List Packet → ℕ
+lost_count packets = length (filter is_lost packets)
+
+-- how long the newest packet's encoding is so far
+abbrev pub newest_length : List Packet → ℕ
+newest_length [] = 0
+newest_length (packet ∷ older) = length (packet_encoding packet)
+
 -- Calls that are possible where they stand
 
 -- whether a packet is begun and not finished

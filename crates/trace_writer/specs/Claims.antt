@@ -1,6 +1,6 @@
 -- What a writer's claim does to its chunks, however often it asks for those of its producer, and what it keeps of its claims.
-use Rattle.std.specs.Prelude.{◌≡◌, ℕ, ◌+◌, ◌<◌, ◌≤◌, ◌⊎◌, ⊤, None, List, [], ◌∷◌, ◌++◌, length, filter}
-use Rattle.trace_model.specs.Packets.{Packet, is_lost, packets_of}
+use Rattle.std.specs.Prelude.{◌≡◌, ℕ, ◌+◌, ◌<◌, ◌≤◌, ◌⊎◌, ⊤, None, List, [], ◌∷◌, ◌++◌}
+use Rattle.trace_model.specs.Packets.{packets_of, lost_count}
 use Rattle.chunk_plain.specs.Setup.{Setup, producer_of, IsChunkOf}
 use Rattle.chunk_plain.specs.Views.{Ask, BegunChunk, Held, Completed, WriterView, fresh}
 use Rattle.trace_writer.specs.declared.route.Route.{Route}
@@ -33,10 +33,6 @@ AreOwnChunks setup producer (Completed chunk content ∷ begun) = IsChunkOf setu
 abbrev pub HasAsked : List Ask → ℕ → Type 0
 HasAsked [] chunk = ⊥
 HasAsked (ask ∷ asks) chunk = (ask.chunk ≡ chunk) ⊎ HasAsked asks chunk
-
--- how many packets were dropped, at their begin or later
-abbrev pub lost_count : List Packet → ℕ
-lost_count packets = length (filter is_lost packets)
 
 -- What a writer has of chunks between two calls: no claim is out, all that it asked for and all that it began are chunks of
 -- its producer, and where

@@ -1,7 +1,7 @@
 -- A writer with its seat, as its callers see it: its calls and refusals are said by the view of the seat.
 use Rattle.std.specs.Prelude.{◌≡◌, ℕ, ◌+◌, ◌*◌, Bool, true, false, not, ◌||◌, List, [], ◌∷◌, length, Option, Some, None, if◌then◌else◌}
 use Rattle.trace_model.specs.Encoding.{bytes_head, nested_tag}
-use Rattle.trace_model.specs.Packets.{Packet, Account, account_of, packets_of, packet_encoding, open_places, newest_is_lost, is_writing, AreCalls}
+use Rattle.trace_model.specs.Packets.{Packet, Account, account_of, packets_of, open_places, newest_is_lost, is_writing, AreCalls, newest_length}
 use Rattle.chunk_plain.specs.Setup.{Setup}
 use Rattle.chunk_plain.specs.Views.{BegunChunk, Held, Completed, WriterView}
 use Rattle.trace_writer.specs.declared.fault.CallFault.{CallFault}
@@ -19,15 +19,10 @@ use Rattle.trace_writer.specs.Refusals.{field_refusal, nested_refusal}
 abbrev pub in_packet : WriterView → Bool
 in_packet view = is_writing (packets_of view.calls)
 
--- how many messages are open in the newest packet, and how long its encoding is so far
+-- how many messages are open in the newest packet
 abbrev pub newest_depth : List Packet → ℕ
 newest_depth [] = 0
 newest_depth (packet ∷ older) = length (open_places packet.text.levels)
-
--- how many bytes the newest packet has so far
-abbrev pub newest_len : List Packet → ℕ
-newest_len [] = 0
-newest_len (packet ∷ older) = length (packet_encoding packet)
 
 -- so many messages are open in the packet that is begun
 abbrev pub open_depth : WriterView → ℕ
@@ -35,7 +30,7 @@ open_depth view = if in_packet view then newest_depth (packets_of view.calls) el
 
 -- why a field of so many bytes is refused where the packet that is begun stands
 abbrev pub field_fault : WriterView → ℕ → ℕ → Option CallFault
-field_fault view field more = field_refusal (newest_depth (packets_of view.calls)) (newest_len (packets_of view.calls)) field more
+field_fault view field more = field_refusal (newest_depth (packets_of view.calls)) (newest_length (packets_of view.calls)) field more
 
 -- the bytes of a text's field, so many times over
 abbrev pub bytes_size : ℕ → ℕ → List ℕ → ℕ
@@ -43,7 +38,7 @@ bytes_size field times text = length (bytes_head field (times * length text)) + 
 
 -- why a nested message is refused there
 abbrev pub nested_fault : WriterView → ℕ → Option CallFault
-nested_fault view field = nested_refusal (newest_depth (packets_of view.calls)) (newest_len (packets_of view.calls)) field (length (nested_tag field))
+nested_fault view field = nested_refusal (newest_depth (packets_of view.calls)) (newest_length (packets_of view.calls)) field (length (nested_tag field))
 
 -- the writer holds a chunk
 abbrev pub holds_chunk : {S : Type 0} → WriterCore S → Bool

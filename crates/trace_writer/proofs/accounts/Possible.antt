@@ -4,10 +4,9 @@ use Rattle.std.proofs.lemmas.Bool.{ne_eqb, eq-eqb, and_from, and_parts}
 use Rattle.trace_base.specs.declared.policy.WriterPolicy.{WriterPolicy}
 use Rattle.trace_base.specs.declared.policy.WriterPolicy.TheVariants.{Drops, Stalls}
 use Rattle.trace_model.specs.Calls.{Call, Begun, Ended, GivenUp, Finished, Flushed}
-use Rattle.trace_model.specs.Packets.{Packet, Account, account_of, packets_of, noted, nothing_yet, on_newest, with_more, with_nested, with_nested_ended, finished_packet, open_places, is_lost, newest_is_lost, is_writing, open_count, newest_is_kept, is_possible, are_possible_after, AreCalls}
+use Rattle.trace_model.specs.Packets.{Packet, Account, account_of, packets_of, noted, nothing_yet, on_newest, with_more, with_nested, with_nested_ended, finished_packet, open_places, is_lost, newest_is_lost, is_writing, open_count, newest_is_kept, is_possible, are_possible_after, AreCalls, lost_count}
 use Rattle.chunk_plain.specs.Views.{WriterView}
 use Rattle.trace_writer.specs.Asked.{written_as, begun_as}
-use Rattle.trace_writer.specs.Claims.{lost_count}
 use Rattle.trace_writer.specs.Core.{in_packet, open_depth, newest_depth}
 use Rattle.trace_writer.proofs.accounts.Accounts.{account_one}
 use Rattle.trace_writer.proofs.accounts.Changes.{newest_open}

@@ -6,7 +6,7 @@ use mathlib.Core.Logic.{dite}
 use Rattle.trace_base.specs.declared.policy.WriterPolicy.{WriterPolicy}
 use Rattle.trace_base.specs.declared.policy.WriterPolicy.TheVariants.{Drops, Stalls}
 use Rattle.trace_model.specs.Calls.{Call}
-use Rattle.trace_model.specs.Packets.{packets_of}
+use Rattle.trace_model.specs.Packets.{packets_of, lost_count}
 use Rattle.chunk_plain.specs.Views.{Ask, BegunChunk, Held, Completed, Draft, WriterView, fresh}
 use Rattle.chunk_plain.specs.Meaning.{Meaning}
 use Rattle.chunk_plain.specs.declared.setup.ChunkRange.{ChunkRange}
@@ -14,7 +14,7 @@ use Rattle.chunk_plain.specs.Setup.{Setup, range_of, producer_of, IsChunkOf}
 use Rattle.claim_arbiter.specs.Claiming.{ClaimsInTurn, lost_asks, range_in}
 use Rattle.trace_writer.specs.declared.route.Route.{Route}
 use Rattle.trace_writer.specs.Asked.{IsAsked}
-use Rattle.trace_writer.specs.Claims.{AreOwnAsks, AreOwnChunks, HasAsked, lost_count, KeepsClaims}
+use Rattle.trace_writer.specs.Claims.{AreOwnAsks, AreOwnChunks, HasAsked, KeepsClaims}
 use Rattle.trace_writer.specs.Helping.{LeavesWriters, Works, Done, Silent, Gets, Helped, Refused, Lost}
 use Rattle.trace_writer.specs.OwnSteps.{KeepsChunks, IsQuiet, IsSilent, GetsChunk, IsOutNow}
 

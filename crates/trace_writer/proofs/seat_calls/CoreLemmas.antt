@@ -8,7 +8,7 @@ use Rattle.trace_base.specs.declared.limits.TheConstants.{MAX_NESTING, MAX_PACKE
 use Rattle.trace_base.specs.Reserved.{is_reserved}
 use Rattle.trace_model.specs.Encoding.{bytes_head, bytes_field, nested_tag}
 use Rattle.trace_model.specs.Pages.{Page}
-use Rattle.trace_model.specs.Packets.{Packet, Account, account_of, on_newest, with_more, packets_of, body_of, front_of, is_writing}
+use Rattle.trace_model.specs.Packets.{Packet, Account, account_of, on_newest, with_more, packets_of, body_of, front_of, is_writing, newest_length}
 use Rattle.chunk_plain.specs.Setup.{Setup}
 use Rattle.chunk_plain.specs.Views.{BegunChunk, Held, Completed, WriterView, Draft}
 use Rattle.trace_writer.specs.declared.fault.CallFault.{CallFault}
@@ -20,7 +20,7 @@ use Rattle.trace_writer.specs.declared.state.State.TheVariants.{Idle, Between, W
 use Rattle.trace_writer.specs.declared.state.Writer.{Writer}
 use Rattle.trace_writer.specs.Refusals.{field_refusal, nested_refusal}
 use Rattle.trace_writer.specs.Agreement.{Agrees, StateAgrees, IsInPacketOf, is_begun, len_of, open_message_count}
-use Rattle.trace_writer.specs.Core.{in_packet, newest_depth, newest_len, open_depth, field_fault, nested_fault}
+use Rattle.trace_writer.specs.Core.{in_packet, newest_depth, open_depth, field_fault, nested_fault}
 use Rattle.chunk_plain.specs.Histories.{completed_images}
 use Rattle.trace_writer.specs.Filled.{ShowsPages}
 use Rattle.trace_writer.specs.Site.{Site, site_of}
@@ -45,7 +45,7 @@ newest_depth_of [] (Some open_packet) e begun = absurd e
 newest_depth_of (packet ∷ older) (Some open_packet) e begun = measured_depth open_packet packet e.1
 
 newest_len_of : (packets : List Packet) (open_one : Option OpenPacket) → IsInPacketOf packets open_one → is_begun open_one ≡ true
-    → len_of open_one ≡ newest_len packets
+    → len_of open_one ≡ newest_length packets
 newest_len_of packets None e begun = absurd (cc)
 newest_len_of [] (Some open_packet) e begun = absurd e
 newest_len_of (packet ∷ older) (Some open_packet) e begun =
@@ -57,7 +57,7 @@ begun_depth setup place view writer agrees writes =
     newest_depth_of (packets_of view.calls) writer.packet agrees.packet (begun_is_writing setup place view writer agrees ∙ writes)
 
 pub begun_len : (setup : Setup) (place : ℕ) (view : WriterView) (writer : Writer) → Agrees setup place view writer → in_packet view ≡ true
-    → len_of writer.packet ≡ newest_len (packets_of view.calls)
+    → len_of writer.packet ≡ newest_length (packets_of view.calls)
 begun_len setup place view writer agrees writes =
     newest_len_of (packets_of view.calls) writer.packet agrees.packet (begun_is_writing setup place view writer agrees ∙ writes)
 
@@ -119,7 +119,7 @@ pub nested_fault_is : (setup : Setup) (place : ℕ) (view : WriterView) (writer 
 nested_fault_is setup place view writer field tag agrees writes tag_is =
     ap (λ (depth : ℕ). nested_refusal depth (len_of writer.packet) field (length tag)) (begun_depth setup place view writer agrees writes)
     ∙ ap (λ (len : ℕ). nested_refusal (newest_depth (packets_of view.calls)) len field (length tag)) (begun_len setup place view writer agrees writes)
-    ∙ ap (λ (bytes : List ℕ). nested_refusal (newest_depth (packets_of view.calls)) (newest_len (packets_of view.calls)) field (length bytes)) tag_is
+    ∙ ap (λ (bytes : List ℕ). nested_refusal (newest_depth (packets_of view.calls)) (newest_length (packets_of view.calls)) field (length bytes)) tag_is
 
 -- What stands before a text that is too long is not asked for: the head then says the greatest length that is not.
 head_is : (field total count : ℕ) (head : List ℕ) → head ≡ bytes_head field count → count ≡ min total MAX_PACKET_LEN → total ≤ MAX_PACKET_LEN → head ≡ bytes_head field total
