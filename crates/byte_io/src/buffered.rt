@@ -3,6 +3,7 @@
 //! drops it, and at last passes on what waits: only then are all bytes where they belong, and
 //! only that call knows whether the last of them could be written.
 ghost use Rattle.std.specs.Prelude.{◌≡◌, ℕ, ◌+◌, ◌-◌, ◌<◌, ◌≤◌, List, [], ◌++◌, length, take, drop, vec_len, vec_capacity, IfOk, OnOk, OnErr};
+ghost use Rattle.byte_io.specs.declared.buffered.TheConstants.{ROOM};
 ghost use Rattle.byte_io.specs.Bytes.{Intake, Loan, after_told, lent_by, told_bytes, IsGrown, CountsFaults, TakesUpTo};
 
 use super::put::WriteFault;
@@ -20,8 +21,8 @@ pub struct PendingBytes {
     bytes: Vec<u8>,
     passed: usize,
     ghost in_bytes: { passed ≤ vec_len bytes },
-    ghost in_room: { vec_len bytes ≤ 65536 },
-    ghost has_room: { 65536 ≤ vec_capacity bytes },
+    ghost in_room: { vec_len bytes ≤ ROOM },
+    ghost has_room: { ROOM ≤ vec_capacity bytes },
 }
 
 impl PendingBytes {
@@ -56,14 +57,14 @@ impl PendingBytes {
 
     // How many bytes can be kept before what waits has to be passed on.
     fn room_left(&self) -> usize
-        ensures { result + pending_count self.now ≡ 65536 }
+        ensures { result + pending_count self.now ≡ ROOM }
     {
         ROOM - self.bytes.len()
     }
 
     // Keeps the piece behind what waits.
     fn keep(&mut self, piece: &[u8])
-        requires { pending_count self.old + length piece.now ≤ 65536 }
+        requires { pending_count self.old + length piece.now ≤ ROOM }
         ensures { pending_bytes self.new ≡ pending_bytes self.old ++ piece.now }
     {
         match self.bytes.extend_from_slice(piece) {

@@ -1,5 +1,5 @@
 -- What the tellers of all sequences have taken.
-use Rattle.std.specs.Prelude.{◌≡◌, ℕ, ◌+◌, ◌<◌, ◌≤◌, List, [], ◌∷◌, length, All, Some, slice_get}
+use Rattle.std.specs.Prelude.{◌≡◌, ℕ, ◌+◌, ◌^◌, ◌<◌, ◌≤◌, List, [], ◌∷◌, length, All, Some, slice_get}
 use Rattle.trace_model.specs.Delivery.{Delivered, records_of, sequence_of}
 use Rattle.trace_file.specs.Apart.{SaysPacket, SaysOnly}
 use Rattle.packet_runs.specs.Runs.{Said}
@@ -29,4 +29,4 @@ pub record AllTaken (emitted : List (List (List ℕ))) (delivered : List Deliver
 
 -- each writer has so few packets that their numbers fit
 abbrev pub AreFew : List (List (List ℕ)) → Type 0
-AreFew emitted = (writer : ℕ) (packets : List (List ℕ)) → slice_get emitted writer ≡ Some packets → length packets + 1 < 4294967296
+AreFew emitted = (writer : ℕ) (packets : List (List ℕ)) → slice_get emitted writer ≡ Some packets → length packets + 1 < 2 ^ 32

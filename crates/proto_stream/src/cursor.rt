@@ -1,5 +1,6 @@
 //! A cursor in the payload of a chunk that is lent to it.
 ghost use Rattle.std.specs.Prelude.{◌≡◌, ℕ, ◌+◌, ◌-◌, ◌<◌, ◌≤◌, ◌↔◌, [], ◌∷◌, List, length, min, take, Some, IsNone, IfSome, IfNone, OnSome};
+ghost use Rattle.trace_base.specs.declared.limits.TheConstants.{MAX_INPUT};
 ghost use Rattle.trace_model.specs.Packets.{open_length};
 ghost use Rattle.trace_model.specs.Images.{with_bytes};
 
@@ -21,7 +22,7 @@ pub struct ChunkCursor<'c> {
     payload: &'c mut [u8],
     at: usize,
     ghost within: { at ≤ length payload.now },
-    ghost small: { length payload.now ≤ 67108864 },
+    ghost small: { length payload.now ≤ MAX_INPUT },
 }
 
 impl<'c> ChunkCursor<'c> {

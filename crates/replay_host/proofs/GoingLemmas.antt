@@ -21,7 +21,7 @@ use Rattle.replay_model.specs.Played.{IsSetupOf, buffers_of}
 use Rattle.replay_host.specs.declared.host.Host.{Host}
 use Rattle.replay_host.specs.Answering.{KeepsGoing, GoesOn}
 use Rattle.replay_host.specs.Asking.{IsReadyFor}
-use Rattle.replay_host.specs.Lines.{IsKept, IsGoing, requests_in}
+use Rattle.replay_host.specs.Lines.{MOST_REQUESTS, IsKept, IsGoing, requests_in}
 use Rattle.replay_host.specs.Playing.{IsHost, HasDone, HasPlayed, IsTraceOf, LeavesWriters}
 use Rattle.replay_host.specs.Tally.{IsTally}
 use Rattle.replay_host.proofs.HostLemmas.{played_none, played_both}
@@ -147,7 +147,7 @@ going_still means scenario before rest notes later old new going host keeps tall
       keeps.wrote place was.0 core was.1 at (calls_asked (suc place) before) (going.wrote place was.0 was.1);
   ready = keeps.ready _ going.ready;
   room = ap (λ (n : ℕ). n + requests_in rest) keeps.made ∙ going.room ∙ sym keeps.room;
-  few = subst (λ (n : ℕ). n < 4294967295) (sym keeps.room) going.few;
+  few = subst (λ (n : ℕ). n < MOST_REQUESTS) (sym keeps.room) going.few;
   started = keeps.state ∙ going.started;
   requests = keeps.requests ∙ going.requests ∙ sym keeps.made;
 }

@@ -19,7 +19,7 @@ use Rattle.replay_model.specs.Schedule.{is_due, is_due_after}
 use Rattle.replay_host.specs.declared.host.Host.{Host}
 use Rattle.replay_host.specs.Asking.{IsReadyFor, AreReady}
 use Rattle.replay_host.specs.Asks.{AsksFor, AsksNothing}
-use Rattle.replay_host.specs.Lines.{IsKept, IsGoing, coming_at, last_flush, is_open_at, requests_in}
+use Rattle.replay_host.specs.Lines.{MOST_REQUESTS, IsKept, IsGoing, coming_at, last_flush, is_open_at, requests_in}
 use Rattle.replay_host.specs.Playing.{IsHost, HasAsked, asked_all}
 use Rattle.replay_host.specs.Tally.{IsTally}
 use Rattle.replay_host.proofs.GoingLemmas.{kept_still, writer_was}
@@ -122,7 +122,7 @@ going_asked {T} {W} {S} means scenario before line rest notes place calls old ne
       room = ap (λ (f : _). f.made + requests_in rest) asked.books.flushes
           ∙ (let none = asks.no_request in let was = going.room in let is : old.flushes.made + requests_in rest ≡ vec_len old.flushes.chunks = omega (arith, none, was) in is)
           ∙ ap (λ (f : _). vec_len f.chunks) (sym asked.books.flushes);
-      few = subst (λ (f : _). vec_len f.chunks < 4294967295) (sym asked.books.flushes) going.few;
+      few = subst (λ (f : _). vec_len f.chunks < MOST_REQUESTS) (sym asked.books.flushes) going.few;
       started = ap (λ (s : SessionValue). s.state) session ∙ going.started;
       requests = ap (λ (s : SessionValue). s.requests) session ∙ going.requests ∙ ap (λ (f : _). f.made) (sym asked.books.flushes);
     }

@@ -31,7 +31,7 @@ use Rattle.replay_model.specs.Schedule.{acts_of, is_due, is_due_after, open_plac
 use Rattle.replay_host.specs.declared.host.Host.{Host}
 use Rattle.replay_host.specs.Answering.{GoesOn, IsAmid, MayAnswer, HasAnsweredBetween, HaveAnswered, HaveAnsweredTo, HasRequested}
 use Rattle.replay_host.specs.Asking.{AreReady}
-use Rattle.replay_host.specs.Lines.{IsGoing, IsAt, IsDueAt, IsLinePlayed, Moment, ComesNext, is_open_at, coming_at, request_count}
+use Rattle.replay_host.specs.Lines.{MOST_REQUESTS, IsGoing, IsAt, IsDueAt, IsLinePlayed, Moment, ComesNext, is_open_at, coming_at, request_count}
 use Rattle.replay_host.specs.Playing.{IsHost, IsOpenAt, HasDone, IsTraceOf}
 use Rattle.replay_host.specs.Serving.{HasFlags, HasServed}
 use Rattle.replay_host.specs.Tally.{IsTally}
@@ -272,7 +272,7 @@ module _ {T W S : Type 0} (means : Meaning T W S) (scenario : Parts) (before : L
         let same = made.room in
         let counted : request_count one.what ≡ 1 = ap request_count is in
         omega (arith, was, more, same, counted));
-    few = subst (λ (n : ℕ). n < 4294967295) (sym made.room) going.few;
+    few = subst (λ (n : ℕ). n < MOST_REQUESTS) (sym made.room) going.few;
     started = made.state ∙ going.started;
     requests = made.requests ∙ ap (λ (n : ℕ). n + 1) going.requests ∙ sym made.made;
   }

@@ -20,7 +20,7 @@ use Rattle.replay_model.specs.Schedule.{acts_of, is_due}
 use Rattle.replay_host.specs.declared.host.Host.{Host}
 use Rattle.replay_host.specs.Answering.{KeepsGoing}
 use Rattle.replay_host.specs.Asks.{AsksNothing}
-use Rattle.replay_host.specs.Lines.{IsKept, IsLinePlayed, Moment, ComesNext, requests_in}
+use Rattle.replay_host.specs.Lines.{MOST_REQUESTS, IsKept, IsLinePlayed, Moment, ComesNext, requests_in}
 use Rattle.replay_host.specs.Playing.{IsHost, HasDone, LeavesWriters}
 use Rattle.replay_host.specs.Serving.{ComesServing}
 use Rattle.replay_host.specs.Tally.{IsTally}
@@ -135,7 +135,7 @@ close_played {T} {W} {S} means moment producer old new taken left what least mos
               ∙ (let none = asked.no_request in let was = next.at.going.room in
               let is : old.flushes.made + requests_in moment.rest ≡ vec_len old.flushes.chunks = omega (arith, none, was) in is)
               ∙ sym keeps.room;
-          few = subst (λ (n : ℕ). n < 4294967295) (sym keeps.room) next.at.going.few;
+          few = subst (λ (n : ℕ). n < MOST_REQUESTS) (sym keeps.room) next.at.going.few;
           started = keeps.state ∙ next.at.going.started;
           requests = keeps.requests ∙ next.at.going.requests ∙ sym keeps.made;
         };

@@ -1,5 +1,6 @@
 //! What plays a scenario, and how it asks one of its writers for a call.
 ghost use Rattle.std.specs.Prelude.{◌≡◌, ◌↔◌, ℕ, suc, ◌+◌, ◌-◌, ◌<◌, ◌≤◌, List, [], ◌∷◌, length, slice_index_or, true, false, OnOk, IfErr, IsTrue};
+ghost use Rattle.trace_base.specs.declared.limits.TheConstants.{MAX_WRITERS};
 ghost use Rattle.chunk_plain.specs.Words.{call_of};
 ghost use Rattle.trace_model.specs.Calls as calls;
 ghost use Rattle.trace_model.specs.Calls.{Call};
@@ -30,7 +31,7 @@ pub struct Host<T, W, S> {
 
 /// The fault of a writer whose call was refused: its calls are those of a scenario, so it has stalled.
 fn stalled(place: usize) -> HostFault
-    requires { place < 65535 }
+    requires { place < MAX_WRITERS }
     ensures { result ≡ faults.Stalled (suc place) }
 {
     HostFault::Stalled {

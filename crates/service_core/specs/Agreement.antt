@@ -1,6 +1,6 @@
 -- The service agrees with the view of its seat: its buffers are what the history in the view leads to.
 use Rattle.std.specs.Prelude.{◌≡◌, ℕ, ◌-◌, ◌<◌, ◌≤◌, Bool, false, List, [], ◌∷◌, length, map, sum_by, Some, slice_get, slice_index_or}
-use Rattle.trace_base.specs.declared.limits.TheConstants.{MAX_WRITERS}
+use Rattle.trace_base.specs.declared.limits.TheConstants.{FIRST_SEQUENCE, MAX_WRITERS}
 use Rattle.trace_base.specs.declared.policy.WriterPolicy.TheVariants.{Drops}
 use Rattle.trace_base.specs.declared.policy.WriterSpec.{WriterSpec}
 use Rattle.trace_model.specs.Buffers.{Buffer}
@@ -48,7 +48,7 @@ pub record IsRouted (setup : Setup) (count : ℕ) : Type 0 where
 -- the view has what the note speaks of
 abbrev pub IsKnownNote : ServiceView → Noted → Type 0
 IsKnownNote view (Arrive sequence chunk_id) = (content : Content) × (content_at view sequence chunk_id ≡ Some content)
-IsKnownNote view (Partial sequence chunk_id count) = (found : Found) × (found_among (sequence - 2) chunk_id count view.looks ≡ Some found)
+IsKnownNote view (Partial sequence chunk_id count) = (found : Found) × (found_among (sequence - FIRST_SEQUENCE) chunk_id count view.looks ≡ Some found)
 IsKnownNote view (Patched sequence chunk_id) = (content : Content) × (content_at view sequence chunk_id ≡ Some content)
 IsKnownNote view (Closed sequence) = Unit {0}
 IsKnownNote view (Read sequence limit) = Unit {0}

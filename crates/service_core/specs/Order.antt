@@ -1,5 +1,6 @@
 -- The order of what was noted on one sequence, in the form that goes on at the end.
 use Rattle.std.specs.Prelude.{◌≡◌, ℕ, suc, ◌-◌, ◌<◌, ◌==◌, Bool, true, false, List, [], ◌∷◌, length, Some, MatchBool}
+use Rattle.trace_base.specs.declared.limits.TheConstants.{FIRST_SEQUENCE}
 use Rattle.trace_model.specs.Images.{Patch}
 use Rattle.chunk_plain.specs.Views.{Content, Found, Noted, Arrive, Partial, Patched, Closed, Read, Commit, ServiceView}
 use Rattle.chunk_plain.specs.Histories.{content_at, found_among}
@@ -18,7 +19,7 @@ beginning = record { come = 0; closed = false; due = [] }
 -- a part of the chunk stands on a look that found so many fragments of it
 pub record IsFoundPart (view : ServiceView) (sequence chunk_id count : ℕ) : Type 0 where
   pub found : Found
-  pub looked : found_among (sequence - 2) chunk_id count view.looks ≡ Some found
+  pub looked : found_among (sequence - FIRST_SEQUENCE) chunk_id count view.looks ≡ Some found
   pub some : 0 < length found.ends
 
 -- The notes lead from one stage to another, in the order that is asked of an account: the chunks in the order of their ids, each once and with its

@@ -5,6 +5,7 @@ use mathlib.Core.Path.{sym, ap, ◌∙◌}
 use mathlib.Core.HLevel.{Σ_prop_path}
 use Rattle.std.specs.Coded.{Coded-set, codes, le_prop, ×_prop, Unit-prop}
 use Rattle.atomic_table.specs.Seated.{TableId}
+use Rattle.trace_base.specs.declared.limits.TheConstants.{FIRST_SEQUENCE}
 use Rattle.trace_model.specs.Buffers.{Buffer}
 use Rattle.trace_model.specs.Images.{Patch}
 use Rattle.chunk_plain.specs.Setup.{Setup}
@@ -75,7 +76,7 @@ patched_prop {C} {P} {Q} set o one other u v =
 
 part_prop : (view : ServiceView) (sequence chunk_id count : ℕ) → IsProp (IsFoundPart view sequence chunk_id count)
 part_prop view sequence chunk_id count u v =
-    let same = single_prop {P = λ (found : Found). 0 < length found.ends} Found-set (found_among (sequence - 2) chunk_id count view.looks) (λ found. le_prop) (u.found, (u.looked, u.some)) (v.found, (v.looked, v.some)) in
+    let same = single_prop {P = λ (found : Found). 0 < length found.ends} Found-set (found_among (sequence - FIRST_SEQUENCE) chunk_id count view.looks) (λ found. le_prop) (u.found, (u.looked, u.some)) (v.found, (v.looked, v.some)) in
     λ i. record { found = (same i).0; looked = (same i).1.0; some = (same i).1.1 }
 
 elsewhere_prop : (view : ServiceView) (sequence place : ℕ) → IsProp (CommitsElsewhere view sequence place)
@@ -111,7 +112,7 @@ lead_to_prop view sequence stage (Commit place ∷ notes) last =
 
 known_note_prop : (view : ServiceView) (note : Noted) → IsProp (IsKnownNote view note)
 known_note_prop view (Arrive sequence chunk_id) = named_prop Content-set (content_at view sequence chunk_id)
-known_note_prop view (Partial sequence chunk_id count) = named_prop Found-set (found_among (sequence - 2) chunk_id count view.looks)
+known_note_prop view (Partial sequence chunk_id count) = named_prop Found-set (found_among (sequence - FIRST_SEQUENCE) chunk_id count view.looks)
 known_note_prop view (Patched sequence chunk_id) = named_prop Content-set (content_at view sequence chunk_id)
 known_note_prop view (Closed sequence) = Unit-prop
 known_note_prop view (Read sequence limit) = Unit-prop
