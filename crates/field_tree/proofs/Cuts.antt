@@ -2,7 +2,7 @@
 use Rattle.std.proofs.Common.{◌≡◌, ℕ, ◌+◌, ◌-◌, ◌*◌, ◌^◌, ◌<◌, ◌≤◌, Bool, true, false, cond, ◌&&◌, ◌||◌, ◌==◌, nat_lt, Option, Some, None, List, [], ◌∷◌, ◌++◌, length, refl, sym, ap, subst, arith, ◌∙◌, append_assoc}
 use Rattle.std.proofs.lemmas.List.{append-nil}
 use Rattle.std.proofs.lemmas.Bool.{cond_both, and_parts, eqb-true}
-use Rattle.trace_base.specs.declared.limits.TheConstants.{MAX_FIELD, MAX_PACKET_LEN}
+use Rattle.trace_base.specs.declared.limits.TheConstants.{MAX_FIELD, MAX_PACKET_LEN, MAX_NUMBER}
 use Rattle.field_tree.specs.declared.mode.Mode.{Mode}
 use Rattle.field_tree.specs.declared.mode.Mode.TheVariants.{Start, Field, Value, Zero, Digits, Text, Quoted, Star, Times, Tick, Pairs, Half, Packed, After}
 use Rattle.field_tree.specs.declared.mode.Action.{Action}
@@ -97,8 +97,8 @@ act_cut (Value n) t text inner b valid cut =
     (λ _. cond_both (is_first_digit b) (Go (Digits n (b - 48))) Refuse (λ (a : Action). Cuts text b a) (λ is. starts text b cut is) (λ _. tt))))
 act_cut (Zero n) t text inner b valid cut = tt
 act_cut (Digits n v) t text inner b valid cut =
-    by_grown (λ (a : Action). Cuts text b a) 18446744073709551615 v b (λ m. Go (Digits n m)) tt
-    (λ digit small byte fits. grows text v digit b 18446744073709551615 cut valid.1 small byte fits (omega arith))
+    by_grown (λ (a : Action). Cuts text b a) MAX_NUMBER v b (λ m. Go (Digits n m)) tt
+    (λ digit small byte fits. grows text v digit b MAX_NUMBER cut valid.1 small byte fits (omega arith))
 act_cut (Text n) t text inner b valid cut =
     cond_both (b == 34) (Go (Quoted n)) (cond (is_text_byte b) (Keep (Text n) b) Refuse) (λ (a : Action). Cuts text b a)
     (λ is. ends_plain text b 34 refl is)

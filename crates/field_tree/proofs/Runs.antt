@@ -2,7 +2,7 @@
 use Rattle.std.proofs.Common.{◌≡◌, ◌≢◌, ℕ, ◌+◌, ◌-◌, ◌*◌, ◌/◌, ◌%◌, ◌^◌, ◌<◌, ◌≤◌, inl, inr, Bool, true, false, cond, ◌&&◌, ◌||◌, ◌==◌, not, nat_lt, nat_le, Option, Some, None, List, [], ◌∷◌, ◌++◌, refl, sym, ap, subst, arith, ◌∙◌}
 use Rattle.std.proofs.lemmas.Bool.{cond_both, cond-true, cond-false, and_from, and_right, ne_eqb, le-leb, lt-leb, not_from_false, or_from, cases_lt}
 use Rattle.std.proofs.lemmas.Fmt.{decimal_by_steps}
-use Rattle.trace_base.specs.declared.limits.TheConstants.{MAX_FIELD, MAX_PACKET_LEN}
+use Rattle.trace_base.specs.declared.limits.TheConstants.{MAX_FIELD, MAX_PACKET_LEN, MAX_NUMBER}
 use Rattle.field_tree.specs.declared.mode.Mode.TheVariants.{Start, Field, Value, Zero, Digits, Text, Quoted, Star, Times, Tick, Pairs, Half, Packed}
 use Rattle.field_tree.specs.declared.mode.Action.{Action}
 use Rattle.field_tree.specs.declared.mode.Action.TheVariants.{Refuse, Go, Keep, Open, Close}
@@ -122,17 +122,17 @@ value_digit ns d f n some small =
     ∙ cond-true (is_first_digit (48 + n)) (Go (Digits f (48 + n - 48))) Refuse (first_digit n some small))
     ∙ ap (λ (m : ℕ). Some (reading_with ns d [] (Digits f m))) same
 
-pub digits_digit : (ns : List Shown) (d f n digit : ℕ) → digit < 10 → n * 10 + digit ≤ 18446744073709551615
+pub digits_digit : (ns : List Shown) (d f n digit : ℕ) → digit < 10 → n * 10 + digit ≤ MAX_NUMBER
     → next (reading_with ns d [] (Digits f n)) (48 + digit) ≡ Some (reading_with ns d [] (Digits f (n * 10 + digit)))
 unfolding act applied
 digits_digit ns d f n digit small fits =
     no_end (reading_with ns d [] (Digits f n)) (48 + digit) (λ is. omega arith) (λ is. omega arith)
-    ∙ ap (λ (o : Option ℕ). applied (go_on o (λ m. Go (Digits f m))) (reading_with ns d [] (Digits f n))) (grown_by 18446744073709551615 n digit small fits)
+    ∙ ap (λ (o : Option ℕ). applied (go_on o (λ m. Go (Digits f m))) (reading_with ns d [] (Digits f n))) (grown_by MAX_NUMBER n digit small fits)
 
 pub value_runs : (ns : List Shown) (d f n : ℕ) → 1 ≤ n → n < 2 ^ 64
     → run (reading_with ns d [] (Value f)) (number n) ≡ Some (reading_with ns d [] (Digits f n))
 value_runs ns d f n some fits =
-    number_runs 18446744073709551615 (reading_with ns d [] (Value f)) (λ m. reading_with ns d [] (Digits f m)) (omega arith)
+    number_runs MAX_NUMBER (reading_with ns d [] (Value f)) (λ m. reading_with ns d [] (Digits f m)) (omega arith)
     (λ m one small. value_digit ns d f m one small)
     (λ m digit one small more. digits_digit ns d f m digit small more) n some (omega arith)
 

@@ -2,7 +2,7 @@
 use Rattle.std.proofs.Common.{◌≡◌, ℕ, ◌+◌, ◌-◌, ◌*◌, ◌<◌, ◌≤◌, Bool, true, ◌&&◌, ◌==◌, nat_le, Option, Some, None, List, [], ◌∷◌, ◌++◌, refl, sym, ap, subst, arith, ◌∙◌, append_assoc, append-nil, length, take, drop, take-append-drop}
 use Rattle.std.proofs.lemmas.Bool.{cond_both, cond-false, and_parts, leb-true, ne_eqb}
 use Rattle.std.specs.List.{AllByRecursion}
-use Rattle.trace_base.specs.declared.limits.TheConstants.{MAX_FIELD, MAX_PACKET_LEN}
+use Rattle.trace_base.specs.declared.limits.TheConstants.{MAX_FIELD, MAX_PACKET_LEN, MAX_NUMBER}
 use Rattle.field_tree.specs.declared.mode.Mode.TheVariants.{Start, Field, Value, Digits, Text, Quoted, Star, Times, Tick, Pairs, Half, Packed}
 use Rattle.field_tree.specs.declared.mode.Action.{Action}
 use Rattle.field_tree.specs.declared.mode.Action.TheVariants.{Go, Keep}
@@ -55,7 +55,7 @@ one_digit most value b more to takes is =
 pub field_takes : (ns : List Shown) (d : ℕ) → TakesDigits MAX_FIELD (λ n. reading_with ns d [] (Field n))
 field_takes ns d n digit small fits = field_digit ns d n digit small fits
 
-pub value_takes : (ns : List Shown) (d f : ℕ) → TakesDigits 18446744073709551615 (λ n. reading_with ns d [] (Digits f n))
+pub value_takes : (ns : List Shown) (d f : ℕ) → TakesDigits MAX_NUMBER (λ n. reading_with ns d [] (Digits f n))
 value_takes ns d f n digit small fits = digits_digit ns d f n digit small fits
 
 pub times_takes : (ns : List Shown) (d f : ℕ) (t : List ℕ) → TakesDigits MAX_PACKET_LEN (λ n. reading_with ns d t (Times f n))

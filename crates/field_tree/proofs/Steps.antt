@@ -2,7 +2,7 @@
 use Rattle.std.proofs.Common.{◌≡◌, ℕ, suc, ◌+◌, ◌-◌, ◌*◌, ◌^◌, ◌<◌, Bool, true, false, cond, ◌&&◌, ◌==◌, List, [], ◌∷◌, ◌++◌, refl, sym, ap, subst, arith, ◌∙◌, append_assoc}
 use Rattle.std.proofs.lemmas.Bool.{cond_both, and_parts, eqb-true}
 use Rattle.std.specs.List.{AllByRecursion}
-use Rattle.trace_base.specs.declared.limits.TheConstants.{MAX_FIELD, MAX_PACKET_LEN}
+use Rattle.trace_base.specs.declared.limits.TheConstants.{MAX_FIELD, MAX_PACKET_LEN, MAX_NUMBER}
 use Rattle.field_tree.specs.declared.node.FieldNode.TheVariants.{Begin, End}
 use Rattle.field_tree.specs.declared.mode.Mode.{Mode}
 use Rattle.field_tree.specs.declared.mode.Mode.TheVariants.{Start, Field, Value, Zero, Digits, Text, Quoted, Star, Times, Tick, Pairs, Half, Packed, After}
@@ -180,7 +180,7 @@ value_back n (x ∷ t) inner b valid = absurd (cc)
 pub digits_back : (n v : ℕ) (t : List ℕ) (inner : Bool) (b : ℕ) → IsValid (Digits n v) t → Back (Digits n v) t inner b (act (Digits n v) inner b)
 unfolding act
 digits_back n v t inner b valid =
-    by_grown (λ (a : Action). Back (Digits n v) t inner b a) 18446744073709551615 v b (λ m. Go (Digits n m)) tt
+    by_grown (λ (a : Action). Back (Digits n v) t inner b a) MAX_NUMBER v b (λ m. Go (Digits n m)) tt
     (λ digit small byte fits.
     let less : v * 10 + digit < 2 ^ 64 = omega arith in
     let more = number_more v digit valid.1 small less in

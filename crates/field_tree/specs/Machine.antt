@@ -2,7 +2,7 @@
 -- grammar alone; the laws tie the two together.
 use Rattle.std.specs.Prelude.{◌≡◌, ℕ, suc, ◌+◌, ◌-◌, ◌*◌, ◌^◌, ◌<◌, ◌≤◌, List, [], ◌∷◌, ◌++◌, length, Bool, true, false, nat_lt, nat_le, ◌==◌, ◌&&◌, ◌||◌, not, if◌then◌else◌, Option, Some, None, Result, Ok, Err}
 use Rattle.std.specs.List.{AllByRecursion}
-use Rattle.trace_base.specs.declared.limits.TheConstants.{MAX_FIELD, MAX_PACKET_LEN}
+use Rattle.trace_base.specs.declared.limits.TheConstants.{MAX_FIELD, MAX_PACKET_LEN, MAX_NUMBER}
 use Rattle.field_tree.specs.declared.node.FieldNode.{FieldNode}
 use Rattle.field_tree.specs.declared.node.FieldNode.TheVariants.{Number, Bytes, Begin, End}
 use Rattle.field_tree.specs.declared.mode.Mode.{Mode}
@@ -57,7 +57,7 @@ act (Value n) inner byte =
     else if is_first_digit byte then Go (Digits n (byte - 48))
     else Refuse
 act (Zero n) inner byte = Refuse
-act (Digits n value) inner byte = go_on (grown 18446744073709551615 value byte) (λ m. Go (Digits n m))
+act (Digits n value) inner byte = go_on (grown MAX_NUMBER value byte) (λ m. Go (Digits n m))
 act (Text n) inner byte = if byte == 34 then Go (Quoted n) else if is_text_byte byte then Keep (Text n) byte else Refuse
 act (Quoted n) inner byte = if byte == 42 then Go (Star n) else Refuse
 act (Star n) inner byte = if is_first_digit byte then Go (Times n (byte - 48)) else Refuse

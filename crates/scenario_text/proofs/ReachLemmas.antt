@@ -7,6 +7,7 @@ use Rattle.std.proofs.lemmas.List.{length-append, length-set}
 use Rattle.std.proofs.lemmas.List.Folds.{list_any-append}
 use Rattle.std.proofs.lemmas.Option.{slice_get_within}
 use Rattle.std.proofs.lemmas.Bool.{false_from_ne_true}
+use Rattle.trace_base.specs.declared.limits.TheConstants.{MAX_NUMBER}
 use Rattle.trace_base.proofs.Lists.{get_more}
 use Rattle.trace_base.specs.declared.policy.WriterSpec.{WriterSpec}
 use Rattle.field_tree.specs.Nodes.{Shown}
@@ -270,12 +271,12 @@ producer_in_reach state producer step pass reaching =
 limit_least : (limit : Option Numeral) → is_limit limit ≡ true → 1 ≤ limit_of limit
 unfolding is_limit limit_of
 limit_least None is = omega arith
-limit_least (Some limit) is = within_least 1 18446744073709551615 limit is
+limit_least (Some limit) is = within_least 1 MAX_NUMBER limit is
 
-limit_most : (limit : Option Numeral) → is_limit limit ≡ true → limit_of limit ≤ 18446744073709551615
+limit_most : (limit : Option Numeral) → is_limit limit ≡ true → limit_of limit ≤ MAX_NUMBER
 unfolding is_limit limit_of
 limit_most None is = omega arith
-limit_most (Some limit) is = within_most 1 18446744073709551615 limit is
+limit_most (Some limit) is = within_most 1 MAX_NUMBER limit is
 
 buffer_in_reach : (state : State) (buffer : Numeral) (limit : Option Numeral) → IsPassed state (Read buffer limit)
     → ReadsBuffer state.buffers (value buffer) (limit_of limit)

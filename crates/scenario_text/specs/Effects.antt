@@ -1,5 +1,6 @@
 -- What an accepted line adds to the scenario, and how it changes the packet of its writer.
 use Rattle.std.specs.Prelude.{ℕ, ◌+◌, ◌-◌, ◌^◌, ◌<◌, true, false, List, [], ◌∷◌, ◌++◌, Option, Some, None, Result, Ok, Err}
+use Rattle.trace_base.specs.declared.limits.TheConstants.{MAX_NUMBER}
 use Rattle.scenario_text.specs.declared.numeral.Numeral.{Numeral}
 use Rattle.scenario_text.specs.declared.form.Form.{Form}
 use Rattle.scenario_text.specs.declared.form.Form.TheVariants.{Buffer, Producer, Writer, OfWriter, OfProducer, Read, Request}
@@ -35,7 +36,7 @@ producer_kind producer Close = kinds.Close producer
 
 -- how many packets are read at most: without a number, the greatest
 unfoldable pub limit_of : Option Numeral → ℕ
-limit_of None = 18446744073709551615
+limit_of None = MAX_NUMBER
 limit_of (Some limit) = value limit
 
 -- so many bytes longer, and so many messages inside one another deeper

@@ -1,6 +1,7 @@
 -- What the played lines of a scenario name: writers, producers and buffers that are there, and no producer that a line before
 -- has closed, nor a writer of one.
 use Rattle.std.specs.Prelude.{◌≡◌, ◌-◌, ℕ, ◌≤◌, false, List, ◌∷◌, ◌++◌, length, Some, slice_get}
+use Rattle.trace_base.specs.declared.limits.TheConstants.{MAX_NUMBER}
 use Rattle.trace_base.specs.declared.policy.WriterSpec.{WriterSpec}
 use Rattle.scenario_text.specs.declared.scenario.BufferLine.{BufferLine}
 use Rattle.scenario_text.specs.declared.scenario.ProducerLine.{ProducerLine}
@@ -29,7 +30,7 @@ pub record ReadsBuffer (buffers : List BufferLine) (number limit : ℕ) : Type 0
   pub least : 1 ≤ number
   pub most : number ≤ length buffers
   pub some_packets : 1 ≤ limit
-  pub counted : limit ≤ 18446744073709551615
+  pub counted : limit ≤ MAX_NUMBER
 
 -- what a line names is there, behind these lines
 abbrev pub IsInReach : List BufferLine → List ProducerLine → List WriterSpec → List NumberedLine → LineKind → Type 0

@@ -1,6 +1,6 @@
 -- Why a line is refused: a test for each reason, and the reasons in their order.
 use Rattle.std.specs.Prelude.{ℕ, ◌+◌, ◌-◌, ◌*◌, nat_lt, nat_le, ◌==◌, Bool, true, false, ◌&&◌, not, List, [], ◌∷◌, ◌++◌, length, Option, Some, None, is_none, is_some, Result, Ok, Err, if◌then◌else◌}
-use Rattle.trace_base.specs.declared.limits.TheConstants.{BYTES_PER_KB, MAX_BUFFERS, MAX_BUFFER_KB, MAX_FIELD, MAX_NESTING, MAX_PACKET_LEN, MAX_PAGES, MAX_PRODUCERS, MAX_SCENARIO_PACKET_BYTES, MAX_WRITERS, MIN_BUFFER_KB}
+use Rattle.trace_base.specs.declared.limits.TheConstants.{BYTES_PER_KB, MAX_BUFFERS, MAX_BUFFER_KB, MAX_FIELD, MAX_NESTING, MAX_PACKET_LEN, MAX_PAGES, MAX_PRODUCERS, MAX_SCENARIO_PACKET_BYTES, MAX_WRITERS, MIN_BUFFER_KB, MAX_NUMBER}
 use Rattle.trace_base.specs.Reserved.{is_reserved}
 use Rattle.page_geometry.specs.Sizes.{payload_size, record_size}
 use Rattle.scenario_text.specs.declared.numeral.Numeral.{Numeral}
@@ -34,7 +34,7 @@ is_producer_in_range pages page_size chunks = false
 -- a read's limit is in its range, or there is none
 unfoldable pub is_limit : Option Numeral → Bool
 is_limit None = true
-is_limit (Some limit) = is_within 1 18446744073709551615 limit
+is_limit (Some limit) = is_within 1 MAX_NUMBER limit
 
 -- a number of the line, other than a reference, is outside its range, or any number before FIELDS doesn't fit
 unfoldable pub is_out_of_range : Form → Bool

@@ -51,6 +51,10 @@ pub const MAX_GENERATED_WRITERS: u8 = 64;
 
 pub const MAX_GENERATED_PACKETS: u32 = 100_000;
 
+/// The greatest number of 64 bits: the greatest value of a field, and as many packets as a read
+/// without a limit takes at most.
+pub const MAX_NUMBER: u64 = 18_446_744_073_709_551_615;
+
 /// The greatest field number of protobuf; the least is 1.
 pub const MAX_FIELD: u32 = 536_870_911;
 

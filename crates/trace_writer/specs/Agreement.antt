@@ -1,6 +1,7 @@
 -- A writer agrees with the view of its seat: its packets, their chunks, and what it counts.
 use Rattle.std.specs.Prelude.{◌≡◌, ℕ, ◌+◌, ◌-◌, ◌≤◌, min, ⊤, vec_len, Bool, true, false, List, [], ◌∷◌, length, map, reverse, Option, Some, None}
 use Rattle.trace_base.specs.declared.limits.TheConstants.{MAX_PACKET_LEN}
+use Rattle.trace_model.specs.Counts.{last_count}
 use Rattle.trace_model.specs.Packets.{Packet, Account, account_of, body_of, front_of, open_places, is_lost, newest_is_lost, is_writing, begun_count, dropped_at_begin}
 use Rattle.commit_body.specs.Pending.{Pending}
 use Rattle.chunk_plain.specs.Setup.{Setup}
@@ -86,7 +87,7 @@ open_message_count (Some open_one) = length open_one.starts.items
 
 -- a count stays at its type's end
 abbrev pub counted : ℕ → ℕ
-counted n = min n 18446744073709551615
+counted n = min n last_count
 
 -- a writer is as the calls in its seat's view say
 pub record Agrees (setup : Setup) (place : ℕ) (view : WriterView) (writer : Writer) : Type 0 where
