@@ -1,5 +1,5 @@
 -- What a command did for what it was given: it isn't refused, and what follows for the words that ask for it.
-use Rattle.std.proofs.Common.{arith, ◌≡◌, ℕ, ◌<◌, ◌≤◌, List, [], length, Option, Some, None, Ok, IfSome, subst, sym, ap, ◌∙◌}
+use Rattle.std.proofs.Common.{arith, ◌≡◌, ℕ, ◌<◌, ◌≤◌, List, length, Option, Some, None, Ok, IfSome, subst, sym, ap, ◌∙◌}
 use Rattle.byte_io.specs.Bytes.{Intake}
 use Rattle.trace_base.specs.declared.limits.TheConstants.{MAX_INPUT}
 use Rattle.trace_file.proofs.WholeLemmas.{traces_read_once}
@@ -79,15 +79,6 @@ replay_reports Run is = tt
 replay_reports Read is = is
 replay_reports Check is = is
 replay_reports (Gen number writers packets) is = is
-
--- a command that plays no scenario has no report
-pub reports_nothing : (command : Command) (given : List ℕ) (old new : Intake) (report : List ℕ) → (LeavesReport command → ⊥)
-    → Wrote command given old new report → report ≡ []
-reports_nothing Replay given old new report other did = absurd (other tt)
-reports_nothing Run given old new report other did = absurd (other tt)
-reports_nothing Read given old new report other did = did.1
-reports_nothing Check given old new report other did = did.1
-reports_nothing (Gen number writers packets) given old new report other did = did.1
 
 -- ---- of words that ask for a command, and an input with so much left
 
