@@ -16,7 +16,7 @@ use Rattle.page_geometry.proofs.SizeLemmas.{payload_size_least, payload_size_mos
 use Rattle.page_geometry.specs.declared.geometry.Geometry.{Geometry}
 use Rattle.chunk_plain.specs.declared.setup.ProducerSpec.{ProducerSpec}
 use Rattle.chunk_plain.specs.declared.setup.Spot.{Spot}
-use Rattle.chunk_plain.specs.Setup.{no_spot, ProducersAreApart, IsLaid}
+use Rattle.chunk_plain.specs.Setup.{no_spot, ProducersAreApart, IsLaid, Setup, IsChunkOf}
 use Rattle.chunk_plain.specs.Laying.{spot_at, page_spots, pages_spots, spots_of, ranges_of, sizes_of, pages_in, chunks_in, setup_of}
 
 abbrev Bounded : ℕ → Type 0
@@ -209,7 +209,7 @@ some_chunk first (producer ∷ producers) (suc i) some inside =
     some_chunk (first + chunks_in producer) producers i (All-tail (λ (p : ProducerSpec). 1 ≤ p.pages) producer producers some) (omega arith)
 
 -- the chunks of a producer's pages have the payload size of its geometry
-page_sized : (page : ℕ) (geometry : Geometry) (n c : ℕ) → c < n → (get_or (page_spots page geometry n) c no_spot).payload_size ≡ payload_size geometry.page_size geometry.chunks
+pub page_sized : (page : ℕ) (geometry : Geometry) (n c : ℕ) → c < n → (get_or (page_spots page geometry n) c no_spot).payload_size ≡ payload_size geometry.page_size geometry.chunks
 page_sized page geometry zero c below = absurd (omega arith)
 page_sized page geometry (suc n) c below =
     snoc_read (λ _ x. x.payload_size ≡ payload_size geometry.page_size geometry.chunks) (page_spots page geometry n) (spot_at page n geometry) c
@@ -272,6 +272,10 @@ range_sized first page (producer ∷ producers) (suc i) c least below =
     ap (λ (x : Spot). x.payload_size) (get_or-append_right mine others (length mine) (c - first) no_spot refl (omega arith))
     ∙ (ap (λ k. (get_or others k no_spot).payload_size) (let back : c - first - length mine ≡ c - (first + chunks_in producer) = omega arith in back)
     ∙ range_sized (first + chunks_in producer) (page + producer.pages) producers i c least below)
+
+-- a producer's chunk is one of the table's
+pub chunk_inside : (setup : Setup) (producer chunk : ℕ) → IsLaid setup → IsChunkOf setup producer chunk → chunk < length setup.spots
+chunk_inside setup producer chunk laid own = let all = laid.ranges producer in let below = own.below in omega (arith, all, below)
 
 pub setup_laid : (producers : List ProducerSpec) (writers : List WriterSpec) → length producers ≤ MAX_PRODUCERS → All (λ producer. 1 ≤ producer.pages) producers
     → All (λ producer. producer.pages ≤ MAX_PAGES) producers → IsLaid (setup_of producers writers)

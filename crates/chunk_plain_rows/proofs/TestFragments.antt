@@ -1,6 +1,5 @@
 -- Bytes that begin with one short fragment, as the tests write them.
-use Rattle.std.proofs.Common.{◌≡◌, ℕ, zero, suc, ◌+◌, ◌-◌, ◌<◌, length, subst, sym, refl, ap, ◌∙◌, arith}
-use Rattle.chunk_plain.specs.Setup.{Setup, IsLaid, IsChunkOf}
+use Rattle.std.proofs.Common.{◌≡◌, ℕ, zero, suc, ◌+◌, ◌-◌, ◌<◌, subst, sym, refl, ap, ◌∙◌, arith}
 use Rattle.chunk_plain.specs.Payload.{size_at, size_bytes, sealed_to, HasFragments, end_after, ends_from}
 use Rattle.chunk_plain.proofs.Sealing.{one_byte}
 
@@ -13,7 +12,3 @@ short_fragment b size is small =
     let n : size_bytes b 0 ≡ 1 = one_byte b 0 (omega arith) in
     let end : end_after b 0 ≡ size + 1 = ap (λ k. 0 + k + size_at b 0 k) n ∙ omega arith in
     (one_fragment b (omega arith) n, end)
-
--- a producer's chunk is one of the table's
-pub chunk_inside : (setup : Setup) (producer chunk : ℕ) → IsLaid setup → IsChunkOf setup producer chunk → chunk < length setup.spots
-chunk_inside setup producer chunk laid own = let all = laid.ranges producer in let below = own.below in omega arith

@@ -1,10 +1,11 @@
 -- A seat is at rest again where a call of it ends.
-use Rattle.std.proofs.Common.{◌≡◌, ℕ, ◌<◌, [], length, refl, subst, sym, ap, ◌∙◌, arith}
+use Rattle.std.proofs.Common.{◌≡◌, ℕ, ◌<◌, [], length, refl, subst, sym, ap, ◌∙◌}
 use Rattle.page_geometry.specs.declared.chunk_header.ChunkHeader.{ChunkHeader}
-use Rattle.chunk_plain.specs.Setup.{Setup, producer_of, IsChunkOf, IsLaid}
+use Rattle.chunk_plain.specs.Setup.{Setup, producer_of, IsLaid}
 use Rattle.chunk_plain.specs.Views.{Held, WriterView, ServiceView}
 use Rattle.chunk_plain.specs.Drafts.{draft_at, IsHolding}
 use Rattle.chunk_plain.specs.Words.{IsAtRest, IsServing, LooksAt}
+use Rattle.chunk_plain.proofs.LayingLemmas.{chunk_inside}
 use Rattle.chunk_words.specs.declared.host.HostTable.{HostTable}
 use Rattle.chunk_words.specs.declared.seats.WriterSeat.{WriterSeat}
 use Rattle.chunk_words.specs.declared.seats.ServiceSeat.{ServiceSeat}
@@ -52,14 +53,10 @@ pub attends_now : (table : HostTable) (old new : ServiceSeat) (watch : Watch) (v
     → new.seat.me ≡ (Service 0 (made_of old.seat.me.0) (desk_of old.seat.me.0) watch view, []) → IsServing table.layout view → IsSeen view → Attends table new
 attends_now table old new watch view attends joined is serving seen = attends_as table old new (desk_of old.seat.me.0) watch view attends joined refl is serving seen
 
--- a producer's chunk is one of the table's
-pub chunk_of_table : (setup : Setup) (producer chunk : ℕ) → IsLaid setup → IsChunkOf setup producer chunk → chunk < length setup.spots
-chunk_of_table setup producer chunk laid is = let low = is.below in let high = laid.ranges producer in omega arith
-
 -- so is a chunk that a writer at rest holds
 pub held_of_table : (setup : Setup) (place chunk id : ℕ) (view : WriterView) → IsLaid setup → IsAtRest setup place view → IsHolding view chunk id → chunk < length setup.spots
 held_of_table setup place chunk id view laid rests holding =
-    chunk_of_table setup (producer_of setup place) chunk laid (rests.begun id (Held chunk (draft_at view id)) holding)
+    chunk_inside setup (producer_of setup place) chunk laid (rests.begun id (Held chunk (draft_at view id)) holding)
 
 -- a look leaves what was taken
 pub looked_serving : (setup : Setup) (chunk word : ℕ) (header : ChunkHeader) (mid old view : ServiceView) → mid ≡ old → IsServing setup old → LooksAt setup chunk word header mid view → IsServing setup view

@@ -1,9 +1,10 @@
 -- Words spell one command at most.
 use Rattle.std.proofs.Common.{◌≡◌, ℕ, ◌==◌, false, List, [], length, slice_index_or, refl, sym, ◌∙◌, ap, arith}
+use Rattle.std.proofs.lemmas.Fmt.{decimal_injective}
 use Rattle.command_words.specs.declared.command.Command.{Command}
 use Rattle.command_words.specs.declared.command.Command.TheVariants.{Replay, Run, Read, Check, Gen}
 use Rattle.command_words.specs.Commands.{Spells, WordsSpellOneCommand}
-use Rattle.command_words.proofs.SpellLemmas.{same_number, other_length}
+use Rattle.command_words.proofs.SpellLemmas.{other_length}
 
 -- the first words of two lists are as long
 heads : (one other : List (List ℕ)) → (length (slice_index_or one 0 []) == length (slice_index_or other 0 [])) ≡ false → one ≡ other → ⊥
@@ -36,9 +37,9 @@ once words (Gen n w p) Read (a, _) (b, _) = absurd (heads _ _ refl (sym a ∙ b)
 once words (Gen n w p) Check (a, _) (b, _) = absurd (heads _ _ refl (sym a ∙ b))
 once words (Gen n w p) (Gen m v q) (a, (n_small, w_some, w_few, p_some, p_few)) (b, (m_small, v_some, v_few, q_some, q_few)) =
     let same = sym a ∙ b in
-    let one : n ≡ m = same_number n m n_small m_small (ap (λ ws. slice_index_or ws 1 []) same) in
-    let two : w ≡ v = same_number w v (omega arith) (omega arith) (ap (λ ws. slice_index_or ws 2 []) same) in
-    let three : p ≡ q = same_number p q (omega arith) (omega arith) (ap (λ ws. slice_index_or ws 3 []) same) in
+    let one : n ≡ m = decimal_injective n m n_small m_small (ap (λ ws. slice_index_or ws 1 []) same) in
+    let two : w ≡ v = decimal_injective w v (omega arith) (omega arith) (ap (λ ws. slice_index_or ws 2 []) same) in
+    let three : p ≡ q = decimal_injective p q (omega arith) (omega arith) (ap (λ ws. slice_index_or ws 3 []) same) in
     ap (λ x. Gen x w p) one ∙ ap (λ x. Gen m x p) two ∙ ap (λ x. Gen m v x) three
 
 pub words_spell_one_command : WordsSpellOneCommand

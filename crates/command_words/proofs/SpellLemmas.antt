@@ -5,17 +5,10 @@ use Rattle.std.specs.Str.{bytes_eq}
 use Rattle.std.specs.Result.{result_ok}
 use Rattle.std.proofs.lemmas.Slice.Eq.{bytes_eq-Decides}
 use Rattle.std.proofs.Common.{Result, Ok, true, unwrap_or}
-use Rattle.std.proofs.lemmas.Fmt.{decimal_is_IsNumeral}
-use Rattle.std.specs.Str.Parse.{digits_value}
 use Rattle.trace_base.specs.declared.limits.TheConstants.{MAX_GENERATED_WRITERS, MAX_GENERATED_PACKETS}
 use Rattle.command_words.specs.declared.command.Command.{Command}
 use Rattle.command_words.specs.declared.command.Command.TheVariants.{Replay, Run, Read, Check, Gen}
 use Rattle.command_words.specs.Commands.{Spells}
-
--- no two numbers are written alike
-pub same_number : (one other : ℕ) → one < 2 ^ 64 → other < 2 ^ 64 → decimal one ≡ decimal other → one ≡ other
-same_number one other small low same =
-    sym (decimal_is_IsNumeral one small).1 ∙ ap (digits_value 10) same ∙ (decimal_is_IsNumeral other low).1
 
 -- these three texts are the numbers of a workload
 pub record AreNumbers (number writers packets : List ℕ) : Type 0 where

@@ -5,6 +5,7 @@ use Rattle.std.proofs.lemmas.Bool.{cases_eq, ne_eqb}
 use Rattle.std.proofs.lemmas.List.{append-nil, map-append, length-set}
 use Rattle.std.proofs.lemmas.List.Elements.{All-nil, All-push, filter-append}
 use Rattle.std.proofs.lemmas.Option.{slice_get_within}
+use Rattle.trace_base.proofs.Lists.{some_there}
 use Rattle.trace_model.specs.Record.{record_of, mark_where}
 use Rattle.trace_model.specs.Tells.{IsTold, TellsFrom, Tells}
 use Rattle.trace_model.specs.Delivery.{Delivered, records_of, sequence_of, IsFaithful}
@@ -101,11 +102,6 @@ get_set_other (x ∷ xs) zero zero t apart = absurd (apart refl)
 get_set_other (x ∷ xs) zero (suc j) t apart = refl
 get_set_other (x ∷ xs) (suc i) zero t apart = refl
 get_set_other (x ∷ xs) (suc i) (suc j) t apart = get_set_other xs i j t (λ e. apart (ap suc e))
-
-pub some_there : {A : Type 0} (xs : List A) (i : ℕ) → i < length xs → (x : A) × (slice_get xs i ≡ Some x)
-some_there [] i within = absurd (omega (arith, within))
-some_there (y ∷ ys) zero within = (y, refl)
-some_there (y ∷ ys) (suc i) within = some_there ys i (omega (arith, within))
 
 -- ---- all sequences
 

@@ -14,13 +14,13 @@ use Rattle.trace_model.specs.Record.{mark_where}
 use Rattle.trace_model.specs.Sequences.{is_among}
 use Rattle.trace_model.specs.Packets.{Packet, Text, flat, open_length, open_places, body_of, front_of, packet_encoding, is_lost, packets_of, kept_of, lost_count}
 use Rattle.trace_model.specs.PacketLaws.{AreFronted}
-use Rattle.trace_model.specs.Pages.{Page, images_from}
 use Rattle.trace_model.specs.Row.{Piece, Chain, bytes_of}
 use Rattle.trace_model.specs.Sent.{text_of}
 use Rattle.trace_model.specs.Cut.{IsGivenUp, Begins, IsChainOf, length_places, left_behind, ends_well, all_end_well, is_marked_fate}
 use Rattle.trace_model.specs.Enough.{most_chunks}
 use Rattle.trace_model.specs.Written.{chains_of}
 use Rattle.trace_model.proofs.PacketLemmas.{packets_are_fronted}
+use Rattle.trace_model.proofs.PageLemmas.{images_long}
 use Rattle.model_laws.specs.ChunkCounts.{EveryPageIsCounted, EveryImageIsCounted}
 use Rattle.model_laws.proofs.LossLemmas.{emitted_by, emitted_one, emitted_more, losses_change_no_shape}
 use Rattle.model_laws.proofs.TextSizes.{text_size, AllInside, inside_among, all_inside, open_inside, IsSized, AllSized, AllFinished, all_sized, all_finished}
@@ -238,10 +238,6 @@ every_page_is_counted size calls pages cut possible rests large =
     let all = all_counted size (packets_of calls) (chains_of pages) large cut.chains (chains_shaped size pages cut.full) (all_sized calls possible)
     (all_finished calls possible rests) (packets_are_fronted calls) in
     omega (arith, pieces, all)
-
-images_long : (sequence chunk_id : ℕ) (pages : List Page) → length (images_from sequence chunk_id pages) ≡ length pages
-images_long sequence chunk_id [] = refl
-images_long sequence chunk_id (page ∷ pages) = ap suc (images_long sequence (suc chunk_id) pages)
 
 pub every_image_is_counted : EveryImageIsCounted
 every_image_is_counted size sequence asked noted images patches loses cut possible rests large =

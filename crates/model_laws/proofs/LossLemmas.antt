@@ -305,3 +305,15 @@ losses_change_no_shape asked done loses =
       depth = here.depth ∙ ap (λ (calls : List Call). open_count (packets_of calls)) loses ∙ sym there.depth;
       long = here.long ∙ ap (λ (calls : List Call). newest_length (packets_of calls)) loses ∙ sym there.long;
     }
+
+-- what calls write that come one behind another
+pub written_append : (xs ys : List Call) → written_calls (xs ++ ys) ≡ written_calls xs ++ written_calls ys
+written_append [] ys = refl
+written_append (Begun kept ∷ xs) ys = ap (λ (cs : List Call). Begun true ∷ cs) (written_append xs ys)
+written_append (Number field value ∷ xs) ys = ap (λ (cs : List Call). Number field value ∷ cs) (written_append xs ys)
+written_append (Bytes field text times ∷ xs) ys = ap (λ (cs : List Call). Bytes field text times ∷ cs) (written_append xs ys)
+written_append (Nested field ∷ xs) ys = ap (λ (cs : List Call). Nested field ∷ cs) (written_append xs ys)
+written_append (Ended ∷ xs) ys = ap (λ (cs : List Call). Ended ∷ cs) (written_append xs ys)
+written_append (GivenUp ∷ xs) ys = written_append xs ys
+written_append (Finished ∷ xs) ys = ap (λ (cs : List Call). Finished ∷ cs) (written_append xs ys)
+written_append (Flushed ∷ xs) ys = written_append xs ys

@@ -9,7 +9,7 @@ use Rattle.trace_model.specs.Buffers.{Buffer}
 use Rattle.trace_model.specs.Calls.{Call, Flushed}
 use Rattle.trace_model.specs.Packets.{packets_of, is_writing}
 use Rattle.model_laws.specs.Losses.{Loses, written_calls}
-use Rattle.model_laws.proofs.LossLemmas.{losses_change_no_shape}
+use Rattle.model_laws.proofs.LossLemmas.{losses_change_no_shape, written_append}
 use Rattle.session_core.specs.declared.answers.SessionFault.{SessionFault}
 use Rattle.session_core.specs.declared.answers.Answer as session
 use Rattle.session_core.specs.Sessions.{SessionValue, left_as, with_answer}
@@ -40,7 +40,6 @@ use Rattle.replay_host.specs.Standing.{IsServed}
 use Rattle.replay_host.proofs.FlushedLemmas.{ready_answer}
 use Rattle.replay_host.proofs.GoingLemmas.{keeps_going_none}
 use Rattle.replay_host.proofs.MomentLemmas.{place_inside, flag_is, core_there}
-use Rattle.replay_host.proofs.ReadyLemmas.{written_append}
 use Rattle.replay_host.proofs.RowLemmas.{AreLaws, row_is}
 use Rattle.replay_host.proofs.ServedLemmas.{quiet_writes}
 

@@ -22,7 +22,6 @@ use Rattle.chunk_plain.specs.Meaning.{Meaning}
 use Rattle.chunk_plain.specs.Setup.{Setup, sequence_of}
 use Rattle.chunk_plain.specs.Views.{ServiceView, WriterView}
 use Rattle.chunk_plain.specs.World.{World, writer}
-use Rattle.world_model.specs.FirstBuffers.{BufferSpec, first_buffers}
 use Rattle.trace_writer.specs.declared.writer.WriterCore.{WriterCore}
 use Rattle.trace_writer.specs.Agreement.{counted}
 use Rattle.scenario_text.specs.declared.scenario.BufferLine.{BufferLine}
@@ -36,7 +35,7 @@ use Rattle.loss_report.specs.Report.{report_text}
 use Rattle.replay_model.specs.Enough.{IsPlayable}
 use Rattle.replay_model.specs.Flushes.{FlushNote, flush_sums}
 use Rattle.replay_model.specs.Played.{IsPlayed, buffer_specs, buffers_of, buffers_in, counts_from, packet_counts, printed, report_of}
-use Rattle.replay_model.proofs.BalanceLemmas.{count_at, every_report_is_balanced}
+use Rattle.replay_model.proofs.BalanceLemmas.{count_at, every_report_is_balanced, first_long}
 use Rattle.replay_model.proofs.PlayedLemmas.{setup_writers}
 use Rattle.replay_host.specs.declared.flushes.Flushes.{Flushes}
 use Rattle.replay_host.specs.declared.host.Host.{Host}
@@ -62,10 +61,6 @@ pub counts_long : (buffers : List Buffer) (world : World) (place : ℕ) (specs :
     → length (counts_from buffers world place specs) ≡ length specs
 counts_long buffers world place [] = refl
 counts_long buffers world place (spec ∷ specs) = ap suc (counts_long buffers world (suc place) specs)
-
-pub first_long : (setup : Setup) (n : ℕ) (specs : List BufferSpec) → length (first_buffers setup n specs) ≡ length specs
-first_long setup n [] = refl
-first_long setup n (spec ∷ specs) = ap suc (first_long setup (suc n) specs)
 
 -- a host has as many buffers as its service was made with
 pub buffers_long : {T W S : Type 0} (means : Meaning T W S) (host : Host T W S)

@@ -1,10 +1,10 @@
 -- The nodes of a packet, one by one.
-use Rattle.std.proofs.Common.{◌≡◌, ◌∙◌, ℕ, suc, ◌+◌, ◌<◌, Some, Result, Ok, Err, List, [], ◌∷◌, ◌++◌, length, map, take, drop, get_or, sym, ap, subst, arith, add-one, append_assoc}
-use Rattle.std.specs.Prelude.{slice_get, option_map, OnOk, IfErr}
+use Rattle.std.proofs.Common.{◌≡◌, ◌∙◌, ℕ, suc, ◌+◌, Result, Ok, Err, List, [], ◌∷◌, ◌++◌, length, map, take, drop, sym, ap, subst, arith, add-one, append_assoc}
+use Rattle.std.specs.Prelude.{option_map, OnOk, IfErr}
 use Rattle.std.proofs.Math.Nat.{mul-le-mul_right}
 use Rattle.std.proofs.Math.Seq.{drop-cons, take-suc}
 use Rattle.std.proofs.lemmas.List.{map-append, take-append-drop}
-use Rattle.std.proofs.lemmas.Option.{slice_get-get_or, same_Some}
+use Rattle.std.proofs.lemmas.Option.{same_Some}
 use Rattle.trace_model.specs.Calls.{Call}
 use Rattle.trace_model.specs.Packets.{Packet}
 use Rattle.field_tree.specs.declared.node.FieldNode.{FieldNode}
@@ -25,11 +25,6 @@ if_err_map (Err e) P Q holds more = more e holds
 -- what holds of the answer that it is
 pub if_err_is : {A E : Type 0} (answer : Result A E) (fault : E) (P : E → Type 0) → answer ≡ Err fault → P fault → IfErr answer P
 if_err_is {A} {E} answer fault P is holds = subst (λ (r : Result A E). IfErr r P) (sym is) holds
-
--- each place below the length has an element
-pub some_at : {A : Type 0} (xs : List A) (i : ℕ) → i < length xs → (x : A) × (slice_get xs i ≡ Some x)
-some_at [] i inside = absurd (omega (arith, inside))
-some_at (x ∷ xs) i inside = (get_or (x ∷ xs) i x, slice_get-get_or (x ∷ xs) i x inside)
 
 -- the calls of the nodes up to this one
 pub calls_before : (before : List Shown) (one : Shown) → map node_call (before ++ one ∷ []) ≡ map node_call before ++ node_call one ∷ []

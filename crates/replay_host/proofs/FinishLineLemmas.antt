@@ -13,6 +13,7 @@ use Rattle.scenario_text.specs.declared.scenario.NumberedLine.{NumberedLine}
 use Rattle.scenario_text.specs.Scenario.{Parts}
 use Rattle.scenario_text.specs.Accepted.{line_calls, calls_asked, closes}
 use Rattle.scenario_text.specs.Reach.{IsInReach, NamesWriter}
+use Rattle.scenario_text.proofs.AcceptedLemmas.{calls_more}
 use Rattle.chunk_plain.specs.Meaning.{Meaning}
 use Rattle.service_core.specs.Agreement.{spec_at}
 use Rattle.replay_model.specs.Acts.{Act, Answer, asks}
@@ -26,7 +27,7 @@ use Rattle.replay_host.specs.Asking.{AreReady}
 use Rattle.replay_host.specs.Playing.{IsHost, IsOpenAt, HasAsked, HasDone, asked_all}
 use Rattle.replay_host.proofs.DueLemmas.{own_is, other_is, writing_finished}
 use Rattle.replay_host.proofs.GoingLemmas.{done_both, goes_still}
-use Rattle.replay_host.proofs.LineLemmas.{calls_more, closed_same, due_more, ready_line, going_asked}
+use Rattle.replay_host.proofs.LineLemmas.{closed_same, due_more, ready_line, going_asked}
 use Rattle.replay_host.proofs.MomentLemmas.{place_inside, flag_is, names_inside, names_open, calls_accepted}
 use Rattle.replay_host.proofs.StopLemmas.{asked_done}
 

@@ -8,7 +8,7 @@ use Rattle.trace_model.specs.Calls.{Call, Begun, Number, Bytes, Nested, Ended, G
 use Rattle.trace_model.specs.Enough.{most_chunks}
 use Rattle.trace_model.specs.Packets.{Account, Packet, nothing_yet, noted, account_of, packets_of, is_writing, open_count, is_possible, are_possible_after, AreCalls, newest_length}
 use Rattle.model_laws.specs.Losses.{Loses, written_calls}
-use Rattle.model_laws.proofs.LossLemmas.{losses_change_no_shape}
+use Rattle.model_laws.proofs.LossLemmas.{losses_change_no_shape, written_append}
 use Rattle.scenario_text.specs.Accepted.{Accepts, AcceptsField, AreAccepted}
 use Rattle.scenario_text.proofs.PossibleLemmas.{accepted_possible}
 use Rattle.chunk_plain.specs.declared.tokens.TheConstants.{ID_LIMIT}
@@ -19,7 +19,6 @@ use Rattle.trace_writer.specs.declared.writer.WriterCore.{WriterCore}
 use Rattle.world_model.specs.FirstBuffers.{payload_at}
 use Rattle.replay_host.specs.Asking.{IsReadyFor, AreReady}
 use Rattle.replay_host.specs.Playing.{asked_all}
-use Rattle.replay_host.proofs.ReadyLemmas.{written_append}
 
 -- ---- what a writer accepts hangs on the shape of its newest packet alone
 

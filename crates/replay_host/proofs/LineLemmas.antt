@@ -1,6 +1,6 @@
 -- From one line to the next: what a line changes of what is kept between two lines.
 use Rattle.std.proofs.Common.{◌≡◌, ◌∙◌, ℕ, suc, ◌+◌, ◌<◌, ◌==◌, ◌||◌, Bool, true, false, not, cond, Some, List, [], ◌∷◌, ◌++◌, length, vec_len, refl, sym, ap, subst, arith, append_assoc, append-nil, inl, inr}
-use Rattle.std.proofs.lemmas.Grind.{fold-append, flat_map-append}
+use Rattle.std.proofs.lemmas.Grind.{fold-append}
 use Rattle.std.proofs.lemmas.List.Folds.{list_any-append}
 use Rattle.std.specs.Prelude.{slice_get}
 use Rattle.std.proofs.lemmas.Bool.{eq-eqb, eqb-true, cases_eq}
@@ -9,6 +9,7 @@ use Rattle.model_laws.specs.Losses.{Loses}
 use Rattle.scenario_text.specs.declared.scenario.NumberedLine.{NumberedLine}
 use Rattle.scenario_text.specs.Scenario.{Parts}
 use Rattle.scenario_text.specs.Accepted.{line_calls, calls_asked, closes, is_closed_by}
+use Rattle.scenario_text.proofs.AcceptedLemmas.{calls_more}
 use Rattle.chunk_plain.specs.Meaning.{Meaning}
 use Rattle.trace_writer.specs.declared.writer.WriterCore.{WriterCore}
 use Rattle.world_model.specs.FirstBuffers.{payload_at}
@@ -16,6 +17,7 @@ use Rattle.service_core.proofs.AgreeLemmas.{first_stays}
 use Rattle.session_core.specs.Sessions.{SessionValue}
 use Rattle.replay_model.specs.Flushes.{FlushNote}
 use Rattle.replay_model.specs.Schedule.{is_due, is_due_after}
+use Rattle.replay_model.proofs.SortedLemmas.{or_none}
 use Rattle.replay_host.specs.declared.host.Host.{Host}
 use Rattle.replay_host.specs.Asking.{IsReadyFor, AreReady}
 use Rattle.replay_host.specs.Asks.{AsksFor, AsksNothing}
@@ -26,18 +28,9 @@ use Rattle.replay_host.proofs.GoingLemmas.{kept_still, writer_was}
 
 -- ---- functions of the lines
 
-pub calls_more : (number : ℕ) (before : List NumberedLine) (line : NumberedLine) → calls_asked number (before ++ line ∷ []) ≡ calls_asked number before ++ line_calls number line.what
-calls_more number before line =
-    flat_map-append (λ (one : NumberedLine). line_calls number one.what) before (line ∷ [])
-    ∙ ap (λ (cs : List Call). calls_asked number before ++ cs) (append-nil (line_calls number line.what))
-
 or_false : (b c : Bool) → c ≡ false → (b || c) ≡ b
 or_false true c none = refl
 or_false false c none = none
-
-or_none : (b : Bool) → (b || false) ≡ b
-or_none true = refl
-or_none false = refl
 
 pub closed_more : (producer : ℕ) (before : List NumberedLine) (line : NumberedLine)
     → is_closed_by (before ++ line ∷ []) producer ≡ (is_closed_by before producer || closes producer line.what)

@@ -1,10 +1,11 @@
 -- A host as it is made is ready for all lines, and the sink has taken the trace of what it noted: nothing.
-use Rattle.std.proofs.Common.{◌≡◌, ◌∙◌, ℕ, zero, suc, ◌+◌, ◌<◌, ◌≤◌, nat_lt, Bool, true, false, not, List, [], ◌∷◌, ◌++◌, length, map, reverse, filter, replicate, refl, sym, ap, subst, append-nil, arith}
+use Rattle.std.proofs.Common.{◌≡◌, ◌∙◌, ℕ, zero, suc, ◌+◌, ◌<◌, ◌≤◌, nat_lt, Bool, true, false, not, List, [], ◌∷◌, ◌++◌, length, map, reverse, filter, replicate, refl, sym, ap, subst, arith}
 use Rattle.std.specs.Prelude.{if◌then◌else◌, fold, slice_index_or}
 use Rattle.std.specs.List.{flat_map}
 use Rattle.std.proofs.lemmas.Bool.Decides.{nat_tests}
 use Rattle.std.proofs.lemmas.Grind.{fold-append}
-use Rattle.byte_io.specs.Bytes.{Intake, told, untold, after_told}
+use Rattle.byte_io.specs.Bytes.{Intake, after_told}
+use Rattle.byte_io.proofs.Told.{after_told_nothing}
 use Rattle.trace_model.specs.Calls.{Call, Flushed}
 use Rattle.trace_model.specs.Delivery.{trace_of}
 use Rattle.trace_model.specs.Enough.{most_chunks}
@@ -115,10 +116,6 @@ all_open (suc count) (suc index) below = all_open count index (omega (arith, bel
 
 -- ---- nothing is written yet
 
-nothing_told : (start : Intake) → after_told start [] ≡ start
-nothing_told (told taken loans) = ap (λ (bytes : List ℕ). told bytes loans) (append-nil taken)
-nothing_told (untold loans) = refl
-
 -- Of a host as it is made the sink has taken the trace: nothing.
 pub made_trace : {T W S : Type 0} (means : Meaning T W S) (scenario : Parts) (host : Host T W S) → IsMade means scenario host
     → (start : Intake)
@@ -127,4 +124,4 @@ made_trace means scenario host made start =
     let view = means.service_view host.table host.helper.service.seat in
     let buffers = first_of (means.setup host.table) host.helper.service in
     sym (ap (λ (notes : List Noted). after_told start (trace_of (records_after buffers (flat_map (happened view) notes)))) made.unnoted
-    ∙ nothing_told start)
+    ∙ after_told_nothing start)

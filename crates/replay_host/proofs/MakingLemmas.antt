@@ -1,17 +1,16 @@
 -- What the set-up lines of a scenario ask for keeps to what table, writers and service want of it.
 use Rattle.std.proofs.Common.{◌≡◌, ◌∙◌, ℕ, zero, suc, ◌+◌, ◌-◌, ◌*◌, ◌<◌, ◌≤◌, List, [], ◌∷◌, ◌++◌, length, map, take, Some, slice_get, get_or, refl, sym, ap, subst, arith}
-use Rattle.std.specs.List.{All, AllByRecursion, AllZip}
+use Rattle.std.specs.List.{AllByRecursion, AllZip}
 use Rattle.std.proofs.lemmas.List.{length-map, take_more}
-use Rattle.std.proofs.lemmas.List.Elements.{All-nil, All-cons}
 use Rattle.std.proofs.lemmas.Option.{slice_get-get_or, slice_get_within, get_or_from_slice_get}
 use Rattle.std.proofs.lemmas.Slice.Zip.{AllZip-long}
-use Rattle.trace_base.specs.declared.limits.TheConstants.{BYTES_PER_KB, MAX_PAGES, MAX_PRODUCERS}
+use Rattle.trace_base.specs.declared.limits.TheConstants.{BYTES_PER_KB, MAX_PRODUCERS}
 use Rattle.trace_base.specs.declared.policy.FullPolicy.TheVariants.{Ring}
 use Rattle.trace_base.specs.declared.policy.WriterSpec.{WriterSpec}
 use Rattle.page_geometry.specs.Sizes.{payload_size, record_size}
 use Rattle.scenario_text.specs.declared.scenario.BufferLine.{BufferLine}
 use Rattle.scenario_text.specs.declared.scenario.ProducerLine.{ProducerLine}
-use Rattle.scenario_text.specs.Limits.{IsBuffer, IsProducer, IsWriter, IsSetUp}
+use Rattle.scenario_text.specs.Limits.{IsBuffer, IsWriter, IsSetUp}
 use Rattle.chunk_plain.specs.declared.setup.ProducerSpec.{ProducerSpec}
 use Rattle.chunk_plain.specs.Laying.{setup_of}
 use Rattle.chunk_plain.specs.Setup.{Setup, HasProducer, IsChunkOf, IsLaid, producer_of, size_of, spot}
@@ -26,24 +25,6 @@ use Rattle.replay_model.proofs.RoomLemmas.{size_is}
 use Rattle.replay_host.specs.Making.{buffer_asked}
 
 -- ---- producers
-
-pub some_page : (lines : List ProducerLine) (specs : List ProducerSpec) → AllByRecursion IsProducer lines → AllZip IsSpecOf lines specs
-    → All (λ (p : ProducerSpec). 1 ≤ p.pages) specs
-some_page [] [] are made = All-nil (λ (p : ProducerSpec). 1 ≤ p.pages)
-some_page [] (spec ∷ specs) are made = absurd made
-some_page (line ∷ lines) [] are made = absurd made
-some_page (line ∷ lines) (spec ∷ specs) are made =
-    All-cons (λ (p : ProducerSpec). 1 ≤ p.pages) spec specs (subst (λ (n : ℕ). 1 ≤ n) (sym made.0.pages) are.0.some_pages)
-    (some_page lines specs are.1 made.1)
-
-pub few_pages : (lines : List ProducerLine) (specs : List ProducerSpec) → AllByRecursion IsProducer lines → AllZip IsSpecOf lines specs
-    → All (λ (p : ProducerSpec). p.pages ≤ MAX_PAGES) specs
-few_pages [] [] are made = All-nil (λ (p : ProducerSpec). p.pages ≤ MAX_PAGES)
-few_pages [] (spec ∷ specs) are made = absurd made
-few_pages (line ∷ lines) [] are made = absurd made
-few_pages (line ∷ lines) (spec ∷ specs) are made =
-    All-cons (λ (p : ProducerSpec). p.pages ≤ MAX_PAGES) spec specs (subst (λ (n : ℕ). n ≤ MAX_PAGES) (sym made.0.pages) are.0.few_pages)
-    (few_pages lines specs are.1 made.1)
 
 pub few_producers : (buffers : List BufferLine) (lines : List ProducerLine) (writers : List WriterSpec) (specs : List ProducerSpec)
     → IsSetUp buffers lines writers → AllZip IsSpecOf lines specs → length specs ≤ MAX_PRODUCERS

@@ -2,26 +2,27 @@
 use Rattle.std.proofs.Common.{◌≡◌, ◌≢◌, ◌∙◌, ℕ, suc, ◌-◌, ◌<◌, ◌≤◌, ◌&&◌, Bool, true, false, not, cond, Some, List, [], ◌∷◌, ◌++◌, length, inl, inr, refl, sym, ap, subst, arith, append-nil}
 use Rattle.std.proofs.lemmas.Grind.{fold-append}
 use Rattle.std.specs.Prelude.{slice_get, slice_index, slice_index_or, nat_lt}
-use Rattle.std.specs.List.{AllZip}
 use Rattle.std.proofs.lemmas.Bool.{eq-eqb, cases_eq}
 use Rattle.std.proofs.lemmas.Option.{slice_get-get_or, slice_get_within, same_Some}
+use Rattle.std.proofs.lemmas.Slice.Zip.{AllZip-long}
 use Rattle.byte_io.specs.Bytes.{Intake}
 use Rattle.trace_base.specs.declared.policy.WriterSpec.{WriterSpec}
+use Rattle.trace_base.proofs.Lists.{some_there}
 use Rattle.trace_model.specs.Calls.{Call}
 use Rattle.trace_model.specs.Packets.{Account, account_of, packets_of, noted, nothing_yet, is_writing}
 use Rattle.model_laws.specs.Losses.{Loses}
-use Rattle.scenario_text.specs.declared.scenario.ProducerLine.{ProducerLine}
 use Rattle.scenario_text.specs.declared.scenario.NumberedLine.{NumberedLine}
 use Rattle.scenario_text.specs.Scenario.{Parts}
 use Rattle.scenario_text.specs.Accepted.{line_calls, calls_asked, is_closed_by, AreAccepted}
 use Rattle.scenario_text.specs.Reach.{NamesWriter, NamesProducer}
-use Rattle.chunk_plain.specs.declared.setup.ProducerSpec.{ProducerSpec}
-use Rattle.chunk_plain.specs.Laying.{ranges_of}
+use Rattle.scenario_text.proofs.AcceptedLemmas.{calls_more}
+use Rattle.scenario_text.proofs.AcceptedFields.{accepted_front}
 use Rattle.chunk_plain.specs.Meaning.{Meaning}
 use Rattle.chunk_plain.specs.Setup.{Setup, HasProducer, producer_of}
 use Rattle.trace_writer.specs.declared.writer.WriterCore.{WriterCore}
 use Rattle.world_model.specs.FirstBuffers.{payload_at}
 use Rattle.service_core.specs.Agreement.{no_writer, spec_at}
+use Rattle.service_core.proofs.MakeLemmas.{ranges_long}
 use Rattle.replay_model.specs.Acts.{Act, asks}
 use Rattle.replay_model.specs.Flushes.{FlushNote}
 use Rattle.replay_model.specs.Played.{IsSetupOf, IsSpecOf}
@@ -32,27 +33,16 @@ use Rattle.replay_host.specs.Asking.{IsReadyFor, AreReady}
 use Rattle.replay_host.specs.Asks.{AsksFor, LeavesDue, ComesAsking}
 use Rattle.replay_host.specs.Lines.{IsKept, IsGoing, IsAt, IsLinePlayed, Moment, coming_at, is_open_at}
 use Rattle.replay_host.specs.Playing.{IsHost, IsOpenAt, HasAsked, HasDone, asked_all}
-use Rattle.replay_host.proofs.FieldLemmas.{some_at}
 use Rattle.replay_host.proofs.FlushedLemmas.{accepted_alike}
-use Rattle.replay_host.proofs.LineLemmas.{calls_more, closed_same, due_more, ready_line, going_asked}
+use Rattle.replay_host.proofs.LineLemmas.{closed_same, due_more, ready_line, going_asked}
 use Rattle.replay_host.proofs.StopLemmas.{asked_done}
 
 -- ---- the set-up
 
-ranges_long : (specs : List ProducerSpec) (first : ℕ) → length (ranges_of first specs) ≡ length specs
-ranges_long [] first = refl
-ranges_long (spec ∷ specs) first = ap suc (ranges_long specs _)
-
-zip_long : (lines : List ProducerLine) (specs : List ProducerSpec) → AllZip IsSpecOf lines specs → length specs ≡ length lines
-zip_long [] [] all = refl
-zip_long [] (spec ∷ specs) all = absurd all
-zip_long (line ∷ lines) [] all = absurd all
-zip_long (line ∷ lines) (spec ∷ specs) all = ap suc (zip_long lines specs all.1)
-
 -- the table has as many producers as the scenario
 pub ranges_many : (scenario : Parts) (setup : Setup) → IsSetupOf scenario setup → length setup.ranges ≡ length scenario.producers
 ranges_many scenario setup is =
-    ap (λ (s : Setup). length s.ranges) is.laid ∙ ranges_long is.specs 0 ∙ zip_long scenario.producers is.specs is.made
+    ap (λ (s : Setup). length s.ranges) is.laid ∙ ranges_long 0 is.specs ∙ AllZip-long IsSpecOf scenario.producers is.specs is.made
 
 -- ---- a writer that a line names
 
@@ -112,14 +102,10 @@ names_open scenario before place names =
 
 -- ---- what it accepts
 
-accepted_front : (account : Account) (xs ys : List Call) → AreAccepted account (xs ++ ys) → AreAccepted account xs
-accepted_front account [] ys accepted = tt
-accepted_front account (call ∷ xs) ys accepted = (accepted.0, accepted_front (noted account call) xs ys accepted.1)
-
 -- a writer that there is
 pub core_there : {T W S : Type 0} (means : Meaning T W S) (host : Host T W S) (place : ℕ) → IsHost means host → place < length (means.setup host.table).writers
     → (core : WriterCore W) × (slice_get host.writers.items place ≡ Some core)
-core_there means host place is below = some_at host.writers.items place (let many = is.stands.many in omega (arith, many, below))
+core_there means host place is below = some_there host.writers.items place (let many = is.stands.many in omega (arith, many, below))
 
 -- the calls of the line that comes are accepted behind those that the lines before have asked
 pub calls_accepted : {T W S : Type 0} (means : Meaning T W S) (scenario : Parts) (before : List NumberedLine) (line : NumberedLine) (rest : List NumberedLine)

@@ -1,19 +1,18 @@
 -- What a writer is asked for it accepts, and behind it what comes next.
 use Rattle.std.proofs.Common.{◌≡◌, ◌∙◌, ℕ, zero, suc, ◌+◌, ◌<◌, ◌≤◌, ◌==◌, ◌&&◌, nat_lt, Bool, true, false, Option, None, List, [], ◌∷◌, ◌++◌, length, refl, sym, ap, subst, append_assoc, arith}
 use Rattle.std.specs.Prelude.{if◌then◌else◌}
-use Rattle.std.proofs.lemmas.Bool.{ne_eqb}
+use Rattle.std.proofs.lemmas.Bool.{ne_eqb, le-ltb}
 use Rattle.std.proofs.lemmas.Grind.{fold-append}
-use Rattle.std.proofs.lemmas.Bool.Decides.{nat_tests}
 use Rattle.trace_base.specs.declared.limits.TheConstants.{MAX_NESTING, MAX_PACKET_LEN}
 use Rattle.trace_base.specs.declared.policy.WriterPolicy.{WriterPolicy}
 use Rattle.trace_base.specs.declared.policy.WriterPolicy.TheVariants.{Drops, Stalls}
 use Rattle.trace_base.specs.Reserved.{is_reserved}
-use Rattle.trace_model.specs.Calls.{Call, Begun, Number, Bytes, Nested, Ended, GivenUp, Finished, Flushed}
+use Rattle.trace_model.specs.Calls.{Call, Begun, Number, Bytes, Nested}
 use Rattle.trace_model.specs.Encoding.{nested_tag}
 use Rattle.trace_model.specs.Enough.{most_chunks}
 use Rattle.trace_model.specs.Packets.{Account, AreCalls, nothing_yet, noted, packets_of, emissions_of, is_writing, open_count, newest_length}
 use Rattle.model_laws.specs.Losses.{Loses, HasShapeOf, written_calls}
-use Rattle.model_laws.proofs.LossLemmas.{losses_change_no_shape}
+use Rattle.model_laws.proofs.LossLemmas.{losses_change_no_shape, written_append}
 use Rattle.scenario_text.specs.Accepted.{AcceptsField, AreAccepted}
 use Rattle.chunk_plain.specs.declared.tokens.TheConstants.{ID_LIMIT}
 use Rattle.chunk_plain.specs.Views.{WriterView}
@@ -38,19 +37,16 @@ free_is (suc depth) field free = ap (λ (b : Bool). b && is_reserved field) (ne_
 choice_false : (b : Bool) (x y : Option CallFault) → b ≡ false → (if b then x else y) ≡ y
 choice_false b x y is = ap (λ (c : Bool). if c then x else y) is
 
-short_is : (most len : ℕ) → len ≤ most → nat_lt most len ≡ false
-short_is most len short = grind (arith, nat_tests)
-
 field_none : (depth len field more : ℕ) → IsFree depth field → len + more ≤ MAX_PACKET_LEN → field_refusal depth len field more ≡ None
 field_none depth len field more free short =
     choice_false ((depth == 0) && is_reserved field) _ _ (free_is depth field free)
-    ∙ choice_false (nat_lt MAX_PACKET_LEN (len + more)) _ _ (short_is MAX_PACKET_LEN (len + more) short)
+    ∙ choice_false (nat_lt MAX_PACKET_LEN (len + more)) _ _ (le-ltb MAX_PACKET_LEN (len + more) short)
 
 nested_none : (depth len field tag : ℕ) → IsFree depth field → depth < MAX_NESTING → len + (tag + 4) ≤ MAX_PACKET_LEN → nested_refusal depth len field tag ≡ None
 nested_none depth len field tag free shallow short =
     choice_false ((depth == 0) && is_reserved field) _ _ (free_is depth field free)
     ∙ choice_false (depth == MAX_NESTING) _ _ (ne_eqb depth MAX_NESTING (λ same. omega (arith, same, shallow)))
-    ∙ choice_false (nat_lt MAX_PACKET_LEN (len + (tag + 4))) _ _ (short_is MAX_PACKET_LEN (len + (tag + 4)) short)
+    ∙ choice_false (nat_lt MAX_PACKET_LEN (len + (tag + 4))) _ _ (le-ltb MAX_PACKET_LEN (len + (tag + 4)) short)
 
 -- ---- the packet as it stands, by what was asked
 
@@ -99,17 +95,6 @@ module _ (asked : List Call) (view : WriterView) (loses : Loses asked view.calls
       let many = depth_is writes in omega (arith, is, many, one)
 
 -- ---- what comes next
-
-pub written_append : (xs ys : List Call) → written_calls (xs ++ ys) ≡ written_calls xs ++ written_calls ys
-written_append [] ys = refl
-written_append (Begun kept ∷ xs) ys = ap (λ (cs : List Call). Begun true ∷ cs) (written_append xs ys)
-written_append (GivenUp ∷ xs) ys = written_append xs ys
-written_append (Flushed ∷ xs) ys = written_append xs ys
-written_append (Number field value ∷ xs) ys = ap (λ (cs : List Call). Number field value ∷ cs) (written_append xs ys)
-written_append (Bytes field text times ∷ xs) ys = ap (λ (cs : List Call). Bytes field text times ∷ cs) (written_append xs ys)
-written_append (Nested field ∷ xs) ys = ap (λ (cs : List Call). Nested field ∷ cs) (written_append xs ys)
-written_append (Ended ∷ xs) ys = ap (λ (cs : List Call). Ended ∷ cs) (written_append xs ys)
-written_append (Finished ∷ xs) ys = ap (λ (cs : List Call). Finished ∷ cs) (written_append xs ys)
 
 -- the calls that were noted are the one that was asked, with its packet lost or not
 abbrev pub NotesFor : Call → List Call → Type 0

@@ -19,6 +19,7 @@ use Rattle.scenario_text.specs.declared.scenario.LineKind.{LineKind}
 use Rattle.scenario_text.specs.declared.scenario.LineKind.TheVariants as line
 use Rattle.scenario_text.specs.Scenario.{Parts}
 use Rattle.scenario_text.specs.Accepted.{calls_asked, line_calls, closes}
+use Rattle.scenario_text.proofs.AcceptedLemmas.{calls_more}
 use Rattle.chunk_plain.specs.Meaning.{Meaning}
 use Rattle.chunk_plain.specs.Setup.{producer_of}
 use Rattle.chunk_plain.specs.Views.{ServiceView}
@@ -37,7 +38,7 @@ use Rattle.replay_host.specs.Serving.{HasFlags, HasServed}
 use Rattle.replay_host.specs.Tally.{IsTally}
 use Rattle.replay_host.proofs.AnswerLemmas.{first_session, writing_is}
 use Rattle.replay_host.proofs.GoingLemmas.{goes_none, goes_both, goes_still, keeps_served, done_both, going_still, kept_still}
-use Rattle.replay_host.proofs.LineLemmas.{calls_more, closed_same, due_more, ready_nothing}
+use Rattle.replay_host.proofs.LineLemmas.{closed_same, due_more, ready_nothing}
 use Rattle.replay_host.proofs.MomentLemmas.{core_there, place_inside, flag_is, writers_are}
 use Rattle.replay_host.proofs.OpenLemmas.{places_open, places_closed, places_none, rest_more, rest_same, rest_none}
 use Rattle.replay_host.proofs.RowLemmas.{AreLaws}

@@ -1,5 +1,6 @@
 -- A scrape is one act of the service.
 use Rattle.std.proofs.Common.{◌≡◌, ◌∙◌, ℕ, zero, suc, ◌<◌, Option, Some, List, [], ◌∷◌, ◌++◌, length, refl, sym, ap, subst, inl, inr, append_assoc, append-nil}
+use Rattle.trace_base.proofs.Lists.{some_there}
 use Rattle.byte_io.specs.Bytes.{Intake}
 use Rattle.chunk_plain.specs.Meaning.{Meaning, IsServiceStep}
 use Rattle.chunk_plain.specs.Setup.{Setup, IsChunkOf, producer_of, sequence_of}
@@ -21,7 +22,6 @@ use Rattle.replay_model.proofs.ScrapedLemmas.{known_right}
 use Rattle.replay_host.specs.declared.host.Host.{Host}
 use Rattle.replay_host.specs.Playing.{HasDone}
 use Rattle.replay_host.specs.Standing.{Stands}
-use Rattle.replay_host.proofs.FieldLemmas.{some_at}
 use Rattle.service_core.proofs.QuietLemmas.{Adds, AreSilent, adds_both, adds_quiet, collect_adds, grow_both, silent_append}
 use Rattle.service_core.proofs.AnswerLemmas.{takes_own}
 use Rattle.replay_host.proofs.RowLemmas.{AreLaws, row_is}
@@ -121,7 +121,7 @@ pub stands_own : {T W S : Type 0} (means : Meaning T W S) → AreLaws means
     → (place : ℕ) → place < length (means.setup table).writers → HoldsOwn (means.setup table) place world
 stands_own means laws table cores service stands world told place below id chunk draft at =
     let setup : Setup = means.setup table in
-    let core = some_at cores place (subst (λ (n : ℕ). place < n) (sym stands.many) below) in
+    let core = some_there cores place (subst (λ (n : ℕ). place < n) (sym stands.many) below) in
     let seated = stands.seated place core.0 core.1 in
     own_at setup (producer_of setup place) (means.view table core.0.seat).begun seated.agrees.claims.own_chunks id chunk draft
     (subst (λ (v : WriterView). At v.begun id (Held chunk draft))

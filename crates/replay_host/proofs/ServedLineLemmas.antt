@@ -10,6 +10,7 @@ use Rattle.model_laws.specs.Losses.{Loses}
 use Rattle.scenario_text.specs.declared.scenario.NumberedLine.{NumberedLine}
 use Rattle.scenario_text.specs.declared.scenario.LineKind.TheVariants as line
 use Rattle.scenario_text.specs.Accepted.{line_calls, calls_asked, closes, is_closed_by}
+use Rattle.scenario_text.proofs.AcceptedLemmas.{calls_more}
 use Rattle.chunk_plain.specs.Meaning.{Meaning}
 use Rattle.chunk_plain.specs.Setup.{Setup}
 use Rattle.service_core.specs.Agreement.{first_of, spec_at}
@@ -25,7 +26,7 @@ use Rattle.replay_host.specs.Playing.{IsHost, HasDone, LeavesWriters}
 use Rattle.replay_host.specs.Serving.{ComesServing}
 use Rattle.replay_host.specs.Tally.{IsTally}
 use Rattle.replay_host.proofs.GoingLemmas.{keeps_served, going_still, writer_was}
-use Rattle.replay_host.proofs.LineLemmas.{calls_more, closed_more, closed_same, due_more, ready_nothing, kept_more, going_nothing}
+use Rattle.replay_host.proofs.LineLemmas.{closed_more, closed_same, due_more, ready_nothing, kept_more, going_nothing}
 
 -- what is kept of flush requests stays, where no note is added
 tally_still : {T W S : Type 0} (old new : Host T W S) (notes : List FlushNote) (writers : ℕ) → new.flushes ≡ old.flushes → IsTally notes writers old.flushes

@@ -17,8 +17,9 @@ use Rattle.trace_buffer.specs.declared.answers.BufferSpec.{BufferSpec}
 use Rattle.service_core.specs.Agreement.{IsRouted, no_writer, spec_at}
 use Rattle.service_core.specs.Making.{HaveSizes, RecordsFit}
 use Rattle.replay_model.specs.Played.{IsSpecOf}
+use Rattle.replay_model.proofs.SpecLemmas.{some_page, few_pages}
 use Rattle.replay_host.specs.Making.{buffer_asked}
-use Rattle.replay_host.proofs.MakingLemmas.{some_page, few_pages, few_producers, have_sizes, are_routed, records_fit}
+use Rattle.replay_host.proofs.MakingLemmas.{few_producers, have_sizes, are_routed, records_fit}
 
 -- each writer accepts what the lines ask of it
 pub asks_well : (scenario : Scenario) → IsScenario scenario → (place : ℕ) → place < length scenario.writers.items

@@ -1,6 +1,7 @@
 -- What is open isn't shut, and what else the taking of chunks leaves.
-use Rattle.std.proofs.Common.{◌≡◌, ◌∙◌, ℕ, suc, ◌==◌, refl, sym, ap, length, List, [], ◌∷◌, Bool, true, false, ◌||◌, arith, MatchBool}
+use Rattle.std.proofs.Common.{◌≡◌, ◌∙◌, ℕ, suc, ◌==◌, refl, sym, ap, length, List, [], ◌∷◌, Bool, true, false, ◌||◌, arith}
 use Rattle.std.proofs.lemmas.Option.{slice_get_within}
+use Rattle.trace_base.proofs.Choices.{match_either}
 use Rattle.chunk_plain.specs.Setup.{Setup, sequence_of}
 use Rattle.chunk_plain.specs.Views.{Noted, Arrive, Partial, Patched, Closed, Read, Commit, Committed, ServiceView}
 use Rattle.service_core.specs.declared.service.ServiceCore.{ServiceCore}
@@ -8,29 +9,24 @@ use Rattle.service_core.specs.Agreement.{ServiceAgrees, IsOpen, NoneCommitted}
 use Rattle.service_core.specs.Order.{LeadTo, Stage, beginning}
 use Rattle.replay_model.specs.Does.{AreOpen, is_shut}
 
--- a choice by a test holds one of two things, of which a third follows
-by_test : (b : Bool) (P Q R : Type 0) → MatchBool b P Q → (b ≡ true → P → R) → (b ≡ false → Q → R) → R
-by_test true P Q R holds then_so else_so = then_so refl holds
-by_test false P Q R holds then_so else_so = else_so refl holds
-
 -- what was closed stays closed
 stays_closed : (view : ServiceView) (q : ℕ) (stage : Stage) (notes : List Noted) (last : Stage) → LeadTo view q stage notes last
     → stage.closed ≡ true → last.closed ≡ true
 stays_closed view q stage [] last leads closed = sym (ap (λ (s : Stage). s.closed) leads) ∙ closed
 stays_closed view q stage (Arrive other id ∷ notes) last leads closed =
-    by_test (other == q) _ _ _ leads.1
+    match_either (other == q) _ _ _ leads.1
     (λ is h. absurd (let never : true ≡ false = sym closed ∙ h.0 in cc))
     (λ is h. stays_closed view q stage notes last h closed)
 stays_closed view q stage (Partial other id count ∷ notes) last leads closed =
-    by_test (other == q) _ _ _ leads.1
+    match_either (other == q) _ _ _ leads.1
     (λ is h. absurd (let never : true ≡ false = sym closed ∙ h.0 in cc))
     (λ is h. stays_closed view q stage notes last h closed)
 stays_closed view q stage (Patched other id ∷ notes) last leads closed =
-    by_test (other == q) _ _ _ leads
+    match_either (other == q) _ _ _ leads
     (λ is h. stays_closed view q (record stage { due = [] }) notes last h.3 closed)
     (λ is h. stays_closed view q stage notes last h.1 closed)
 stays_closed view q stage (Closed other ∷ notes) last leads closed =
-    by_test (other == q) _ _ _ leads.1
+    match_either (other == q) _ _ _ leads.1
     (λ is h. stays_closed view q (record stage { closed = true }) notes last h.1 refl)
     (λ is h. stays_closed view q stage notes last h closed)
 stays_closed view q stage (Read other limit ∷ notes) last leads closed = stays_closed view q stage notes last leads.1 closed
@@ -41,19 +37,19 @@ shut_by : (view : ServiceView) (q : ℕ) (stage : Stage) (notes : List Noted) (l
     → last.closed ≡ false → is_shut q notes ≡ false
 shut_by view q stage [] last leads still = refl
 shut_by view q stage (Arrive other id ∷ notes) last leads still =
-    by_test (other == q) _ _ _ leads.1
+    match_either (other == q) _ _ _ leads.1
     (λ is h. shut_by view q (record { come = suc stage.come; closed = stage.closed; due = h.2.patches }) notes last h.4 still)
     (λ is h. shut_by view q stage notes last h still)
 shut_by view q stage (Partial other id count ∷ notes) last leads still =
-    by_test (other == q) _ _ _ leads.1
+    match_either (other == q) _ _ _ leads.1
     (λ is h. shut_by view q stage notes last h.3 still)
     (λ is h. shut_by view q stage notes last h still)
 shut_by view q stage (Patched other id ∷ notes) last leads still =
-    by_test (other == q) _ _ _ leads
+    match_either (other == q) _ _ _ leads
     (λ is h. shut_by view q (record stage { due = [] }) notes last h.3 still)
     (λ is h. shut_by view q stage notes last h.1 still)
 shut_by view q stage (Closed other ∷ notes) last leads still =
-    by_test (other == q) _ _ _ leads.1
+    match_either (other == q) _ _ _ leads.1
     (λ is h. absurd (let never : true ≡ false = sym (stays_closed view q (record stage { closed = true }) notes last h.1 refl) ∙ still in cc))
     (λ is h. ap (λ (b : Bool). b || is_shut q notes) is ∙ shut_by view q stage notes last h still)
 shut_by view q stage (Read other limit ∷ notes) last leads still = shut_by view q stage notes last leads.1 still

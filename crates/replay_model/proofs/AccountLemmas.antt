@@ -26,6 +26,7 @@ use Rattle.world_model.specs.FirstBuffers.{BufferSpec, payload_at, first_buffers
 use Rattle.world_model.specs.FrontLaws.{StandsInWords}
 use Rattle.world_model.specs.Accounts.{all_images, HasCut, InOrder, IsAccount}
 use Rattle.trace_model.specs.Cut.{newest_goes_on}
+use Rattle.trace_model.proofs.PageLemmas.{images_long}
 use Rattle.delivery_laws.specs.DeliveryLaws.{IsAccountOf}
 use Rattle.delivery_laws.specs.Orders as orders
 use Rattle.delivery_laws.specs.WriterSheets.{sheets_of}
@@ -34,7 +35,7 @@ use Rattle.delivery_laws.proofs.WrittenPackets.{are_full}
 use Rattle.world_model.proofs.ProjectLemmas.{all_mine}
 use Rattle.world_model.proofs.MakingLemmas.{only_writers}
 use Rattle.world_model.proofs.FaithfulLemmas.{told_of, order_events}
-use Rattle.world_model.proofs.OwnLemmas.{image_at, images_long, elem_at}
+use Rattle.world_model.proofs.OwnLemmas.{image_at, elem_at}
 use Rattle.trace_writer.specs.Laws.{IsHeldImage}
 use Rattle.service_core.specs.OrderLaws.{HasImages}
 use Rattle.replay_model.specs.Does.{Wrote, is_shut}

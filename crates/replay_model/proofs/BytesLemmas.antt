@@ -5,6 +5,7 @@ use Rattle.std.proofs.Math.Nat.{le-mul_of_pos_right, mul-le-mul_right}
 use Rattle.std.proofs.lemmas.Bool.{eq-eqb, false≢true}
 use Rattle.std.proofs.lemmas.Option.{slice_get_within}
 use Rattle.trace_base.specs.declared.policy.WriterSpec.{WriterSpec}
+use Rattle.trace_base.proofs.Choices.{match_either}
 use Rattle.page_geometry.specs.Sizes.{record_size}
 use Rattle.trace_model.specs.Enough.{most_chunks}
 use Rattle.trace_model.specs.Images.{Patch}
@@ -23,7 +24,6 @@ use Rattle.scenario_text.specs.declared.scenario.ProducerLine.{ProducerLine}
 use Rattle.scenario_text.specs.declared.scenario.NumberedLine.{NumberedLine}
 use Rattle.scenario_text.specs.Accepted.{calls_asked}
 use Rattle.service_core.specs.Agreement.{spec_at}
-use Rattle.replay_model.proofs.FinishLemmas.{by_match}
 use Rattle.replay_model.proofs.RoomLemmas.{payload_for, bytes_from}
 
 -- ---- only so many chunks of each sequence come
@@ -45,26 +45,26 @@ pub order_below : (sheets : List Sheet) (q n : ℕ) → length sheets ≤ n → 
     → orders.InOrder sheets q come closed due events → BelowAt q n events
 order_below sheets q n few [] come closed due order = tt
 order_below sheets q n few (Arrives other id chunk ∷ events) come closed due order =
-    by_match (other == q) _ _ _ order.1
+    match_either (other == q) _ _ _ order.1
     (λ same h. (
       (λ e. let low = slice_get_within sheets come h.2 h.3 in let at = h.1 in omega (arith, low, few, at)),
       order_below sheets q n few events (suc come) closed h.2.patches h.5,
     ))
     (λ apart h. ((λ e. absurd (never other q apart e)), order_below sheets q n few events come closed [] h))
 order_below sheets q n few (ArrivesInPart other id chunk ∷ events) come closed due order =
-    by_match (other == q) _ _ _ order.1
+    match_either (other == q) _ _ _ order.1
     (λ same h. (
       (λ e. let low = slice_get_within sheets come h.2.sheet h.2.there in let at = h.1 in omega (arith, low, few, at)),
       order_below sheets q n few events come closed [] h.3,
     ))
     (λ apart h. ((λ e. absurd (never other q apart e)), order_below sheets q n few events come closed [] h))
 order_below sheets q n few (Patched other patches ∷ events) come closed due order =
-    by_match (other == q) _ _ (BelowAt q n events) order
+    match_either (other == q) _ _ (BelowAt q n events) order
     (λ same h. order_below sheets q n few events come closed [] h.1) (λ apart h. order_below sheets q n few events come closed [] h.1)
 order_below sheets q n few (Committed image patches ∷ events) come closed due order =
     ((λ e. absurd (never image.sequence q order.1 e)), order_below sheets q n few events come closed [] order.2)
 order_below sheets q n few (Closed other ∷ events) come closed due order =
-    by_match (other == q) _ _ (BelowAt q n events) order.1
+    match_either (other == q) _ _ (BelowAt q n events) order.1
     (λ same h. order_below sheets q n few events come true [] h.1) (λ apart h. order_below sheets q n few events come closed [] h)
 order_below sheets q n few (Read other limit ∷ events) come closed due order = order_below sheets q n few events come closed [] order.1
 

@@ -22,7 +22,7 @@ use Rattle.delivery_laws.specs.DeliveryLaws.{IsAccountOf}
 use Rattle.delivery_laws.specs.Finishing.{Finishes}
 use Rattle.delivery_laws.specs.Room.{asked, wanted}
 use Rattle.delivery_laws.proofs.OrderLemmas.{every_writer_is_told}
-use Rattle.delivery_laws.proofs.EnoughLemmas.{every_packet_is_delivered}
+use Rattle.delivery_laws.proofs.EnoughLemmas.{every_packet_is_delivered, emissions_few}
 use Rattle.delivery_laws.proofs.AskLemmas.{every_ask_is_counted}
 use Rattle.chunk_plain.specs.Setup.{Setup, size_of}
 use Rattle.chunk_plain.specs.World.{World, writer}
@@ -52,7 +52,7 @@ use Rattle.replay_model.proofs.LostLemmas.{all_whole}
 use Rattle.replay_model.proofs.NoneLostLemmas.{is_writer, rests, size_here, begun_few, none_is_lost}
 use Rattle.replay_model.proofs.PhaseLemmas.{AreReads}
 use Rattle.replay_model.proofs.PlayedLemmas.{setup_writers}
-use Rattle.replay_model.proofs.ReadOutLemmas.{told_few, emitted_few, begun_sum, IsFew, reads_has}
+use Rattle.replay_model.proofs.ReadOutLemmas.{told_few, begun_sum, IsFew, reads_has}
 use Rattle.replay_model.proofs.RoomLemmas.{payload_for, bytes_from, bytes_enough}
 
 -- ---- one buffer has a writer's sequence
@@ -164,7 +164,7 @@ module _ (scenario : Parts) (setup : Setup) (world : World) (done : IsDone scena
       let records = told_few (emissions_of (writer world p).calls) (p + 2)
       (map (λ (delivery : Delivery). record_of delivery.body (p + 2) delivery.marked) (delivered_to (p + 2) first history)) told in
       let long = length-map (delivered_to (p + 2) first history) (λ (delivery : Delivery). record_of delivery.body (p + 2) delivery.marked) in
-      let few = emitted_few (writer world p).calls in
+      let few = emissions_few (writer world p).calls in
       let same = (done.shape p inside).begun in
       record { known = account.known; few = omega (arith, records, long, few, same) }
 

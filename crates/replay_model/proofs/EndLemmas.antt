@@ -21,6 +21,7 @@ use Rattle.scenario_text.specs.declared.scenario.NumberedLine.{NumberedLine}
 use Rattle.scenario_text.specs.Accepted.{is_closed_by}
 use Rattle.trace_writer.specs.Claims.{AreOwnChunks}
 use Rattle.trace_writer.specs.Core.{last_is_held, holds_newest}
+use Rattle.trace_writer.proofs.holding.HeldLaws.{held_last}
 use Rattle.service_core.specs.Agreement.{spec_at}
 use Rattle.service_core.specs.Closing.{closes_of}
 use Rattle.service_core.specs.Taking.{TakesOf, Takes, places_of}
@@ -70,11 +71,6 @@ flushed_now setup place old new (inl is) =
 flushed_now setup place old new (inr h) =
     ap (λ (calls : List Call). (account_of calls).flushed) h.0
     ∙ ap (λ (a : Account). a.flushed) (fold-append noted nothing_yet (writer old place).calls (Flushed ∷ GivenUp ∷ []))
-
-held_last : (begun : List BegunChunk) (chunk : ℕ) (draft : Draft) → last_is_held (begun ++ Held chunk draft ∷ []) ≡ true
-held_last [] chunk draft = refl
-held_last (one ∷ []) chunk draft = refl
-held_last (one ∷ next ∷ begun) chunk draft = held_last (next ∷ begun) chunk draft
 
 none_held : (setup : Setup) (place : ℕ) (view : WriterView) → Wrote setup place view → last_is_held view.begun ≡ false → held_count view.begun ≡ 0
 none_held setup place view wrote none = by_held wrote.held refl

@@ -3,6 +3,7 @@ use Rattle.std.proofs.Common.{◌≡◌, ◌∙◌, ℕ, suc, ◌+◌, ◌-◌, 
 use Rattle.std.specs.Prelude.{◌==◌, slice_get, MatchBool}
 use Rattle.std.specs.List.{flat_map}
 use Rattle.std.proofs.lemmas.Bool.{eq-eqb, eqb-true, false≢true}
+use Rattle.trace_base.proofs.Choices.{match_either}
 use Rattle.trace_model.specs.Images.{Image, Chunk}
 use Rattle.trace_model.specs.Pages.{chunk_of}
 use Rattle.trace_model.specs.Reading.{Reading, Fragments, Unreadable, reading_of}
@@ -58,21 +59,17 @@ finishes_read q chunks packets come (model.Patched sequence patches ∷ events) 
 finishes_read q chunks packets come (model.Committed image patches ∷ events) has = absurd has
 finishes_read q chunks packets come (model.Closed sequence ∷ events) has = absurd has
 
-pub by_match : (b : Bool) (P Q R : Type 0) → MatchBool b P Q → (b ≡ true → P → R) → (b ≡ false → Q → R) → R
-by_match true P Q R h same apart = same refl h
-by_match false P Q R h same apart = apart refl h
-
 -- nothing comes once the sequence is closed
 lead_shut : (view : ServiceView) (q : ℕ) (notes : List Noted) (stage last : Stage) → LeadTo view q stage notes last → stage.closed ≡ true → stage.come ≡ last.come
 lead_shut view q [] stage last lead shut = ap (λ (s : Stage). s.come) lead
 lead_shut view q (Arrive other id ∷ notes) stage last lead shut =
-    by_match (other == q) _ _ _ lead.1 (λ same h. absurd (false≢true (sym h.0 ∙ shut))) (λ apart h. lead_shut view q notes stage last h shut)
+    match_either (other == q) _ _ _ lead.1 (λ same h. absurd (false≢true (sym h.0 ∙ shut))) (λ apart h. lead_shut view q notes stage last h shut)
 lead_shut view q (Partial other id count ∷ notes) stage last lead shut =
-    by_match (other == q) _ _ _ lead.1 (λ same h. absurd (false≢true (sym h.0 ∙ shut))) (λ apart h. lead_shut view q notes stage last h shut)
+    match_either (other == q) _ _ _ lead.1 (λ same h. absurd (false≢true (sym h.0 ∙ shut))) (λ apart h. lead_shut view q notes stage last h shut)
 lead_shut view q (Patched other id ∷ notes) stage last lead shut =
-    by_match (other == q) _ _ _ lead (λ same h. lead_shut view q notes (record stage { due = [] }) last h.3 shut) (λ apart h. lead_shut view q notes stage last h.1 shut)
+    match_either (other == q) _ _ _ lead (λ same h. lead_shut view q notes (record stage { due = [] }) last h.3 shut) (λ apart h. lead_shut view q notes stage last h.1 shut)
 lead_shut view q (Closed other ∷ notes) stage last lead shut =
-    by_match (other == q) _ _ _ lead.1 (λ same h. absurd (false≢true (sym h.0 ∙ shut))) (λ apart h. lead_shut view q notes stage last h shut)
+    match_either (other == q) _ _ _ lead.1 (λ same h. absurd (false≢true (sym h.0 ∙ shut))) (λ apart h. lead_shut view q notes stage last h shut)
 lead_shut view q (Read other limit ∷ notes) stage last lead shut = lead_shut view q notes stage last lead.1 shut
 lead_shut view q (Commit place ∷ notes) stage last lead shut = lead_shut view q notes stage last lead.2 shut
 
@@ -139,7 +136,7 @@ module _ (size place : ℕ) (view : WriterView) (held : List Image) (cut : HasCu
     lead_finishes (Arrive other id ∷ notes) stage last lead shut many events has =
         let more : List Event = flat_map (happened service) notes in
         behind stage.come stage.closed (happened service (Arrive other id)) more events
-        (by_match (other == (place + 2)) _ _ (Done stage.come stage.closed (happened service (Arrive other id) ++ (more ++ events))) lead.1
+        (match_either (other == (place + 2)) _ _ (Done stage.come stage.closed (happened service (Arrive other id) ++ (more ++ events))) lead.1
         (λ same h.
         let one = arrives_one id h.2 h.3 in
         let is : happened service (Arrive other id) ≡ model.Arrives (place + 2) id one.chunk ∷ [] =
@@ -152,17 +149,17 @@ module _ (size place : ℕ) (view : WriterView) (held : List Image) (cut : HasCu
         let more : List Event = flat_map (happened service) notes in
         behind stage.come stage.closed (happened service (Partial other id count)) more events
         (pass_part other id count stage.come stage.closed (found_among (other - 2) id count service.looks) (more ++ events)
-        (by_match (other == (place + 2)) _ _ (Done stage.come stage.closed (more ++ events)) lead.1
+        (match_either (other == (place + 2)) _ _ (Done stage.come stage.closed (more ++ events)) lead.1
         (λ same h. lead_finishes notes stage last h.3 shut many events has) (λ apart h. lead_finishes notes stage last h shut many events has)))
     lead_finishes (Patched other id ∷ notes) stage last lead shut many events has =
         let more : List Event = flat_map (happened service) notes in
         behind stage.come stage.closed (happened service (Patched other id)) more events
         (pass_patches other stage.come stage.closed (content_at service other id) (more ++ events)
-        (by_match (other == (place + 2)) _ _ (Done stage.come stage.closed (more ++ events)) lead
+        (match_either (other == (place + 2)) _ _ (Done stage.come stage.closed (more ++ events)) lead
         (λ same h. lead_finishes notes (record stage { due = [] }) last h.3 shut many events has) (λ apart h. lead_finishes notes stage last h.1 shut many events has)))
     lead_finishes (Closed other ∷ notes) stage last lead shut many events has =
         let more : List Event = flat_map (happened service) notes in
-        by_match (other == (place + 2)) _ _ (Done stage.come stage.closed (model.Closed other ∷ (more ++ events))) lead.1
+        match_either (other == (place + 2)) _ _ (Done stage.come stage.closed (model.Closed other ∷ (more ++ events))) lead.1
         (λ same h.
         let come_is = lead_shut service (place + 2) notes (record stage { closed = true }) last h.1 refl in
         subst (λ (b : Bool). MatchBool b ((stage.come ≡ chunks) × Done stage.come true (more ++ events)) (Done stage.come stage.closed (more ++ events))) (sym same)

@@ -6,6 +6,7 @@ use Rattle.std.proofs.lemmas.List.{length-map}
 use Rattle.std.proofs.lemmas.List.Sums.{fold-append}
 use Rattle.std.proofs.lemmas.Option.{slice_get_within, slice_get-get_or, same_Some}
 use Rattle.trace_base.specs.declared.policy.WriterSpec.{WriterSpec}
+use Rattle.trace_base.proofs.Lists.{some_there}
 use Rattle.page_geometry.specs.Sizes.{record_size}
 use Rattle.trace_model.specs.Buffers.{Buffer, empty_buffer}
 use Rattle.trace_model.specs.Calls.{Call, GivenUp, Flushed}
@@ -21,6 +22,7 @@ use Rattle.trace_model.specs.Reads.{Delivery}
 use Rattle.trace_model.specs.Record.{record_of}
 use Rattle.trace_model.specs.Sequences.{Sequence}
 use Rattle.trace_model.specs.Written.{chains_of}
+use Rattle.trace_model.proofs.PageLemmas.{images_long}
 use Rattle.delivery_laws.specs.DeliveryLaws.{IsAccountOf}
 use Rattle.delivery_laws.specs.FlushLaws.{arrivals_of, IsFlushed, AreSettled}
 use Rattle.delivery_laws.proofs.CompleteLemmas.{full_at}
@@ -29,6 +31,7 @@ use Rattle.delivery_laws.proofs.FlushLemmas as delivery
 use Rattle.delivery_laws.proofs.FlushLemmas.{fixed_parts, settled_still}
 use Rattle.delivery_laws.proofs.OrderLemmas.{every_writer_is_told}
 use Rattle.delivery_laws.proofs.WrittenPackets.{are_full}
+use Rattle.delivery_laws.proofs.EnoughLemmas.{emissions_few}
 use Rattle.chunk_plain.specs.Plain.{first_world}
 use Rattle.chunk_plain.specs.Setup.{Setup, sequence_of, size_of}
 use Rattle.chunk_plain.specs.Views.{At, Completed, Content, ServiceView, taken_of, WriterView, newcomer}
@@ -38,7 +41,7 @@ use Rattle.chunk_plain.specs.Histories.{completed_images, history_of}
 use Rattle.chunk_plain.proofs.MadeLemmas.{first_owned}
 use Rattle.world_model.specs.FirstBuffers.{BufferSpec, payload_at, sequences_from}
 use Rattle.world_model.proofs.MakingLemmas.{set_at}
-use Rattle.world_model.proofs.OwnLemmas.{elem_at, images_long, page_of}
+use Rattle.world_model.proofs.OwnLemmas.{elem_at, page_of}
 use Rattle.scenario_text.specs.declared.scenario.BufferLine.{BufferLine}
 use Rattle.scenario_text.specs.Scenario.{Parts}
 use Rattle.scenario_text.specs.Limits.{IsSetUp, IsWriter}
@@ -47,6 +50,7 @@ use Rattle.service_core.specs.Order.{beginning}
 use Rattle.service_core.specs.Reading.{reads_in}
 use Rattle.service_core.specs.Routing.{buffer_at}
 use Rattle.service_core.proofs.HistoryLemmas.{Grows}
+use Rattle.service_core.proofs.QuietLemmas.{grow_both}
 use Rattle.replay_model.specs.Acts.{Act, Ask, ReadAll}
 use Rattle.replay_model.specs.Does.{Asks, Notes, Wrote, is_shut}
 use Rattle.replay_model.specs.Flushes.{FlushNote}
@@ -62,16 +66,11 @@ use Rattle.replay_model.proofs.OwnedLemmas.{owned_itself, learnt, named}
 use Rattle.replay_model.proofs.PageLemmas.{pages_same, begins_as}
 use Rattle.replay_model.proofs.PhaseLemmas.{history_read}
 use Rattle.replay_model.proofs.PlayedLemmas.{plays_stand, setup_writers}
-use Rattle.replay_model.proofs.PlayedOnLemmas.{grows_both, plays_grow, reads_grow, HasMore, more_both, plays_more, plays_alone, arrivals_parts, lead_arrivals}
-use Rattle.replay_model.proofs.ReadOutLemmas.{told_few, emitted_few, sum_all, IsFew, reads_has}
+use Rattle.replay_model.proofs.PlayedOnLemmas.{plays_grow, reads_grow, HasMore, more_both, plays_more, plays_alone, arrivals_parts, lead_arrivals}
+use Rattle.replay_model.proofs.ReadOutLemmas.{told_few, sum_all, IsFew, reads_has}
 use Rattle.replay_model.proofs.ScrapedLemmas.{counted}
 use Rattle.replay_model.proofs.SortedLemmas.{at_stage}
 use Rattle.replay_model.proofs.StandsLemmas.{Stands, stands_does}
-
-get_there : {A : Type 0} (xs : List A) (i : ℕ) → i < length xs → (x : A) × (slice_get xs i ≡ Some x)
-get_there [] i low = absurd (omega (arith, low))
-get_there (x ∷ xs) zero low = (x, refl)
-get_there (x ∷ xs) (suc i) low = get_there xs i (omega (arith, low))
 
 -- a read of the sequence among reads
 record IsReadAmong (q packets : ℕ) (events : List Event) : Type 0 where
@@ -220,7 +219,7 @@ module _ (scenario : Parts) (setup : Setup) (is_setup : IsSetupOf scenario setup
 
   grows_to_read : Grows flush.taken.service read.service
   grows_to_read =
-      grows_both flush.taken.service flush.reading.service read.service grows_to_reading
+      grow_both flush.taken.service flush.reading.service read.service grows_to_reading
       (reads_grow setup buffers (spec_at setup.writers place).buffer last_count flush.reading read flush.reads at_reading.0)
 
   -- what the service took stays in its view
@@ -235,7 +234,7 @@ module _ (scenario : Parts) (setup : Setup) (is_setup : IsSetupOf scenario setup
   page_stays i page get =
       let low = slice_get_within pages_then i page get in
       let come = come_then in
-      let content = get_there (taken_of flush.taken.service place).contents i (omega (arith, low, come)) in
+      let content = some_there (taken_of flush.taken.service place).contents i (omega (arith, low, come)) in
       let was = learnt flush.taken (owned_itself flush.taken at_taken.1) place i content.0 (elem_at (taken_of flush.taken.service place).contents i content.0 content.1) in
       let was_there : At (writer flush.answered place).begun i (Completed was.0 content.0) =
       subst (λ (v : WriterView). At v.begun i (Completed was.0 content.0)) view_same was.1 in
@@ -323,7 +322,7 @@ module _ (scenario : Parts) (setup : Setup) (is_setup : IsSetupOf scenario setup
       let records = told_few (emissions_of (writer read p).calls) (p + 2)
       (map (λ (delivery : Delivery). record_of delivery.body (p + 2) delivery.marked) (delivered_to (p + 2) first history)) told in
       let long = length-map (delivered_to (p + 2) first history) (λ (delivery : Delivery). record_of delivery.body (p + 2) delivery.marked) in
-      let emitted = emitted_few (writer read p).calls in
+      let emitted = emissions_few (writer read p).calls in
       record { known = account.known; few = omega (arith, records, long, emitted) }
 
   abbrev so_far : List Event
@@ -366,7 +365,7 @@ module _ (scenario : Parts) (setup : Setup) (is_setup : IsSetupOf scenario setup
         all_stay : (n : ℕ) → n ≤ length (taken_of flush.taken.service place).contents → n ≤ length (taken_of flush.reading.service place).contents
         all_stay zero low = omega arith
         all_stay (suc n) low =
-            let content = get_there (taken_of flush.taken.service place).contents n (omega (arith, low)) in
+            let content = some_there (taken_of flush.taken.service place).contents n (omega (arith, low)) in
             slice_get_within (taken_of flush.reading.service place).contents n content.0 (stays flush.reading.service grows_to_reading n content.0 content.1)
 
     has_settled : HasSettled scenario setup place asked read

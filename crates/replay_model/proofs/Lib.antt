@@ -24,5 +24,6 @@ pub mod RequestLemmas
 pub mod RoomLemmas
 pub mod ScrapedLemmas
 pub mod SortedLemmas
+pub mod SpecLemmas
 pub mod StandsLemmas
 pub mod WholeLemmas

@@ -6,6 +6,7 @@ use Rattle.trace_model.specs.Buffers.{Buffer}
 use Rattle.trace_model.specs.Calls.{Call, Begun, Number, Bytes, Nested, Ended, GivenUp, Finished, Flushed}
 use Rattle.trace_model.specs.Packets.{packets_of, is_writing}
 use Rattle.model_laws.specs.Losses.{written_calls, Loses}
+use Rattle.model_laws.proofs.LossLemmas.{written_append}
 use Rattle.chunk_plain.specs.Setup.{Setup}
 use Rattle.chunk_plain.specs.Plain.{first_world}
 use Rattle.chunk_plain.specs.Views.{WriterView, newcomer}
@@ -25,17 +26,6 @@ use Rattle.replay_model.specs.Schedule.{schedule_of, acts_of, acts_from, last_ac
 use Rattle.replay_model.proofs.StandsLemmas.{works_others}
 
 -- ---- calls one behind another
-
-written_append : (xs ys : List Call) → written_calls (xs ++ ys) ≡ written_calls xs ++ written_calls ys
-written_append [] ys = refl
-written_append (Begun kept ∷ xs) ys = ap (λ (cs : List Call). Begun true ∷ cs) (written_append xs ys)
-written_append (Number field value ∷ xs) ys = ap (λ (cs : List Call). Number field value ∷ cs) (written_append xs ys)
-written_append (Bytes field text times ∷ xs) ys = ap (λ (cs : List Call). Bytes field text times ∷ cs) (written_append xs ys)
-written_append (Nested field ∷ xs) ys = ap (λ (cs : List Call). Nested field ∷ cs) (written_append xs ys)
-written_append (Ended ∷ xs) ys = ap (λ (cs : List Call). Ended ∷ cs) (written_append xs ys)
-written_append (GivenUp ∷ xs) ys = written_append xs ys
-written_append (Finished ∷ xs) ys = ap (λ (cs : List Call). Finished ∷ cs) (written_append xs ys)
-written_append (Flushed ∷ xs) ys = written_append xs ys
 
 -- what is noted where a packet is lost is what was asked
 written_lost : (call : Call) → written_calls (dropped_call call) ≡ written_calls (call ∷ [])

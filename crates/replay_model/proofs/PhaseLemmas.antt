@@ -122,7 +122,7 @@ pub reads_are_reads : (limit : ℕ) (buffer : Buffer) (sequences : List ℕ) →
 reads_are_reads limit buffer [] = tt
 reads_are_reads limit buffer (sequence ∷ others) = reads_are_reads (limit - length (delivered_by buffer sequence limit)) (with_read buffer sequence limit) others
 
-reads_happen : (service : ServiceView) (events : List Event) → AreReads events → flat_map (happened service) (flat_map noted_read events) ≡ events
+pub reads_happen : (service : ServiceView) (events : List Event) → AreReads events → flat_map (happened service) (flat_map noted_read events) ≡ events
 reads_happen service [] are = refl
 reads_happen service (model.Read sequence limit ∷ events) are = ap (λ (es : List Event). model.Read sequence limit ∷ es) (reads_happen service events are)
 reads_happen service (model.Arrives sequence chunk_id chunk ∷ events) are = absurd are

@@ -3,6 +3,7 @@ use Rattle.std.proofs.Common.{◌≡◌, ◌≢◌, ◌∙◌, ℕ, suc, ◌+◌
 use Rattle.std.specs.Prelude.{◌==◌, slice_get, MatchBool}
 use Rattle.std.specs.List.{flat_map}
 use Rattle.std.proofs.lemmas.Bool.{cases_eq, eq-eqb, eqb-true}
+use Rattle.trace_base.proofs.Choices.{match_either}
 use Rattle.trace_model.specs.Buffers.{Buffer}
 use Rattle.trace_model.specs.Calls.{Call, Flushed}
 use Rattle.trace_model.specs.Packets.{packets_of, is_writing}
@@ -25,12 +26,13 @@ use Rattle.service_core.specs.Taking.{Takes, TakesOf, looked, places_of}
 use Rattle.service_core.proofs.CloseLemmas.{noted_grows}
 use Rattle.service_core.proofs.HistoryLemmas.{Grows}
 use Rattle.service_core.proofs.TakingLemmas.{took_grows, looked_grows}
+use Rattle.service_core.proofs.QuietLemmas.{grow_both}
 use Rattle.replay_model.specs.Acts.{Act, Ask, Request, Answer, Collect, Scrape, CloseProducer, ReadAll}
 use Rattle.replay_model.specs.Does.{Does, Collects, Works, Alone, Helped, Asks, Notes, Wrote, dropped_call, is_shut}
 use Rattle.replay_model.specs.Flushes.{FlushNote}
 use Rattle.replay_model.specs.FlushLaws.{LeaveAlone}
 use Rattle.replay_model.specs.Plays.{Plays}
-use Rattle.replay_model.proofs.FinishLemmas.{by_match, arrives_one}
+use Rattle.replay_model.proofs.FinishLemmas.{arrives_one}
 use Rattle.replay_model.proofs.OwnedLemmas.{owned_itself, named, learnt}
 use Rattle.replay_model.proofs.SortedLemmas.{IsSorted, Among, sorted_took, shut_took, open_places_fit}
 use Rattle.replay_model.proofs.StandsLemmas.{Stands, stands_does, sorted_collects, works_others}
@@ -39,13 +41,6 @@ use Rattle.replay_model.proofs.StandsLemmas.{Stands, stands_does, sorted_collect
 
 grows_same : (view : ServiceView) → Grows view view
 grows_same view = record { contents = λ s i content is. is; looks = λ p i n found is. is; commits = λ k committed is. is }
-
-pub grows_both : (old mid new : ServiceView) → Grows old mid → Grows mid new → Grows old new
-grows_both old mid new one two = record {
-  contents = λ s i content is. two.contents s i content (one.contents s i content is);
-  looks = λ p i n found is. two.looks p i n found (one.looks p i n found is);
-  commits = λ k committed is. two.commits k committed (one.commits k committed is);
-}
 
 takes_grow : (setup : Setup) (places : List ℕ) (taken : ℕ) (old new : ServiceView) → IsSorted setup old
     → ((p : ℕ) → Among p places → (p < length setup.writers) × (is_shut (sequence_of p) old.events ≡ false)) → Takes setup places taken old new → Grows old new
@@ -60,7 +55,7 @@ takes_grow setup (place ∷ places) taken old new sorted fits takes =
     let rest = takes_grow setup places takes.1 mid new next (λ other among. let f = fits other (inr among) in (f.0, same (sequence_of other) ∙ f.1)) takes.5 in
     let many = sorted.many in
     let low : place < length old.taken = let within = here.0 in omega (arith, within, many) in
-    grows_both old mid new (subst (Grows old) (sym of.view) (took_grows old place of.looks of.contents low)) rest
+    grow_both old mid new (subst (Grows old) (sym of.view) (took_grows old place of.looks of.contents low)) rest
 
 collects_grow : (setup : Setup) (producer : ℕ) (old new : World) → IsSorted setup old.service → Collects setup producer old new → Grows old.service new.service
 collects_grow setup producer old new sorted collects =
@@ -72,7 +67,7 @@ works_grow setup place old new (Helped _ asking freed _ may stalls leaves out co
     let asked : IsSorted setup asking.service = subst (IsSorted setup) (sym leaves.service) sorted in
     let one : Grows old.service freed.service =
     subst (λ (v : ServiceView). Grows v freed.service) leaves.service (collects_grow setup _ asking freed asked collects) in
-    grows_both old.service freed.service new.service one (works_grow setup place freed new rest (sorted_collects setup _ asking freed asked collects))
+    grow_both old.service freed.service new.service one (works_grow setup place freed new rest (sorted_collects setup _ asking freed asked collects))
 
 answer_grows : (setup : Setup) (place : ℕ) (old new : World) (b : Bool) → MatchBool b (new ≡ old) (Asks setup place Flushed old new) → IsSorted setup old.service
     → Grows old.service new.service
@@ -89,11 +84,11 @@ does_grows setup buffers (Scrape producer) old new does sorted =
     let then = looked_grows does.between does.looks in
     let last = noted_grows (looked does.between does.looks) (parts_held setup producer new) in
     subst (Grows old.service) (sym does.notes)
-    (grows_both old.service does.between _ first (grows_both does.between (looked does.between does.looks) _ then last))
+    (grow_both old.service does.between _ first (grow_both does.between (looked does.between does.looks) _ then last))
 does_grows setup buffers (CloseProducer producer) old new does sorted =
     let first = takes_grow setup (places_of producer 0 setup.writers) does.taken old.service does.closes.between sorted (open_places_fit setup producer old.service does.opened) does.closes.takes in
     subst (Grows old.service) (sym does.closes.view)
-    (grows_both old.service does.closes.between _ first (noted_grows does.closes.between (closes_of (places_of producer 0 setup.writers))))
+    (grow_both old.service does.closes.between _ first (noted_grows does.closes.between (closes_of (places_of producer 0 setup.writers))))
 does_grows setup buffers (ReadAll buffer limit) old new does sorted =
     subst (Grows old.service) (sym does.notes)
     (noted_grows old.service (flat_map noted_read (reads_in setup (buffers_after buffers (history_of old.service)) buffer limit)))
@@ -102,7 +97,7 @@ pub plays_grow : (setup : Setup) (buffers : List Buffer) (acts : List Act) (old 
     → Grows old.service new.service
 plays_grow setup buffers [] old new notes plays stands = subst (λ (w : World). Grows old.service w.service) (sym plays.0) (grows_same old.service)
 plays_grow setup buffers (act ∷ acts) old new notes plays stands =
-    grows_both old.service plays.0.service new.service (does_grows setup buffers act old plays.0 plays.2 stands.sorted)
+    grow_both old.service plays.0.service new.service (does_grows setup buffers act old plays.0 plays.2 stands.sorted)
     (plays_grow setup buffers acts plays.0 new plays.1 plays.5 (stands_does setup buffers act old plays.0 plays.2 plays.3 stands))
 
 pub reads_grow : (setup : Setup) (buffers : List Buffer) (buffer limit : ℕ) (old new : World) → Does setup buffers (ReadAll buffer limit) old new → Stands setup old
@@ -237,7 +232,7 @@ module _ (setup : Setup) (world : World) (owned : ∥ IsOwned world ∥₁) (pla
       → stage.come + arrivals_of (place + 2) (flat_map (happened world.service) notes) ≡ last.come
   lead_arrivals [] stage last lead = let same = ap (λ (s : Stage). s.come) lead in omega (arith, same)
   lead_arrivals (Arrive other id ∷ notes) stage last lead =
-      by_match (other == (place + 2)) _ _ (stage.come + arrivals_of (place + 2) (behind (Arrive other id) notes) ≡ last.come) lead.1
+      match_either (other == (place + 2)) _ _ (stage.come + arrivals_of (place + 2) (behind (Arrive other id) notes) ≡ last.come) lead.1
       (λ same h.
       let one = arrives_one (payload_at setup place) place (writer world place) wrote.held wrote.cut world.service (learnt world (owned_itself world owned) place)
       (named world (owned_itself world owned) place) id h.2 h.3 in
@@ -256,17 +251,17 @@ module _ (setup : Setup) (world : World) (owned : ∥ IsOwned world ∥₁) (pla
   lead_arrivals (Partial other id count ∷ notes) stage last lead =
       let both = arrivals_parts (place + 2) (happened world.service (Partial other id count)) (flat_map (happened world.service) notes) in
       let none = none_of_part (place + 2) other id count (found_among (other - 2) id count world.service.looks) in
-      let rest = by_match (other == (place + 2)) _ _ (stage.come + arrivals_of (place + 2) (flat_map (happened world.service) notes) ≡ last.come) lead.1
+      let rest = match_either (other == (place + 2)) _ _ (stage.come + arrivals_of (place + 2) (flat_map (happened world.service) notes) ≡ last.come) lead.1
       (λ same h. lead_arrivals notes stage last h.3) (λ apart h. lead_arrivals notes stage last h) in
       omega (arith, both, none, rest)
   lead_arrivals (Patched other id ∷ notes) stage last lead =
       let both = arrivals_parts (place + 2) (happened world.service (Patched other id)) (flat_map (happened world.service) notes) in
       let none = none_of_patches (place + 2) other (content_at world.service other id) in
-      let rest = by_match (other == (place + 2)) _ _ (stage.come + arrivals_of (place + 2) (flat_map (happened world.service) notes) ≡ last.come) lead
+      let rest = match_either (other == (place + 2)) _ _ (stage.come + arrivals_of (place + 2) (flat_map (happened world.service) notes) ≡ last.come) lead
       (λ same h. lead_arrivals notes (record stage { due = [] }) last h.3) (λ apart h. lead_arrivals notes stage last h.1) in
       omega (arith, both, none, rest)
   lead_arrivals (Closed other ∷ notes) stage last lead =
-      by_match (other == (place + 2)) _ _ (stage.come + arrivals_of (place + 2) (flat_map (happened world.service) notes) ≡ last.come) lead.1
+      match_either (other == (place + 2)) _ _ (stage.come + arrivals_of (place + 2) (flat_map (happened world.service) notes) ≡ last.come) lead.1
       (λ same h. lead_arrivals notes (record stage { closed = true }) last h.1) (λ apart h. lead_arrivals notes stage last h)
   lead_arrivals (Read other limit ∷ notes) stage last lead = lead_arrivals notes stage last lead.1
   lead_arrivals (Commit at ∷ notes) stage last lead =

@@ -1,20 +1,19 @@
 -- A read of a buffer without limit has enough left for each of its sequences.
-use Rattle.std.proofs.Common.{◌≡◌, ◌∙◌, ℕ, zero, suc, ◌+◌, ◌-◌, ◌<◌, ◌≤◌, ◌⊎◌, Bool, true, false, List, [], ◌∷◌, ◌++◌, length, map, filter, reverse, refl, sym, ap, subst, arith, inl, inr, cond, append_assoc, length-append}
+use Rattle.std.proofs.Common.{◌≡◌, ◌∙◌, ℕ, zero, suc, ◌+◌, ◌-◌, ◌<◌, ◌≤◌, ◌⊎◌, Bool, true, false, List, [], ◌∷◌, ◌++◌, length, map, refl, sym, ap, subst, arith, inl, inr, cond, append_assoc, length-append}
 use Rattle.std.specs.Prelude.{◌==◌}
 use Rattle.std.proofs.lemmas.Bool.{cases_eq, eq-eqb, ne_eqb, eqb-true, false≢true}
-use Rattle.std.proofs.lemmas.List.{length-map, length-reverse}
-use Rattle.std.proofs.lemmas.Option.{slice_get_within}
 use Rattle.trace_base.specs.declared.policy.WriterSpec.{WriterSpec}
 use Rattle.trace_model.specs.Buffers.{Buffer}
 use Rattle.trace_model.specs.Calls.{Call, Begun, Finished, Flushed, Nested, Ended}
 use Rattle.trace_model.specs.Counts.{one_if}
-use Rattle.trace_model.specs.Packets.{Packet, packets_of, packet_encoding, emissions_of, begun_count}
+use Rattle.trace_model.specs.Packets.{begun_count}
 use Rattle.trace_model.specs.Reads.{delivered_by, with_read}
 use Rattle.trace_model.specs.History as model
 use Rattle.trace_model.specs.History.{Event, buffer_after, state_after, delivered_at, delivered_to, reads_of}
 use Rattle.trace_model.specs.Sequences.{is_known}
-use Rattle.trace_model.specs.Tells.{TellsFrom, Tells}
+use Rattle.trace_model.specs.Tells.{Tells}
 use Rattle.delivery_laws.proofs.AskLemmas.{known_after}
+use Rattle.delivery_laws.proofs.EnoughLemmas.{tells_few}
 use Rattle.scenario_text.specs.declared.scenario.NumberedLine.{NumberedLine}
 use Rattle.scenario_text.specs.declared.scenario.LineKind.{LineKind}
 use Rattle.scenario_text.specs.declared.scenario.LineKind.TheVariants as line
@@ -27,33 +26,8 @@ use Rattle.replay_model.proofs.FinishLemmas.{HasRead}
 
 -- ---- no more is delivered than was emitted
 
-tells_few : (emitted : List (List ℕ)) (sequence : ℕ) (first : Bool) (next : ℕ) (records : List (List ℕ)) → TellsFrom emitted sequence first next records → next ≤ length emitted
-    → next + length records ≤ length emitted
-tells_few emitted sequence first next [] tells low = omega (arith, low)
-tells_few emitted sequence first next (bytes ∷ records) tells low =
-    let one = tells.1 in
-    let inside = slice_get_within emitted tells.0 one.packet one.emitted_there in
-    let past = one.not_before in
-    let rest = tells_few emitted sequence false (suc tells.0) records tells.2 (omega (arith, inside)) in
-    omega (arith, rest, past)
-
 pub told_few : (emitted : List (List ℕ)) (sequence : ℕ) (records : List (List ℕ)) → Tells emitted sequence records → length records ≤ length emitted
 told_few emitted sequence records tells = let few = tells_few emitted sequence true 0 records tells (omega arith) in omega (arith, few)
-
-filter_few : (test : Packet → Bool) (packets : List Packet) → length (filter test packets) ≤ length packets
-filter_few test [] = omega arith
-filter_few test (packet ∷ packets) = step (test packet) (filter_few test packets)
-  where
-    step : (b : Bool) → length (filter test packets) ≤ length packets → length (cond b (packet ∷ filter test packets) (filter test packets)) ≤ suc (length packets)
-    step true few = omega (arith, few)
-    step false few = omega (arith, few)
-
-pub emitted_few : (calls : List Call) → length (emissions_of calls) ≤ begun_count calls
-emitted_few calls =
-    let many = length-map (filter (λ (packet : Packet). packet.finished) (reverse (packets_of calls))) packet_encoding in
-    let few = filter_few (λ (packet : Packet). packet.finished) (reverse (packets_of calls)) in
-    let long = length-reverse (packets_of calls) in
-    omega (arith, many, few, long)
 
 pub delivered_part : (q limit : ℕ) (before later : List Event) (buffer : Buffer)
     → length (delivered_by (state_after buffer before) q limit) ≤ length (delivered_to q buffer (before ++ (model.Read q limit ∷ later)))

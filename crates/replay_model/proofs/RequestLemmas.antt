@@ -13,6 +13,7 @@ use Rattle.delivery_laws.specs.FlushLaws.{IsFlushed, AreSettled}
 use Rattle.trace_model.specs.Enough.{most_chunks}
 use Rattle.trace_model.specs.Images.{Image}
 use Rattle.trace_model.specs.Packets.{Packet, packets_of, packet_encoding, is_writing, emissions_of, begun_count}
+use Rattle.trace_model.proofs.PageLemmas.{images_long}
 use Rattle.model_laws.specs.Losses.{HasShapeOf}
 use Rattle.model_laws.proofs.ChunkCountLemmas.{every_page_is_counted}
 use Rattle.model_laws.proofs.LossLemmas.{losses_change_no_shape}
@@ -25,7 +26,6 @@ use Rattle.chunk_plain.specs.Owned.{IsOwned, held_count}
 use Rattle.chunk_plain.specs.Histories.{completed_images, history_of}
 use Rattle.chunk_plain.proofs.MadeLemmas.{first_owned}
 use Rattle.world_model.specs.FirstBuffers.{payload_at}
-use Rattle.world_model.proofs.OwnLemmas.{images_long}
 use Rattle.scenario_text.specs.declared.scenario.NumberedLine.{NumberedLine}
 use Rattle.scenario_text.specs.declared.scenario.LineKind.{LineKind}
 use Rattle.scenario_text.specs.declared.scenario.LineKind.TheVariants as line

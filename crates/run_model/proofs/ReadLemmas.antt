@@ -13,7 +13,7 @@ use Rattle.chunk_plain.specs.Histories.{happened, history_of}
 use Rattle.service_core.specs.Reading.{reads_in, noted_read, sequences_to}
 use Rattle.service_core.specs.Routing.{buffer_at}
 use Rattle.service_core.specs.Taking.{noted_more}
-use Rattle.replay_model.proofs.PhaseLemmas.{AreReads, are_reads_append, reads_are_reads}
+use Rattle.replay_model.proofs.PhaseLemmas.{AreReads, are_reads_append, reads_are_reads, reads_happen}
 use Rattle.run_model.specs.Settled.{ReadsTo}
 
 -- ---- the history behind more notes
@@ -31,15 +31,6 @@ all_happened_same view notes [] = refl
 all_happened_same view notes (note ∷ some) =
     ap (λ (events : List Event). events ++ flat_map (happened (noted_more view notes)) some) (happened_same view notes note)
     ∙ ap (λ (events : List Event). happened view note ++ events) (all_happened_same view notes some)
-
-reads_happen : (view : ServiceView) (reads : List Event) → AreReads reads → flat_map (happened view) (flat_map noted_read reads) ≡ reads
-reads_happen view [] are = refl
-reads_happen view (model.Read sequence limit ∷ reads) are = ap (λ (events : List Event). model.Read sequence limit ∷ events) (reads_happen view reads are)
-reads_happen view (model.Arrives sequence chunk_id chunk ∷ reads) are = absurd are
-reads_happen view (model.ArrivesInPart sequence chunk_id chunk ∷ reads) are = absurd are
-reads_happen view (model.Patched sequence patches ∷ reads) are = absurd are
-reads_happen view (model.Committed image patches ∷ reads) are = absurd are
-reads_happen view (model.Closed sequence ∷ reads) are = absurd are
 
 pub history_read : (view : ServiceView) (reads : List Event) → AreReads reads → history_of (noted_more view (flat_map noted_read reads)) ≡ history_of view ++ reads
 history_read view reads are =

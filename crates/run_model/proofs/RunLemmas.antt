@@ -1,10 +1,8 @@
 -- What a run's writers wrote and its service noted: an account of each sequence.
-use Rattle.std.proofs.Common.{◌≡◌, ◌∙◌, ℕ, suc, ◌+◌, ◌<◌, ◌≤◌, false, All, List, [], ◌∷◌, length, Some, refl, sym, ap, subst, arith}
+use Rattle.std.proofs.Common.{◌≡◌, ◌∙◌, ℕ, suc, ◌+◌, ◌<◌, false, List, [], length, Some, refl, sym, ap, subst, arith}
 use Rattle.std.specs.Prelude.{slice_get}
-use Rattle.std.specs.List.{AllByRecursion, AllZip}
-use Rattle.std.proofs.lemmas.List.Elements.{All-nil, All-cons}
 use Rattle.std.proofs.lemmas.Option.{slice_get_within}
-use Rattle.trace_base.specs.declared.limits.TheConstants.{MAX_PAGES}
+use Rattle.std.proofs.lemmas.Slice.Zip.{AllZip-long}
 use Rattle.trace_base.specs.declared.policy.WriterPolicy.{WriterPolicy}
 use Rattle.trace_base.specs.declared.policy.WriterPolicy.TheVariants.{Drops, Stalls}
 use Rattle.trace_base.specs.declared.policy.WriterSpec.{WriterSpec}
@@ -14,7 +12,6 @@ use Rattle.model_laws.specs.Losses.{HasShapeOf}
 use Rattle.model_laws.proofs.LossLemmas.{losses_change_no_shape}
 use Rattle.delivery_laws.specs.Orders as orders
 use Rattle.delivery_laws.specs.WriterSheets.{sheets_of}
-use Rattle.chunk_plain.specs.declared.setup.ProducerSpec.{ProducerSpec}
 use Rattle.chunk_plain.specs.Setup.{Setup, IsLaid, sequence_of}
 use Rattle.chunk_plain.specs.World.{World, writer}
 use Rattle.chunk_plain.specs.Histories.{history_of}
@@ -22,47 +19,25 @@ use Rattle.chunk_plain.proofs.LayingLemmas.{setup_laid}
 use Rattle.world_model.specs.FirstBuffers.{payload_at}
 use Rattle.world_model.specs.Accounts.{all_images, InOrder}
 use Rattle.world_model.proofs.FaithfulLemmas.{order_events}
-use Rattle.scenario_text.specs.declared.scenario.ProducerLine.{ProducerLine}
 use Rattle.scenario_text.specs.Scenario.{Parts}
 use Rattle.scenario_text.specs.Accepted.{calls_asked}
-use Rattle.scenario_text.specs.Limits.{IsProducer, IsSetUp}
+use Rattle.scenario_text.specs.Limits.{IsSetUp}
 use Rattle.service_core.specs.Agreement.{spec_at}
 use Rattle.replay_model.specs.Played.{IsSpecOf, IsSetupOf}
 use Rattle.replay_model.specs.Written.{HasWritten}
 use Rattle.replay_model.proofs.DoneLemmas.{IsDone}
 use Rattle.replay_model.proofs.OwnedLemmas.{named, learnt, finds, in_order}
 use Rattle.replay_model.proofs.PlayedLemmas.{setup_writers}
+use Rattle.replay_model.proofs.SpecLemmas.{some_page, few_pages}
 use Rattle.schedule_laws.proofs.BetweenLemmas.{has_written}
 use Rattle.run_model.specs.Settled.{IsRun}
 
 -- ---- the set-up
 
-specs_long : (lines : List ProducerLine) (specs : List ProducerSpec) → AllZip IsSpecOf lines specs → length specs ≡ length lines
-specs_long [] [] made = refl
-specs_long [] (spec ∷ specs) made = absurd made
-specs_long (line ∷ lines) [] made = absurd made
-specs_long (line ∷ lines) (spec ∷ specs) made = ap suc (specs_long lines specs made.1)
-
-some_page : (lines : List ProducerLine) (specs : List ProducerSpec) → AllByRecursion IsProducer lines → AllZip IsSpecOf lines specs
-    → All (λ (spec : ProducerSpec). 1 ≤ spec.pages) specs
-some_page [] [] are made = All-nil (λ (spec : ProducerSpec). 1 ≤ spec.pages)
-some_page [] (spec ∷ specs) are made = absurd made
-some_page (line ∷ lines) [] are made = absurd made
-some_page (line ∷ lines) (spec ∷ specs) are made =
-    All-cons (λ (one : ProducerSpec). 1 ≤ one.pages) spec specs (subst (λ (n : ℕ). 1 ≤ n) (sym made.0.pages) are.0.some_pages) (some_page lines specs are.1 made.1)
-
-few_pages : (lines : List ProducerLine) (specs : List ProducerSpec) → AllByRecursion IsProducer lines → AllZip IsSpecOf lines specs
-    → All (λ (spec : ProducerSpec). spec.pages ≤ MAX_PAGES) specs
-few_pages [] [] are made = All-nil (λ (spec : ProducerSpec). spec.pages ≤ MAX_PAGES)
-few_pages [] (spec ∷ specs) are made = absurd made
-few_pages (line ∷ lines) [] are made = absurd made
-few_pages (line ∷ lines) (spec ∷ specs) are made =
-    All-cons (λ (one : ProducerSpec). one.pages ≤ MAX_PAGES) spec specs (subst (λ (n : ℕ). n ≤ MAX_PAGES) (sym made.0.pages) are.0.few_pages) (few_pages lines specs are.1 made.1)
-
 -- within its limits a scenario's set-up is laid out
 pub laid_out : (scenario : Parts) (setup : Setup) → IsSetupOf scenario setup → IsSetUp scenario.buffers scenario.producers scenario.writers → IsLaid setup
 laid_out scenario setup is set_up =
-    let long = specs_long scenario.producers is.specs is.made in
+    let long = AllZip-long IsSpecOf scenario.producers is.specs is.made in
     let few = set_up.few_producers in
     subst IsLaid (sym is.laid)
     (setup_laid is.specs scenario.writers (omega (arith, long, few)) (some_page scenario.producers is.specs set_up.are_producers is.made)

@@ -18,26 +18,10 @@ use Rattle.field_tree.specs.Nodes.{Shown, IsField}
 use Rattle.emitted_packets.specs.declared.emitter.Emitter.{Emitter}
 use Rattle.emitted_packets.proofs.EmitLemmas.{begun_on, flushed_on}
 use Rattle.scenario_text.specs.Accepted.{node_call, Accepts, AreAccepted}
+use Rattle.scenario_text.proofs.AcceptedFields.{accepted_front, accepted_back}
 use Rattle.scenario_check.specs.Progress.{Holds, MayTake, Takes}
 
--- a fact that follows, where a call went well
-pub on_ok : {A E : Type 0} (r : Result A E) (P Q : Type 0) → (P → Q) → OnOk r P → OnOk r Q
-on_ok (Ok done) P Q follows fact = follows fact
-on_ok (Err fault) P Q follows fact = tt
-
 -- ---- one call behind another
-
-accepted_both : (account : Account) (calls more : List Call) → AreAccepted account (calls ++ more)
-    → AreAccepted account calls × AreAccepted (fold noted account calls) more
-accepted_both account [] more all = (tt, all)
-accepted_both account (call ∷ calls) more all =
-    let both = accepted_both (noted account call) calls more all.1 in ((all.0, both.0), both.1)
-
-pub accepted_front : (account : Account) (calls more : List Call) → AreAccepted account (calls ++ more) → AreAccepted account calls
-accepted_front account calls more all = (accepted_both account calls more all).0
-
-pub accepted_back : (account : Account) (calls more : List Call) → AreAccepted account (calls ++ more) → AreAccepted (fold noted account calls) more
-accepted_back account calls more all = (accepted_both account calls more all).1
 
 pub may_front : (calls more : List Call) (some others : ℕ) (old : Emitter) → MayTake (calls ++ more) (some + others) old → MayTake calls some old
 may_front calls more some others old may = record {

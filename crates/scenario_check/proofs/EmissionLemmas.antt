@@ -1,10 +1,11 @@
 -- The emissions of all writers of a scenario.
-use Rattle.std.proofs.Common.{◌≡◌, ◌∙◌, ℕ, zero, suc, ◌+◌, ◌<◌, ◌≤◌, List, [], ◌∷◌, Some, length, refl, sym, ap, subst, arith}
+use Rattle.std.proofs.Common.{◌≡◌, ◌∙◌, ℕ, zero, suc, ◌+◌, ◌≤◌, List, [], ◌∷◌, Some, length, refl, sym, ap, subst, arith}
 use Rattle.std.specs.Prelude.{slice_get}
 use Rattle.trace_base.specs.declared.limits.TheConstants.{MAX_WRITERS}
 use Rattle.trace_model.specs.Packets.{nothing_yet}
 use Rattle.emitted_packets.specs.declared.emitter.Emitter.{Emitter}
 use Rattle.trace_base.specs.declared.policy.WriterSpec.{WriterSpec}
+use Rattle.trace_base.proofs.Lists.{some_there}
 use Rattle.scenario_text.specs.declared.scenario.NumberedLine.{NumberedLine}
 use Rattle.scenario_text.specs.declared.scenario.Scenario.{Scenario}
 use Rattle.scenario_text.specs.Accepted.{calls_asked, AreAccepted}
@@ -75,11 +76,6 @@ scenario_may scenario is = record {
   short = (scenario_is_short scenario is).short;
 }
   where
-    some_there : {A : Type 0} (xs : List A) (place : ℕ) → place < length xs → (x : A) × (slice_get xs place ≡ Some x)
-    some_there [] place inside = absurd (omega (arith, inside))
-    some_there (x ∷ xs) zero inside = (x, refl)
-    some_there (x ∷ xs) (suc place) inside = some_there xs place (omega (arith, inside))
-
     accepted_at : (place : ℕ) → (writer : WriterSpec) × (slice_get scenario.writers.items place ≡ Some writer)
         → AreAccepted nothing_yet (calls_asked (place + 1) scenario.lines)
     accepted_at place (writer, there) = (scenario_is_accepted scenario is place writer there).accepted

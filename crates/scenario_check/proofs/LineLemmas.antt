@@ -16,9 +16,10 @@ use Rattle.scenario_text.specs.Accepted.{line_calls, named_calls, calls_asked, A
 use Rattle.scenario_text.specs.Lengths.{line_len}
 use Rattle.scenario_text.proofs.AcceptedLemmas.{calls_more}
 use Rattle.scenario_text.proofs.ShortLemmas.{lines_push}
+use Rattle.scenario_text.proofs.AcceptedFields.{accepted_front, accepted_back}
 use Rattle.scenario_check.specs.Progress.{Holds, MayTake, Takes, named_writer, HasTaken, HaveTaken, MayCome}
 use Rattle.scenario_check.proofs.AskedLemmas.{push_there}
-use Rattle.scenario_check.proofs.CallLemmas.{accepted_front, accepted_back, split_there}
+use Rattle.scenario_check.proofs.CallLemmas.{split_there}
 
 -- ---- what a line asks
 

@@ -24,6 +24,15 @@ pub accepted_both : (account : Account) (calls more : List Call) → AreAccepted
 accepted_both account [] more first then = then
 accepted_both account (call ∷ calls) more first then = (first.0, accepted_both (noted account call) calls more first.1 then)
 
+-- and of accepted calls those in front are, and those behind them
+pub accepted_front : (account : Account) (calls more : List Call) → AreAccepted account (calls ++ more) → AreAccepted account calls
+accepted_front account [] more all = tt
+accepted_front account (call ∷ calls) more all = (all.0, accepted_front (noted account call) calls more all.1)
+
+pub accepted_back : (account : Account) (calls more : List Call) → AreAccepted account (calls ++ more) → AreAccepted (fold noted account calls) more
+accepted_back account [] more all = all
+accepted_back account (call ∷ calls) more all = accepted_back (noted account call) calls more all.1
+
 -- the nodes of a tree are called as the tree is
 pub called_as : (fields : Fields) → map node_call (nodes_of fields) ≡ calls_of fields
 unfolding node_call

@@ -28,7 +28,7 @@ use Rattle.trace_writer.specs.Laws.{IsHeldImage}
 use Rattle.trace_writer.specs.OwnSteps.{NoneHeld}
 use Rattle.trace_writer.specs.Outcomes.{held_images, held_patches}
 use Rattle.trace_writer.specs.Site.{Site, site_of, IsRoute}
-use Rattle.trace_writer.proofs.accounts.CutLaws.{agreeing_is_cut}
+use Rattle.trace_writer.proofs.accounts.CutLaws.{agreeing_is_cut, images_held}
 use Rattle.trace_writer.proofs.holding.HeldLaws.{held_is_published}
 use Rattle.trace_writer.proofs.holding.KeptChunks.{shown_none_held}
 use Rattle.service_core.specs.OrderLaws.{HasImages}
@@ -56,11 +56,6 @@ completed_long : (begun : List BegunChunk) → NoneHeld begun → length (comple
 completed_long [] none = refl
 completed_long (Held other draft ∷ begun) none = absurd none
 completed_long (Completed other one ∷ begun) none = ap suc (completed_long begun none)
-
-front_images : (front : List BegunChunk) (chunk : ℕ) (draft : Draft) → completed_images (front ++ Held chunk draft ∷ []) ≡ completed_images front
-front_images [] chunk draft = refl
-front_images (Held other one ∷ front) chunk draft = front_images front chunk draft
-front_images (Completed other one ∷ front) chunk draft = ap (λ (images : List Image). one.image ∷ images) (front_images front chunk draft)
 
 -- ---- what a writer holds
 
@@ -148,7 +143,7 @@ module _ (view : WriterView) (held : List Image) (small : (id : ℕ) (image : Im
     images_are : all_images view held ≡ completed_images last.front ++ image ∷ []
     images_are =
         ap (λ (begun : List BegunChunk). completed_images begun ++ held) last.begun_is
-        ∙ ap (λ (images : List Image). images ++ held) (front_images last.front last.chunk last.draft)
+        ∙ ap (λ (images : List Image). images ++ held) (images_held last.front last.chunk last.draft)
         ∙ ap (λ (images : List Image). completed_images last.front ++ images) held_is
 
     -- and a chunk is one of the front, or the last one
@@ -194,7 +189,7 @@ begun_long begun held (inr some) =
     let long = ap (λ (bs : List BegunChunk). length bs) last.begun_is in
     let both = length-append last.front (Held last.chunk last.draft ∷ []) in
     let images = ap (λ (bs : List BegunChunk). length (completed_images bs)) last.begun_is in
-    let front = ap (λ (images : List Image). length images) (front_images last.front last.chunk last.draft) in
+    let front = ap (λ (images : List Image). length images) (images_held last.front last.chunk last.draft) in
     let completed = completed_long last.front last.none in
     let one = ap (λ (images : List Image). length images) some.1 in
     omega (arith, long, both, images, front, completed, one)

@@ -1,5 +1,5 @@
 -- The bytes of a packet, written fragment by fragment.
-use Rattle.std.proofs.Common.{◌≡◌, ℕ, ◌+◌, ◌-◌, ◌≤◌, ◌&&◌, ◌||◌, not, Bool, true, false, cond, List, [], ◌∷◌, ◌++◌, length, refl, sym, ap, ◌∙◌, subst, arith, append_assoc, length-append, OnOk, OnErr, Result, Ok, Err, true≢false}
+use Rattle.std.proofs.Common.{◌≡◌, ℕ, ◌+◌, ◌-◌, ◌≤◌, ◌&&◌, ◌||◌, not, Bool, true, false, cond, List, [], ◌∷◌, ◌++◌, length, refl, sym, ap, ◌∙◌, subst, arith, append_assoc, length-append, OnErr, Result, Ok, Err, true≢false}
 use Rattle.byte_io.specs.Bytes.{Intake, after_told, TakesPart}
 use Rattle.byte_io.proofs.Told.{after_told_again, after_told_nothing, part_first, part_second}
 use Rattle.trace_model.specs.Buffers.{Buffer}
@@ -158,10 +158,6 @@ pub first_long : (links : List Link) (len : ℕ) → IsWholeAt links len → len
 first_long links len whole = ap (λ ls. length (first_bytes ls)) whole.links_are ∙ whole.long
 
 -- Facts for one answer
-
-pub on_ok : {T E : Type 0} (r : Result T E) (P Q : Type 0) → (P → Q) → OnOk r P → OnOk r Q
-on_ok (Ok value) P Q then holds = then holds
-on_ok (Err fault) P Q then holds = tt
 
 pub on_err : {T E : Type 0} (r : Result T E) (P : Type 0) → P → OnErr r P
 on_err (Ok value) P holds = tt

@@ -5,7 +5,7 @@ use Rattle.std.specs.List.{flat_map}
 use Rattle.std.specs.Coded.{le_prop}
 use Rattle.std.proofs.Math.Logic.{∥∥₁_elim}
 use Rattle.std.proofs.Math.Nat.{ℕ_set}
-use Rattle.std.proofs.lemmas.Bool.{cases_eq}
+use Rattle.std.proofs.lemmas.Bool.{cases_eq, lt-ltb}
 use Rattle.std.proofs.lemmas.Bool.Decides.{nat_tests}
 use Rattle.std.proofs.lemmas.Grind.{flat_map-append}
 use mathlib.Core.List.{is_set as list_set}
@@ -60,16 +60,13 @@ header_is : (setup : Setup) (header : ChunkHeader) (place id : ℕ) (draft : Dra
 header_is setup header place id draft ranges is =
     sym (unpacked-packed header ranges.word.id ranges.word.writer ranges.count ranges.flags) ∙ header_reads setup (packed header) place id draft.head is
 
-lt_true : (m n : ℕ) → m < n → nat_lt m n ≡ true
-lt_true m n low = grind (arith, nat_tests)
-
 lt_is : (m n : ℕ) → nat_lt m n ≡ true → m < n
 lt_is m n test = grind (arith, nat_tests)
 
 entry_notes : (place id finished chunk : ℕ) (draft : Draft) → draft.head.count ≡ finished + 1 → 1 ≤ finished
     → part_of_entry place id (Held chunk draft) ≡ Partial (place + 2) id finished ∷ []
 entry_notes place id finished chunk draft count some =
-    ap (λ (b : Bool). cond b (Partial (place + 2) id (draft.head.count - 1) ∷ []) []) (lt_true 1 draft.head.count (omega (arith, count, some)))
+    ap (λ (b : Bool). cond b (Partial (place + 2) id (draft.head.count - 1) ∷ []) []) (lt-ltb 1 draft.head.count (omega (arith, count, some)))
     ∙ ap (λ (n : ℕ). Partial (place + 2) id n ∷ []) (let one : draft.head.count - 1 ≡ finished = omega (arith, count) in one)
 
 -- what a look found of the writer's next chunk is what it holds

@@ -7,6 +7,7 @@ use Rattle.trace_base.specs.declared.policy.WriterSpec.{WriterSpec}
 use Rattle.trace_model.specs.Calls.{Flushed}
 use Rattle.trace_model.specs.Packets.{packets_of, lost_count}
 use Rattle.model_laws.specs.Losses.{Loses, written_calls}
+use Rattle.model_laws.proofs.LossLemmas.{written_append}
 use Rattle.chunk_plain.specs.Owned.{held_count}
 use Rattle.chunk_plain.specs.Setup.{Setup, producer_of}
 use Rattle.chunk_plain.specs.Views.{Ask, WriterView}
@@ -24,7 +25,7 @@ use Rattle.scenario_text.specs.declared.scenario.NumberedLine.{NumberedLine}
 use Rattle.scenario_text.specs.Accepted.{calls_asked}
 use Rattle.service_core.specs.Agreement.{spec_at}
 use Rattle.replay_model.proofs.ScrapedLemmas.{counted}
-use Rattle.replay_host.proofs.ReadyLemmas.{between_is, written_append}
+use Rattle.replay_host.proofs.ReadyLemmas.{between_is}
 use Rattle.replay_host.proofs.WroteLemmas.{begun_many}
 use Rattle.run_model.specs.Noted.{done_calls}
 use Rattle.run_model.specs.Vain.{LosesInVain}

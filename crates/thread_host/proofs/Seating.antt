@@ -42,10 +42,6 @@ pub left_first : {A : Type 0} (xs ys : List A) (x : A) → 0 < length xs → x �
 left_first [] ys x some is rest = absurd (omega (arith, some))
 left_first (y ∷ xs) ys x some is rest = let first : y ≡ x = sym is in let others : xs ≡ ys = sym rest in cc
 
-pub get_seam : {A : Type 0} (xs ys : List A) (x : A) → slice_get (xs ++ x ∷ ys) (length xs) ≡ Some x
-get_seam [] ys x = refl
-get_seam (z ∷ xs) ys x = get_seam xs ys x
-
 -- ---- the service, of which nothing changed but its seat
 
 pub only_both : (old mid new : ServiceCore ServiceSeat) → IsOnlySeat old mid → IsOnlySeat mid new → IsOnlySeat old new

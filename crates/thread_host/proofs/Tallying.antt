@@ -24,9 +24,9 @@ use Rattle.service_core.specs.Agreement.{first_of, buffer_of, spec_at, spec_valu
 use Rattle.service_core.specs.Routing.{buffer_at}
 use Rattle.service_core.proofs.RouteLemmas.{length_after}
 use Rattle.replay_model.specs.Played.{IsSetupOf, buffers_of, buffers_in as buffers_of_world, packet_counts, printed, report_of, AreBalanced}
-use Rattle.replay_model.proofs.BalanceLemmas.{count_at}
+use Rattle.replay_model.proofs.BalanceLemmas.{count_at, first_long}
 use Rattle.replay_model.proofs.PlayedLemmas.{setup_writers}
-use Rattle.replay_host.proofs.CountingLemmas.{left_is, map_each, counts_long, first_long, left_in}
+use Rattle.replay_host.proofs.CountingLemmas.{left_is, map_each, counts_long, left_in}
 use Rattle.thread_service.specs.declared.service.Service.{Service}
 use Rattle.thread_service.specs.Serving.{core_of, view_in}
 use Rattle.thread_host.specs.Counting.{buffers_in, packets_in}

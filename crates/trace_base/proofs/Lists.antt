@@ -22,6 +22,12 @@ pub get_seam : {A : Type 0} (xs ys : List A) (y : A) → slice_get (xs ++ y ∷ 
 get_seam [] ys y = refl
 get_seam (x ∷ xs) ys y = get_seam xs ys y
 
+-- something stands at each place inside a list
+pub some_there : {A : Type 0} (xs : List A) (i : ℕ) → i < length xs → (x : A) × (slice_get xs i ≡ Some x)
+some_there [] i inside = absurd (omega (arith, inside))
+some_there (x ∷ xs) zero inside = (x, refl)
+some_there (x ∷ xs) (suc i) inside = some_there xs i (omega (arith, inside))
+
 -- where one is left in front there was one more
 pub one_left : {A : Type 0} (k : ℕ) (xs : List A) (x : A) (rest : List A) → drop k xs ≡ x ∷ rest → (drop (suc k) xs ≡ rest) × (k < length xs)
 one_left {A} k [] x rest e = absurd (none k e)

@@ -7,7 +7,7 @@ use Rattle.wire_varint.proofs.Varints.{redundant_is_varint}
 use Rattle.wire_varint.proofs.Lengths.{length-redundant}
 use Rattle.trace_model.specs.Images.{Fragment, Patch, patched_last}
 use Rattle.trace_model.specs.Fragments.{drop_mark, drop_size, IsSize, ReadsOne, ReadsFrom}
-use Rattle.trace_model.specs.Pages.{framed, laid, fragments_from}
+use Rattle.trace_model.specs.Pages.{framed, laid, fragments_from, Page, images_from}
 use Rattle.trace_model.specs.Written.{settled_fragments}
 use Rattle.trace_model.specs.ReadingLaws.{PagesReadAsWritten}
 
@@ -97,3 +97,8 @@ pub fragments_long : (at : ℕ) (dropped : Bool) (fragments : List (List ℕ)) �
 fragments_long at dropped [] = refl
 fragments_long at dropped (bytes ∷ []) = refl
 fragments_long at dropped (bytes ∷ next ∷ others) = ap suc (fragments_long (at + length bytes + 4) dropped (next ∷ others))
+
+-- each page has one image
+pub images_long : (sequence chunk_id : ℕ) (pages : List Page) → length (images_from sequence chunk_id pages) ≡ length pages
+images_long sequence chunk_id [] = refl
+images_long sequence chunk_id (page ∷ pages) = ap suc (images_long sequence (suc chunk_id) pages)

@@ -11,7 +11,7 @@ use Rattle.trace_model.specs.Pages.{Page, laid, flag_where, flags_of, image_of, 
 use Rattle.trace_model.specs.Cut.{IsWellFormedPage, last_runs_on}
 use Rattle.trace_model.specs.Reading.{Fragments, reading_of}
 use Rattle.trace_model.specs.History as model
-use Rattle.trace_model.proofs.PageLemmas.{pages_read_as_written, fragments_long}
+use Rattle.trace_model.proofs.PageLemmas.{pages_read_as_written, fragments_long, images_long}
 use Rattle.trace_model.proofs.ReadsAsLemmas.{reading_is_exact}
 use Rattle.delivery_laws.specs.WriterSheets.{sheet_of, sheets_from}
 use Rattle.chunk_plain.specs.Views.{At, Content, BegunChunk, Held, Completed, WriterView}
@@ -60,10 +60,6 @@ image_at q first (page ∷ pages) (suc i) image e =
     let h = image_at q (suc first) pages i image e in
     let at : suc first + i ≡ first + suc i = omega arith in
     record { page = h.page; get = h.get; is = h.is ∙ ap (λ (n : ℕ). image_of q n h.page) at }
-
-pub images_long : (q first : ℕ) (pages : List Page) → length (images_from q first pages) ≡ length pages
-images_long q first [] = refl
-images_long q first (page ∷ pages) = ap suc (images_long q (suc first) pages)
 
 patches_at : (pages : List Page) (i : ℕ) (page : Page) (patches : List Patch) → slice_get pages i ≡ Some page
     → slice_get (map (λ (p : Page). p.patches) pages) i ≡ Some patches → patches ≡ page.patches

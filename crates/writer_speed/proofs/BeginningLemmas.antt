@@ -1,9 +1,6 @@
 -- A writer as it begins, at a table of one page that nobody has used.
-use Rattle.std.proofs.Common.{◌≡◌, ◌∙◌, ℕ, zero, suc, ◌<◌, Some, List, [], ◌∷◌, ◌++◌, length, Option, slice_get, get_or, unwrap_or, refl, sym, ap, subst, arith}
+use Rattle.std.proofs.Common.{◌≡◌, ◌∙◌, ℕ, ◌<◌, Some, List, [], ◌∷◌, Option, slice_get, unwrap_or, refl, sym, ap, subst, arith}
 use Rattle.std.proofs.lemmas.List.{get_or_append_left}
-use Rattle.std.proofs.Math.Seq.{get_or-append_seam}
-use native.Mathlib.Decide.{dec_le}
-use mathlib.Core.Logic.{dite}
 use Rattle.trace_base.specs.declared.policy.WriterSpec.{WriterSpec}
 use Rattle.trace_base.specs.declared.policy.WriterPolicy.TheVariants.{Drops}
 use Rattle.page_geometry.specs.Sizes.{payload_size}
@@ -11,28 +8,16 @@ use Rattle.page_geometry.specs.declared.geometry.Geometry.{Geometry}
 use Rattle.chunk_plain.specs.declared.setup.ProducerSpec.{ProducerSpec}
 use Rattle.chunk_plain.specs.declared.setup.Spot.{Spot}
 use Rattle.chunk_plain.specs.Setup.{Setup, no_spot, spot, range_of, producer_of, HasProducer, IsChunkOf}
-use Rattle.chunk_plain.specs.Laying.{setup_of, page_spots, spot_at}
+use Rattle.chunk_plain.specs.Laying.{setup_of, page_spots}
 use Rattle.chunk_plain.specs.Views.{WriterView, newcomer}
 use Rattle.chunk_plain.specs.World.{World, writer}
 use Rattle.chunk_plain.specs.Plain.{first_world}
 use Rattle.chunk_plain.specs.declared.plain_seats.PlainWriter.{PlainWriter}
-use Rattle.chunk_plain.proofs.LayingLemmas.{length-page_spots}
+use Rattle.chunk_plain.proofs.LayingLemmas.{length-page_spots, page_sized}
 use Rattle.claim_arbiter.specs.declared.arbiter.Arbiter.{Arbiter}
 use Rattle.claim_arbiter.specs.Claiming.{range_in}
 use Rattle.trace_writer.specs.declared.writer.WriterCore.{WriterCore}
 use Rattle.trace_writer.specs.Core.{CoreAgrees, route_of}
-
--- the chunks of a page have one size
-page_payload : (page : ℕ) (geometry : Geometry) (n c : ℕ) → c < n → (get_or (page_spots page geometry n) c no_spot).payload_size ≡ payload_size geometry.page_size geometry.chunks
-page_payload page geometry zero c below = absurd (omega (arith, below))
-page_payload page geometry (suc n) c below =
-    let new = spot_at page n geometry in
-    let earlier = page_spots page geometry n in
-    let long = length-page_spots page geometry n in
-    dite (dec_le (suc c) n)
-    (λ less. ap (λ (s : Spot). s.payload_size) (get_or_append_left earlier (new ∷ []) no_spot c (omega (arith, long, less))) ∙ page_payload page geometry n c less)
-    (λ not_less. let same : c ≡ length earlier = omega (arith, long, not_less, below) in
-    ap (λ (i : ℕ). (get_or (earlier ++ new ∷ []) i no_spot).payload_size) same ∙ ap (λ (s : Spot). s.payload_size) (get_or-append_seam earlier new [] no_spot))
 
 abbrev pub one_page : Geometry → List ProducerSpec
 one_page geometry = record { pages = 1; geometry = geometry } ∷ []
@@ -49,7 +34,7 @@ fresh_payload geometry chunk inside =
     let one = page_spots 0 geometry geometry.chunks in
     let below : chunk < geometry.chunks = (let b = inside.below in omega (arith, b)) in
     ap (λ (s : Spot). s.payload_size) (get_or_append_left one [] no_spot chunk (let long = length-page_spots 0 geometry geometry.chunks in omega (arith, long, below)))
-    ∙ page_payload 0 geometry geometry.chunks chunk below
+    ∙ page_sized 0 geometry geometry.chunks chunk below
 
 pub first_agrees : (setup : Setup) (world : World) (geometry : Geometry) (arbiter : Arbiter) (core : WriterCore PlainWriter)
     → setup ≡ fresh_setup geometry → world ≡ first_world (fresh_setup geometry) → range_of setup 1 ≡ range_in arbiter

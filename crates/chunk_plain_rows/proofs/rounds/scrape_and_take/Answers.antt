@@ -1,9 +1,9 @@
-use Rattle.std.proofs.Common.{◌≡◌, ℕ, ◌+◌, ◌-◌, ◌<◌, ◌≤◌, ◌∙◌, length, subst, sym, ap, refl, arith, None}
+use Rattle.std.proofs.Common.{ℕ, ◌-◌, ◌<◌, ◌∙◌, length, subst, sym, ap, refl, arith, None}
 use Rattle.page_geometry.specs.Header.{packed}
 use Rattle.chunk_plain.specs.Setup.{Setup, spot}
 use Rattle.chunk_plain.specs.Words.{KeepsSealed, taken_content}
 use Rattle.chunk_plain.proofs.Holding.{takes_reads}
-use Rattle.chunk_plain_rows.proofs.TestFragments.{chunk_inside}
+use Rattle.chunk_plain.proofs.LayingLemmas.{chunk_inside}
 use Rattle.chunk_plain_rows.proofs.rounds.scrape_and_take.Goals as goal
 
 pub finish-requires-clause-sealed : goal.finish-requires-clause-sealed

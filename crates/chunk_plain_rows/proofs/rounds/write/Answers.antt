@@ -1,4 +1,4 @@
-use Rattle.std.proofs.Common.{◌≡◌, ℕ, ◌+◌, ◌<◌, ◌≤◌, ◌∙◌, length, vec_len, subst, sym, ap, refl, arith}
+use Rattle.std.proofs.Common.{◌≡◌, ℕ, ◌<◌, ◌≤◌, ◌∙◌, length, vec_len, subst, sym, ap, refl, arith}
 use Rattle.chunk_plain.specs.declared.tokens.Held.{Held as HeldToken}
 use Rattle.chunk_plain.specs.Setup.{spot}
 use Rattle.chunk_plain.specs.Payload.{byte_at, byte_in, sealed_to, HasFragments}
@@ -8,7 +8,8 @@ use Rattle.chunk_plain.specs.Drafts.{draft_at, head_at, published, ends_by, IsHo
 use Rattle.chunk_plain.specs.Words.{HasClaimed, KeepsSealed}
 use Rattle.chunk_plain.proofs.Holding.{claims_has, begins_holds, redrafts_holds, redrafts_draft, published_more}
 use Rattle.chunk_plain.proofs.SeatSteps.{steps_follow}
-use Rattle.chunk_plain_rows.proofs.TestFragments.{short_fragment, chunk_inside}
+use Rattle.chunk_plain.proofs.LayingLemmas.{chunk_inside}
+use Rattle.chunk_plain_rows.proofs.TestFragments.{short_fragment}
 use Rattle.chunk_plain_rows.proofs.rounds.write.Goals as goal
 
 pub begin-held-requires-clause-claimed : goal.begin-held-requires-clause-claimed

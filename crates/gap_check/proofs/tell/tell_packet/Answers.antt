@@ -2,9 +2,10 @@ use Rattle.std.proofs.Common.{◌≡◌, ◌∙◌, ◌-◌, ◌<◌, ℕ, List,
 use Rattle.std.specs.Prelude.{slice_get}
 use Rattle.trace_model.specs.Delivery.{Delivered, sequence_of}
 use Rattle.gap_check.specs.Taken.{HasTaken}
-use Rattle.gap_check.proofs.TakenLemmas.{some_there, none_untold, said_told, said_untold}
+use Rattle.gap_check.proofs.TakenLemmas.{none_untold, said_told, said_untold}
 use Rattle.gap_check.proofs.tell.tell_packet.Goals as goal
 use Rattle.std.proofs.lemmas.Option.{slice_get-get_or}
+use Rattle.trace_base.proofs.Lists.{some_there}
 
 pub tell-requires-clause-ready : goal.tell-requires-clause-ready
 tell-requires-clause-ready c =

@@ -1,11 +1,11 @@
 use Rattle.std.proofs.Common.{◌≡◌, ◌+◌, ◌-◌, ◌<◌, ◌⊎◌, ℕ, length, get_or, Some, inl, inr, arith}
 use Rattle.std.specs.Prelude.{slice_get}
 use Rattle.std.proofs.lemmas.Option.{slice_get-get_or}
+use Rattle.trace_base.proofs.Choices.{on_ok}
 use Rattle.emitted_packets.specs.declared.emitter.Emitter.{Emitter}
 use Rattle.scenario_text.specs.Accepted.{named_calls}
 use Rattle.scenario_text.specs.Lengths.{line_len}
 use Rattle.scenario_check.specs.Progress.{Takes, named_writer}
-use Rattle.scenario_check.proofs.CallLemmas.{on_ok}
 use Rattle.scenario_check.proofs.LineLemmas.{line_may, all_own, all_other}
 use Rattle.scenario_check.proofs.collect.take_line.Goals as goal
 use Rattle.scenario_check.proofs.collect.take_line.Goals.{then-writer-eq0-via-then-writer-eq0, then-writer-eq0-via-else-writer-eq0+then-writer-emitters}

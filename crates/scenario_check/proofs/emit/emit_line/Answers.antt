@@ -1,4 +1,4 @@
-use Rattle.scenario_check.proofs.CallLemmas.{on_ok}
+use Rattle.trace_base.proofs.Choices.{on_ok}
 use Rattle.scenario_check.proofs.KindLemmas.{BeginsMessage, EndsMessage, nest_may, nest_takes, unnest_may, unnest_takes, rest_takes}
 use Rattle.scenario_check.proofs.emit.emit_line.Goals as goal
 

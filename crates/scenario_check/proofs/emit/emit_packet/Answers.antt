@@ -1,7 +1,8 @@
 use Rattle.std.proofs.Common.{◌∷◌, []}
+use Rattle.trace_base.proofs.Choices.{on_ok}
 use Rattle.trace_model.specs.Calls as call
 use Rattle.scenario_check.specs.Progress.{Takes}
-use Rattle.scenario_check.proofs.CallLemmas.{on_ok, packet_may, packet_ends, packet_takes}
+use Rattle.scenario_check.proofs.CallLemmas.{packet_may, packet_ends, packet_takes}
 use Rattle.scenario_check.proofs.emit.emit_packet.Goals as goal
 
 pub emit_fields-requires : goal.emit_fields-requires

@@ -1,11 +1,12 @@
 use Rattle.std.proofs.Common.{◌≡◌, ℕ, Bool, List, length, sym, ap, ap₂, ◌∙◌, subst}
 use Rattle.std.proofs.lemmas.Result.{on_err_weaker}
+use Rattle.trace_base.proofs.Choices.{on_ok}
 use Rattle.byte_io.specs.Bytes.{Intake, after_told, TakesPart}
 use Rattle.trace_file.specs.Parts.{Writing, record_head, record_tail}
 use Rattle.trace_file.proofs.RecordLemmas.{written_whole, part_of_head, part_of_body, part_of_tail}
 use Rattle.sequence_reader.specs.Spots.{rows_of, cursor_of}
 use Rattle.sequence_reader.specs.Turns.{first_bytes}
-use Rattle.sequence_reader.proofs.PutLemmas.{first_long, on_ok, on_err}
+use Rattle.sequence_reader.proofs.PutLemmas.{first_long, on_err}
 use Rattle.sequence_reader.proofs.deliver.put_packet_at.Goals as goal
 
 -- the head, by the bytes that follow

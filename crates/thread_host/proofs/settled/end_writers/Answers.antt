@@ -1,6 +1,7 @@
 -- Each writer leaves its seat behind those before it.
 use Rattle.std.proofs.Common.{◌≡◌, ◌∙◌, ℕ, ◌+◌, ◌<◌, Some, List, [], ◌∷◌, ◌++◌, length, length-append, length-set, append_assoc, sym, ap, subst, arith}
 use Rattle.std.specs.Prelude.{slice_get, slice_set}
+use Rattle.trace_base.proofs.Lists.{get_seam}
 use Rattle.chunk_words.specs.declared.seats.WriterSeat.{WriterSeat}
 use Rattle.chunk_words.specs.Closed.{views_of}
 use Rattle.chunk_words.specs.Knows.{Desk}
@@ -10,7 +11,7 @@ use Rattle.thread_writer.specs.declared.writer.TraceWriter.{TraceWriter}
 use Rattle.thread_writer.specs.Writing.{core_of, view_in}
 use Rattle.thread_host.specs.Ending.{AreDoneSeats, HasHeardAll}
 use Rattle.thread_host.specs.Hosts.{HasPlayed}
-use Rattle.thread_host.proofs.Seating.{left_first, get_seam, only_both, done_seat, heard_last, heard_all, done_all, know_last}
+use Rattle.thread_host.proofs.Seating.{left_first, only_both, done_seat, heard_last, heard_all, done_all, know_last}
 use Rattle.thread_host.proofs.settled.end_writers.Goals as goal
 
 -- the writer that is taken out stands at its place among all of them

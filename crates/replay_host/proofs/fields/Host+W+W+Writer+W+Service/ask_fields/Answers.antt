@@ -1,5 +1,5 @@
 -- Each node is asked for behind those before it.
-use Rattle.std.proofs.Common.{◌≡◌, ◌∙◌, ℕ, ◌+◌, ◌<◌, ◌==◌, List, [], ◌∷◌, ◌++◌, length, map, refl, sym, ap, subst, arith, rules, append_assoc}
+use Rattle.std.proofs.Common.{◌≡◌, ◌∙◌, ℕ, ◌+◌, ◌==◌, List, [], ◌∷◌, ◌++◌, length, map, refl, sym, ap, subst, arith, rules, append_assoc}
 use Rattle.std.specs.Prelude.{Err}
 use Rattle.std.proofs.lemmas.List.{append-nil}
 use Rattle.trace_model.specs.Calls.{Call}
@@ -10,9 +10,10 @@ use Rattle.replay_model.specs.Acts.{asks}
 use Rattle.replay_host.specs.Playing.{HasAsked, asked_all}
 use Rattle.replay_host.specs.Stopping.{Stalls, StopsIn}
 use Rattle.std.proofs.lemmas.Bool.{eq-eqb}
+use Rattle.trace_base.proofs.Lists.{some_there}
 use Rattle.trace_model.specs.Packets.{account_of}
 use Rattle.world_model.specs.FirstBuffers.{payload_at}
-use Rattle.replay_host.proofs.FieldLemmas.{if_err_is, some_at, calls_before, calls_all, short_is}
+use Rattle.replay_host.proofs.FieldLemmas.{if_err_is, calls_before, calls_all, short_is}
 use Rattle.replay_host.proofs.HostLemmas.{ready_own, ready_both, asked_none, asked_both}
 use Rattle.replay_host.proofs.RowLemmas.{AreLaws}
 use Rattle.replay_host.proofs.StopLemmas.{stopped_one, stopped_calls}
@@ -55,7 +56,7 @@ ask-requires-clause-short g c =
     let stays = c.nodes.invariant.asked.many in
     let many = c.requires.host.stands.many in
     let below = c.requires.place in
-    let core = some_at cores place (omega (arith, stays, many, below)) in
+    let core = some_there cores place (omega (arith, stays, many, below)) in
     let here = ready_own (place == place) (payload_at (means.setup c.nodes.self.table) place) (means.view c.nodes.self.table core.0.seat) (node_call one)
     (map node_call others) (coming place) (next place core.0 core.1) (eq-eqb place place refl) in
     subst IsShortCall (sym c.call_of_node-call.ensures) (short_is (account_of here.asked).packets c.in-Some.node c.in-Some.text.now c.in-Some.ensures.fit here.accepted.0)
