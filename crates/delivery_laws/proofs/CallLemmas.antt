@@ -15,20 +15,13 @@ use Rattle.trace_model.specs.Pages.{Page}
 use Rattle.trace_model.specs.Row.{Chain, bytes_of}
 use Rattle.trace_model.specs.Written.{written_row, chains_in, chains_of}
 use Rattle.trace_model.specs.Cut.{IsChainOf, IsGivenUp, Begins, newest_goes_on, CutsInto}
+use Rattle.model_laws.proofs.TextSizes.{AllFinished, OlderFinished}
 use Rattle.delivery_laws.specs.Sheets.{WrittenPacket, all_parts, packets_in}
 use Rattle.delivery_laws.specs.WriterSheets.{sheets_of}
 use Rattle.delivery_laws.proofs.EmissionLemmas.{Fits, Pairs, InTurn}
 use Rattle.delivery_laws.proofs.WrittenPackets.{are_full, IsToldBy, zip_reversed, packets_are_chains, LastIsOpen, newest_open}
 
 -- Only the newest packet may be unfinished
-
-abbrev pub AllFinished : List Packet → Type 0
-AllFinished [] = Unit {0}
-AllFinished (packet ∷ packets) = (packet.finished ≡ true) × AllFinished packets
-
-abbrev pub OlderFinished : List Packet → Type 0
-OlderFinished [] = Unit {0}
-OlderFinished (packet ∷ older) = AllFinished older
 
 older_changed : (change : Packet → Packet) (packets : List Packet) (flushed : Bool) → OlderFinished packets
     → OlderFinished (on_newest change (record { packets = packets; flushed = flushed })).packets

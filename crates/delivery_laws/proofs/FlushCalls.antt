@@ -11,7 +11,8 @@ use Rattle.trace_model.specs.Row.{Chain}
 use Rattle.trace_model.specs.Sent.{open_chunks}
 use Rattle.trace_model.specs.Cut.{newest_goes_on}
 use Rattle.trace_model.proofs.CursorLemmas.{Each, each-filter}
-use Rattle.delivery_laws.proofs.CallLemmas.{AllFinished, begun_older, older_finished}
+use Rattle.model_laws.proofs.TextSizes.{AllFinished}
+use Rattle.delivery_laws.proofs.CallLemmas.{begun_older, older_finished}
 use Rattle.delivery_laws.proofs.WholeLemmas.{FinishedFlat, flat_all, IsFlat, none_open}
 
 -- what is possible, in two parts

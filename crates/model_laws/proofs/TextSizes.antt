@@ -132,7 +132,7 @@ abbrev pub AllFinished : List Packet → Type 0
 AllFinished [] = Unit {0}
 AllFinished (packet ∷ older) = (packet.finished ≡ true) × AllFinished older
 
-abbrev OlderFinished : List Packet → Type 0
+abbrev pub OlderFinished : List Packet → Type 0
 OlderFinished [] = Unit {0}
 OlderFinished (packet ∷ older) = AllFinished older
 

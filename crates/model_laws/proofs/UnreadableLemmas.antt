@@ -1,12 +1,12 @@
 -- The fragment that reading stops at is the first that can't be read.
-use Rattle.std.proofs.Common.{◌≡◌, ◌∙◌, ℕ, zero, suc, ◌+◌, ◌-◌, ◌<◌, Bool, true, false, List, [], ◌∷◌, length, drop, Option, Some, None, refl, sym, ap, subst, arith, inl, inr}
+use Rattle.std.proofs.Common.{◌≡◌, ◌∙◌, ℕ, zero, suc, ◌+◌, ◌-◌, ◌<◌, Bool, true, List, [], ◌∷◌, length, drop, Option, Some, None, refl, sym, ap, subst, arith, inl, inr}
 use Rattle.std.specs.Prelude.{All, ◌==◌}
 use Rattle.std.proofs.lemmas.List.Elements.{All-drop}
 use Rattle.std.proofs.lemmas.Bool.{eqb-true, eq-eqb, false≢true}
 use Rattle.std.proofs.lemmas.Option.{none-some}
 use Rattle.trace_model.specs.Images.{Fragment}
 use Rattle.trace_model.specs.Fragments.{ReadsOne, ReadsDropped}
-use Rattle.trace_model.specs.Reading.{size_of, fragment_of, Reading, Fragments, Unreadable, behind, fragment_end, read_on, reading_from, reading_of}
+use Rattle.trace_model.specs.Reading.{size_of, fragment_of, Reading, Fragments, Unreadable, behind, fragment_end, read_on, reading_from, reading_of, is_readable}
 use Rattle.trace_model.proofs.ReadingLemmas.{StandsFirst, read_kept, read_dropped, read_sound}
 use Rattle.trace_model.specs.Unread.{BeginsWith, StopsAt}
 use Rattle.trace_model.proofs.ReadsAsLemmas.{rest_behind}
@@ -32,10 +32,6 @@ abbrev number_in : Reading → ℕ
 number_in (Fragments fragments) = 0
 number_in (Unreadable number) = number
 
-abbrev is_read : Reading → Bool
-is_read (Fragments fragments) = true
-is_read (Unreadable number) = false
-
 -- the rest behind a fragment
 -- where nothing is read no fragment stands
 none_there : (left number at : ℕ) (bytes : List ℕ) → fragment_of (left == 0) at bytes (size_of 4 bytes) ≡ None → NoneReads (suc number == number + suc left) at bytes
@@ -47,7 +43,7 @@ none_there left number at bytes none = record {
 }
 
 unread_from : (left number at : ℕ) (bytes : List ℕ) (k : ℕ) → All (λ byte. byte < 256) bytes → reading_from left number at bytes ≡ Unreadable k → IsFirstFrom left number at bytes k
-unread_from zero number at bytes k below e = absurd (false≢true (sym (ap is_read e)))
+unread_from zero number at bytes k below e = absurd (false≢true (sym (ap is_readable e)))
 unread_from (suc left) number at bytes k below e = by_fragment (fragment_of (left == 0) at bytes (size_of 4 bytes)) refl e (unread_from left)
   where
     by_rest : (fragment : Fragment) → StandsFirst (left == 0) at bytes fragment → (r : Reading)
@@ -55,10 +51,10 @@ unread_from (suc left) number at bytes k below e = by_fragment (fragment_of (lef
         → (reading_from left (suc number) (fragment_end fragment) (drop (fragment_end fragment - at) bytes) ≡ Unreadable k
         → IsFirstFrom left (suc number) (fragment_end fragment) (drop (fragment_end fragment - at) bytes) k)
         → IsFirstFrom (suc left) number at bytes k
-    by_rest fragment stands (Fragments others) f g rest = absurd (false≢true (sym (ap is_read g)))
+    by_rest fragment stands (Fragments others) f g rest = absurd (false≢true (sym (ap is_readable g)))
     by_rest fragment (inl dropped) (Unreadable n) f g rest =
         let none : left ≡ 0 = eqb-true left 0 dropped.0 in
-        absurd (false≢true (sym (ap (λ (m : ℕ). is_read (reading_from m (suc number) (fragment_end fragment) (drop (fragment_end fragment - at) bytes))) (sym none) ∙ ap is_read f)))
+        absurd (false≢true (sym (ap (λ (m : ℕ). is_readable (reading_from m (suc number) (fragment_end fragment) (drop (fragment_end fragment - at) bytes))) (sym none) ∙ ap is_readable f)))
     by_rest fragment (inr reads) (Unreadable n) f g rest =
         let first : IsFirstFrom left (suc number) (fragment_end fragment) (drop (fragment_end fragment - at) bytes) k = rest (f ∙ g) in
         record {

@@ -28,7 +28,7 @@ use Rattle.trace_writer.specs.Laws.{IsHeldImage}
 use Rattle.trace_writer.specs.OwnSteps.{NoneHeld}
 use Rattle.trace_writer.specs.Outcomes.{held_images, held_patches}
 use Rattle.trace_writer.specs.Site.{Site, site_of, IsRoute}
-use Rattle.trace_writer.proofs.accounts.CutLaws.{agreeing_is_cut, images_held}
+use Rattle.trace_writer.proofs.accounts.CutLaws.{agreeing_is_cut, images_held as front_images}
 use Rattle.trace_writer.proofs.holding.HeldLaws.{held_is_published}
 use Rattle.trace_writer.proofs.holding.KeptChunks.{shown_none_held}
 use Rattle.service_core.specs.OrderLaws.{HasImages}
@@ -143,7 +143,7 @@ module _ (view : WriterView) (held : List Image) (small : (id : ℕ) (image : Im
     images_are : all_images view held ≡ completed_images last.front ++ image ∷ []
     images_are =
         ap (λ (begun : List BegunChunk). completed_images begun ++ held) last.begun_is
-        ∙ ap (λ (images : List Image). images ++ held) (images_held last.front last.chunk last.draft)
+        ∙ ap (λ (images : List Image). images ++ held) (front_images last.front last.chunk last.draft)
         ∙ ap (λ (images : List Image). completed_images last.front ++ images) held_is
 
     -- and a chunk is one of the front, or the last one
@@ -189,7 +189,7 @@ begun_long begun held (inr some) =
     let long = ap (λ (bs : List BegunChunk). length bs) last.begun_is in
     let both = length-append last.front (Held last.chunk last.draft ∷ []) in
     let images = ap (λ (bs : List BegunChunk). length (completed_images bs)) last.begun_is in
-    let front = ap (λ (images : List Image). length images) (images_held last.front last.chunk last.draft) in
+    let front = ap (λ (images : List Image). length images) (front_images last.front last.chunk last.draft) in
     let completed = completed_long last.front last.none in
     let one = ap (λ (images : List Image). length images) some.1 in
     omega (arith, long, both, images, front, completed, one)

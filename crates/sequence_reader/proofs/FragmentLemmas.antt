@@ -8,10 +8,9 @@ use Rattle.chunk_image.specs.Values.{fragment_value}
 use Rattle.chunk_image.specs.declared.read.Fragment as code
 use Rattle.trace_model.specs.Fragments.{drop_size}
 use Rattle.trace_model.specs.Images.{Fragment}
-use Rattle.trace_model.specs.Reading.{Size, Reading, Fragments, Unreadable, size_of, fragment_of, fragment_end, behind, read_on, reading_from, reading_of}
+use Rattle.trace_model.specs.Reading.{Size, Reading, Fragments, Unreadable, size_of, fragment_of, fragment_end, behind, read_on, reading_from, reading_of, is_readable, fragments_of}
 use Rattle.trace_model.specs.Row.{is_last}
 use Rattle.trace_model.proofs.ReadingLemmas.{HasSize, size_sound}
-use Rattle.trace_buffer.specs.Records.{is_readable, fragments_of}
 use Rattle.trace_buffer.proofs.LossLemmas.{reading_length}
 use Rattle.trace_buffer.proofs.FindLemmas.{readable_is}
 use Rattle.sequence_reader.specs.Spots.{start_from}

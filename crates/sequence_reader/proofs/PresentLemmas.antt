@@ -2,9 +2,9 @@
 use Rattle.std.proofs.Common.{◌≡◌, ℕ, zero, suc, ◌+◌, ◌-◌, ◌^◌, ◌<◌, ◌≤◌, ◌==◌, Bool, true, false, List, length, drop, sym, subst, arith, true≢false}
 use Rattle.ring_bytes.specs.declared.key.RecordKey.{RecordKey}
 use Rattle.trace_model.specs.Images.{Fragment}
-use Rattle.trace_model.specs.Reading.{reading_of}
+use Rattle.trace_model.specs.Reading.{reading_of, is_readable, fragments_of}
 use Rattle.trace_model.specs.Row.{is_last}
-use Rattle.trace_buffer.specs.Records.{is_readable, fragments_of, chunk_of}
+use Rattle.trace_buffer.specs.Records.{chunk_of}
 use Rattle.trace_buffer.proofs.LossLemmas.{reading_length}
 use Rattle.sequence_reader.specs.declared.spot.Spot.{Spot}
 use Rattle.sequence_reader.specs.Spots.{FitsChunk, reach_of, start_from}

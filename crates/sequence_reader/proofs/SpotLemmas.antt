@@ -3,11 +3,10 @@ use Rattle.std.proofs.Common.{◌≡◌, ℕ, suc, ◌<◌, ◌≤◌, ◌&&◌,
 use Rattle.ring_bytes.specs.declared.key.RecordKey.{RecordKey}
 use Rattle.trace_model.specs.Buffers.{Buffer, BufferRecord, live_at}
 use Rattle.trace_model.specs.Images.{Chunk}
-use Rattle.trace_model.specs.Reading.{reading_of}
+use Rattle.trace_model.specs.Reading.{reading_of, is_readable, fragments_of}
 use Rattle.trace_model.specs.Row.{is_part, place}
 use Rattle.trace_model.specs.Sequences.{sequence_in}
 use Rattle.trace_buffer.specs.Calls.{TellsRecord}
-use Rattle.trace_buffer.specs.Records.{is_readable, fragments_of}
 use Rattle.trace_buffer.proofs.LossLemmas.{reading_length}
 use Rattle.sequence_reader.specs.declared.spot.Bounds.{Bounds}
 use Rattle.sequence_reader.specs.declared.spot.Spot.{Spot}

@@ -1,9 +1,8 @@
 //! Where a reader stands.
 ghost use Rattle.std.specs.Prelude.{◌≡◌, ◌+◌, ◌<◌, ◌≤◌, ◌^◌, true, length, IsTrue};
 ghost use Rattle.trace_model.specs.Sequences.{is_known, sequence_in};
-ghost use Rattle.trace_model.specs.Reading.{reading_of};
+ghost use Rattle.trace_model.specs.Reading.{reading_of, is_readable, fragments_of};
 ghost use Rattle.trace_buffer.specs.Answers.{cursor_value};
-ghost use Rattle.trace_buffer.specs.Records.{is_readable, fragments_of};
 ghost use Rattle.sequence_reader.specs.Spots.{AreBounds, IsSpot, rows_of, cursor_of, start_from};
 
 use crate::bools::both;

@@ -1,8 +1,8 @@
 //! What stands at one place of a row.
 ghost use Rattle.std.specs.Prelude.{◌≡◌, ◌+◌, ◌<◌, ◌≤◌, ◌^◌, true, None, length};
 ghost use Rattle.trace_model.specs.Buffers.{live_at};
-ghost use Rattle.trace_model.specs.Reading.{reading_of};
-ghost use Rattle.trace_buffer.specs.Records.{chunk_of, is_readable};
+ghost use Rattle.trace_model.specs.Reading.{reading_of, is_readable};
+ghost use Rattle.trace_buffer.specs.Records.{chunk_of};
 ghost use Rattle.sequence_reader.specs.Spots.{AreBounds, FitsChunk, IsSpot, IsHeld};
 ghost use Rattle.sequence_reader.specs.Steps.{Shows, ShowsIn, spot_behind};
 

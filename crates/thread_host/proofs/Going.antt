@@ -33,7 +33,8 @@ use Rattle.replay_host.proofs.WroteLemmas.{size_is}
 use Rattle.thread_writer.specs.declared.helper.Asks.{Asks}
 use Rattle.thread_writer.specs.declared.writer.TraceWriter.{TraceWriter}
 use Rattle.thread_writer.specs.Asking.{MayAsk, IsHelp}
-use Rattle.thread_writer.specs.Lent.{identity_of, lent}
+use Rattle.chunk_words.specs.Named.{identity_of}
+use Rattle.thread_writer.specs.Lent.{lent}
 use Rattle.thread_writer.specs.Writing.{core_of, view_in, Writes}
 use Rattle.thread_writer.proofs.Calls.{writes_back}
 use Rattle.thread_writer.proofs.Identity.{works_stay}

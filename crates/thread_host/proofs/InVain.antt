@@ -24,6 +24,7 @@ use Rattle.replay_host.specs.Asking.{noted_as}
 use Rattle.run_model.specs.Vain.{HasVainAsk, HasVainRound, LosesInVain}
 use Rattle.thread_writer.specs.declared.helper.Asks.{Asks}
 use Rattle.thread_writer.specs.Asking.{IsHelp}
+use Rattle.replay_host.proofs.AskedLemmas.{IsProper}
 
 -- ---- claims
 
@@ -45,20 +46,14 @@ vain_lost calls first (word ∷ words) chunk least below =
 
 -- ---- what is noted
 
--- the call says of no packet that it was lost
-abbrev pub IsPlain : Call → Type 0
-IsPlain (Begun kept) = kept ≡ true
-IsPlain GivenUp = ⊥
-IsPlain other = Unit {0}
+not_dropped : (call : Call) → IsProper call → call ≡ Begun false → ⊥
+not_dropped call plain is = true≢false (sym (subst IsProper is plain))
 
-not_dropped : (call : Call) → IsPlain call → call ≡ Begun false → ⊥
-not_dropped call plain is = true≢false (sym (subst IsPlain is plain))
-
-not_given_up : (call : Call) → IsPlain call → call ≡ GivenUp → ⊥
-not_given_up call plain is = subst IsPlain is plain
+not_given_up : (call : Call) → IsProper call → call ≡ GivenUp → ⊥
+not_given_up call plain is = subst IsProper is plain
 
 module _ (setup : Setup) (producer : ℕ) (asks : List Ask) (calls : List Call) (before : LosesInVain setup producer asks calls) where
-  pub vain_plain : (call : Call) → IsPlain call → LosesInVain setup producer asks (calls ++ call ∷ [])
+  pub vain_plain : (call : Call) → IsProper call → LosesInVain setup producer asks (calls ++ call ∷ [])
   vain_plain call plain = record {
     dropped = λ index there. ⊎_elim (λ old. before.dropped index old) (λ new. absurd (not_dropped call plain new.1)) (at_more calls call (Begun false) index there);
     given_up = λ index there. ⊎_elim (λ old. before.given_up index old) (λ new. absurd (not_given_up call plain new.1)) (at_more calls call GivenUp index there);
@@ -82,7 +77,7 @@ module _ (setup : Setup) (producer : ℕ) (asks : List Ask) (calls : List Call) 
   }
 
 module _ (setup : Setup) (producer : ℕ) (asks : List Ask) (calls : List Call) (before : LosesInVain setup producer asks calls) where
-  vain_written : (call : Call) → IsPlain call → HasVainRound setup producer asks (length calls) → LosesInVain setup producer asks (calls ++ call ∷ GivenUp ∷ [])
+  vain_written : (call : Call) → IsProper call → HasVainRound setup producer asks (length calls) → LosesInVain setup producer asks (calls ++ call ∷ GivenUp ∷ [])
   vain_written call plain round =
       subst (LosesInVain setup producer asks) (append_assoc calls (call ∷ []) (GivenUp ∷ []))
       (vain_given_up setup producer asks (calls ++ call ∷ []) (vain_plain setup producer asks calls before call plain) (length calls)

@@ -31,7 +31,8 @@ use Rattle.run_model.specs.Noted.{done_calls}
 use Rattle.run_model.specs.Vain.{LosesInVain}
 use Rattle.thread_writer.specs.declared.helper.Asks.{Asks}
 use Rattle.thread_writer.specs.declared.writer.TraceWriter.{TraceWriter}
-use Rattle.thread_writer.specs.Lent.{identity_of, lent}
+use Rattle.chunk_words.specs.Named.{identity_of}
+use Rattle.thread_writer.specs.Lent.{lent}
 use Rattle.thread_writer.specs.Writing.{core_of, view_in, Writes, IsQuietCall}
 use Rattle.thread_host.specs.Hosts.{IsReady, HasPlayed}
 use Rattle.thread_host.specs.Playing.{NeverRefuses, IsGoing}

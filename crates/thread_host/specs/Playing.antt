@@ -17,7 +17,7 @@ use Rattle.run_model.specs.Noted.{done_calls}
 use Rattle.run_model.specs.Vain.{LosesInVain}
 use Rattle.thread_writer.specs.declared.helper.Asks.{Asks}
 use Rattle.thread_writer.specs.declared.writer.TraceWriter.{TraceWriter}
-use Rattle.thread_writer.specs.Lent.{identity_of}
+use Rattle.chunk_words.specs.Named.{identity_of}
 use Rattle.thread_writer.specs.Writing.{core_of, view_in, Writes}
 
 -- Whoever asks such a helper for a writer of this policy is never told that nothing came free. A writer that drops asks nobody.

@@ -18,7 +18,7 @@ use Rattle.trace_writer.specs.Helping.{LeavesOthers}
 use Rattle.trace_writer.specs.OwnSteps.{IsQuiet}
 use Rattle.thread_writer.specs.declared.helper.Asks.{Asks}
 use Rattle.thread_writer.specs.declared.writer.TraceWriter.{TraceWriter}
-use Rattle.thread_writer.specs.Lent.{identity_of}
+use Rattle.chunk_words.specs.Named.{identity_of}
 use Rattle.thread_writer.specs.Asking.{MayAsk, IsHelp}
 use Rattle.thread_writer.specs.Writing.{core_of, view_in, Writes, IsCall, IsQuietCall}
 use Rattle.thread_writer.specs.Standing.{step_stays}

@@ -3,7 +3,7 @@ use Rattle.std.specs.Prelude.{◌≡◌, ℕ, Bool}
 use Rattle.atomic_table.specs.Seated.{TableId}
 use Rattle.chunk_words.specs.declared.shared.Shared.{Shared}
 use Rattle.thread_writer.specs.declared.helper.Asks.{Asks}
-use Rattle.thread_writer.specs.Lent.{identity_of}
+use Rattle.chunk_words.specs.Named.{identity_of}
 
 -- it may be asked at the lent table
 abbrev pub MayAsk : {H : Type 0} → (H → TableId → Type 0) → Asks H → Shared → Type 0

@@ -12,7 +12,7 @@ use Rattle.chunk_words.specs.contracts.shared.SharedWords.TheImpl.{ghosts as sha
 use Rattle.chunk_words.specs.Knows.{Nothing, Service, first_desk}
 use Rattle.chunk_words.specs.Sits.{Attends}
 use Rattle.thread_writer.specs.declared.helper.Asks.{Asks}
-use Rattle.thread_writer.specs.Lent.{identity_of}
+use Rattle.chunk_words.specs.Named.{identity_of}
 use Rattle.thread_writer.specs.Asking.{MayAsk}
 
 -- a seat of the service as the table was made with it

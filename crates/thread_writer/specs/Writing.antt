@@ -19,7 +19,7 @@ use Rattle.trace_writer.specs.Asked.{IsAsked, LeavesAll}
 use Rattle.trace_writer.specs.OwnSteps.{IsQuiet}
 use Rattle.thread_writer.specs.declared.helper.Asks.{Asks}
 use Rattle.thread_writer.specs.declared.writer.TraceWriter.{TraceWriter}
-use Rattle.thread_writer.specs.Lent.{identity_of}
+use Rattle.chunk_words.specs.Named.{identity_of}
 use Rattle.thread_writer.specs.Asking.{MayAsk, IsHelp}
 
 -- the writer with its seat, alone on its cache lines

@@ -3,7 +3,7 @@ ghost use Rattle.std.specs.Prelude.{◌≡◌, ℕ, ◌<◌, Bool, true, false};
 ghost use Rattle.atomic_table.specs.Seated.{TableId};
 ghost use Rattle.chunk_plain.specs.Setup.{HasProducer};
 ghost use Rattle.chunk_words.specs.Sits.{setup_in};
-ghost use Rattle.thread_writer.specs.Lent.{identity_of};
+ghost use Rattle.chunk_words.specs.Named.{identity_of};
 
 use chunk_words::{HostTable, Shared};
 use trace_writer::{HelperOn, NoHelp};

@@ -17,7 +17,8 @@ ghost use Rattle.trace_writer.specs.Agreement.{counted};
 ghost use Rattle.trace_writer.specs.Asked.{begun_as, written_as, stops_with};
 ghost use Rattle.trace_writer.specs.Core.{in_packet, open_depth, field_fault, nested_fault, bytes_size};
 ghost use Rattle.trace_writer.specs.Core.{holds_chunk, is_stalled, route_of, begins_here, FitsHere};
-ghost use Rattle.thread_writer.specs.Lent.{identity_of, lent};
+ghost use Rattle.chunk_words.specs.Named.{identity_of};
+ghost use Rattle.thread_writer.specs.Lent.{lent};
 ghost use Rattle.thread_writer.specs.Writing.{core_of, view_in, Writes, IsCall, IsQuietCall};
 
 use crate::helper::{Asks, Helper};

@@ -6,12 +6,12 @@ use Rattle.page_geometry.specs.Sizes.{record_size}
 use Rattle.ring_bytes.specs.Value.{Stored, RingValue, is_at, stored_at, NoneAt}
 use Rattle.ring_bytes.specs.declared.key.RecordKey.{RecordKey}
 use Rattle.trace_model.specs.Buffers.{BufferRecord, is_of}
-use Rattle.trace_model.specs.Reading.{Reading, Fragments, Unreadable, reading_of}
+use Rattle.trace_model.specs.Reading.{Reading, Fragments, Unreadable, reading_of, is_readable, fragments_of}
 use Rattle.trace_model.specs.Sequences.{Sequence}
 use Rattle.ring_bytes.proofs.ListLemmas.{find_true}
 use Rattle.trace_buffer.specs.Calls.{TellsRecord, place_in}
 use Rattle.trace_buffer.specs.BufferFields.{PlacesOnce, AllKept, IsKept}
-use Rattle.trace_buffer.specs.Records.{record_of, chunk_of, is_at_key, is_readable, fragments_of}
+use Rattle.trace_buffer.specs.Records.{record_of, chunk_of, is_at_key}
 
 -- a record that is found is another one than that which has this place alone
 pub none_found : (P : Stored → Bool) (place : ℕ) (ss : List Stored) (s : Stored) → NoneAt place ss → find P ss ≡ Some s → is_at place s ≡ false

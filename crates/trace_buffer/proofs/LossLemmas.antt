@@ -9,13 +9,13 @@ use Rattle.trace_model.specs.Buffers as model
 use Rattle.trace_model.specs.Buffers.{BufferRecord, with_losses}
 use Rattle.trace_model.specs.Counts.{raised, one_if}
 use Rattle.trace_model.specs.Images.{Fragment, has_flag_1}
-use Rattle.trace_model.specs.Reading.{Reading, Fragments, Unreadable, behind, read_on, reading_from, reading_of, fragment_of, size_of, fragment_end}
+use Rattle.trace_model.specs.Reading.{Reading, Fragments, Unreadable, behind, read_on, reading_from, reading_of, fragment_of, size_of, fragment_end, fragments_of, is_readable}
 use Rattle.trace_model.specs.Sequences as sequences
 use Rattle.trace_model.specs.Sequences.{Sequence, fresh, is_known, changed_at, unread_of}
 use Rattle.trace_model.proofs.CountedLemmas.{raised-none}
 use Rattle.trace_buffer.specs.BufferFields.{NumbersOnce}
 use Rattle.trace_buffer.specs.Keys.{packets_lost, is_loss, is_unread_loss, LosesAt, discarded_by}
-use Rattle.trace_buffer.specs.Records.{record_of, chunk_of, fragments_of, is_readable, unread_losses}
+use Rattle.trace_buffer.specs.Records.{record_of, chunk_of, unread_losses}
 use Rattle.trace_buffer.proofs.RowLemmas.{changed_is, same_item, other_number}
 
 -- A payload that reads has as many fragments as its header counts.

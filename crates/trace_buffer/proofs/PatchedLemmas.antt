@@ -10,10 +10,10 @@ use Rattle.ring_bytes.proofs.SliceLemmas.{length_put}
 use Rattle.trace_model.specs.Buffers.{BufferRecord, is_of}
 use Rattle.trace_model.specs.Images.{Patch, last_holds, patched_last}
 use Rattle.trace_model.specs.Patches.{awaits_at, patched_chunk}
-use Rattle.trace_model.specs.Reading.{reading_of}
+use Rattle.trace_model.specs.Reading.{reading_of, fragments_of, is_readable}
 use Rattle.trace_model.specs.Sequences.{Sequence}
 use Rattle.trace_buffer.specs.BufferFields.{AreParts, AllKept, IsKept, IsIndexed, NoneOf, KeysOnce}
-use Rattle.trace_buffer.specs.Records.{record_of, is_at_key, fragments_of, is_readable}
+use Rattle.trace_buffer.specs.Records.{record_of, is_at_key}
 use Rattle.trace_buffer.proofs.ChangeLemmas.{IsAlike, indexed_alike, at_key, same_change, no_change_of}
 use Rattle.trace_buffer.proofs.DropLemmas.{none_find}
 use Rattle.trace_buffer.proofs.FindLemmas.{readable_is}

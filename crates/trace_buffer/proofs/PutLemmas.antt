@@ -7,8 +7,7 @@ use Rattle.ring_bytes.specs.Value.{put_at}
 use Rattle.ring_bytes.proofs.SliceLemmas.{length_put, put_same, slice_put_within}
 use Rattle.trace_model.specs.Fragments.{drop_size}
 use Rattle.trace_model.specs.Images.{Fragment, Patch, holds_patch, last_holds, patched_fragment, patched_last, with_bytes}
-use Rattle.trace_model.specs.Reading.{Reading, Fragments, Unreadable, Size, size_of, longer_size, fragment_of, reading_from, reading_of, read_on, behind, fragment_end}
-use Rattle.trace_buffer.specs.Records.{fragments_of, is_readable}
+use Rattle.trace_model.specs.Reading.{Reading, Fragments, Unreadable, Size, size_of, longer_size, fragment_of, reading_from, reading_of, read_on, behind, fragment_end, fragments_of, is_readable}
 use Rattle.trace_buffer.proofs.LossLemmas.{length_from}
 
 -- Parts of a list into which a piece was put

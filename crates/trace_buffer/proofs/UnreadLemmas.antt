@@ -4,9 +4,9 @@ use Rattle.std.proofs.lemmas.Bool.Decides.{nat_tests}
 use Rattle.ring_bytes.specs.declared.key.RecordKey.{RecordKey}
 use Rattle.ring_bytes.specs.Value.{Stored}
 use Rattle.trace_model.specs.Buffers.{is_unread}
-use Rattle.trace_model.specs.Reading.{reading_of}
+use Rattle.trace_model.specs.Reading.{reading_of, is_readable}
 use Rattle.trace_model.specs.Sequences.{Sequence, sequence_in, unread_of}
-use Rattle.trace_buffer.specs.Records.{record_of, is_readable}
+use Rattle.trace_buffer.specs.Records.{record_of}
 use Rattle.trace_buffer.proofs.LossLemmas.{reading_length}
 
 pub unread_is : (rows : List Sequence) (s : Stored) (key : RecordKey) (row : Sequence) (n : ℕ) → is_readable (reading_of s.key.count s.payload) ≡ true → key ≡ s.key → row ≡ sequence_in rows key.sequence → n ≡ unread_of row key.chunk_id key.count → nat_lt 0 n ≡ is_unread rows (record_of s)

@@ -9,10 +9,10 @@ use Rattle.ring_bytes.specs.declared.key.RecordKey.{RecordKey}
 use Rattle.ring_bytes.specs.Value.{Stored, RingValue, NoneAt}
 use Rattle.trace_model.specs.Arrivals.{is_too_far}
 use Rattle.trace_model.specs.Buffers.{Buffer, BufferRecord, is_of}
-use Rattle.trace_model.specs.Reading.{reading_of}
+use Rattle.trace_model.specs.Reading.{reading_of, is_readable}
 use Rattle.trace_model.specs.Sequences.{Sequence, is_known, sequence_in, has_arrived}
 use Rattle.trace_buffer.specs.Closing.{unfinished_of}
-use Rattle.trace_buffer.specs.Records.{record_of, is_readable, is_at_key}
+use Rattle.trace_buffer.specs.Records.{record_of, is_at_key}
 use Rattle.trace_buffer.specs.declared.buffer.TraceBuffer.TheInside.{Inside}
 
 -- a buffer as one of the model

@@ -5,9 +5,9 @@ use Rattle.ring_bytes.specs.Value.{Stored}
 use Rattle.trace_model.specs.Buffers.{with_losses}
 use Rattle.trace_model.specs.Counts.{raised, one_if}
 use Rattle.trace_model.specs.Images.{has_flag_1}
-use Rattle.trace_model.specs.Reading.{reading_of}
+use Rattle.trace_model.specs.Reading.{reading_of, is_readable}
 use Rattle.trace_model.specs.Sequences.{Sequence, Cursor, unread_of}
-use Rattle.trace_buffer.specs.Records.{record_of, is_readable, unread_losses}
+use Rattle.trace_buffer.specs.Records.{record_of, unread_losses}
 
 -- of so many unread fragments, those with which a packet begins
 abbrev pub starts_in : RecordKey → ℕ → ℕ

@@ -1,8 +1,7 @@
 -- Where a patch lies in a payload.
 use Rattle.std.specs.Prelude.{ℕ, Bool, List, [], ◌∷◌}
 use Rattle.trace_model.specs.Images.{Fragment, Patch, last_holds, holds_patch}
-use Rattle.trace_model.specs.Reading.{reading_of}
-use Rattle.trace_buffer.specs.Records.{fragments_of}
+use Rattle.trace_model.specs.Reading.{reading_of, fragments_of}
 
 -- the patch lies inside the last of the payload's fragments
 abbrev pub last_has : ℕ → List ℕ → Patch → Bool

@@ -1,23 +1,13 @@
 -- What the records of a ring are to the definitions.
-use Rattle.std.specs.Prelude.{ℕ, Bool, true, false, not, List, [], length, map, filter, count_by}
+use Rattle.std.specs.Prelude.{ℕ, Bool, not, List, length, map, filter, count_by}
 use Rattle.page_geometry.specs.Sizes.{record_size}
 use Rattle.ring_bytes.specs.declared.key.RecordKey.{RecordKey}
 use Rattle.ring_bytes.specs.Value.{Stored, RingValue, meets_stored}
 use Rattle.trace_model.specs.Buffers.{BufferRecord, is_of, is_unread_loss}
-use Rattle.trace_model.specs.Images.{Chunk, Fragment, has_flag_1, has_flag_2}
+use Rattle.trace_model.specs.Images.{Chunk, has_flag_1, has_flag_2}
 use Rattle.trace_model.specs.Places.{is_met}
-use Rattle.trace_model.specs.Reading.{Reading, Fragments, Unreadable, reading_of}
+use Rattle.trace_model.specs.Reading.{reading_of, fragments_of}
 use Rattle.trace_model.specs.Sequences.{Sequence}
-
--- the fragments, and none where nothing reads
-abbrev pub fragments_of : Reading → List Fragment
-fragments_of (Fragments fragments) = fragments
-fragments_of (Unreadable number) = []
-
--- the payload reads as fragments
-abbrev pub is_readable : Reading → Bool
-is_readable (Fragments fragments) = true
-is_readable (Unreadable number) = false
 
 -- the chunk that a record has, by its header and its payload
 abbrev pub chunk_of : RecordKey → List ℕ → Chunk

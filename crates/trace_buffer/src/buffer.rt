@@ -6,12 +6,12 @@ ghost use Rattle.trace_model.specs.Sequences.{is_known, sequence_in, changed_at,
 ghost use Rattle.trace_model.specs.Arrivals as model;
 ghost use Rattle.trace_model.specs.Arrivals.{arrival_noted, makes_arrive, with_record, with_rewritten, settled, placing_of, arrival_of, partial_arrival_of, is_refused, is_too_far, image_arrival_of, partial_image_arrival_of, with_image, with_partial_image, with_arrived};
 ghost use Rattle.trace_model.specs.Patches.{patch_answer, with_patch, with_close};
-ghost use Rattle.trace_model.specs.Reading.{reading_of};
+ghost use Rattle.trace_model.specs.Reading.{reading_of, is_readable};
 ghost use Rattle.trace_model.specs.Row.{horizon};
 ghost use Rattle.chunk_image.specs.Values.{image_value};
 ghost use Rattle.commit_body.specs.Patches.{patch_value};
 ghost use Rattle.trace_buffer.specs.Answers.{arrived_value, patch_told, counts_of, state_of, cursor_value, turn_value};
-ghost use Rattle.trace_buffer.specs.Records.{chunk_of, is_readable};
+ghost use Rattle.trace_buffer.specs.Records.{chunk_of};
 ghost use Rattle.trace_buffer.specs.Made.{sequence_of, AreDistinct, AllSmall};
 ghost use Rattle.trace_buffer.specs.Calls.{with_advance, is_lost, place_in, IsImageOf};
 ghost use Rattle.trace_buffer.specs.BufferFields.{NoPart, IsPartNear};

@@ -1,12 +1,12 @@
 -- The fragments that are read of a payload are those that it reads as.
-use Rattle.std.proofs.Common.{◌≡◌, ◌∙◌, ℕ, zero, suc, ◌-◌, ◌<◌, Bool, true, false, List, [], ◌∷◌, ◌++◌, length, drop, Option, Some, None, refl, ap, subst, arith, length-append, inl, inr}
+use Rattle.std.proofs.Common.{◌≡◌, ◌∙◌, ℕ, zero, suc, ◌-◌, ◌<◌, true, List, [], ◌∷◌, ◌++◌, length, drop, Option, Some, None, refl, ap, subst, arith, length-append, inl, inr}
 use Rattle.std.proofs.lemmas.List.Elements.{All-drop}
 use Rattle.std.specs.Prelude.{All, ◌==◌}
 use Rattle.std.proofs.lemmas.Bool.{eqb-true, false≢true}
 use Rattle.std.proofs.Math.Seq.{drop-append_seam}
 use Rattle.trace_model.specs.Images.{Fragment}
 use Rattle.trace_model.specs.Fragments.{ReadsOne, ReadsFrom}
-use Rattle.trace_model.specs.Reading.{size_of, fragment_of, Reading, Fragments, Unreadable, behind, fragment_end, read_on, reading_from, reading_of}
+use Rattle.trace_model.specs.Reading.{size_of, fragment_of, Reading, Fragments, Unreadable, behind, fragment_end, read_on, reading_from, reading_of, fragments_of, is_readable}
 use Rattle.trace_model.specs.ReadingLaws.{ReadingIsExact}
 use Rattle.trace_model.proofs.ReadingLemmas.{StandsFirst, read_kept, read_dropped, read_sound}
 
@@ -30,17 +30,8 @@ complete_from (fragment ∷ next ∷ others) number at bytes h =
     ∙ ap (λ (xs : List ℕ). behind fragment (reading_from left (suc number) (fragment_end fragment) xs)) (rest_behind at bytes fragment h.0 h.1)
     ∙ ap (behind fragment) (complete_from (next ∷ others) (suc number) (fragment_end fragment) h.0 h.2)
 
--- what a reading has
-abbrev is_read : Reading → Bool
-is_read (Fragments fragments) = true
-is_read (Unreadable number) = false
-
-abbrev fragments_in : Reading → List Fragment
-fragments_in (Fragments fragments) = fragments
-fragments_in (Unreadable number) = []
-
 unread : (number : ℕ) (fragments : List Fragment) → Unreadable number ≡ Fragments fragments → ⊥
-unread number fragments e = false≢true (ap is_read e)
+unread number fragments e = false≢true (ap is_readable e)
 
 abbrev IsSound : ℕ → ℕ → List ℕ → List Fragment → Type 0
 IsSound left at bytes fragments = ReadsFrom at bytes fragments × (length fragments ≡ suc left)
@@ -62,7 +53,7 @@ sound_from zero number at bytes fragments below e = by_fragment (fragment_of tru
     by_fragment : (o : Option Fragment) → fragment_of true at bytes (size_of 4 bytes) ≡ o → read_on number (λ f. Fragments []) o ≡ Fragments fragments → IsSound zero at bytes fragments
     by_fragment None f g = absurd (unread number fragments g)
     by_fragment (Some fragment) f g =
-        subst (λ (fs : List Fragment). IsSound zero at bytes fs) (ap fragments_in g) (only fragment (read_sound true at bytes fragment below f))
+        subst (λ (fs : List Fragment). IsSound zero at bytes fs) (ap fragments_of g) (only fragment (read_sound true at bytes fragment below f))
 sound_from (suc left) number at bytes fragments below e = by_fragment (fragment_of (suc left == 0) at bytes (size_of 4 bytes)) refl e (sound_from left)
   where
     by_rest : (fragment : Fragment) → StandsFirst (suc left == 0) at bytes fragment → (r : Reading)
@@ -70,7 +61,7 @@ sound_from (suc left) number at bytes fragments below e = by_fragment (fragment_
         → ((n a : ℕ) (bs : List ℕ) (fs : List Fragment) → All (λ byte. byte < 256) bs → reading_from (suc left) n a bs ≡ Fragments fs → IsSound left a bs fs) → IsSound (suc left) at bytes fragments
     by_rest fragment h (Unreadable n) f g rest = absurd (unread n fragments g)
     by_rest fragment h (Fragments others) f g rest =
-        subst (λ (fs : List Fragment). IsSound (suc left) at bytes fs) (ap fragments_in g)
+        subst (λ (fs : List Fragment). IsSound (suc left) at bytes fs) (ap fragments_of g)
         (first_read left at bytes fragment others h (rest (suc number) (fragment_end fragment) (drop (fragment_end fragment - at) bytes) others (All-drop (λ byte. byte < 256) (fragment_end fragment - at) bytes below) f))
 
     by_fragment : (o : Option Fragment) → fragment_of (suc left == 0) at bytes (size_of 4 bytes) ≡ o

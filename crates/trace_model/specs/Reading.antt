@@ -65,3 +65,13 @@ reading_from (suc left) number at bytes =
 abbrev pub reading_of : ℕ → List ℕ → Reading
 reading_of zero payload = Unreadable 0
 reading_of (suc more) payload = reading_from (suc more) 0 0 payload
+
+-- the fragments, and none where nothing reads
+abbrev pub fragments_of : Reading → List Fragment
+fragments_of (Fragments fragments) = fragments
+fragments_of (Unreadable number) = []
+
+-- the payload reads as fragments
+abbrev pub is_readable : Reading → Bool
+is_readable (Fragments fragments) = true
+is_readable (Unreadable number) = false

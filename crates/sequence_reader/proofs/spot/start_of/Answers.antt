@@ -1,6 +1,5 @@
 use Rattle.std.proofs.Common.{◌≡◌, ◌+◌, ◌-◌, ◌≤◌, false, suc, length, drop, sym, ap, ◌∙◌, subst, arith}
-use Rattle.trace_model.specs.Reading.{reading_of, fragment_end}
-use Rattle.trace_buffer.specs.Records.{fragments_of}
+use Rattle.trace_model.specs.Reading.{reading_of, fragment_end, fragments_of}
 use Rattle.sequence_reader.specs.Spots.{start_from}
 use Rattle.sequence_reader.proofs.FragmentLemmas.{reads_at, not_last, rest_fits, start_next, none_read, some_read}
 use Rattle.sequence_reader.proofs.spot.start_of.Goals as goal

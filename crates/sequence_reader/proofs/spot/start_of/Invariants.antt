@@ -1,6 +1,5 @@
 use Rattle.std.proofs.Common.{◌≡◌, ◌-◌, ◌≤◌}
-use Rattle.trace_model.specs.Reading.{reading_of}
-use Rattle.trace_buffer.specs.Records.{fragments_of}
+use Rattle.trace_model.specs.Reading.{reading_of, fragments_of}
 use Rattle.sequence_reader.specs.Spots.{start_from}
 use Rattle.sequence_reader.proofs.spot.start_of.Given as goal
 

@@ -2,7 +2,7 @@ use Rattle.std.proofs.Common.{sym, ap, ◌∙◌, subst}
 use Rattle.trace_model.specs.Buffers.{live_at}
 use Rattle.trace_model.specs.Images.{Chunk}
 use Rattle.trace_buffer.specs.Calls.{place_in}
-use Rattle.trace_buffer.specs.Records.{is_readable}
+use Rattle.trace_model.specs.Reading.{is_readable}
 use Rattle.trace_buffer.proofs.FindLemmas.{no_place}
 use Rattle.sequence_reader.specs.Spots.{FitsChunk}
 use Rattle.sequence_reader.specs.Steps.{ShowsIn}

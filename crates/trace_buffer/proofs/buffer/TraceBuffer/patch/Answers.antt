@@ -9,12 +9,12 @@ use Rattle.commit_body.specs.Patches.{patch_value}
 use Rattle.trace_model.specs.Buffers.{Buffer, BufferRecord, is_of}
 use Rattle.trace_model.specs.Images.{Patch, last_holds}
 use Rattle.trace_model.specs.Patches.{BadOffset, Applied, awaits_at, answer_to, with_patch}
-use Rattle.trace_model.specs.Reading.{reading_of}
+use Rattle.trace_model.specs.Reading.{reading_of, fragments_of}
 use Rattle.trace_model.specs.Sequences.{sequence_in}
 use Rattle.trace_buffer.specs.BufferFields.{buffer_view}
 use Rattle.trace_buffer.specs.Closing.{unfinished_of}
 use Rattle.trace_buffer.specs.Patching.{last_has}
-use Rattle.trace_buffer.specs.Records.{record_of, is_at_key, fragments_of}
+use Rattle.trace_buffer.specs.Records.{record_of, is_at_key}
 use Rattle.trace_buffer.proofs.FindLemmas.{is_found, none_is, kept_found, mapped, place_had, its_sequence, readable_is}
 use Rattle.trace_buffer.proofs.PatchedLemmas.{none_with, one_with, none_changes, both_changes, patched_stored, still_there, taken}
 use Rattle.trace_buffer.proofs.PutLemmas.{payload_patched}
