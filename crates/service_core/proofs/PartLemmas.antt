@@ -1,5 +1,5 @@
 -- Looks for parts of chunks, one after another.
-use Rattle.std.proofs.Common.{◌≡◌, ◌∙◌, ℕ, ◌+◌, ◌%◌, ◌<◌, ◌≤◌, ◌⊎◌, List, [], ◌∷◌, ◌++◌, length, refl, sym, ap, subst, arith, inl, inr, append_assoc, append-nil}
+use Rattle.std.proofs.Common.{◌≡◌, ◌∙◌, ℕ, ◌+◌, ◌%◌, ◌^◌, ◌<◌, ◌≤◌, ◌⊎◌, List, [], ◌∷◌, ◌++◌, length, refl, sym, ap, subst, arith, inl, inr, append_assoc, append-nil}
 use Rattle.std.proofs.lemmas.Bool.{cases_eq}
 use Rattle.trace_base.proofs.Lists.{get_more, get_behind}
 use Rattle.page_geometry.specs.declared.chunk_state.ChunkState.TheVariants.{BeingWritten}
@@ -13,7 +13,7 @@ use Rattle.chunk_plain.specs.Words.{LooksAt}
 use Rattle.chunk_plain.proofs.Lists.{at_seam}
 use Rattle.service_core.specs.Order.{IsFoundPart}
 use Rattle.service_core.specs.Taking.{looked, noted_more, IsRange}
-use Rattle.service_core.specs.Scraping.{IsNoPart, SeesNoPart, ShowsNoPart, TakesPart, TakesNoPart, TakesNoPartOf, ScrapesOne, ScrapesEach, IsPart, PartLooked}
+use Rattle.service_core.specs.Scraping.{IsNoPart, SeesNoPart, ShowsNoPart, TakesPart, TakesNoPart, TakesNoPartOf, ScrapesOne, ScrapesEach, IsPart, FitsWord, PartLooked}
 use Rattle.service_core.proofs.TakingLemmas.{counts_at}
 
 -- What one look found
@@ -44,9 +44,9 @@ part_looked setup old new place chunk seen at writer id finished looks at_is wri
     }
 
 pub no_part_seen : (setup : Setup) (old new : ServiceView) (place chunk : ℕ) (seen : Seen) (at writer id : ℕ) → LooksAt setup chunk seen.word.0 seen.header old new
-    → at ≡ (spot setup chunk).place → writer ≡ place + 1 → id ≡ (taken_of old place).count
+    → at ≡ (spot setup chunk).place → writer ≡ place + 1 → id ≡ (taken_of old place).count → FitsWord seen.header → seen.header.count < 2 ^ 10
     → (HasState seen.word.0 at BeingWritten → seen.header.writer_id ≡ writer → seen.header.chunk_id ≡ id → seen.header.count < 2) → SeesNoPart setup place chunk old new
-no_part_seen setup old new place chunk seen at writer id looks at_is writer_is next none = record {
+no_part_seen setup old new place chunk seen at writer id looks at_is writer_is next fits count_fits none = record {
   look = record { chunk = chunk; word = seen.word.0; header = packed seen.header; found = looks.found; taken = taken_counts old };
   view = looks.view;
   chunk_is = refl;
@@ -54,6 +54,9 @@ no_part_seen setup old new place chunk seen at writer id looks at_is writer_is n
   shows = record {
     header = seen.header;
     header_is = refl;
+    id_fits = fits.id;
+    writer_fits = fits.writer;
+    count_fits = count_fits;
     none = λ written named id_is. none (subst (λ (p : ℕ). HasState seen.word.0 p BeingWritten) (sym at_is) written) (named ∙ sym writer_is) (id_is ∙ sym next);
   };
 }

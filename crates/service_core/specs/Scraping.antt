@@ -21,7 +21,11 @@ use Rattle.service_core.specs.Order.{IsFoundPart}
 pub record IsNoPart (setup : Setup) (place id : ℕ) (look : Look) : Type 0 where
   pub header : ChunkHeader
   pub header_is : look.header ≡ packed header
-  pub none : HasState look.word (spot setup look.chunk).place BeingWritten → header.writer_id ≡ place + 1 → header.chunk_id ≡ id → header.count < 2
+  pub id_fits : header.chunk_id < 2 ^ 32
+  pub writer_fits : header.writer_id < 2 ^ 16
+  pub count_fits : header.count < 2 ^ 10
+  pub none : HasState look.word (spot setup look.chunk).place BeingWritten → header.writer_id ≡ place + 1 → header.chunk_id ≡ id
+      → header.count < 2
 
 -- the chunk was looked at, and nothing of it comes as a part of the next chunk of the writer at this place
 pub record SeesNoPart (setup : Setup) (place chunk : ℕ) (old new : ServiceView) : Type 0 where

@@ -100,7 +100,9 @@ returns-in-None-clause-none g c _ =
     let inside : place < length old.taken = omega (arith, many, below) in
     let count = read_count old c.args.self.now.taken.items place c.index.result.now c.requires.agrees.taken inside c.index.ensures in
     let here = ap (λ (s : Spot). s.place) (c.spot-at.ensures.spot ∙ ap (λ (s : Setup). spot s c.args.chunk) c.requires.agrees.layout) in
-    no_part_seen setup old new place c.args.chunk c.look-seen.result c.spot-at.result.place (place + 1) c.index.result.now c.look-seen.ensures.view here refl count c.in-None.ensures.none
+    let most = c.look-seen.ensures.count_fits in
+    no_part_seen setup old new place c.args.chunk c.look-seen.result c.spot-at.result.place (place + 1) c.index.result.now c.look-seen.ensures.view here refl count c.part_in.ensures.fits (omega (arith, most))
+    c.in-None.ensures.none
 
 pub returns-in-None-clause-told_none : goal.returns-in-None-clause-told_none
 returns-in-None-clause-told_none g c _ world is =
