@@ -1,5 +1,5 @@
 -- Looks for parts of chunks, one after another.
-use Rattle.std.proofs.Common.{◌≡◌, ◌∙◌, ℕ, ◌+◌, ◌%◌, ◌^◌, ◌<◌, ◌≤◌, ◌⊎◌, List, [], ◌∷◌, ◌++◌, length, refl, sym, ap, subst, arith, inl, inr, append_assoc, append-nil}
+use Rattle.std.proofs.Common.{◌≡◌, ◌∙◌, ℕ, ◌+◌, ◌%◌, ◌^◌, ◌<◌, ◌≤◌, ◌⊎◌, List, [], ◌∷◌, ◌++◌, length, Some, refl, sym, ap, subst, arith, inl, inr, append_assoc, append-nil}
 use Rattle.std.proofs.lemmas.Bool.{cases_eq}
 use Rattle.trace_base.proofs.Lists.{get_more, get_behind}
 use Rattle.page_geometry.specs.declared.chunk_state.ChunkState.TheVariants.{BeingWritten}
@@ -8,6 +8,7 @@ use Rattle.page_geometry.specs.Header.{packed}
 use Rattle.chunk_plain.specs.declared.tokens.Seen.{Seen}
 use Rattle.chunk_plain.specs.Setup.{Setup, spot, range_of, producer_of, id_at}
 use Rattle.chunk_plain.specs.Views.{At, Head, Look, Noted, Partial, ServiceView, taken_of}
+use Rattle.chunk_plain.specs.Histories.{found_among}
 use Rattle.chunk_plain.specs.Steps.{taken_counts}
 use Rattle.chunk_plain.specs.Words.{LooksAt}
 use Rattle.chunk_plain.proofs.Lists.{at_seam}
@@ -106,7 +107,8 @@ no_part setup place first count last old new range all seen =
       none = λ chunk is. let least = is.least in let below = is.below in seen.none chunk (omega (arith, low, least)) (omega (arith, low, many, below, all));
     }
 
-pub part_behind : (setup : Setup) (place first chunk : ℕ) (old mid new : ServiceView) → TakesNoPartOf setup place first chunk old mid → TakesPart place mid new → TakesPart place old new
+pub part_behind : (setup : Setup) (place first chunk : ℕ) (old mid new : ServiceView) → TakesNoPartOf setup place first chunk old mid → TakesPart setup place mid new
+    → TakesPart setup place old new
 part_behind setup place first chunk old mid new seen part =
     let count_is : (taken_of mid place).count ≡ (taken_of old place).count = ap (λ (v : ServiceView). (taken_of v place).count) seen.view in
     let notes : List Noted = Partial (place + 2) (taken_of old place).count part.count ∷ [] in
@@ -114,10 +116,23 @@ part_behind setup place first chunk old mid new seen part =
       looks = seen.looks ++ part.looks;
       count = part.count;
       some = part.some;
+      shows = record {
+        n = length seen.looks + part.shows.n;
+        look = part.shows.look;
+        at = get_behind seen.looks part.looks part.shows.n part.shows.look part.shows.at;
+        own = part.shows.own;
+        since = part.shows.since ∙ count_is;
+        found = part.shows.found;
+        found_is = part.shows.found_is;
+        place_is = part.shows.place_is;
+        id_is = part.shows.id_is ∙ count_is;
+        count_is = part.shows.count_is;
+      };
       view = part.view ∙ ap (λ (n : ℕ). noted_more (looked mid part.looks) (Partial (place + 2) n part.count ∷ [])) count_is
           ∙ ap (λ (v : ServiceView). noted_more (looked v part.looks) notes) seen.view
           ∙ ap (λ (l : List Look). noted_more (record old { looks = l }) notes) (append_assoc old.looks seen.looks part.looks);
       found = subst (λ (n : ℕ). IsFoundPart new (place + 2) n part.count) count_is part.found;
+      same = λ first is. part.same first (subst (λ (n : ℕ). found_among place n part.count new.looks ≡ Some first) (sym count_is) is);
     }
 
 -- Writer by writer

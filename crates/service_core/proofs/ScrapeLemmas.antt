@@ -3,8 +3,12 @@ use Rattle.std.proofs.Common.{◌≡◌, ◌∙◌, ℕ, zero, suc, ◌+◌, ◌
 use Rattle.std.specs.Prelude.{cond, ◌==◌}
 use Rattle.std.specs.List.{flat_map}
 use Rattle.std.proofs.lemmas.Bool.{cases_eq, eqb-true, eq-eqb, and_parts, false≢true}
+use Rattle.std.proofs.lemmas.Option.{same_Some}
 use mathlib.Core.Option.{some-injective}
 use Rattle.trace_base.proofs.Lists.{begins}
+use Rattle.page_geometry.specs.declared.chunk_state.ChunkState.TheVariants.{BeingWritten}
+use Rattle.page_geometry.specs.PageBits.{HasState}
+use Rattle.page_geometry.specs.Header.{packed}
 use Rattle.trace_model.specs.Fragments.{drop_size}
 use Rattle.trace_model.specs.Images.{Image, Fragment, whole_chunk}
 use Rattle.trace_model.specs.Reading.{Reading, Fragments, Unreadable, reading_of}
@@ -13,19 +17,23 @@ use Rattle.trace_model.specs.Buffers.{Buffer}
 use Rattle.trace_model.specs.Arrivals.{partial_arrival_of, settled}
 use Rattle.trace_model.specs.History as model
 use Rattle.trace_model.specs.History.{buffer_after, buffers_after}
-use Rattle.chunk_plain.specs.Setup.{Setup}
+use Rattle.chunk_plain.specs.declared.tokens.Seen.{Seen}
+use Rattle.chunk_plain.specs.Setup.{Setup, spot, producer_of, IsChunkOf}
 use Rattle.chunk_plain.specs.Payload.{byte_in}
-use Rattle.chunk_plain.specs.Views.{At, Found, Look, Noted, Partial, ServiceView, taken_of}
+use Rattle.chunk_plain.specs.Views.{At, Found, Head, Look, Noted, Partial, ServiceView, taken_of}
 use Rattle.chunk_plain.specs.Drafts.{IsFound}
 use Rattle.chunk_plain.specs.Histories.{is_scraped, found_among, once_read, part_of, happened}
-use Rattle.chunk_plain.specs.Words.{LooksAgree, FoundAlike, ShowsFound}
+use Rattle.chunk_plain.specs.Steps.{taken_counts}
+use Rattle.chunk_plain.specs.Words.{LooksAt, LooksAgree, FoundAlike, ShowsFound}
+use Rattle.chunk_plain.proofs.Lists.{at_seam}
 use Rattle.chunk_plain.proofs.Agreeing.{found_alike}
 use Rattle.service_core.specs.declared.service.ServiceCore.{ServiceCore}
 use Rattle.service_core.specs.Routing.{partial_arrivals_of}
 use Rattle.service_core.specs.Agreement.{ServiceAgrees, KeepsFields, KeepsRest, is_closed}
 use Rattle.service_core.specs.Order.{LeadTo, IsFoundPart}
-use Rattle.service_core.specs.Taking.{noted_more}
-use Rattle.service_core.specs.Scraping.{PartLooked}
+use Rattle.service_core.specs.Taking.{looked, noted_more}
+use Rattle.service_core.specs.Scraping.{IsPart, PartLooked, TakesPart}
+use Rattle.service_core.proofs.TakingLemmas.{counts_at}
 use Rattle.service_core.proofs.RouteLemmas.{NoCloses}
 use Rattle.service_core.proofs.RoutedLemmas.{closed_by_none}
 use Rattle.service_core.proofs.OrderLemmas.{lead_part, lead_part_other}
@@ -99,6 +107,58 @@ first_found place id count (first ∷ looks) (suc n) look found at is place_is i
           id_is = eqb-true one.id id both.1;
           count_is = eqb-true (length one.ends) count two.1;
         }
+
+-- it found what this one did
+part_same : (view : ServiceView) (place id count n : ℕ) (look : Look) (found first : Found) → LooksAgree view → At view.looks n look → look.found ≡ Some found
+    → found.place ≡ place → found.id ≡ id → length found.ends ≡ count → found_among place id count view.looks ≡ Some first → FoundAlike first found
+part_same view place id count n look found first alike at is place_is id_is count_is among =
+    let one = first_found place id count view.looks n look found at is place_is id_is count_is in
+    subst (λ (f : Found). FoundAlike f found) (same_Some one.found first (sym one.looked ∙ among))
+    (found_alike view alike one.number n one.look look one.found found one.at one.found_is at is (one.place_is ∙ sym place_is) (one.id_is ∙ sym id_is) (one.count_is ∙ sym count_is))
+
+-- A part that was noted stands on the look before it.
+pub part_shown : (setup : Setup) (old mid new : ServiceView) (place chunk : ℕ) (seen : Seen) (at writer id finished : ℕ) → LooksAt setup chunk seen.word.0 seen.header old mid
+    → LooksAgree mid → at ≡ (spot setup chunk).place → writer ≡ place + 1 → id ≡ (taken_of old place).count → IsPart seen at writer id finished
+    → IsChunkOf setup (producer_of setup place) chunk → new ≡ noted_more mid (Partial (place + 2) seen.header.chunk_id finished ∷ [])
+    → IsFoundPart new (place + 2) seen.header.chunk_id finished → TakesPart setup place old new
+part_shown setup old mid new place chunk seen at writer id finished looks alike at_is writer_is next part own view found =
+    let one = looks.finds.some (subst (λ (p : ℕ). HasState seen.word.0 p BeingWritten) at_is part.written) in
+    let look : Look = record { chunk = chunk; word = seen.word.0; header = packed seen.header; found = looks.found; taken = taken_counts old } in
+    let of = one.2 in
+    let count = ap (λ (h : Head). h.count) of.head_is in
+    let ends = of.finished.sealed.count in
+    let named = part.writer_is in
+    let counted = part.count in
+    let written = of.place_is in
+    let place_is : one.0.place ≡ place = omega (arith, written, named, writer_is) in
+    let count_is : length one.0.ends ≡ finished = omega (arith, ends, count, counted) in
+    let next_is : seen.header.chunk_id ≡ (taken_of old place).count = part.id_is ∙ next in
+    let id_is : one.0.id ≡ (taken_of old place).count = of.id_is ∙ next_is in
+    let seam : At mid.looks (length old.looks) look = subst (λ (v : ServiceView). At v.looks (length old.looks) look) (sym looks.view) (at_seam old.looks [] look) in
+    let stays : new.looks ≡ mid.looks = ap (λ (v : ServiceView). v.looks) view in
+    record {
+      looks = look ∷ [];
+      count = finished;
+      some = part.some;
+      shows = record {
+        n = 0;
+        look = look;
+        at = refl;
+        own = own;
+        since = counts_at old place;
+        found = one.0;
+        found_is = one.1;
+        place_is = place_is;
+        id_is = id_is;
+        count_is = count_is;
+      };
+      view = view ∙ ap (λ (v : ServiceView). noted_more v (Partial (place + 2) seen.header.chunk_id finished ∷ [])) looks.view
+          ∙ ap (λ (i : ℕ). noted_more (looked old (look ∷ [])) (Partial (place + 2) i finished ∷ [])) next_is;
+      found = subst (λ (i : ℕ). IsFoundPart new (place + 2) i finished) next_is found;
+      same = λ first is.
+          part_same mid place (taken_of old place).count finished (length old.looks) look one.0 first alike seam one.1 place_is id_is count_is
+          (subst (λ (ls : List Look). found_among place (taken_of old place).count finished ls ≡ Some first) stays is);
+    }
 
 -- What arrives
 

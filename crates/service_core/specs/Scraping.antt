@@ -12,6 +12,8 @@ use Rattle.chunk_plain.specs.Views.{At, Draft, no_draft, BegunChunk, Held, Compl
 use Rattle.chunk_plain.specs.World.{World, Writing, status, writer}
 use Rattle.chunk_plain.specs.Steps.{serviced}
 use Rattle.chunk_plain.specs.Drafts.{IsFound}
+use Rattle.chunk_plain.specs.Histories.{found_among}
+use Rattle.chunk_plain.specs.Words.{FoundAlike}
 use Rattle.service_core.specs.Taking.{looked, noted_more, Takes, places_of}
 use Rattle.service_core.specs.Told.{StandsBehind, NoneLeft}
 use Rattle.service_core.specs.Order.{IsFoundPart}
@@ -44,13 +46,30 @@ pub record ShowsNoPart (setup : Setup) (place count chunk : ℕ) (looks : List L
   pub since : slice_index_or look.taken place 0 ≡ count
   pub shows : IsNoPart setup place (id_at setup place count) look
 
--- Finished fragments of the writer's next chunk came, so many, and at least one; they are noted, and stand on a look.
-pub record TakesPart (place : ℕ) (old new : ServiceView) : Type 0 where
+-- One of these looks, at a chunk of the producer, found so many finished fragments of the next chunk of the writer at this place, of which so
+-- many were taken then.
+pub record ShowsPart (setup : Setup) (place taken count : ℕ) (looks : List Look) : Type 0 where
+  pub n : ℕ
+  pub look : Look
+  pub at : slice_get looks n ≡ Some look
+  pub own : IsChunkOf setup (producer_of setup place) look.chunk
+  pub since : slice_index_or look.taken place 0 ≡ taken
+  pub found : Found
+  pub found_is : look.found ≡ Some found
+  pub place_is : found.place ≡ place
+  pub id_is : found.id ≡ taken
+  pub count_is : length found.ends ≡ count
+
+-- Finished fragments of the writer's next chunk came, so many, and at least one; they are noted, and stand on looks: one of this call found as
+-- many, and the first one of all that did, by which the note is read, found the same.
+pub record TakesPart (setup : Setup) (place : ℕ) (old new : ServiceView) : Type 0 where
   pub looks : List Look
   pub count : ℕ
   pub some : 0 < count
+  pub shows : ShowsPart setup place (taken_of old place).count count looks
   pub view : new ≡ noted_more (looked old looks) (Partial (sequence_of place) (taken_of old place).count count ∷ [])
   pub found : IsFoundPart new (sequence_of place) (taken_of old place).count count
+  pub same : (first : Found) → found_among place (taken_of old place).count count new.looks ≡ Some first → FoundAlike first shows.found
 
 -- no part of the writer's next chunk came: each chunk of the producer was looked at, and shows why
 pub record TakesNoPart (setup : Setup) (place : ℕ) (old new : ServiceView) : Type 0 where
@@ -66,7 +85,7 @@ pub record TakesNoPartOf (setup : Setup) (place first last : ℕ) (old new : Ser
 
 -- a part of the next chunk of the writer at this place came, or none
 abbrev pub ScrapesOne : Setup → (place : ℕ) → ServiceView → ServiceView → Type 0
-ScrapesOne setup place old new = TakesPart place old new ⊎ TakesNoPart setup place old new
+ScrapesOne setup place old new = TakesPart setup place old new ⊎ TakesNoPart setup place old new
 
 -- and of those at these places, one after another
 abbrev pub ScrapesEach : Setup → List ℕ → ServiceView → ServiceView → Type 0

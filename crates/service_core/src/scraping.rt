@@ -103,8 +103,8 @@ impl<S> ServiceCore<S> {
         ensures agrees { ServiceAgrees (W.means.setup table.old) (W.means.service_view table.new self.new.seat) self.new }
         ensures keeps { KeepsRest (W.means.setup table.old) self.old self.new }
         ensures step { IsServiceStep W.means table.old self.old.seat table.new self.new.seat }
-        ensures part { result ≡ true → TakesPart place (W.means.service_view table.old self.old.seat)
-            (W.means.service_view table.new self.new.seat) }
+        ensures part { result ≡ true → TakesPart (W.means.setup table.old) place
+            (W.means.service_view table.old self.old.seat) (W.means.service_view table.new self.new.seat) }
         ensures none { result ≡ false → SeesNoPart (W.means.setup table.old) place chunk
             (W.means.service_view table.old self.old.seat) (W.means.service_view table.new self.new.seat) }
         ensures told_part { result ≡ true → (world : World) → W.means.told table.old ≡ Some world

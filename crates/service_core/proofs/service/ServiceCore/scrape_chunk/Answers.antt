@@ -10,6 +10,7 @@ use Rattle.service_core.specs.Scraping.{PartLooked, IsntPart}
 use Rattle.service_core.proofs.TakingLemmas.{read_count}
 use Rattle.service_core.proofs.AgreeLemmas.{agrees_looked}
 use Rattle.service_core.proofs.PartLemmas.{part_looked, no_part_seen}
+use Rattle.service_core.proofs.ScrapeLemmas.{part_shown}
 use Rattle.service_core.proofs.HeldLemmas.{HasRanges, part_is, isnt_part}
 use Rattle.service_core.proofs.service.ServiceCore.scrape_chunk.Goals as goal
 
@@ -47,6 +48,22 @@ returns-in-Some-clause-keeps g c =
 pub returns-in-Some-clause-step : goal.returns-in-Some-clause-step
 returns-in-Some-clause-step g c =
     services_follow g.W.Words.means c.args.table.now c.args.self.now.seat c.look-seen.new.self c.look-seen.new.seat c.put_part.new.table c.put_part.new.self.seat c.look-seen.ensures.step c.put_part.ensures.step
+
+pub returns-in-Some-clause-part : goal.returns-in-Some-clause-part
+returns-in-Some-clause-part g c _ =
+    let setup = g.W.Words.means.setup c.args.table.now in
+    let old = g.W.Words.means.service_view c.args.table.now c.args.self.now.seat in
+    let mid = g.W.Words.means.service_view c.look-seen.new.self c.look-seen.new.seat in
+    let new = g.W.Words.means.service_view c.put_part.new.table c.put_part.new.self.seat in
+    let place = c.args.place in
+    let serving = g.met.W.Words.serving c.args.table.now c.args.self.now.seat c.requires.serves in
+    let many = serving.writers in
+    let below = c.requires.place in
+    let inside : place < length old.taken = omega (arith, many, below) in
+    let count = read_count old c.args.self.now.taken.items place c.index.result.now c.requires.agrees.taken inside c.index.ensures in
+    let here = ap (λ (s : Spot). s.place) (c.spot-at.ensures.spot ∙ ap (λ (s : Setup). spot s c.args.chunk) c.requires.agrees.layout) in
+    part_shown setup old mid new place c.args.chunk c.look-seen.result c.spot-at.result.place (place + 1) c.index.result.now c.in-Some.finished c.look-seen.ensures.view
+    (g.met.W.Words.looks_agree c.look-seen.new.self c.look-seen.new.seat c.look-seen.ensures.step.seat_stays) here refl count c.in-Some.ensures.some c.requires.chunk c.put_part.ensures.view c.put_part.ensures.part
 
 pub returns-in-Some-clause-told_part : goal.returns-in-Some-clause-told_part
 returns-in-Some-clause-told_part g c _ world is =

@@ -3,7 +3,7 @@ use Rattle.chunk_plain.specs.Setup.{Setup}
 use Rattle.chunk_plain.specs.Views.{ServiceView, taken_of}
 use Rattle.chunk_plain.proofs.SeatSteps.{services_follow, serves_on}
 use Rattle.service_core.specs.Agreement.{ServiceAgrees, KeepsRest}
-use Rattle.service_core.specs.Scraping.{SeesNoPart, FindsNoPart, FindsNoPartOf}
+use Rattle.service_core.specs.Scraping.{SeesNoPart, TakesPart, FindsNoPart, FindsNoPartOf}
 use Rattle.service_core.proofs.AgreeLemmas.{keeps_same, keeps_both}
 use Rattle.service_core.proofs.ToldLemmas.{range_is}
 use Rattle.service_core.proofs.PartLemmas.{no_part_yet, no_part_more, no_part, part_behind}
@@ -54,7 +54,8 @@ returns-then-scrape_chunk-clause-scrapes g c =
     let old = means.service_view c.args.table.now c.args.self.now.seat in
     let mid = means.service_view c.loop-chunk.table c.loop-chunk.self.seat in
     let new = means.service_view c.scrape_chunk.new.table c.scrape_chunk.new.self.seat in
-    inl (part_behind setup c.args.place c.chunks_of-first.result.0 c.loop-chunk.chunk old mid new i.seen (c.scrape_chunk.ensures.part c.if-scrape_chunk.true))
+    inl (part_behind setup c.args.place c.chunks_of-first.result.0 c.loop-chunk.chunk old mid new i.seen
+    (subst (λ (s : Setup). TakesPart s c.args.place mid new) i.step.setup_stays (c.scrape_chunk.ensures.part c.if-scrape_chunk.true)))
 
 pub returns-then-scrape_chunk-clause-told : goal.returns-then-scrape_chunk-clause-told
 returns-then-scrape_chunk-clause-told g c world is own =
