@@ -1,5 +1,5 @@
 //! Images that come by a commit.
-ghost use Rattle.std.specs.Prelude.{◌≡◌, ◌≢◌, ℕ, ◌+◌, ◌-◌, ◌<◌, ◌≤◌, false, length, map, IsOkAnd, Err};
+ghost use Rattle.std.specs.Prelude.{◌≡◌, ◌≢◌, ℕ, ◌+◌, ◌-◌, ◌<◌, ◌≤◌, false, Some, length, map, IsOkAnd, Err};
 ghost use Rattle.trace_base.specs.declared.limits.TheConstants.{MAX_FRAGMENTS, FIRST_SEQUENCE};
 ghost use Rattle.page_geometry.specs.declared.chunk_header.TheConstants.{MAX_FLAGS};
 ghost use Rattle.chunk_image.specs.Values.{image_value};
@@ -8,7 +8,8 @@ ghost use Rattle.trace_model.specs.Arrivals.{image_arrival_of};
 ghost use Rattle.trace_buffer.specs.Answers.{arrived_value};
 ghost use Rattle.chunk_plain.specs.Meaning.{IsServiceStep};
 ghost use Rattle.chunk_plain.specs.Setup.{size_of, producer_of};
-ghost use Rattle.chunk_plain.specs.Steps.{notes_commit};
+ghost use Rattle.chunk_plain.specs.World.{World};
+ghost use Rattle.chunk_plain.specs.Steps.{notes_commit, serviced};
 ghost use Rattle.service_core.specs.Routing.{buffer_at};
 ghost use Rattle.service_core.specs.Agreement.{ServiceAgrees, KeepsRest, is_closed, buffer_of};
 
@@ -60,6 +61,8 @@ impl<S> ServiceCore<S> {
         ensures noted { buffer_of (W.means.setup table.old) (image.now.sequence - FIRST_SEQUENCE) ≡ target
             → W.means.service_view table.new self.new.seat ≡ notes_commit (W.means.service_view table.old self.old.seat)
             (record { image = image_value image.now; patches = map patch_value patches.now }) }
+        ensures told { (world : World) → W.means.told table.old ≡ Some world
+            → W.means.told table.new ≡ Some (serviced world (W.means.service_view table.new self.new.seat)) }
     {
         let place = (image.sequence - FIRST_SEQUENCE) as usize;
         let buffer = self.writers[place].buffer;
