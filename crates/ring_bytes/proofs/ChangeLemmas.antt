@@ -4,7 +4,7 @@ use Rattle.page_geometry.specs.Sizes.{record_size}
 use Rattle.ring_bytes.specs.declared.header.Header.{Header}
 use Rattle.ring_bytes.specs.Bytes.{slice, SameOutside}
 use Rattle.ring_bytes.specs.Fields.{live_of}
-use Rattle.ring_bytes.specs.Header.{header_at, header_of, is_live}
+use Rattle.ring_bytes.specs.Header.{header_at, header_of, StandsAt, is_live}
 use Rattle.ring_bytes.specs.Rows.{IsRow, IsPast, stored_of, live_row}
 use Rattle.ring_bytes.specs.Value.{Stored, without_stored, change_at, put_at, with_bytes}
 use Rattle.ring_bytes.proofs.RowLemmas.{part, size_least, row_one, past_then}
@@ -19,10 +19,10 @@ pub record IsNow (b c : List ℕ) (place size : ℕ) (records : List Stored) : T
   pub live : live_row c place (place + size) ≡ records
 
 -- what stays of a record's header in front of a payload that stays
-pub reheaded : (b c : List ℕ) (next size clear front place : ℕ) (s : Stored) (header : Header) → (here : IsAt b next size clear front place s) → SameOutside place (place + 16) b c → header_at c place ≡ header → header.len ≡ here.header.len → IsNow b c place (record_size here.header.len) (cond (is_live header) (record { at = place; key = header.key; payload = s.payload } ∷ []) [])
-reheaded b c next size clear front place s header here same there len =
+pub reheaded : (b c : List ℕ) (next size clear front place : ℕ) (s : Stored) (header : Header) → (here : IsAt b next size clear front place s) → SameOutside place (place + 16) b c → header_at c place ≡ header → StandsAt c place header → header.len ≡ here.header.len → IsNow b c place (record_size here.header.len) (cond (is_live header) (record { at = place; key = header.key; payload = s.payload } ∷ []) [])
+reheaded b c next size clear front place s header here same there stands len =
     let least = size_least here.header.len in
-    let one = row_one c place header there (omega (arith, len, here.small)) in
+    let one = row_one c place header there stands (omega (arith, len, here.small)) in
     let end : place + record_size header.len ≡ place + record_size here.header.len = ap (λ n. place + record_size n) len in
     let payload : slice (place + 16) header.len c ≡ s.payload =
     same.above (place + 16) header.len (omega arith)
@@ -44,8 +44,9 @@ patched b c next size clear front place offset piece s here whole fits is =
     let same : SameOutside (place + 16 + offset) (place + 16 + offset + length piece) b c =
     subst (λ x. SameOutside (place + 16 + offset) (place + 16 + offset + length piece) b x) (sym is)
     (put_same (place + 16 + offset) piece b (omega (arith, whole, here.inside))) in
-    let there : header_at c place ≡ here.header = ap header_of (same.below place 16 (omega arith)) ∙ here.there in
-    let one = row_one c place here.header there here.small in
+    let bytes : slice place 16 c ≡ slice place 16 b = same.below place 16 (omega arith) in
+    let there : header_at c place ≡ here.header = ap header_of bytes ∙ here.there in
+    let one = row_one c place here.header there (bytes ∙ here.stands) here.small in
     let was : slice (place + 16) here.header.len b ≡ s.payload = ap (λ (t : Stored). t.payload) here.is in
     let payload : slice (place + 16) here.header.len c ≡ put_at offset piece s.payload =
     ap (slice (place + 16) here.header.len) is

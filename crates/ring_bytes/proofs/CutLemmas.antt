@@ -5,7 +5,7 @@ use Rattle.page_geometry.specs.Sizes.{record_size}
 use Rattle.ring_bytes.specs.declared.header.Header.{Header}
 use Rattle.ring_bytes.specs.declared.ring.TheConstants.{MAX_RING_SIZE}
 use Rattle.ring_bytes.specs.Bytes.{SameOutside}
-use Rattle.ring_bytes.specs.Header.{header_at, is_live}
+use Rattle.ring_bytes.specs.Header.{header_at, StandsAt, is_live}
 use Rattle.ring_bytes.specs.Rows.{Part, row, AreParts, IsRow, IsPast, stored_of, live_in, live_row}
 use Rattle.ring_bytes.specs.Value.{Stored}
 use Rattle.ring_bytes.proofs.RowLemmas.{part, is_row, live_is, row_one, row_none, row_append, row_order, row_below, row_above, past_row}
@@ -14,6 +14,7 @@ use Rattle.ring_bytes.proofs.RowLemmas.{part, is_row, live_is, row_one, row_none
 pub record IsCut (b : List ℕ) (lo hi : ℕ) (live : List Stored) (s : Stored) : Type 0 where
   pub header : Header
   pub there : header_at b s.at ≡ header
+  pub stands : StandsAt b s.at header
   pub is : stored_of b (part s.at header) ≡ s
   pub alive : is_live header ≡ true
   pub small : header.len < MAX_RING_SIZE
@@ -28,6 +29,7 @@ cut_more b lo mid hi front live s one is cut =
     record {
       header = cut.header;
       there = cut.there;
+      stands = cut.stands;
       is = cut.is;
       alive = cut.alive;
       small = cut.small;
@@ -42,11 +44,12 @@ cut_more b lo mid hi front live s one is cut =
 cut_here : (b : List ℕ) (lo hi : ℕ) (p : Part) (ps : List Part) → AreParts b lo (p ∷ ps) hi → is_live p.header ≡ true → IsCut b lo hi (stored_of b p ∷ live_in b ps) (stored_of b p)
 cut_here b lo hi p ps are alive =
     let rest : AreParts b (p.at + record_size p.header.len) ps hi =
-    subst (λ n. AreParts b (n + record_size p.header.len) ps hi) (sym are.0) are.3 in
+    subst (λ n. AreParts b (n + record_size p.header.len) ps hi) (sym are.0) are.4 in
     let none = row_none b lo in
     record {
       header = p.header;
       there = ap (λ n. header_at b n) are.0 ∙ sym are.1;
+      stands = subst (λ n. StandsAt b n p.header) (sym are.0) are.3;
       is = refl;
       alive = alive;
       small = are.2;
@@ -60,11 +63,11 @@ cut_here b lo hi p ps are alive =
 cut_parts : (b : List ℕ) (lo hi : ℕ) (ps : List Part) (P : Stored → Bool) (s : Stored) → AreParts b lo ps hi → find P (live_in b ps) ≡ Some s → IsCut b lo hi (live_in b ps) s
 cut_parts b lo hi [] P s are found = absurd (cc)
 cut_parts b lo hi (p ∷ ps) P s are found =
-    by_kind (is_live p.header) refl (λ x same. cut_parts b (lo + record_size p.header.len) hi ps P x are.3 same) found
+    by_kind (is_live p.header) refl (λ x same. cut_parts b (lo + record_size p.header.len) hi ps P x are.4 same) found
   where
     one : (x : Bool) → is_live p.header ≡ x → IsRow b lo (lo + record_size p.header.len) × (live_row b lo (lo + record_size p.header.len) ≡ cond x (stored_of b p ∷ []) [])
     one x is =
-        let first = row_one b lo p.header (sym are.1) are.2 in
+        let first = row_one b lo p.header (sym are.1) are.3 are.2 in
         let same : stored_of b (part lo p.header) ≡ stored_of b p = ap (λ n. stored_of b (part n p.header)) (sym are.0) in
         (first.0, first.1 ∙ ap (λ y. cond y (stored_of b (part lo p.header) ∷ []) []) is ∙ ap (λ t. cond x (t ∷ []) []) same)
 

@@ -6,7 +6,7 @@ use Rattle.ring_bytes.specs.declared.header.Header.{Header}
 use Rattle.ring_bytes.specs.declared.ring.TheConstants.{MAX_RING_SIZE}
 use Rattle.ring_bytes.specs.Bytes.{SameOutside}
 use Rattle.ring_bytes.specs.Fields.{live_of}
-use Rattle.ring_bytes.specs.Header.{header_at, is_live}
+use Rattle.ring_bytes.specs.Header.{header_at, StandsAt, is_live}
 use Rattle.ring_bytes.specs.Rows.{IsRow, IsPast, stored_of, live_row}
 use Rattle.ring_bytes.specs.Value.{Stored, OnlyAt, is_at}
 use Rattle.ring_bytes.proofs.RowLemmas.{part, size_least, row_order, row_within, row_below, row_above, past_row, past_below, past_above}
@@ -23,6 +23,7 @@ pub record AreHalves (b : List ℕ) (next size clear front : ℕ) : Type 0 where
 pub record IsAt (b : List ℕ) (next size clear front place : ℕ) (s : Stored) : Type 0 where
   pub header : Header
   pub there : header_at b place ≡ header
+  pub stands : StandsAt b place header
   pub is : stored_of b (part place header) ≡ s
   pub alive : is_live header ≡ true
   pub small : header.len < MAX_RING_SIZE
@@ -51,6 +52,7 @@ at_older b next size clear front s halves is =
     record {
       header = is.header;
       there = is.there;
+      stands = is.stands;
       is = is.is;
       alive = is.alive;
       small = is.small;
@@ -95,6 +97,7 @@ at_newer b next size clear front s halves is =
     record {
       header = is.header;
       there = is.there;
+      stands = is.stands;
       is = is.is;
       alive = is.alive;
       small = is.small;

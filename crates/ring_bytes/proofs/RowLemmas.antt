@@ -5,7 +5,7 @@ use Rattle.page_geometry.specs.Sizes.{record_size}
 use Rattle.ring_bytes.specs.declared.header.Header.{Header}
 use Rattle.ring_bytes.specs.declared.ring.TheConstants.{MAX_RING_SIZE}
 use Rattle.ring_bytes.specs.Bytes.{slice, SameOutside}
-use Rattle.ring_bytes.specs.Header.{header_at, header_of, is_live}
+use Rattle.ring_bytes.specs.Header.{header_at, header_of, StandsAt, is_live}
 use Rattle.ring_bytes.specs.Rows.{Part, parts, row, AreParts, IsRow, stored_of, live_in, live_row, IsPast}
 use Rattle.ring_bytes.specs.Value.{Stored, size_of}
 
@@ -22,23 +22,23 @@ size_units len = omega arith
 
 pub parts_order : (bytes : List ℕ) (lo : ℕ) (ps : List Part) (hi : ℕ) → AreParts bytes lo ps hi → lo ≤ hi
 parts_order bytes lo [] hi are = omega arith
-parts_order bytes lo (p ∷ ps) hi are = let rest = parts_order bytes (lo + record_size p.header.len) ps hi are.3 in omega arith
+parts_order bytes lo (p ∷ ps) hi are = let rest = parts_order bytes (lo + record_size p.header.len) ps hi are.4 in omega arith
 
 parts_are : (limit : ℕ) (bytes : List ℕ) (lo : ℕ) (ps : List Part) (hi : ℕ) → AreParts bytes lo ps hi → hi ≤ lo + limit → parts limit bytes lo hi ≡ ps
 parts_are zero bytes lo [] hi are enough = refl
 parts_are zero bytes lo (p ∷ ps) hi are enough =
-    let rest = parts_order bytes (lo + record_size p.header.len) ps hi are.3 in
+    let rest = parts_order bytes (lo + record_size p.header.len) ps hi are.4 in
     let more = size_least p.header.len in
     absurd (omega arith)
 parts_are (suc limit) bytes lo [] hi are enough =
     ap (λ b. cond b (part lo (header_at bytes lo) ∷ parts limit bytes (lo + record_size (header_at bytes lo).len) hi) []) (le-ltb lo hi (omega arith))
 parts_are (suc limit) bytes lo (p ∷ ps) hi are enough =
-    let rest = parts_order bytes (lo + record_size p.header.len) ps hi are.3 in
+    let rest = parts_order bytes (lo + record_size p.header.len) ps hi are.4 in
     let more = size_least p.header.len in
     let header : header_at bytes lo ≡ p.header = sym are.1 in
     let here : part lo (header_at bytes lo) ≡ p = λ i. record { at = sym are.0 i; header = header i } in
     let again : AreParts bytes (lo + record_size (header_at bytes lo).len) ps hi =
-    subst (λ (h : Header). AreParts bytes (lo + record_size h.len) ps hi) are.1 are.3 in
+    subst (λ (h : Header). AreParts bytes (lo + record_size h.len) ps hi) are.1 are.4 in
     let less : hi ≤ lo + record_size (header_at bytes lo).len + limit =
     subst (λ (h : Header). hi ≤ lo + record_size h.len + limit) are.1 (omega arith) in
     ap (λ b. cond b (part lo (header_at bytes lo) ∷ parts limit bytes (lo + record_size (header_at bytes lo).len) hi) []) (lt-ltb lo hi (omega arith))
@@ -62,14 +62,14 @@ row_order bytes lo hi is = parts_order bytes lo (row bytes lo hi) hi is.are
 pub row_none : (bytes : List ℕ) (at : ℕ) → IsRow bytes at at × (live_row bytes at at ≡ [])
 row_none bytes at = (is_row bytes at [] at refl, live_is bytes at [] at refl)
 
-pub row_one : (bytes : List ℕ) (at : ℕ) (header : Header) → header_at bytes at ≡ header → header.len < MAX_RING_SIZE → IsRow bytes at (at + record_size header.len) × (live_row bytes at (at + record_size header.len) ≡ cond (is_live header) (stored_of bytes (part at header) ∷ []) [])
-row_one bytes at header is small =
-    let are : AreParts bytes at (part at header ∷ []) (at + record_size header.len) = (refl, sym is, small, refl) in
+pub row_one : (bytes : List ℕ) (at : ℕ) (header : Header) → header_at bytes at ≡ header → StandsAt bytes at header → header.len < MAX_RING_SIZE → IsRow bytes at (at + record_size header.len) × (live_row bytes at (at + record_size header.len) ≡ cond (is_live header) (stored_of bytes (part at header) ∷ []) [])
+row_one bytes at header is stands small =
+    let are : AreParts bytes at (part at header ∷ []) (at + record_size header.len) = (refl, sym is, small, stands, refl) in
     (is_row bytes at (part at header ∷ []) (at + record_size header.len) are, live_is bytes at (part at header ∷ []) (at + record_size header.len) are)
 
 parts_append : (bytes : List ℕ) (lo mid hi : ℕ) (ps qs : List Part) → AreParts bytes lo ps mid → AreParts bytes mid qs hi → AreParts bytes lo (ps ++ qs) hi
 parts_append bytes lo mid hi [] qs one two = subst (λ n. AreParts bytes n qs hi) (sym one) two
-parts_append bytes lo mid hi (p ∷ ps) qs one two = (one.0, one.1, one.2, parts_append bytes (lo + record_size p.header.len) mid hi ps qs one.3 two)
+parts_append bytes lo mid hi (p ∷ ps) qs one two = (one.0, one.1, one.2, one.3, parts_append bytes (lo + record_size p.header.len) mid hi ps qs one.4 two)
 
 live_append : (bytes : List ℕ) (ps qs : List Part) → live_in bytes (ps ++ qs) ≡ live_in bytes ps ++ live_in bytes qs
 live_append bytes [] qs = refl
@@ -93,13 +93,14 @@ parts_stay : (b c : List ℕ) (lo hi : ℕ) (ps : List Part) → ((at count : �
 parts_stay b c lo hi [] same are = (are, refl)
 parts_stay b c lo hi (p ∷ ps) same are =
     let size = size_least p.header.len in
-    let order = parts_order b (lo + record_size p.header.len) ps hi are.3 in
-    let rest = parts_stay b c (lo + record_size p.header.len) hi ps (λ at count above under. same at count (omega arith) under) are.3 in
-    let header : header_at b lo ≡ header_at c lo = ap header_of (sym (same lo 16 (omega arith) (omega arith))) in
+    let order = parts_order b (lo + record_size p.header.len) ps hi are.4 in
+    let rest = parts_stay b c (lo + record_size p.header.len) hi ps (λ at count above under. same at count (omega arith) under) are.4 in
+    let bytes : slice lo 16 c ≡ slice lo 16 b = same lo 16 (omega arith) (omega arith) in
+    let header : header_at b lo ≡ header_at c lo = ap header_of (sym bytes) in
     let payload : slice (p.at + 16) p.header.len c ≡ slice (p.at + 16) p.header.len b =
     same (p.at + 16) p.header.len (omega (arith, are.0)) (omega (arith, are.0)) in
     let stored : stored_of c p ≡ stored_of b p = λ i. record { at = p.at; key = p.header.key; payload = payload i } in (
-      (are.0, are.1 ∙ header, are.2, rest.0),
+      (are.0, are.1 ∙ header, are.2, bytes ∙ are.3, rest.0),
       ap₂ (λ (s : Stored) (ss : List Stored). cond (is_live p.header) (s ∷ ss) ss) stored rest.1,
     )
 
@@ -118,6 +119,7 @@ row_above b c from to lo hi same above is = row_stays b c lo hi (λ at count ove
 
 pub record IsStep (bytes : List ℕ) (at end : ℕ) : Type 0 where
   pub small : (header_at bytes at).len < MAX_RING_SIZE
+  pub stands : StandsAt bytes at (header_at bytes at)
   pub inside : at + record_size (header_at bytes at).len ≤ end
   pub rest : IsRow bytes (at + record_size (header_at bytes at).len) end
   pub live : live_row bytes at end ≡ cond (is_live (header_at bytes at)) (stored_of bytes (part at (header_at bytes at)) ∷ live_row bytes (at + record_size (header_at bytes at).len) end) (live_row bytes (at + record_size (header_at bytes at).len) end)
@@ -128,9 +130,10 @@ step_of bytes at end (p ∷ ps) are before =
     let header : p.header ≡ header_at bytes at = are.1 in
     let here : p ≡ part at (header_at bytes at) = λ i. record { at = are.0 i; header = header i } in
     let rest : AreParts bytes (at + record_size (header_at bytes at).len) ps end =
-    subst (λ (h : Header). AreParts bytes (at + record_size h.len) ps end) header are.3 in
+    subst (λ (h : Header). AreParts bytes (at + record_size h.len) ps end) header are.4 in
     record {
       small = subst (λ (h : Header). h.len < MAX_RING_SIZE) header are.2;
+      stands = subst (StandsAt bytes at) header are.3;
       inside = parts_order bytes (at + record_size (header_at bytes at).len) ps end rest;
       rest = is_row bytes (at + record_size (header_at bytes at).len) ps end rest;
       live =
@@ -163,8 +166,8 @@ parts_within : (bytes : List ℕ) (lo hi : ℕ) (ps : List Part) → hi ≤ leng
 parts_within bytes lo hi [] inside are = tt
 parts_within bytes lo hi (p ∷ ps) inside are =
     let least = size_least p.header.len in
-    let order = parts_order bytes (lo + record_size p.header.len) ps hi are.3 in
-    let rest = all_wider (lo + record_size p.header.len) hi lo hi (live_in bytes ps) (omega arith) (omega arith) (parts_within bytes (lo + record_size p.header.len) hi ps inside are.3) in
+    let order = parts_order bytes (lo + record_size p.header.len) ps hi are.4 in
+    let rest = all_wider (lo + record_size p.header.len) hi lo hi (live_in bytes ps) (omega arith) (omega arith) (parts_within bytes (lo + record_size p.header.len) hi ps inside are.4) in
     let size : size_of (stored_of bytes p) ≡ record_size p.header.len = stored_size bytes p.at p.header (omega (arith, are.0)) in
     let P : Bool → Type 0 = λ b. AllIn lo hi (cond b (stored_of bytes p ∷ live_in bytes ps) (live_in bytes ps)) in
     elim (is_live p.header) as P [
@@ -179,8 +182,8 @@ parts_few : (bytes : List ℕ) (lo hi : ℕ) (ps : List Part) → hi ≤ length 
 parts_few bytes lo hi [] inside are = omega arith
 parts_few bytes lo hi (p ∷ ps) inside are =
     let least = size_least p.header.len in
-    let order = parts_order bytes (lo + record_size p.header.len) ps hi are.3 in
-    let rest = parts_few bytes (lo + record_size p.header.len) hi ps inside are.3 in
+    let order = parts_order bytes (lo + record_size p.header.len) ps hi are.4 in
+    let rest = parts_few bytes (lo + record_size p.header.len) hi ps inside are.4 in
     let size : size_of (stored_of bytes p) ≡ record_size p.header.len = stored_size bytes p.at p.header (omega (arith, are.0)) in
     let P : Bool → Type 0 = λ b. lo + sum_by size_of (cond b (stored_of bytes p ∷ live_in bytes ps) (live_in bytes ps)) ≤ hi in
     elim (is_live p.header) as P [
@@ -196,7 +199,7 @@ parts_units : (bytes : List ℕ) (lo hi : ℕ) (ps : List Part) → AreParts byt
 parts_units bytes lo hi [] are = ap (λ n. n % 16) are
 parts_units bytes lo hi (p ∷ ps) are =
     let units = size_units p.header.len in
-    let rest = parts_units bytes (lo + record_size p.header.len) hi ps are.3 in
+    let rest = parts_units bytes (lo + record_size p.header.len) hi ps are.4 in
     omega arith
 
 pub row_units : (bytes : List ℕ) (lo hi : ℕ) → IsRow bytes lo hi → lo % 16 ≡ hi % 16

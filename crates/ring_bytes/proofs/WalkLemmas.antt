@@ -4,7 +4,7 @@ use Rattle.std.specs.List.{find}
 use Rattle.page_geometry.specs.Sizes.{record_size}
 use Rattle.ring_bytes.specs.declared.header.Header.{Header}
 use Rattle.ring_bytes.specs.declared.ring.TheConstants.{MAX_RING_SIZE}
-use Rattle.ring_bytes.specs.Header.{header_at, is_live}
+use Rattle.ring_bytes.specs.Header.{header_at, StandsAt, is_live}
 use Rattle.ring_bytes.specs.Rows.{IsRow, IsPast, live_row, stored_of}
 use Rattle.ring_bytes.specs.Value.{Stored}
 use Rattle.ring_bytes.proofs.RowLemmas.{part, AllIn, step, row_one, past_then}
@@ -12,6 +12,7 @@ use Rattle.ring_bytes.proofs.RowLemmas.{part, AllIn, step, row_one, past_then}
 -- a header read of a row, as the code has it
 pub record IsRead (bytes : List ℕ) (at end : ℕ) (header : Header) : Type 0 where
   pub small : header.len < MAX_RING_SIZE
+  pub stands : StandsAt bytes at header
   pub inside : at + record_size header.len ≤ end
   pub rest : IsRow bytes (at + record_size header.len) end
   pub live : live_row bytes at end ≡ cond (is_live header) (stored_of bytes (part at header) ∷ live_row bytes (at + record_size header.len) end) (live_row bytes (at + record_size header.len) end)
@@ -20,7 +21,7 @@ pub read_of : (bytes : List ℕ) (at end : ℕ) (header : Header) → IsRow byte
 read_of bytes at end header is before same =
     let s = step bytes at end is before in
     subst (λ (h : Header). IsRead bytes at end h) (sym same)
-    record { small = s.small; inside = s.inside; rest = s.rest; live = s.live }
+    record { small = s.small; stands = s.stands; inside = s.inside; rest = s.rest; live = s.live }
 
 -- a part that isn't live is walked over
 pub walk_on : (bytes : List ℕ) (at end then : ℕ) (header : Header) → IsRead bytes at end header → is_live header ≡ false → then ≡ at + record_size header.len → IsRow bytes then end × (live_row bytes then end ≡ live_row bytes at end)
@@ -33,7 +34,7 @@ walk_on bytes at end then header read dead is = (
 
 pub past_more : (bytes : List ℕ) (from at end then : ℕ) (header : Header) → IsPast bytes from at end → header ≡ header_at bytes at → IsRead bytes at end header → is_live header ≡ false → then ≡ at + record_size header.len → IsPast bytes from then end
 past_more bytes from at end then header past same read dead is =
-    let one = row_one bytes at header (sym same) read.small in
+    let one = row_one bytes at header (sym same) read.stands read.small in
     subst (λ n. IsPast bytes from n end) (sym is)
     (past_then bytes from at (at + record_size header.len) end past
     record {

@@ -1,7 +1,7 @@
 -- The header of a part of a ring: 16 bytes, this project's profile. All numbers are little-endian: the payload's length, the
 -- sequence and the chunk id, each four bytes; two bytes with the count of fragments and, above its ten bits, the flags, as in
 -- a chunk's header of the shared memory ABI; and two bytes of the ring's own.
-use Rattle.std.specs.Prelude.{ℕ, ◌+◌, ◌*◌, ◌/◌, ◌%◌, ◌≤◌, ◌==◌, Bool, false, not, ◌||◌, List, ◌++◌, drop, if◌then◌else◌}
+use Rattle.std.specs.Prelude.{◌≡◌, ℕ, ◌+◌, ◌*◌, ◌/◌, ◌%◌, ◌≤◌, ◌==◌, Bool, false, not, ◌||◌, List, ◌++◌, drop, if◌then◌else◌}
 use Rattle.std.specs.Int.{w16, w32, to_le_bytes, from_le_bytes}
 use Rattle.trace_base.specs.declared.limits.TheConstants.{MAX_FRAGMENTS}
 use Rattle.page_geometry.specs.declared.geometry.TheConstants.{RECORD_HEADER_SIZE}
@@ -28,7 +28,7 @@ pub record IsHeader (header : Header) : Type 0 where
   pub count : header.key.count ≤ MAX_FRAGMENTS
   pub flags : header.key.flags ≤ MAX_FLAGS
 
--- the bytes of a header
+-- the bytes of a header, as they are to stand in a ring
 unfoldable pub header_bytes : Header → List ℕ
 header_bytes header =
     to_le_bytes w32 header.len
@@ -59,6 +59,10 @@ header_of bytes =
 -- the header that stands at a place
 abbrev pub header_at : List ℕ → ℕ → Header
 header_at bytes at = header_of (slice at RECORD_HEADER_SIZE bytes)
+
+-- the bytes at a place are this header's, all of them
+abbrev pub StandsAt : List ℕ → ℕ → Header → Type 0
+StandsAt bytes at header = slice at RECORD_HEADER_SIZE bytes ≡ header_bytes header
 
 -- a record, and not padding or what is left of dropped records
 abbrev pub is_live : Header → Bool

@@ -6,7 +6,7 @@ use Rattle.page_geometry.specs.Sizes.{record_size}
 use Rattle.ring_bytes.specs.declared.header.Header.{Header}
 use Rattle.ring_bytes.specs.declared.ring.TheConstants.{MAX_RING_SIZE}
 use Rattle.ring_bytes.specs.Bytes.{slice}
-use Rattle.ring_bytes.specs.Header.{header_at, is_live}
+use Rattle.ring_bytes.specs.Header.{header_at, StandsAt, is_live}
 use Rattle.ring_bytes.specs.Value.{Stored}
 
 -- a part of the ring, at its place
@@ -27,12 +27,12 @@ parts (suc limit) bytes at end =
 unfoldable pub row : List ℕ → ℕ → ℕ → List Part
 row bytes at end = parts end bytes at end
 
--- these parts stand from `at` on, one behind another, and the last one ends at `end`
+-- these parts stand from `at` on, one behind another, each with all bytes of its header, and the last one ends at `end`
 abbrev pub AreParts : List ℕ → ℕ → List Part → ℕ → Type 0
 AreParts bytes at [] end = at ≡ end
 AreParts bytes at (part ∷ rest) end =
     (part.at ≡ at) × (part.header ≡ header_at bytes at) × (part.header.len < MAX_RING_SIZE)
-    × AreParts bytes (at + record_size part.header.len) rest end
+    × StandsAt bytes at part.header × AreParts bytes (at + record_size part.header.len) rest end
 
 -- what stands from `at` to `end` is parts
 pub record IsRow (bytes : List ℕ) (at end : ℕ) : Type 0 where

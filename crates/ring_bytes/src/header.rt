@@ -3,7 +3,7 @@ ghost use Rattle.std.specs.Prelude.{◌≡◌, ℕ, ◌+◌, ◌≤◌, length};
 ghost use Rattle.ring_bytes.specs.Bytes.{SameOutside};
 ghost use Rattle.ring_bytes.specs.Value.{put_at};
 ghost use Rattle.ring_bytes.specs.Header as spec;
-ghost use Rattle.ring_bytes.specs.Header.{IsHeader, header_at};
+ghost use Rattle.ring_bytes.specs.Header.{IsHeader, header_at, StandsAt};
 
 use crate::key::RecordKey;
 use page_geometry::{MAX_FLAGS, RECORD_HEADER_SIZE};
@@ -85,6 +85,7 @@ pub fn put_header(bytes: &mut [u8], at: u32, header: Header)
     requires header { IsHeader header }
     ensures same { SameOutside at (at + RECORD_HEADER_SIZE) bytes.old bytes.new }
     ensures there { header_at bytes.new at ≡ header }
+    ensures bytes { StandsAt bytes.new at header }
 {
     let len = header.len.to_le_bytes();
     let sequence = header.key.sequence.to_le_bytes();
