@@ -171,8 +171,11 @@ pub record TakesChunk (setup : Setup) (chunk writer id : ℕ) (taken : TakenToke
   pub whole : vec_len taken.body.payload ≡ (spot setup chunk).payload_size
   pub view : new ≡ learns (takes_in (looks_at old chunk word (packed taken.header) None) (writer - 1) chunk) (writer - 1) (taken_content (writer - 1) taken)
 
--- The chunk was found in another state than complete, or with another writer or id in its header; the view has only the look.
+-- The chunk was found in another state than complete, or with another writer or id in its header, whose count and flags are in their ranges; the
+-- view has only the look.
 pub record FindsOther (setup : Setup) (chunk writer id : ℕ) (found : NotComplete) (old new : ServiceView) : Type 0 where
+  pub count_fits : found.header.count ≤ MAX_FRAGMENTS
+  pub flags_fit : found.header.flags ≤ MAX_FLAGS
   pub other : HasState found.word.0 (spot setup chunk).place Complete → found.header.writer_id ≡ writer → found.header.chunk_id ≡ id → ⊥
   pub look : LooksAt setup chunk found.word.0 found.header old new
 
