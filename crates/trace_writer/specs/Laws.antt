@@ -2,7 +2,7 @@
 use Rattle.std.specs.Prelude.{◌≡◌, ℕ, ◌+◌, ◌<◌, false, List, [], ◌∷◌, ◌++◌, length}
 use Rattle.trace_base.specs.declared.policy.WriterPolicy.TheVariants.{Drops}
 use Rattle.trace_model.specs.Images.{Image}
-use Rattle.trace_model.specs.Packets.{account_of}
+use Rattle.trace_model.specs.Packets.{account_of, packets_of}
 use Rattle.chunk_plain.specs.Setup.{Setup}
 use Rattle.chunk_plain.specs.Payload.{byte_at, byte_in}
 use Rattle.chunk_plain.specs.Views.{Draft, BegunChunk, Held, WriterView}
@@ -10,7 +10,7 @@ use Rattle.trace_writer.specs.declared.state.Writer.{Writer}
 use Rattle.trace_writer.specs.Core.{WriterAgrees, last_is_held, holds_newest}
 use Rattle.trace_writer.specs.Filled.{frames}
 use Rattle.trace_writer.specs.Empty.{is_stalled}
-use Rattle.trace_writer.specs.Outcomes.{images_so_far, patches_so_far, held_images, HasCut}
+use Rattle.trace_writer.specs.Outcomes.{images_so_far, patches_so_far, held_images, HasCut, NewestIsWhole}
 
 -- A writer has cut its packets into its chunks; where it holds none, the last one runs on exactly where its newest packet goes on.
 abbrev pub AgreeingIsCut : Type 0
@@ -26,6 +26,15 @@ DropsNeverStall = (setup : Setup) (place : ℕ) (view : WriterView) (writer : Wr
 abbrev pub NewestIsHeld : Type 0
 NewestIsHeld = (setup : Setup) (place : ℕ) (view : WriterView) (writer : Writer) → WriterAgrees setup place view writer
     → is_stalled writer.state ≡ false → last_is_held view.begun ≡ holds_newest (account_of view.calls)
+
+-- One that isn't stalled keeps nothing back: all that it was asked to write of its newest packet, unless that is lost, stands in its
+-- chunks.
+abbrev pub NothingIsKeptBack : Type 0
+NothingIsKeptBack = (setup : Setup) (place : ℕ) (view : WriterView) (writer : Writer) → WriterAgrees setup place view writer
+    → is_stalled writer.state ≡ false
+    → (cut : HasCut writer.route.payload_size (place + 2) view.calls (images_so_far place view writer) (patches_so_far view writer)
+    (held_images place writer.state))
+    × NewestIsWhole (packets_of view.calls) cut.cut.pages
 
 -- What is held stands in the table's words: the header has the count and the flags of this image, and the bytes of all its fragments but the last
 -- one were published.

@@ -1,12 +1,15 @@
 -- What a call of a writer does to the view of its seat, and the cut that the writer's chunks are.
-use Rattle.std.specs.Prelude.{◌≡◌, ℕ, ◌+◌, ◌-◌, Bool, false, List, [], ◌∷◌, ◌++◌}
+use Rattle.std.specs.Prelude.{◌≡◌, ℕ, ◌+◌, ◌-◌, Bool, false, List, [], ◌∷◌, ◌++◌, ⊤}
 use Rattle.wire_varint.specs.Varint.{redundant}
 use Rattle.trace_base.specs.declared.policy.WriterPolicy.{WriterPolicy}
 use Rattle.trace_base.specs.declared.policy.WriterPolicy.TheVariants.{Drops, Stalls}
 use Rattle.trace_model.specs.Calls.{Call, GivenUp}
 use Rattle.trace_model.specs.Images.{Image, Patch, with_bytes}
 use Rattle.trace_model.specs.Cut.{IsCut, last_runs_on, newest_goes_on}
-use Rattle.trace_model.specs.Packets.{packets_of}
+use Rattle.trace_model.specs.Packets.{Packet, packets_of, is_lost, body_of}
+use Rattle.trace_model.specs.Pages.{Page}
+use Rattle.trace_model.specs.Row.{Chain, bytes_of}
+use Rattle.trace_model.specs.Written.{chains_of}
 use Rattle.commit_body.specs.Patches.{hole_chunks, with_lasts}
 use Rattle.commit_body.specs.Pending.{Pending}
 use Rattle.chunk_plain.specs.Views.{WriterView}
@@ -71,3 +74,14 @@ patches_so_far view writer = completed_patches view.begun ++ held_patches writer
 pub record HasCut (size sequence : ℕ) (calls : List Call) (images : List Image) (patches : List (List Patch)) (held : List Image) : Type 0 where
   pub cut : IsCut size sequence calls images patches
   pub ends : held ≡ [] → last_runs_on false cut.pages ≡ newest_goes_on (packets_of calls)
+
+-- the bytes of the newest chain
+abbrev pub newest_bytes : List Chain → List ℕ
+newest_bytes [] = []
+newest_bytes (chain ∷ older) = bytes_of chain.pieces
+
+-- Unless the newest packet is lost, all that its writer was asked to write of it stands in the pages, with four bytes for each length that is
+-- open.
+abbrev pub NewestIsWhole : List Packet → List Page → Type 0
+NewestIsWhole [] pages = ⊤
+NewestIsWhole (packet ∷ older) pages = is_lost packet ≡ false → newest_bytes (chains_of pages) ≡ body_of packet

@@ -1,5 +1,5 @@
 //! Laws on writers. The functions do nothing: a caller's proof has their clauses.
-ghost use Rattle.trace_writer.specs.Laws.{AgreeingIsCut, DropsNeverStall, NewestIsHeld, HeldIsPublished};
+ghost use Rattle.trace_writer.specs.Laws.{AgreeingIsCut, DropsNeverStall, NewestIsHeld, NothingIsKeptBack, HeldIsPublished};
 
 /// A writer that agrees with its view has cut its packets into its chunks; where it holds none, the
 /// last one runs on exactly where its newest packet goes on.
@@ -16,6 +16,12 @@ pub fn drops_never_stall()
 /// isn't lost and no flush came behind it.
 pub fn newest_is_held()
     ensures { NewestIsHeld }
+{}
+
+/// A writer that isn't stalled has put all that it was asked to write of its newest packet, unless
+/// that is lost, into its chunks, which are a cut of its packets.
+pub fn nothing_is_kept_back()
+    ensures { NothingIsKeptBack }
 {}
 
 /// The header of the held chunk counts the fragments that the chunk has so far, and the bytes of all

@@ -1,12 +1,14 @@
 -- The chunks of a writer that agrees with its view are a cut of its packets.
-use Rattle.std.proofs.Common.{◌≡◌, ◌∙◌, ℕ, suc, ◌+◌, Bool, true, false, not, ◌&&◌, Option, Some, None, List, [], ◌∷◌, ◌++◌, length, map, reverse, refl, sym, ap, subst, arith, append-nil, length-append}
+use Rattle.std.proofs.Common.{◌≡◌, ◌∙◌, ℕ, suc, ◌+◌, Bool, true, false, not, ◌&&◌, Option, Some, None, List, [], ◌∷◌, ◌++◌, length, map, reverse, is_some, MatchOption, MatchBool, cond, refl, sym, ap, subst, arith, append-nil, length-append, ◌||◌}
+use Rattle.std.specs.List.{AllZip}
 use Rattle.std.proofs.lemmas.Bool.{and_right, false≢true}
 use Rattle.std.proofs.lemmas.List.{map-append}
 use Rattle.trace_model.specs.Images.{Image, Patch}
-use Rattle.trace_model.specs.Packets.{Packet, account_of, is_lost}
+use Rattle.trace_model.specs.Packets.{Packet, Text, account_of, body_of, finished_packet, is_lost, kept_of}
 use Rattle.trace_model.specs.Pages.{Page, laid, image_of, images_from}
-use Rattle.trace_model.specs.Row.{Chain}
-use Rattle.trace_model.specs.Cut.{IsWellFormedPage, CutsInto, newest_goes_on}
+use Rattle.trace_model.specs.Row.{Chain, bytes_of}
+use Rattle.trace_model.specs.Cut.{IsWellFormedPage, IsChainOf, IsGivenUp, Begins, CutsInto, newest_goes_on}
+use Rattle.trace_model.specs.Written.{chains_of}
 use Rattle.commit_body.specs.declared.hole.Hole.{Hole}
 use Rattle.commit_body.specs.Patches.{hole_chunks, with_lasts}
 use Rattle.commit_body.specs.Pending.{Pending}
@@ -28,9 +30,10 @@ use Rattle.trace_writer.specs.Site.{Site, site_of}
 use Rattle.trace_writer.specs.Filled.{ShowsPages, HasByte}
 use Rattle.trace_writer.specs.States.{InFragment, IsIdle, IsBehind, IsStuck}
 use Rattle.trace_writer.specs.Agreement.{StateAgrees, IsInPacketOf, is_begun, is_inside}
-use Rattle.trace_writer.specs.Laws.{AgreeingIsCut}
+use Rattle.trace_writer.specs.Laws.{AgreeingIsCut, NothingIsKeptBack}
+use Rattle.trace_writer.specs.Empty.{is_stalled}
 use Rattle.chunk_plain.specs.Histories.{completed_images, completed_patches}
-use Rattle.trace_writer.specs.Outcomes.{held_image, fragment_payload, held_images, held_patches, HasCut}
+use Rattle.trace_writer.specs.Outcomes.{held_image, fragment_payload, held_images, held_patches, newest_bytes, HasCut, NewestIsWhole}
 use Rattle.trace_writer.proofs.packets.Finishing.{laid_all}
 use Rattle.trace_writer.proofs.holding.Holes.{lasts_reverse}
 use Rattle.trace_writer.proofs.stops.Idling.{ended_page}
@@ -165,6 +168,29 @@ between_is_cut site view pending chunk behind =
     (subst (λ (chains : List Chain). IsBetween site.size packets behind.pages chains pending.unsent (offset_behind 4 fragments)) same_chains behind.between)
     behind.continues_is refl refl brings full))
 
+-- the page of the fragment that is being written, as it stands
+abbrev page_so_far : (site : Site) (view : WriterView) (pending : Pending) (fragment : OpenFragment) (packet : Packet) (older : List Packet)
+    → InFragment site packet older view pending fragment [] → Page
+page_so_far site view pending fragment packet older inside =
+    ended_page fragment.continues (inside.done ++ inside.now ∷ []) inside.written.rest (with_lasts (hole_chunks pending.holes) pending.unsent)
+
+-- With that page the pages are a cut of the packet as it stands, and they would be if the packet ended here.
+writing_pages : (site : Site) (view : WriterView) (pending : Pending) (fragment : OpenFragment) (packet later : Packet) (older : List Packet)
+    (inside : InFragment site packet older view pending fragment []) → HasByte fragment
+    → later.kept ≡ packet.kept → later.follows_flush ≡ packet.follows_flush → later.text ≡ packet.text → later.given_up ≡ None
+    → CutsInto site.size (later ∷ older) (inside.pages ++ page_so_far site view pending fragment packet older inside ∷ [])
+writing_pages site view pending fragment packet later older inside byte kept flush text given =
+    let patches : List Patch = with_lasts (hole_chunks pending.holes) pending.unsent in
+    let page : Page = page_so_far site view pending fragment packet older inside in
+    let payload : List ℕ = fragment.held.body.payload.items in
+    let run = full_run payload fragment.start fragment.at fragment.count site.size inside.done inside.now fragment.continues false patches inside.written
+    (sym fragment.held.body.payload.ok.0 ∙ inside.whole) fragment.few in
+    let full : IsWellFormedPage site.size page = record { some = run.some; most = run.most; whole = run.whole; dropped = λ marked. absurd (cc) } in
+    raw_cut_is_cut site.size (later ∷ older) (inside.pages ++ page ∷ [])
+    (writing_cut site.size packet later older inside.pages page inside.done inside.now pending.unsent (reverse pending.holes) inside.writing
+    refl refl refl refl (continues_with_byte fragment payload inside.done inside.now inside.written byte)
+    (sym (lasts_reverse pending.holes pending.unsent)) full kept flush text given)
+
 writing_is_cut : (site : Site) (view : WriterView) (pending : Pending) (fragment : OpenFragment) (packet : Packet) (older : List Packet)
     → (account_of view.calls).packets ≡ packet ∷ older → InFragment site packet older view pending fragment [] → HasByte fragment
     → HasCut site.size (site.place + 2) view.calls
@@ -174,22 +200,16 @@ writing_is_cut : (site : Site) (view : WriterView) (pending : Pending) (fragment
 writing_is_cut site view pending fragment packet older packets inside byte =
     let fragments : List (List ℕ) = inside.done ++ inside.now ∷ [] in
     let patches : List Patch = with_lasts (hole_chunks pending.holes) pending.unsent in
-    let page : Page = ended_page fragment.continues fragments inside.written.rest patches in
+    let page : Page = page_so_far site view pending fragment packet older inside in
     let payload : List ℕ = fragment.held.body.payload.items in
     let payload_is : fragment_payload fragment ≡ laid false fragments inside.written.rest =
     written_ended payload fragment.start fragment.at fragment.count inside.done inside.now inside.written in
     let count_is : fragment.count ≡ length fragments = inside.written.count_is ∙ sym (length-append inside.done (inside.now ∷ [])) in
-    let run = full_run payload fragment.start fragment.at fragment.count site.size inside.done inside.now fragment.continues false patches inside.written
-    (sym fragment.held.body.payload.ok.0 ∙ inside.whole) fragment.few in
-    let full : IsWellFormedPage site.size page = record { some = run.some; most = run.most; whole = run.whole; dropped = λ marked. absurd (cc) } in
     held_cut site view inside.completed inside.pages page fragment.held.chunk fragment.held.id inside.draft
     (held_image site.place fragment.held.id fragment.count fragment.continues (fragment_payload fragment)) inside.begun inside.shown inside.id
     (held_image_is site fragment.held.id fragment.count (fragment_payload fragment) fragment.continues fragments inside.written.rest patches count_is payload_is)
     (subst (λ (ps : List Packet). CutsInto site.size ps (inside.pages ++ page ∷ [])) (sym packets)
-    (raw_cut_is_cut site.size (packet ∷ older) (inside.pages ++ page ∷ [])
-    (writing_cut site.size packet packet older inside.pages page inside.done inside.now pending.unsent (reverse pending.holes) inside.writing
-    refl refl refl refl (continues_with_byte fragment payload inside.done inside.now inside.written byte)
-    (sym (lasts_reverse pending.holes pending.unsent)) full refl refl refl inside.writing.given_up)))
+    (writing_pages site view pending fragment packet packet older inside byte refl refl refl inside.writing.given_up))
 
 -- Each state
 
@@ -218,3 +238,59 @@ state_is_cut setup place route view pending packet (Stalled next_id) inside same
 pub agreeing_is_cut : AgreeingIsCut
 agreeing_is_cut setup place view writer agrees =
     state_is_cut setup place writer.route view writer.pending writer.packet writer.state agrees.writes.packet agrees.writes.inside agrees.writes.state
+
+-- Nothing is kept back
+
+-- of a finished packet that isn't given up the newest chain has all bytes
+finished_whole : (size : ℕ) (packet : Packet) (packets : List Packet) (chains : List Chain) → packet.given_up ≡ None → packet.finished ≡ true
+    → AllZip (IsChainOf size) (packet ∷ packets) chains → newest_bytes chains ≡ body_of packet
+finished_whole size packet packets [] kept finished are = absurd are
+finished_whole size packet packets (chain ∷ chains) kept finished are =
+    subst (λ (b : Bool). MatchBool b (bytes_of chain.pieces ≡ body_of packet) (Begins (bytes_of chain.pieces) (body_of packet))) finished
+    (subst (λ (o : Option Text). MatchOption o (MatchBool packet.finished (bytes_of chain.pieces ≡ body_of packet) (Begins (bytes_of chain.pieces) (body_of packet)))
+    (IsGivenUp (bytes_of chain.pieces))) kept are.0.bytes)
+
+true_where : (b : Bool) → not b ≡ false → b ≡ true
+true_where true is = refl
+true_where false is = absurd (cc)
+
+kept_if : (kept : Bool) (given : Option Text) → (not kept || is_some given) ≡ false → (kept ≡ true) × (given ≡ None)
+kept_if true None is = (refl, refl)
+kept_if true (Some text) is = absurd (cc)
+kept_if false given is = absurd (cc)
+
+-- so the newest one stands there whole, where it is finished
+cut_whole : (size : ℕ) (packets : List Packet) (pages : List Page) → CutsInto size packets pages → newest_goes_on packets ≡ false → NewestIsWhole packets pages
+cut_whole size [] pages cut ended = tt
+cut_whole size (packet ∷ older) pages cut ended = λ kept.
+    let both : (packet.kept ≡ true) × (packet.given_up ≡ None) = kept_if packet.kept packet.given_up kept in
+    let open_end : not packet.finished ≡ false = sym (ap (λ (b : Bool). not b && not packet.finished) kept) ∙ ended in
+    finished_whole size packet (kept_of older) (chains_of pages) both.1 (true_where packet.finished open_end)
+    (subst (λ (b : Bool). AllZip (IsChainOf size) (cond b (packet ∷ kept_of older) (kept_of older)) (chains_of pages)) both.0 cut.chains)
+
+state_is_whole : (setup : Setup) (place : ℕ) (route : Route) (view : WriterView) (pending : Pending) (packet : Option OpenPacket) (state : State)
+    (inside : IsInPacketOf (account_of view.calls).packets packet) (same : is_inside packet state ≡ is_begun packet)
+    (w : StateAgrees (site_of setup place route) (account_of view.calls) view pending state) → is_stalled state ≡ false
+    → NewestIsWhole (account_of view.calls).packets (state_is_cut setup place route view pending packet state inside same w).cut.pages
+unfolding state_is_cut writing_is_cut held_cut
+state_is_whole setup place route view pending packet (Idle next_id) inside same w goes =
+    let ended = none_goes_on (account_of view.calls).packets packet inside (sym same) in
+    cut_whole route.payload_size (account_of view.calls).packets _ (state_is_cut setup place route view pending packet (Idle next_id) inside same w).cut.cut ended
+state_is_whole setup place route view pending packet (Between chunk) inside same w goes =
+    let ended = none_goes_on (account_of view.calls).packets packet inside (sym same) in
+    cut_whole route.payload_size (account_of view.calls).packets _ (state_is_cut setup place route view pending packet (Between chunk) inside same w).cut.cut ended
+state_is_whole setup place route view pending packet (Writing fragment) inside same w goes =
+    subst (λ (ps : List Packet). NewestIsWhole ps (state_is_cut setup place route view pending packet (Writing fragment) inside same w).cut.pages) (sym w.packets)
+    (cut_whole route.payload_size (finished_packet w.packet ∷ w.older) (state_is_cut setup place route view pending packet (Writing fragment) inside same w).cut.pages
+    (writing_pages (site_of setup place route) view pending fragment w.packet (finished_packet w.packet) w.older w.inside w.byte refl refl refl w.inside.writing.given_up)
+    (and_right (not (is_lost w.packet)) false refl))
+state_is_whole setup place route view pending packet (Dropping next_id) inside same w goes =
+    let ended = lost_goes_on (account_of view.calls).packets w.1.packet w.1.older w.1.packets w.1.lost in
+    cut_whole route.payload_size (account_of view.calls).packets _ (state_is_cut setup place route view pending packet (Dropping next_id) inside same w).cut.cut ended
+state_is_whole setup place route view pending packet (Stalled next_id) inside same w goes = absurd (cc)
+
+pub nothing_is_kept_back : NothingIsKeptBack
+nothing_is_kept_back setup place view writer agrees goes = (
+  state_is_cut setup place writer.route view writer.pending writer.packet writer.state agrees.writes.packet agrees.writes.inside agrees.writes.state,
+  state_is_whole setup place writer.route view writer.pending writer.packet writer.state agrees.writes.packet agrees.writes.inside agrees.writes.state goes,
+)
