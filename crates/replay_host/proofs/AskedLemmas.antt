@@ -1,7 +1,7 @@
 -- What asking one writer of a table makes of all writers, the service and the world.
 use Rattle.std.proofs.Common.{◌≡◌, ◌≢◌, ◌∙◌, ℕ, ◌<◌, ◌⊎◌, Bool, true, false, Some, List, [], ◌∷◌, ◌++◌, length, length-set, get_or, set, refl, sym, ap, subst, arith, inl, inr, cond}
 use Rattle.std.specs.Prelude.{slice_get}
-use Rattle.std.proofs.lemmas.Bool.{cases_eq, eq-eqb, ne_eqb}
+use Rattle.std.proofs.lemmas.Bool.{cases_eq, eq-eqb, ne_eqb, true≢false}
 use Rattle.std.proofs.lemmas.List.{get_or-set_same, get_or-set_other}
 use Rattle.std.proofs.lemmas.Option.{slice_get-get_or, slice_get_within, same_Some}
 use Rattle.trace_base.specs.declared.policy.WriterPolicy.{WriterPolicy}
@@ -21,10 +21,11 @@ use Rattle.trace_writer.specs.declared.writer.WriterCore.{WriterCore}
 use Rattle.trace_writer.specs.Asked.{begun_as, written_as}
 use Rattle.trace_writer.specs.Core.{CoreAgrees, route_of}
 use Rattle.trace_writer.specs.Helping.{refuses}
+use Rattle.trace_writer.specs.OwnSteps.{IsQuiet}
 use Rattle.trace_writer.specs.Site.{IsRoute}
 use Rattle.service_core.specs.declared.service.ServiceCore.{ServiceCore}
 use Rattle.service_core.specs.Agreement.{spec_at, no_writer}
-use Rattle.replay_model.specs.Does.{Notes, Wrote, dropped_call}
+use Rattle.replay_model.specs.Does.{MayNeedChunk, Notes, Wrote, dropped_call}
 use Rattle.replay_host.specs.declared.helper.Collecting.{Collecting}
 use Rattle.replay_host.specs.Asking.{IsReadyFor, AreReady, asked_at, noted_as, IsCalled, KeepsService, DoesAsk}
 use Rattle.replay_host.specs.Helping.{MayHelp, Helps}
@@ -249,12 +250,17 @@ module _ {T W S : Type 0} (means : Meaning T W S) (laws : AreLaws means) (call :
             ∙ ap (λ (v : WriterView). v.calls ++ noted_as called.stopped (route_of core).spec.policy call) (sym row_old)
             ∙ ap (λ (cs : List Call). (writer was place).calls ++ cs) is
 
+        may_need : MayNeedChunk call ⊎ ((called.stopped ≡ false) × IsQuiet means old core.seat new after.seat) → called.stopped ≡ true → MayNeedChunk call
+        may_need (inl may) is = may
+        may_need (inr quiet) is = absurd (true≢false (sym is ∙ quiet.0))
+
         by_stop : (stopped : Bool) → called.stopped ≡ stopped → Notes (means.setup old) place call was work.0
         by_stop false is =
             inl (noted (call ∷ []) (ap (λ (b : Bool). noted_as b (route_of core).spec.policy call) is ∙ noted_whole (route_of core).spec.policy call proper))
         by_stop true is =
             inr (
               noted (dropped_call call) (ap (λ (b : Bool). noted_as b (route_of core).spec.policy call) is ∙ noted_lost (route_of core).spec.policy call (called.drops is)),
+              may_need called.asks is,
               ap (λ (s : WriterSpec). s.policy) (sym spec_is) ∙ called.drops is,
               work.2.full is,
             )

@@ -1,6 +1,7 @@
 -- What a writer that agrees with its view has written.
 use Rattle.std.proofs.Common.{◌≡◌, ◌∙◌, ℕ, ◌+◌, false, List, ◌∷◌, length, refl, sym, ap, subst, arith}
 use Rattle.trace_model.specs.Images.{Image}
+use Rattle.trace_model.specs.Packets.{packets_of}
 use Rattle.chunk_plain.specs.Setup.{Setup, IsLaid, HasProducer, IsChunkOf, range_of, producer_of}
 use Rattle.chunk_plain.specs.Views.{WriterView}
 use Rattle.chunk_plain.specs.Histories.{completed_images}
@@ -12,9 +13,9 @@ use Rattle.trace_writer.specs.declared.state.Writer.{Writer}
 use Rattle.trace_writer.specs.Agreement.{Agrees}
 use Rattle.trace_writer.specs.Core.{WriterAgrees}
 use Rattle.trace_writer.specs.Empty.{is_stalled}
-use Rattle.trace_writer.specs.Outcomes.{held_images, held_patches}
+use Rattle.trace_writer.specs.Outcomes.{held_images, held_patches, NewestIsWhole}
 use Rattle.trace_writer.proofs.seat_calls.CoreLemmas.{between_counts, writing_counts, idle_counts, dropping_counts, stalled_counts}
-use Rattle.trace_writer.proofs.accounts.CutLaws.{agreeing_is_cut}
+use Rattle.trace_writer.proofs.accounts.CutLaws.{nothing_is_kept_back}
 use Rattle.trace_writer.proofs.holding.HeldLaws.{newest_is_held, held_is_published}
 use Rattle.replay_model.specs.Does.{Wrote}
 
@@ -54,17 +55,23 @@ pub wrote : (setup : Setup) (place : ℕ) (view : WriterView) (writer : Writer) 
     → IsLaid setup → HasProducer setup (producer_of setup place) → Wrote setup place view
 wrote setup place view writer agrees going laid producer =
     let size = size_is setup place view writer agrees laid producer in
-    let cut = agreeing_is_cut setup place view writer agrees in
     let most = agrees.writes.route.most in
-    record {
-      held = held_images place writer.state;
-      cut = subst (λ (n : ℕ). accounts.HasCut n place view (held_images place writer.state)) size (record {
+    let kept = nothing_is_kept_back setup place view writer agrees going in
+    let written : (cut : accounts.HasCut (payload_at setup place) place view (held_images place writer.state)) × NewestIsWhole (packets_of view.calls) cut.cut.pages =
+    subst (λ (n : ℕ). (cut : accounts.HasCut n place view (held_images place writer.state)) × NewestIsWhole (packets_of view.calls) cut.cut.pages) size (
+      record {
         unsent = held_patches writer.pending writer.state;
-        cut = cut.cut;
-        ends = cut.ends;
+        cut = kept.0.cut;
+        ends = kept.0.ends;
         possible = agrees.possible;
         small = omega arith;
-      });
+      },
+      kept.1,
+    ) in
+    record {
+      held = held_images place writer.state;
+      cut = written.0;
+      whole = written.1;
       holds = newest_is_held setup place view writer agrees going;
       begun = begun_many setup place view writer agrees.writes writer.state refl;
       stands = λ image is. held_is_published setup place view writer agrees image is;

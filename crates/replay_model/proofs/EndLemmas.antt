@@ -7,7 +7,7 @@ use Rattle.std.proofs.lemmas.Bool.{cases_eq, cases_lt, eq-eqb, false≢true}
 use Rattle.std.proofs.lemmas.List.Sums.{fold-append}
 use Rattle.trace_base.specs.declared.policy.WriterSpec.{WriterSpec}
 use Rattle.trace_model.specs.Buffers.{Buffer}
-use Rattle.trace_model.specs.Calls.{Call, GivenUp, Flushed}
+use Rattle.trace_model.specs.Calls.{Call, Flushed}
 use Rattle.trace_model.specs.Images.{Image}
 use Rattle.trace_model.specs.Packets.{Packet, Account, noted, nothing_yet, account_of, is_lost}
 use Rattle.chunk_plain.specs.declared.tokens.TheConstants.{ID_LIMIT}
@@ -68,9 +68,7 @@ flushed_now : (setup : Setup) (place : ℕ) (old new : World) → Notes setup pl
 flushed_now setup place old new (inl is) =
     ap (λ (calls : List Call). (account_of calls).flushed) is
     ∙ ap (λ (a : Account). a.flushed) (fold-append noted nothing_yet (writer old place).calls (Flushed ∷ []))
-flushed_now setup place old new (inr h) =
-    ap (λ (calls : List Call). (account_of calls).flushed) h.0
-    ∙ ap (λ (a : Account). a.flushed) (fold-append noted nothing_yet (writer old place).calls (Flushed ∷ GivenUp ∷ []))
+flushed_now setup place old new (inr h) = absurd h.1
 
 none_held : (setup : Setup) (place : ℕ) (view : WriterView) → Wrote setup place view → last_is_held view.begun ≡ false → held_count view.begun ≡ 0
 none_held setup place view wrote none = by_held wrote.held refl

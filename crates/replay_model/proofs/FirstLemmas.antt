@@ -38,6 +38,7 @@ newcomer_wrote setup place small = record {
     possible = refl;
     small = small;
   };
+  whole = tt;
   holds = refl;
   begun = refl;
   stands = λ image e. absurd (cc);

@@ -1,7 +1,7 @@
 -- A flush whose chunks were taken and read settles what its writer had emitted.
-use Rattle.std.proofs.Common.{◌≡◌, ◌∙◌, ℕ, zero, suc, ◌+◌, ◌-◌, ◌*◌, ◌<◌, ◌≤◌, true, false, not, ◌&&◌, List, [], ◌∷◌, ◌++◌, length, map, drop, get_or, Some, refl, sym, ap, subst, arith, inl, inr, append_assoc, append-nil, length-append}
+use Rattle.std.proofs.Common.{◌≡◌, ◌∙◌, ℕ, zero, suc, ◌+◌, ◌-◌, ◌*◌, ◌<◌, ◌≤◌, List, [], ◌∷◌, ◌++◌, length, map, drop, get_or, Some, refl, sym, ap, subst, arith, inl, inr, append_assoc, append-nil, length-append}
 use Rattle.std.specs.Prelude.{slice_get}
-use Rattle.std.proofs.lemmas.Bool.{false≢true, eq-eqb, and_parts}
+use Rattle.std.proofs.lemmas.Bool.{eq-eqb}
 use Rattle.std.proofs.lemmas.List.{length-map}
 use Rattle.std.proofs.lemmas.List.Sums.{fold-append}
 use Rattle.std.proofs.lemmas.Option.{slice_get_within, slice_get-get_or, same_Some}
@@ -9,14 +9,14 @@ use Rattle.trace_base.specs.declared.policy.WriterSpec.{WriterSpec}
 use Rattle.trace_base.proofs.Lists.{some_there}
 use Rattle.page_geometry.specs.Sizes.{record_size}
 use Rattle.trace_model.specs.Buffers.{Buffer, empty_buffer}
-use Rattle.trace_model.specs.Calls.{Call, GivenUp, Flushed}
+use Rattle.trace_model.specs.Calls.{Call, Flushed}
 use Rattle.trace_model.specs.Causes.{fixed_after}
 use Rattle.trace_model.specs.Counts.{last_count}
 use Rattle.trace_model.specs.Cut.{CutsInto}
 use Rattle.trace_model.specs.History as model
 use Rattle.trace_model.specs.History.{Event, state_after, buffers_after, delivered_to, reads_of}
 use Rattle.trace_model.specs.Images.{Image}
-use Rattle.trace_model.specs.Packets.{Packet, Account, packets_of, nothing_yet, noted, is_writing, newest_is_lost, newest_is_kept, are_possible_after, emissions_of, begun_count}
+use Rattle.trace_model.specs.Packets.{Packet, Account, packets_of, nothing_yet, noted, emissions_of, begun_count}
 use Rattle.trace_model.specs.Pages.{Page}
 use Rattle.trace_model.specs.Reads.{Delivery}
 use Rattle.trace_model.specs.Record.{record_of}
@@ -26,7 +26,6 @@ use Rattle.trace_model.proofs.PageLemmas.{images_long}
 use Rattle.delivery_laws.specs.DeliveryLaws.{IsAccountOf}
 use Rattle.delivery_laws.specs.FlushLaws.{arrivals_of, IsFlushed, AreSettled}
 use Rattle.delivery_laws.proofs.CompleteLemmas.{full_at}
-use Rattle.delivery_laws.proofs.FlushCalls.{possible_parts}
 use Rattle.delivery_laws.proofs.FlushLemmas as delivery
 use Rattle.delivery_laws.proofs.FlushLemmas.{fixed_parts, settled_still}
 use Rattle.delivery_laws.proofs.OrderLemmas.{every_writer_is_told}
@@ -110,21 +109,14 @@ sum_views each (view ∷ views) (spec ∷ specs) first long is =
     let rest = sum_views each views specs (suc first) (omega (arith, long)) (λ k. let at : suc first + k ≡ first + suc k = omega arith in ap each at ∙ is (suc k)) in
     omega (arith, here, rest)
 
--- a writer that flushes between two packets notes that alone
-pub flush_calls : (setup : Setup) (place : ℕ) (old new : World) → Asks setup place Flushed old new → is_writing (packets_of (writer old place).calls) ≡ false
+-- a writer that flushes notes that alone
+pub flush_calls : (setup : Setup) (place : ℕ) (old new : World) → Asks setup place Flushed old new
     → (writer new place).calls ≡ (writer old place).calls ++ Flushed ∷ []
-flush_calls setup place old new asks ended = by_notes asks.notes
+flush_calls setup place old new asks = by_notes asks.notes
   where
     by_notes : Notes setup place Flushed old new → (writer new place).calls ≡ (writer old place).calls ++ Flushed ∷ []
     by_notes (inl is) = is
-    by_notes (inr is) =
-        let before : List Call = (writer old place).calls in
-        let possible : are_possible_after nothing_yet (before ++ Flushed ∷ GivenUp ∷ []) ≡ true =
-        subst (λ (cs : List Call). are_possible_after nothing_yet cs ≡ true) is.0 asks.wrote.cut.possible in
-        let behind = (possible_parts nothing_yet before (Flushed ∷ GivenUp ∷ []) possible).1 in
-        let both = and_parts (not (is_writing (packets_of before))) (newest_is_kept (packets_of before) && true) behind in
-        let kept = and_parts (newest_is_kept (packets_of before)) true both.1 in
-        absurd (false≢true (sym ended ∙ (and_parts (is_writing (packets_of before)) (not (newest_is_lost (packets_of before))) kept.0).0))
+    by_notes (inr is) = absurd is.1
 
 -- a flush changes no packet
 pub flush_packets : (calls : List Call) → packets_of (calls ++ Flushed ∷ []) ≡ packets_of calls
@@ -167,7 +159,7 @@ module _ (scenario : Parts) (setup : Setup) (is_setup : IsSetupOf scenario setup
   -- ---- calls
 
   calls_then : (writer flush.answered place).calls ≡ before ++ Flushed ∷ []
-  calls_then = flush_calls setup place asked flush.answered flush.answers flush.ended
+  calls_then = flush_calls setup place asked flush.answered flush.answers
 
   calls_on : HasMore (writer flush.answered place).calls (writer read place).calls
   calls_on =

@@ -99,7 +99,7 @@ asks_keep setup place call old new asks keeps only other some = by_place (cases_
         let same : lost_count (packets_of (writer new place).calls) ≡ lost_count (packets_of (writer old place).calls) =
         ap (λ (calls : List Call). lost_count (packets_of calls)) is ∙ lost_more (writer old place).calls call keeps in
         only place (omega (arith, more, same))
-    here (inr h) more = h.1
+    here (inr h) more = h.2
 
     by_place : (other ≡ place) ⊎ (other ≡ place → ⊥) → policy_of setup other ≡ Drops
     by_place (inl same) =

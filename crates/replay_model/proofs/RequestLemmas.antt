@@ -156,7 +156,7 @@ flushed_few : (setup : Setup) (place : ℕ) (old new : World) → Asks setup pla
     → length (writer new place).begun ≤ most_chunks (payload_at setup place) (emissions_of (writer old place).calls)
 flushed_few setup place old new asks ended large =
     let size : ℕ = payload_at setup place in
-    let calls = flush_calls setup place old new asks ended in
+    let calls = flush_calls setup place old new asks in
     let packets : packets_of (writer new place).calls ≡ packets_of (writer old place).calls = ap packets_of calls ∙ flush_packets (writer old place).calls in
     let pages : List Page = asks.wrote.cut.cut.pages in
     let counted = every_page_is_counted size (writer new place).calls pages asks.wrote.cut.cut.cut asks.wrote.cut.possible (ap is_writing packets ∙ ended) large in

@@ -20,6 +20,7 @@ use Rattle.trace_writer.specs.Asked.{begun_as, written_as}
 use Rattle.trace_writer.specs.Claims.{AreOwnChunks, KeepsClaims}
 use Rattle.trace_writer.specs.Core.{last_is_held, holds_newest}
 use Rattle.trace_writer.specs.Laws.{IsHeldImage}
+use Rattle.trace_writer.specs.Outcomes.{NewestIsWhole}
 use Rattle.trace_writer.specs.OwnSteps.{NoneHeld}
 use Rattle.service_core.specs.Agreement.{spec_at, AreKnownNotes}
 use Rattle.service_core.specs.Closing.{TakesAndCloses}
@@ -126,18 +127,20 @@ abbrev pub dropped_call : Call → List Call
 dropped_call (Begun kept) = begun_as true Drops
 dropped_call call = written_as true Drops call
 
--- The call is noted; or, by a writer that drops and only where no chunk is free, that the packet is lost.
+-- The call is noted; or, by a writer that drops, in a call that may need a chunk and only where none is free, that the packet is lost.
 abbrev pub Notes : Setup → (place : ℕ) → Call → World → World → Type 0
 Notes setup place call old new =
     ((writer new place).calls ≡ (writer old place).calls ++ call ∷ [])
     ⊎ (((writer new place).calls ≡ (writer old place).calls ++ dropped_call call)
-    × (policy_of setup place ≡ Drops) × HasNoFreeChunk setup (producer_of setup place) new)
+    × MayNeedChunk call × (policy_of setup place ≡ Drops) × HasNoFreeChunk setup (producer_of setup place) new)
 
--- What a writer has written, between two calls: its chunks are a cut of its packets; it holds its newest chunk exactly where its newest packet
--- isn't lost and no flush came behind it, and what it holds is published but for the last fragment; and its claims are of its producer's chunks.
+-- What a writer has written, between two calls: its chunks are a cut of its packets, in which all stands that it was asked to write of the
+-- newest one, unless that is lost; it holds its newest chunk exactly where its newest packet isn't lost and no flush came behind it, and what it
+-- holds is published but for the last fragment; and its claims are of its producer's chunks.
 pub record Wrote (setup : Setup) (place : ℕ) (view : WriterView) : Type 0 where
   pub held : List Image
   pub cut : HasCut (payload_at setup place) place view held
+  pub whole : NewestIsWhole (packets_of view.calls) cut.cut.pages
   pub holds : last_is_held view.begun ≡ holds_newest (account_of view.calls)
   pub begun : length view.begun ≡ length (completed_images view.begun) + length held
   pub stands : (image : Image) → held ≡ image ∷ [] → IsHeldImage view image

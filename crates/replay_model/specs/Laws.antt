@@ -23,7 +23,7 @@ use Rattle.replay_model.specs.Played.{IsPlayed, records_in, packet_counts, AreBa
 abbrev pub NothingPlaysNothing : Type 0
 NothingPlaysNothing = (setup : Setup) (buffers : List Buffer) (world : World) → Plays setup buffers [] world world []
 
--- behind a scenario's acts each writer has cut its packets into its chunks
+-- behind a scenario's acts each writer has cut its packets into its chunks, and kept nothing back of the newest one, unless that is lost
 abbrev pub WritersWrote : Type 0
 WritersWrote = (scenario : Parts) (setup : Setup) (world : World) (notes : List FlushNote) → IsPlayed scenario setup world notes
     → (place : ℕ) → place < length setup.writers → Wrote setup place (writer world place)

@@ -9,7 +9,8 @@ pub fn nothing_plays_nothing()
     ensures { NothingPlaysNothing }
 {}
 
-/// Behind a scenario's acts each writer has cut its packets into its chunks.
+/// Behind a scenario's acts each writer has cut its packets into its chunks, and kept nothing back of
+/// the newest one, unless that is lost.
 pub fn writers_wrote()
     ensures { WritersWrote }
 {}
