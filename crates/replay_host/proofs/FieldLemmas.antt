@@ -1,11 +1,8 @@
 -- The nodes of a packet, one by one.
-use Rattle.std.proofs.Common.{◌≡◌, ◌∙◌, ℕ, suc, ◌+◌, Result, Ok, Err, List, [], ◌∷◌, ◌++◌, length, map, take, drop, sym, ap, subst, arith, add-one, append_assoc}
-use Rattle.std.specs.Prelude.{option_map, OnOk, IfErr}
+use Rattle.std.proofs.Common.{◌≡◌, ◌∙◌, ℕ, Result, Ok, Err, List, [], ◌∷◌, ◌++◌, length, map, sym, ap, subst, arith, append_assoc}
+use Rattle.std.specs.Prelude.{OnOk, IfErr}
 use Rattle.std.proofs.Math.Nat.{mul-le-mul_right}
-use Rattle.std.proofs.Math.Seq.{drop-cons, take-suc}
-use Rattle.std.proofs.lemmas.List.{map-append, take-append-drop}
-use Rattle.std.proofs.lemmas.Option.{same_Some}
-use Rattle.trace_model.specs.Calls.{Call}
+use Rattle.std.proofs.lemmas.List.{map-append}
 use Rattle.trace_model.specs.Packets.{Packet}
 use Rattle.field_tree.specs.declared.node.FieldNode.{FieldNode}
 use Rattle.field_tree.specs.declared.node.FieldNode.TheVariants.{Number, Bytes, Begin, End}

@@ -1,10 +1,9 @@
 -- What was played of a scenario, from its first world on, is its replay; or it stopped at an act.
-use Rattle.std.proofs.Common.{◌≡◌, ◌∙◌, ℕ, ◌≤◌, vec_len, Option, Some, List, [], ◌∷◌, ◌++◌, length, refl, sym, ap, subst, append-nil, arith}
+use Rattle.std.proofs.Common.{◌≡◌, ◌∙◌, ℕ, ◌≤◌, vec_len, Some, List, [], length, sym, ap, subst, append-nil, arith}
 use Rattle.byte_io.specs.Bytes.{Intake, after_told}
-use Rattle.trace_base.specs.declared.limits.TheConstants.{MAX_BUFFERS, MAX_INPUT}
+use Rattle.trace_base.specs.declared.limits.TheConstants.{MAX_BUFFERS}
 use Rattle.trace_base.specs.declared.policy.WriterSpec.{WriterSpec}
 use Rattle.trace_model.specs.Buffers.{Buffer}
-use Rattle.trace_model.specs.Counts.{last_count}
 use Rattle.trace_model.specs.Delivery.{trace_of}
 use Rattle.trace_model.specs.History.{records_after}
 use Rattle.trace_buffer.specs.declared.answers.BufferCounts.{BufferCounts}

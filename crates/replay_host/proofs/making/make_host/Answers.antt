@@ -21,7 +21,6 @@ use Rattle.trace_buffer.specs.declared.answers.BufferSpec.{BufferSpec}
 use Rattle.service_core.specs.Agreement.{ServiceAgrees, is_closed}
 use Rattle.service_core.specs.Making.{IsUnused}
 use Rattle.replay_host.specs.declared.host.Host.{Host}
-use Rattle.replay_host.specs.Lines.{requests_in}
 use Rattle.replay_host.specs.Making.{buffer_asked}
 use Rattle.replay_host.specs.Tally.{IsTally}
 use Rattle.replay_host.proofs.BuiltLemmas.{built_is_made}

@@ -1,9 +1,8 @@
 -- Each line is played behind those before it.
-use Rattle.std.proofs.Common.{◌≡◌, ◌∙◌, ℕ, suc, ◌<◌, ◌≤◌, List, [], ◌∷◌, length, drop, get_or, refl, ap, sym, subst, rules}
+use Rattle.std.proofs.Common.{◌≡◌, ◌∙◌, ℕ, suc, ◌<◌, ◌≤◌, List, length, get_or, refl, ap, sym, subst, rules}
 use Rattle.std.specs.Prelude.{Err}
 use Rattle.scenario_text.specs.declared.scenario.NumberedLine.{NumberedLine}
 use Rattle.scenario_text.specs.Scenario.{Parts}
-use Rattle.replay_host.specs.Whole.{HavePlayedTo}
 use Rattle.replay_host.proofs.FieldLemmas.{if_err_is}
 use Rattle.replay_host.proofs.PlayingLemmas.{played_first, moment_at, comes_at, played_next, stopped_next, played_all, line_there, none_there}
 use Rattle.replay_host.proofs.ResultLemmas.{counts_stop}
