@@ -56,6 +56,8 @@ READ = [
     ('counts a lost chain without its start', 'Reads.antt', 'turn_by IntoLost headless awaits = if headless then Skips else Counts Lost',
      'turn_by IntoLost headless awaits = Counts Lost'),
     ('delivers what awaits a patch', 'Reads.antt', 'turn_by Whole false awaits = if awaits then Counts Cut else Delivers', 'turn_by Whole false awaits = Delivers'),
+    ('counts a cut packet as delivered', 'Reads.antt', 'delivered = raised state.delivered (count_of delivers links);',
+     'delivered = raised state.delivered (count_of (λ turn. delivers turn || counts_under Cut turn) links);'),
     ('marks all that follows a gap', 'Reads.antt', 'missing_after (not (delivers (turn_of link))) links',
      'missing_after (missing || not (delivers (turn_of link))) links'),
     ('ends at the limit where nothing is due', 'Reads.antt',
@@ -65,6 +67,8 @@ READ = [
 CAUSES = [
     ('fixes no packet that is passed', 'Causes.antt', 'fixed_by_turn at (Counts cause) = record { at = at; outcome = Absent cause } ∷ []',
      'fixed_by_turn at (Counts cause) = []'),
+    ('fixes a packet that is passed as delivered', 'Causes.antt', 'fixed_by_turn at (Counts cause) = record { at = at; outcome = Absent cause } ∷ []',
+     'fixed_by_turn at (Counts cause) = record { at = at; outcome = Delivered } ∷ []'),
     ('fixes the rest of a packet too', 'Causes.antt', 'filter (λ at. not (chunk.continues && (at.passed == 0))) places', 'places'),
     ('fixes no discarded packet', 'Causes.antt', 'if (state.number == owner.number) && not partial', 'if (state.number == owner.number) && partial'),
 ]

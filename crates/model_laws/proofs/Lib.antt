@@ -1,4 +1,5 @@
 pub mod ChunkCountLemmas
+pub mod DeliveryLemmas
 pub mod LaterCallLemmas
 pub mod LossLemmas
 pub mod MarkLemmas

@@ -229,6 +229,9 @@ goes_after q b event known = step (is_known b.sequences (event_sequence event)) 
     step true e = goes_event q b event known
     step false e = subst (λ (ls : List Link). Goes q b b ls) (sym (none_at q b event known e)) (record { known = known; marked = refl })
 
+pub known_behind : (q : ℕ) (b : Buffer) (event : Event) → is_known b.sequences q ≡ true → is_known (buffer_after b event).sequences q ≡ true
+known_behind q b event known = (goes_after q b event known).known
+
 -- what the event delivers
 delivered_here : (q : ℕ) (b : Buffer) (event : Event) → delivered_at q b event ≡ delivered_of (is_marked (sequence_in b.sequences q)) (links_at q b event)
 delivered_here q b (Arrives p chunk_id chunk) = refl
@@ -242,6 +245,12 @@ delivered_here q b (Read p limit) = step (p == q) refl
         ≡ delivered_of (is_marked (sequence_in b.sequences q)) (cond x (passed_by limit (row_from_cursor b (sequence_in b.sequences p))) [])
     step true e = ap (λ (n : ℕ). delivered_of (is_marked (sequence_in b.sequences n)) (passed_by limit (row_from_cursor b (sequence_in b.sequences p)))) (eqb-true p q e)
     step false e = refl
+
+-- nothing, where the buffer doesn't have the event's sequence
+pub delivers_elsewhere : (q : ℕ) (b : Buffer) (event : Event) → is_known b.sequences q ≡ true → is_known b.sequences (event_sequence event) ≡ false
+    → delivered_at q b event ≡ []
+delivers_elsewhere q b event known e =
+    delivered_here q b event ∙ ap (delivered_of (is_marked (sequence_in b.sequences q))) (none_at q b event known e)
 
 delivered_all : (events : List Event) (q : ℕ) (b : Buffer) → is_known b.sequences q ≡ true
     → delivered_to q b events ≡ delivered_of (is_marked (sequence_in b.sequences q)) (links_passed q b events)

@@ -22,7 +22,8 @@ use Rattle.trace_model.proofs.OneOutcomeLemmas.{packets_have_one_outcome}
 use Rattle.trace_model.proofs.TallyLemmas.{tally}
 use Rattle.trace_model.proofs.CountedLemmas.{counts_are_outcomes}
 use Rattle.model_laws.specs.Starts.{begins_one, AllBegin}
-use Rattle.model_laws.specs.OutcomeLaws.{FixedPlacesAreStarts, IsHistoryOf, CountsAreOfOutcomes, CountsAreBalanced}
+use Rattle.model_laws.specs.OutcomeLaws.{FixedPlacesAreStarts, IsHistoryOf, CountsAreOfOutcomes, CountsAreBalanced, ReportsCountDeliveries}
+use Rattle.model_laws.proofs.DeliveryLemmas.{deliveries_are_counted}
 use Rattle.model_laws.proofs.PlaceCounts.{Spread, AllAmong, is_place_of, begins_of, count-cons, count-reversed, count-all, counted_at, few as few_fixed, row_spread}
 use Rattle.model_laws.proofs.StartLemmas.{starts_after}
 use Rattle.model_laws.proofs.WrittenStarts.{any_reversed, all_begin}
@@ -159,7 +160,7 @@ begins_long [] = refl
 begins_long (chain ∷ chains) = ap suc (begins_long chains)
 
 -- the counts of a report, and of the outcomes, by what was fixed
-record Numbers (policy : FullPolicy) (calls : List Call) (outcomes : List Outcome) (state : Sequence) : Type 0 where
+record Numbers (policy : FullPolicy) (calls : List Call) (fixed : List Fixed) (outcomes : List Outcome) (state : Sequence) : Type 0 where
   delivered : ℕ
   dropped : ℕ
   lost : ℕ
@@ -168,6 +169,7 @@ record Numbers (policy : FullPolicy) (calls : List Call) (outcomes : List Outcom
   few : delivered + dropped + lost + cut ≤ kept
   begun : begun_count calls ≡ kept + dropped_at_begin calls
   countable : begun_count calls ≤ last_count
+  delivered_is : delivered ≡ tally is_delivered fixed
   all_outcomes : count_by (λ (o : Outcome). true) outcomes ≡ begun_count calls
   delivered_outcomes : count_by is_delivered outcomes ≡ delivered
   dropped_outcomes : count_by (is_absent_under Dropped) outcomes ≡ dropped_at_begin calls + dropped
@@ -180,7 +182,8 @@ record Numbers (policy : FullPolicy) (calls : List Call) (outcomes : List Outcom
 
 numbers : (size : ℕ) (calls : List Call) (pages : List Page) (room : ℕ) (policy : FullPolicy) (sequences : List Sequence) (sequence record_size : ℕ)
     (events : List Event) → IsHistoryOf size calls pages sequences sequence record_size events
-    → Numbers policy calls (packet_outcomes (fixed_after sequence (empty_buffer room policy sequences) events) calls pages)
+    → Numbers policy calls (fixed_after sequence (empty_buffer room policy sequences) events)
+    (packet_outcomes (fixed_after sequence (empty_buffer room policy sequences) events) calls pages)
     (sequence_in (state_after (empty_buffer room policy sequences) events).sequences sequence)
 numbers size calls pages room policy sequences sequence record_size events h =
     let packets : List Packet = packets_of calls in
@@ -218,6 +221,7 @@ numbers size calls pages room policy sequences sequence record_size events h =
       few = omega (arith, kinds, most, as_long);
       begun = parts;
       countable = h.countable;
+      delivered_is = refl;
       all_outcomes = everyone ∙ reversed ∙ each;
       delivered_outcomes = omega (arith, of_test is_delivered);
       dropped_outcomes = omega (arith, of_test (is_absent_under Dropped));
@@ -236,7 +240,7 @@ pub counts_are_of_outcomes : CountsAreOfOutcomes
 counts_are_of_outcomes size calls pages room policy sequences sequence record_size events h =
     let outcomes : List Outcome = packet_outcomes (fixed_after sequence (empty_buffer room policy sequences) events) calls pages in
     let state : Sequence = sequence_in (state_after (empty_buffer room policy sequences) events).sequences sequence in
-    let n : Numbers policy calls outcomes state = numbers size calls pages room policy sequences sequence record_size events h in
+    let n : Numbers policy calls (fixed_after sequence (empty_buffer room policy sequences) events) outcomes state = numbers size calls pages room policy sequences sequence record_size events h in
     let delivered : state.delivered ≡ n.delivered = let few = n.few in let begun = n.begun in let most = n.countable in n.state_delivered ∙ raised_is n.delivered (omega (arith, few, begun, most)) in
     let dropped : state.dropped ≡ n.dropped = let few = n.few in let begun = n.begun in let most = n.countable in n.state_dropped ∙ raised_is n.dropped (omega (arith, few, begun, most)) in
     let lost : state.lost ≡ n.lost = let few = n.few in let begun = n.begun in let most = n.countable in n.state_lost ∙ raised_is n.lost (omega (arith, few, begun, most)) in
@@ -258,7 +262,7 @@ pub counts_are_balanced : CountsAreBalanced
 counts_are_balanced size calls pages room policy sequences sequence record_size events h =
     let outcomes : List Outcome = packet_outcomes (fixed_after sequence (empty_buffer room policy sequences) events) calls pages in
     let state : Sequence = sequence_in (state_after (empty_buffer room policy sequences) events).sequences sequence in
-    let n : Numbers policy calls outcomes state = numbers size calls pages room policy sequences sequence record_size events h in
+    let n : Numbers policy calls (fixed_after sequence (empty_buffer room policy sequences) events) outcomes state = numbers size calls pages room policy sequences sequence record_size events h in
     let counts = counts_are_of_outcomes size calls pages room policy sequences sequence record_size events h in
     let few = n.few in
     let begun = n.begun in
@@ -279,3 +283,18 @@ counts_are_balanced size calls pages room policy sequences sequence record_size 
     either : (b : Bool) (n : ℕ) → cond b 0 n + cond b n 0 ≡ n
     either true n = omega arith
     either false n = omega arith
+
+-- What is counted as delivered is what was fixed so, and that is what the reads delivered.
+pub reports_count_deliveries : ReportsCountDeliveries
+reports_count_deliveries size calls pages room policy sequences sequence record_size events h =
+    let outcomes : List Outcome = packet_outcomes (fixed_after sequence (empty_buffer room policy sequences) events) calls pages in
+    let state : Sequence = sequence_in (state_after (empty_buffer room policy sequences) events).sequences sequence in
+    let n : Numbers policy calls (fixed_after sequence (empty_buffer room policy sequences) events) outcomes state = numbers size calls pages room policy sequences sequence record_size events h in
+    let few = n.few in
+    let begun = n.begun in
+    let most = n.countable in
+    let delivered = n.delivered_is in
+    n.state_delivered
+    ∙ raised_is n.delivered (omega (arith, few, begun, most))
+    ∙ delivered
+    ∙ (deliveries_are_counted room policy sequences sequence record_size events h.known h.start).fixed_many

@@ -3,6 +3,7 @@ ghost use Rattle.model_laws.specs.ChunkCounts.{ChunkCountsAreReached, EveryImage
 ghost use Rattle.model_laws.specs.Losses.{LossesChangeNoShape};
 ghost use Rattle.model_laws.specs.MarkLaws.{MarksTellWhatIsMissing};
 ghost use Rattle.model_laws.specs.OutcomeLaws.{CountsAreBalanced, CountsAreOfOutcomes, FixedPlacesAreStarts};
+ghost use Rattle.model_laws.specs.OutcomeLaws.{DeliveriesAreCounted, ReportsCountDeliveries};
 ghost use Rattle.model_laws.specs.RisingLaws.{RisingListsAreSets, SecondCloseChangesNothing};
 ghost use Rattle.model_laws.specs.SpoiltCuts.{SpoiltCutsAreRefused};
 ghost use Rattle.model_laws.specs.StopLaws.{StopPlacesAreFirst};
@@ -14,6 +15,12 @@ pub fn fixed_places_are_starts()
     ensures { FixedPlacesAreStarts }
 {}
 
+/// As many packets of a sequence are fixed as delivered, and counted as delivered, as its reads
+/// delivered.
+pub fn deliveries_are_counted()
+    ensures { DeliveriesAreCounted }
+{}
+
 /// The counts of the report are those of the packets' outcomes.
 pub fn counts_are_of_outcomes()
     ensures { CountsAreOfOutcomes }
@@ -22,6 +29,11 @@ pub fn counts_are_of_outcomes()
 /// Each packet that was begun is delivered, or absent under one cause, and the report's sum says so.
 pub fn counts_are_balanced()
     ensures { CountsAreBalanced }
+{}
+
+/// What the report says of delivered packets is how many the reads delivered.
+pub fn reports_count_deliveries()
+    ensures { ReportsCountDeliveries }
 {}
 
 /// Losses change no shape: calls of which packets were dropped or given up emit what was asked, begin

@@ -7,9 +7,9 @@
 mod laws;
 
 pub use laws::{
-    chunk_counts_are_reached, counts_are_balanced, counts_are_of_outcomes, every_image_is_counted,
-    every_page_is_counted, fixed_places_are_starts, losses_change_no_shape,
-    marks_tell_what_is_missing, more_calls_take_more, rising_lists_are_sets,
-    second_close_changes_nothing, spoilt_cuts_are_refused, stop_places_are_first,
-    unreadable_is_first, worked_report,
+    chunk_counts_are_reached, counts_are_balanced, counts_are_of_outcomes, deliveries_are_counted,
+    every_image_is_counted, every_page_is_counted, fixed_places_are_starts, losses_change_no_shape,
+    marks_tell_what_is_missing, more_calls_take_more, reports_count_deliveries,
+    rising_lists_are_sets, second_close_changes_nothing, spoilt_cuts_are_refused,
+    stop_places_are_first, unreadable_is_first, worked_report,
 };

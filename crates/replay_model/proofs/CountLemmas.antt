@@ -1,7 +1,8 @@
--- The report of a replay counts the outcomes of its packets.
+-- The report of a replay counts the outcomes of its packets, and as many deliveries as records.
 use Rattle.std.proofs.Common.{◌≡◌, ◌∙◌, ℕ, ◌+◌, ◌-◌, ◌≤◌, Bool, true, false, List, [], ◌∷◌, length, Some, refl, sym, ap, subst, arith, cond}
 use Rattle.std.specs.Prelude.{slice_get}
 use Rattle.std.proofs.lemmas.Bool.{eq-eqb}
+use Rattle.std.proofs.lemmas.List.{length-map}
 use Rattle.std.proofs.lemmas.Option.{get_or_from_slice_get}
 use Rattle.trace_base.specs.declared.policy.FullPolicy.{FullPolicy}
 use Rattle.trace_base.specs.declared.policy.WriterSpec.{WriterSpec}
@@ -11,26 +12,30 @@ use Rattle.trace_model.specs.Balance.{PacketCounts, CountsOutcomes, counts_of, p
 use Rattle.trace_model.specs.Buffers.{Buffer}
 use Rattle.trace_model.specs.Causes.{fixed_after}
 use Rattle.trace_model.specs.Counts.{raised, last_count}
-use Rattle.trace_model.specs.History.{Event, Arrives, ArrivesInPart, Patched, Committed, Closed, Read, after, buffer_after, event_sequence, state_after}
+use Rattle.trace_model.specs.History.{Event, Arrives, ArrivesInPart, Patched, Committed, Closed, Read, after, buffer_after, event_sequence, state_after, delivered_to}
 use Rattle.trace_model.specs.Images.{Image, Chunk, Patch, complete_chunk, partial_chunk, whole_chunk}
 use Rattle.trace_model.specs.Patches.{with_patch, with_patches, closed_buffer}
+use Rattle.trace_model.specs.Reads.{Delivery}
+use Rattle.trace_model.specs.Record.{record_of}
 use Rattle.trace_model.specs.Reading.{Reading, Fragments, Unreadable, reading_of}
 use Rattle.trace_model.specs.Sequences.{Sequence, sequence_in, is_known}
-use Rattle.model_laws.proofs.ReportLemmas.{counts_are_of_outcomes}
+use Rattle.model_laws.proofs.ReportLemmas.{counts_are_of_outcomes, reports_count_deliveries}
 use Rattle.delivery_laws.proofs.ReportLemmas.{accounts_are_histories}
 use Rattle.chunk_plain.specs.Setup.{Setup, sequence_of, size_of}
 use Rattle.chunk_plain.specs.World.{World, writer}
 use Rattle.chunk_plain.specs.Histories.{history_of}
 use Rattle.world_model.specs.FirstBuffers.{sequences_from}
 use Rattle.world_model.proofs.MakingLemmas.{set_at}
+use Rattle.world_model.proofs.ProjectLemmas.{once_writes}
 use Rattle.scenario_text.specs.Scenario.{Parts}
 use Rattle.scenario_text.specs.Limits.{IsWriter, IsSetUp}
 use Rattle.service_core.specs.Agreement.{no_writer}
 use Rattle.service_core.specs.Routing.{buffer_at}
 use Rattle.replay_model.specs.Laws.{EveryReportCountsPackets}
-use Rattle.replay_model.specs.Played.{buffers_of, buffers_in, packet_counts, first_buffer, CountsPackets}
+use Rattle.replay_model.specs.Played.{buffer_specs, buffers_of, buffers_in, packet_counts, first_buffer, CountsPackets}
 use Rattle.replay_model.proofs.BalanceLemmas as balance
 use Rattle.replay_model.proofs.BalanceLemmas.{count_at, each_is}
+use Rattle.replay_model.proofs.CompleteLemmas.{once_here}
 use Rattle.replay_model.proofs.DoneLemmas.{IsDone, played_done, there, within, account_of}
 
 -- ---- a buffer keeps its policy
@@ -116,11 +121,20 @@ module _ (scenario : Parts) (setup : Setup) (world : World) (done : IsDone scena
       ∙ ap (λ (b : Buffer). counts_of b.policy (writer world place).calls (sequence_in b.sequences (sequence_of place))) becomes
       ∙ ap (λ (p : FullPolicy). counts_of p (writer world place).calls (sequence_in (state_after own history).sequences (place + 2))) (policy_stays history own) in
       let shape = done.shape place inside in
+      let least = is_writer.counts_buffer in
+      let once = once_here setup place spec (there scenario setup world done place spec get) 1 (buffer_specs scenario) (spec.buffer - 1)
+      (balance.made scenario setup world done few place spec get is_writer) (balance.made_there scenario setup world done few place spec get is_writer)
+      (omega (arith, least)) in
+      let written = ap (λ (xs : List (List ℕ)). length xs) (once_writes (place + 2) history own (buffers_of scenario setup) once) in
+      let long = length-map (delivered_to (place + 2) own history) (λ (delivery : Delivery). record_of delivery.body (place + 2) delivery.marked) in
       record {
         wrote = wrote;
         begun = ap (λ (c : PacketCounts). c.begun) same ∙ ap (λ (n : ℕ). raised 0 n) shape.begun;
         outcomes = subst (λ (b : Buffer). CountsOutcomes b.policy (packet_outcomes (fixed_after (sequence_of place) b history) (writer world place).calls wrote.cut.cut.pages) counts) (sym first_is)
             (subst (CountsOutcomes own.policy (packet_outcomes (fixed_after (place + 2) own history) (writer world place).calls wrote.cut.cut.pages)) (sym same) outcomes);
+        records = ap (λ (c : PacketCounts). c.delivered) same
+            ∙ reports_count_deliveries _ (writer world place).calls wrote.cut.cut.pages own.room own.policy sequences (place + 2) size history histories
+            ∙ sym (written ∙ long);
       }
 
 pub done_counts : (scenario : Parts) (setup : Setup) (world : World) → IsDone scenario setup world → length scenario.lines ≤ last_count

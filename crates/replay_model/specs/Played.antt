@@ -1,5 +1,5 @@
 -- The replay of a scenario, end to end: the world that its lines lead to, and the trace and the report that are functions of it.
-use Rattle.std.specs.Prelude.{◌≡◌, ℕ, suc, ◌-◌, ◌*◌, List, [], ◌∷◌, map, Some, slice_get}
+use Rattle.std.specs.Prelude.{◌≡◌, ℕ, suc, ◌-◌, ◌*◌, List, [], ◌∷◌, length, map, Some, slice_get}
 use Rattle.std.specs.List.{AllZip}
 use Rattle.byte_io.specs.Bytes.{Intake, after_told}
 use Rattle.trace_base.specs.declared.limits.TheConstants.{BYTES_PER_KB}
@@ -8,7 +8,7 @@ use Rattle.trace_model.specs.Balance.{PacketCounts, IsBalanced, CountsOutcomes, 
 use Rattle.trace_model.specs.Buffers.{Buffer}
 use Rattle.trace_model.specs.Causes.{fixed_after}
 use Rattle.trace_model.specs.Counts.{raised}
-use Rattle.trace_model.specs.Delivery.{Delivered, IsFaithful, IsComplete, trace_of}
+use Rattle.trace_model.specs.Delivery.{Delivered, IsFaithful, IsComplete, trace_of, records_of}
 use Rattle.trace_model.specs.History.{buffers_after, records_after}
 use Rattle.trace_model.specs.Packets.{begun_count}
 use Rattle.trace_model.specs.Sequences.{sequence_in}
@@ -113,11 +113,13 @@ first_buffer scenario setup place = buffer_at (buffers_of scenario setup) ((spec
 
 -- The report's counts of the writer at this place are those of its packets' outcomes: each packet that the lines begin is delivered, or absent under
 -- the one cause that the history fixed first. Where a packet stands is said by the pages of the writer's own chunks.
+-- As many are counted as delivered as records of its sequence are written.
 pub record CountsPackets (scenario : Parts) (setup : Setup) (world : World) (place : ℕ) (counts : PacketCounts) : Type 0 where
   pub wrote : HasWritten setup place (writer world place)
   pub begun : counts.begun ≡ raised 0 (begun_count (calls_asked (suc place) scenario.lines))
   pub outcomes : CountsOutcomes (first_buffer scenario setup place).policy
       (packet_outcomes (fixed_after (sequence_of place) (first_buffer scenario setup place) (history_of world.service)) (writer world place).calls wrote.cut.cut.pages) counts
+  pub records : counts.delivered ≡ length (records_of (sequence_of place) (records_in scenario setup world))
 
 -- The scenario was replayed: there is a world that its lines lead to. The trace has taken that world's records and nothing else, and the text is its
 -- report. The records are faithful to what the scenario has its writers emit, and the report counts every packet once, under its cause. Where chunks

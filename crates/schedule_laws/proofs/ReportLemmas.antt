@@ -9,7 +9,7 @@ use Rattle.trace_model.specs.Pages.{Page}
 use Rattle.trace_model.specs.Sequences.{Sequence, fresh, sequence_in, is_known}
 use Rattle.delivery_laws.specs.DeliveryLaws.{IsAccountOf}
 use Rattle.delivery_laws.proofs.ReportLemmas.{accounts_are_histories}
-use Rattle.model_laws.proofs.ReportLemmas.{counts_are_balanced, counts_are_of_outcomes}
+use Rattle.model_laws.proofs.ReportLemmas.{counts_are_balanced, counts_are_of_outcomes, reports_count_deliveries}
 use Rattle.chunk_plain.specs.Setup.{Setup, size_of, sequence_of}
 use Rattle.chunk_plain.specs.World.{World, writer}
 use Rattle.chunk_plain.specs.Owned.{IsOwned}
@@ -65,4 +65,5 @@ every_packet_is_counted setup moves world laid schedule place spec buffer get be
       balanced = counts_are_balanced (payload_at setup place) calls pages buffer.size buffer.policy sequences (sequence_of place) size events history;
       wrote = has.wrote;
       outcomes = counts_are_of_outcomes (payload_at setup place) calls pages buffer.size buffer.policy sequences (sequence_of place) size events history;
+      records = reports_count_deliveries (payload_at setup place) calls pages buffer.size buffer.policy sequences (sequence_of place) size events history;
     }

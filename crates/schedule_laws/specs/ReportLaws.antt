@@ -5,7 +5,7 @@ use Rattle.trace_model.specs.Balance.{PacketCounts, IsBalanced, CountsOutcomes, 
 use Rattle.trace_model.specs.Buffers.{Buffer, empty_buffer}
 use Rattle.trace_model.specs.Causes.{fixed_after}
 use Rattle.trace_model.specs.Counts.{last_count}
-use Rattle.trace_model.specs.History.{state_after}
+use Rattle.trace_model.specs.History.{state_after, delivered_to}
 use Rattle.trace_model.specs.Packets.{begun_count}
 use Rattle.trace_model.specs.Sequences.{Sequence, fresh, sequence_in, is_known}
 use Rattle.delivery_laws.specs.DeliveryLaws.{IsAccountOf}
@@ -44,13 +44,16 @@ counts_at setup world place spec buffer =
     (sequence_in (state_after (buffer_named setup spec buffer) (history_of world.service)).sequences (sequence_of place))
 
 -- The report counts each packet that the writer began once: it is delivered, or absent under the one cause that the history fixed first. So the sum says.
--- Where a packet stands is said by the pages of the writer's own chunks.
+-- Where a packet stands is said by the pages of the writer's own chunks. As many are counted as delivered as the reads of its sequence
+-- deliver.
 pub record CountsOnce (setup : Setup) (world : World) (place : ℕ) (spec : WriterSpec) (buffer : BufferSpec) : Type 0 where
   pub balanced : IsBalanced (counts_at setup world place spec buffer)
   pub wrote : HasWritten setup place (writer world place)
   pub outcomes : CountsOutcomes buffer.policy
       (packet_outcomes (fixed_after (sequence_of place) (buffer_named setup spec buffer) (history_of world.service)) (writer world place).calls wrote.cut.cut.pages)
       (counts_at setup world place spec buffer)
+  pub records : (counts_at setup world place spec buffer).delivered
+      ≡ length (delivered_to (sequence_of place) (buffer_named setup spec buffer) (history_of world.service))
 
 -- Of each such sequence, where no more packets were begun than a count can tell.
 abbrev pub EveryPacketIsCounted : Type 0
