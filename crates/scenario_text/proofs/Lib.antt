@@ -16,6 +16,7 @@ pub mod AcceptedFields
 pub mod AcceptedCalls
 pub mod AcceptedLines
 pub mod AcceptedLemmas
+pub mod SpelledLemmas
 pub mod ReachLemmas
 pub mod PossibleLemmas
 pub mod ShortLemmas

@@ -14,6 +14,7 @@ pub mod Lengths
 pub mod Answers
 pub mod Accepted
 pub mod Emissions
+pub mod Spelled
 pub mod Reach
 pub mod Additions
 pub mod Texts

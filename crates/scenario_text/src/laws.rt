@@ -3,6 +3,7 @@ ghost use Rattle.scenario_text.specs.Accepted.{ScenariosAreAccepted};
 ghost use Rattle.scenario_text.specs.Lengths.{ScenariosAreShort};
 ghost use Rattle.scenario_text.specs.Limits.{ScenariosAreSetUp};
 ghost use Rattle.scenario_text.specs.Reach.{ScenariosAreInReach};
+ghost use Rattle.scenario_text.specs.Spelled.{LinesSpellTrees, ScenariosSpellTrees};
 ghost use Rattle.scenario_text.specs.Trees.{ScenariosGiveTrees};
 
 #[tactic(auto, using(crate::proofs::LimitLemmas::scenario_is_set_up))]
@@ -25,4 +26,15 @@ pub fn scenarios_are_in_reach()
 
 pub fn scenarios_are_short()
     ensures { ScenariosAreShort }
+{}
+
+/// A `p` line emits the encoding of the tree of its FIELDS.
+pub fn lines_spell_trees()
+    ensures { LinesSpellTrees }
+{}
+
+/// What the lines ask of a writer spells one tree for each packet that it emits, of which the packet
+/// is the encoding.
+pub fn scenarios_spell_trees()
+    ensures { ScenariosSpellTrees }
 {}

@@ -30,8 +30,8 @@ mod scenario;
 mod scenario_reader;
 
 pub use laws::{
-    scenarios_are_accepted, scenarios_are_in_reach, scenarios_are_set_up, scenarios_are_short,
-    scenarios_give_trees,
+    lines_spell_trees, scenarios_are_accepted, scenarios_are_in_reach, scenarios_are_set_up,
+    scenarios_are_short, scenarios_give_trees, scenarios_spell_trees,
 };
 pub use line_list::{LineList, LineWalk};
 pub use lines::read_scenario;

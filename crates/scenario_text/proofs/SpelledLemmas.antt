@@ -1,0 +1,338 @@
+-- The calls that a writer accepts write trees of fields, one packet behind another.
+use Rattle.std.proofs.Common.{◌≡◌, ◌∙◌, ℕ, ◌+◌, length, Bool, true, false, cond, not, ◌||◌, List, [], ◌∷◌, ◌++◌, Option, Some, None, map, reverse, refl, sym, ap, arith}
+use Rattle.std.specs.Prelude.{fold}
+use Rattle.std.specs.List.{filter, flat_map, list_any}
+use Rattle.std.proofs.lemmas.Bool.{false≢true, eq-eqb}
+use Rattle.std.proofs.lemmas.Grind.{reverse_onto}
+use Rattle.std.proofs.lemmas.List.{append-nil, append_assoc, map-append}
+use Rattle.std.proofs.lemmas.List.Elements.{filter-append}
+use Rattle.std.proofs.lemmas.List.Folds.{list_any-append}
+use Rattle.wire_varint.specs.Varint.{redundant}
+use Rattle.trace_model.specs.Calls.{Call, Begun, Number, Bytes, Nested, Ended, GivenUp, Finished, Flushed}
+use Rattle.trace_model.specs.Encoding.{Fields, NoFields, NumberField, BytesField, NestedField, number_field, bytes_field, nested_tag, encoding_of, calls_of}
+use Rattle.trace_model.specs.Packets.{Packet, Account, nothing_yet, noted, on_newest, begun_packet, with_more, with_nested, with_nested_ended, finished_packet, is_lost, is_writing, open_count, newest_is_lost, front_of, packet_encoding, emissions_of, closed_levels}
+use Rattle.trace_model.specs.PacketLaws.{packet_calls}
+use Rattle.trace_model.proofs.CallLemmas.{calls_give_encodings}
+use Rattle.field_tree.specs.Nodes.{nodes_of}
+use Rattle.scenario_text.specs.declared.scenario.LineKind.TheVariants as line
+use Rattle.scenario_text.specs.Accepted.{node_call, line_calls, calls_asked, AreAccepted}
+use Rattle.scenario_text.specs.Spelled.{ends_packet, is_flush, whole, SpellsTrees, LinesSpellTrees, ScenariosSpellTrees}
+use Rattle.scenario_text.proofs.AcceptedFields.{called_as}
+use Rattle.scenario_text.proofs.AcceptedLemmas.{scenario_is_accepted}
+
+-- ---- one tree behind another
+
+abbrev joined : Fields → Fields → Fields
+joined NoFields more = more
+joined (NumberField field value others) more = NumberField field value (joined others more)
+joined (BytesField field text times others) more = BytesField field text times (joined others more)
+joined (NestedField field inner others) more = NestedField field inner (joined others more)
+
+calls_joined : (tree more : Fields) → calls_of (joined tree more) ≡ calls_of tree ++ calls_of more
+calls_joined NoFields more = refl
+calls_joined (NumberField field value others) more = ap (λ (cs : List Call). Number field value ∷ cs) (calls_joined others more)
+calls_joined (BytesField field text times others) more = ap (λ (cs : List Call). Bytes field text times ∷ cs) (calls_joined others more)
+calls_joined (NestedField field inner others) more =
+    ap (λ (cs : List Call). Nested field ∷ calls_of inner ++ Ended ∷ cs) (calls_joined others more)
+    ∙ ap (λ (cs : List Call). Nested field ∷ cs) (sym (append_assoc (calls_of inner) (Ended ∷ calls_of others) (calls_of more)))
+
+encoding_joined : (tree more : Fields) → encoding_of (joined tree more) ≡ encoding_of tree ++ encoding_of more
+encoding_joined NoFields more = refl
+encoding_joined (NumberField field value others) more =
+    ap (λ (xs : List ℕ). number_field field value ++ xs) (encoding_joined others more)
+    ∙ sym (append_assoc (number_field field value) (encoding_of others) (encoding_of more))
+encoding_joined (BytesField field text times others) more =
+    ap (λ (xs : List ℕ). bytes_field field text times ++ xs) (encoding_joined others more)
+    ∙ sym (append_assoc (bytes_field field text times) (encoding_of others) (encoding_of more))
+encoding_joined (NestedField field inner others) more =
+    let four : List ℕ = redundant (length (encoding_of inner)) in
+    ap (λ (xs : List ℕ). nested_tag field ++ four ++ encoding_of inner ++ xs) (encoding_joined others more)
+    ∙ sym (append_assoc (nested_tag field ++ four ++ encoding_of inner) (encoding_of others) (encoding_of more))
+
+-- ---- what is open of a packet
+
+-- the trees around the innermost one, each with the field of the message that is open in it
+abbrev Around : Type 0
+Around = List (Fields × ℕ)
+
+-- the calls that were made since the packet's begin
+abbrev calls_so_far : Fields → Around → List Call
+calls_so_far tree [] = calls_of tree
+calls_so_far tree ((outer, field) ∷ around) = calls_so_far outer around ++ Nested field ∷ calls_of tree
+
+-- the bytes around the innermost message
+abbrev levels_around : Around → List (List ℕ)
+levels_around [] = []
+levels_around ((outer, field) ∷ around) = (encoding_of outer ++ nested_tag field) ∷ levels_around around
+
+more_calls : (tree more : Fields) (around : Around) → calls_so_far (joined tree more) around ≡ calls_so_far tree around ++ calls_of more
+more_calls tree more [] = calls_joined tree more
+more_calls tree more ((outer, field) ∷ around) =
+    ap (λ (cs : List Call). calls_so_far outer around ++ Nested field ∷ cs) (calls_joined tree more)
+    ∙ sym (append_assoc (calls_so_far outer around) (Nested field ∷ calls_of tree) (calls_of more))
+
+no_end : (tree : Fields) → list_any ends_packet (calls_of tree) ≡ false
+no_end NoFields = refl
+no_end (NumberField field value others) = no_end others
+no_end (BytesField field text times others) = no_end others
+no_end (NestedField field inner others) =
+    list_any-append ends_packet (calls_of inner) (Ended ∷ calls_of others)
+    ∙ ap (λ (b : Bool). b || list_any ends_packet (calls_of others)) (no_end inner)
+    ∙ no_end others
+
+no_end_so_far : (tree : Fields) (around : Around) → list_any ends_packet (calls_so_far tree around) ≡ false
+no_end_so_far tree [] = no_end tree
+no_end_so_far tree ((outer, field) ∷ around) =
+    list_any-append ends_packet (calls_so_far outer around) (Nested field ∷ calls_of tree)
+    ∙ ap (λ (b : Bool). b || list_any ends_packet (calls_of tree)) (no_end_so_far outer around)
+    ∙ no_end tree
+
+-- a packet is being written, whose bytes are those of these trees
+record IsWritten (account : Account) (tree : Fields) (around : Around) : Type 0 where
+  newest : Packet
+  older : List Packet
+  packets_are : account.packets ≡ newest ∷ older
+  going : newest.finished ≡ false
+  kept : is_lost newest ≡ false
+  plain : front_of newest ≡ []
+  levels_are : newest.text.levels ≡ encoding_of tree ∷ levels_around around
+
+record IsAtRest (account : Account) : Type 0 where
+  ended : is_writing account.packets ≡ false
+  kept : newest_is_lost account.packets ≡ false
+
+-- what is open: nothing, or a packet
+abbrev Holds : Account → Option (Fields × Around) → Type 0
+Holds account None = IsAtRest account
+Holds account (Some (tree, around)) = IsWritten account tree around
+
+abbrev open_calls : Option (Fields × Around) → List Call
+open_calls None = []
+open_calls (Some (tree, around)) = Begun true ∷ calls_so_far tree around
+
+-- ---- what is emitted
+
+abbrev emitted_of : List Packet → List (List ℕ)
+emitted_of packets = map packet_encoding (filter (λ (packet : Packet). packet.finished) (reverse packets))
+
+emitted_cons : (packet : Packet) (packets : List Packet) (b : Bool) → packet.finished ≡ b
+    → emitted_of (packet ∷ packets) ≡ emitted_of packets ++ cond b (packet_encoding packet ∷ []) []
+emitted_cons packet packets b e =
+    let finished : Packet → Bool = λ p. p.finished in
+    ap (λ (ps : List Packet). map packet_encoding (filter finished ps)) (reverse_onto packets packet [])
+    ∙ ap (map packet_encoding) (filter-append finished (reverse packets) (packet ∷ []))
+    ∙ map-append packet_encoding (filter finished (reverse packets)) (filter finished (packet ∷ []))
+    ∙ ap (λ (xs : List (List ℕ)). emitted_of packets ++ xs) (ap (λ (x : Bool). map packet_encoding (cond x (packet ∷ []) [])) e ∙ one b)
+  where
+    one : (x : Bool) → map packet_encoding (cond x (packet ∷ []) []) ≡ cond x (packet_encoding packet ∷ []) []
+    one true = refl
+    one false = refl
+
+emitted_going : (packet : Packet) (packets : List Packet) → packet.finished ≡ false → emitted_of (packet ∷ packets) ≡ emitted_of packets
+emitted_going packet packets e = emitted_cons packet packets false e ∙ append-nil (emitted_of packets)
+
+-- what the calls from here on make of what is open, and what they emit
+record Spells (account : Account) (open_ones : Option (Fields × Around)) (calls : List Call) : Type 0 where
+  trees : List Fields
+  rest : List Call
+  calls_are : open_calls open_ones ++ filter (λ (call : Call). not (is_flush call)) calls ≡ flat_map (λ (tree : Fields). packet_calls (whole tree)) trees ++ rest
+  unended : list_any ends_packet rest ≡ false
+  emitted : emitted_of (fold noted account calls).packets ≡ emitted_of account.packets ++ map encoding_of trees
+
+-- ---- one call after another
+
+abbrev unflushed : List Call → List Call
+unflushed calls = filter (λ (call : Call). not (is_flush call)) calls
+
+-- a call that goes on with the packet
+goes_on : (account : Account) (call : Call) (calls : List Call) (before behind : Fields × Around) → is_flush call ≡ false
+    → open_calls (Some before) ++ call ∷ [] ≡ open_calls (Some behind) → emitted_of (noted account call).packets ≡ emitted_of account.packets
+    → Spells (noted account call) (Some behind) calls → Spells account (Some before) (call ∷ calls)
+goes_on account call calls before behind no_flush same emits then = record {
+  trees = then.trees;
+  rest = then.rest;
+  calls_are = ap (λ (b : Bool). open_calls (Some before) ++ cond (not b) (call ∷ unflushed calls) (unflushed calls)) no_flush
+      ∙ sym (append_assoc (open_calls (Some before)) (call ∷ []) (unflushed calls))
+      ∙ ap (λ (cs : List Call). cs ++ unflushed calls) same
+      ∙ then.calls_are;
+  unended = then.unended;
+  emitted = then.emitted ∙ ap (λ (xs : List (List ℕ)). xs ++ map encoding_of then.trees) emits;
+}
+
+not_writing : {A : Type 0} (account : Account) → IsAtRest account → is_writing account.packets ≡ true → A
+not_writing account rests writes = absurd (false≢true (sym rests.ended ∙ writes))
+
+is_going : (account : Account) (tree : Fields) (around : Around) → IsWritten account tree around → is_writing account.packets ≡ true
+is_going account tree around is = ap is_writing is.packets_are ∙ ap not is.going
+
+-- a change to the newest packet's levels
+module _ (account : Account) (tree : Fields) (around : Around) (is : IsWritten account tree around) where
+  changed : (f : Packet → Packet) → (on_newest f account).packets ≡ f is.newest ∷ is.older
+  changed f = ap (λ (ps : List Packet). (on_newest f (record { packets = ps; flushed = account.flushed })).packets) is.packets_are
+
+  same_emitted : (f : Packet → Packet) → (f is.newest).finished ≡ false → emitted_of (on_newest f account).packets ≡ emitted_of account.packets
+  same_emitted f going =
+      ap emitted_of (changed f)
+      ∙ emitted_going (f is.newest) is.older going
+      ∙ sym (ap emitted_of is.packets_are ∙ emitted_going is.newest is.older is.going)
+
+  writes_more : (bytes : List ℕ) (more : Fields) → encoding_of more ≡ bytes → IsWritten (on_newest (with_more bytes) account) (joined tree more) around
+  writes_more bytes more same = record {
+    newest = with_more bytes is.newest;
+    older = is.older;
+    packets_are = changed (with_more bytes);
+    going = is.going;
+    kept = is.kept;
+    plain = is.plain;
+    levels_are = rw is.levels_are
+        (ap (λ (xs : List ℕ). xs ∷ levels_around around) (ap (λ (xs : List ℕ). encoding_of tree ++ xs) (sym same) ∙ sym (encoding_joined tree more)));
+  }
+
+  nests_in : (field : ℕ) → IsWritten (on_newest (with_nested field) account) NoFields ((tree, field) ∷ around)
+  nests_in field = record {
+    newest = with_nested field is.newest;
+    older = is.older;
+    packets_are = changed (with_nested field);
+    going = is.going;
+    kept = is.kept;
+    plain = is.plain;
+    levels_are = rw is.levels_are refl;
+  }
+
+ends_in : (account : Account) (tree outer : Fields) (field : ℕ) (around : Around) → IsWritten account tree ((outer, field) ∷ around)
+    → IsWritten (on_newest with_nested_ended account) (joined outer (NestedField field tree NoFields)) around
+ends_in account tree outer field around is = record {
+  newest = with_nested_ended is.newest;
+  older = is.older;
+  packets_are = changed account tree ((outer, field) ∷ around) is with_nested_ended;
+  going = is.going;
+  kept = is.kept;
+  plain = is.plain;
+  levels_are = ap (λ (ls : List (List ℕ)). (closed_levels ls is.newest.text.closed).levels) is.levels_are
+      ∙ ap (λ (xs : List ℕ). xs ∷ levels_around around) (message (encoding_of outer) (nested_tag field) (redundant (length (encoding_of tree))) (encoding_of tree)
+      ∙ sym (encoding_joined outer (NestedField field tree NoFields)));
+}
+  where
+    message : (a b c d : List ℕ) → ((a ++ b) ++ c) ++ d ≡ a ++ (((b ++ c) ++ d) ++ [])
+    message a b c d =
+        ap (λ (xs : List ℕ). xs ++ d) (append_assoc a b c) ∙ append_assoc a (b ++ c) d ∙ ap (λ (xs : List ℕ). a ++ xs) (sym (append-nil ((b ++ c) ++ d)))
+
+spells : (calls : List Call) (account : Account) (open_ones : Option (Fields × Around)) → Holds account open_ones → AreAccepted account calls
+    → Spells account open_ones calls
+spells [] account None is accepted = record { trees = []; rest = []; calls_are = refl; unended = refl; emitted = sym (append-nil (emitted_of account.packets)) }
+spells [] account (Some (tree, around)) is accepted = record {
+  trees = [];
+  rest = Begun true ∷ calls_so_far tree around;
+  calls_are = append-nil (Begun true ∷ calls_so_far tree around);
+  unended = no_end_so_far tree around;
+  emitted = sym (append-nil (emitted_of account.packets));
+}
+spells (Begun false ∷ calls) account None is accepted = absurd (false≢true accepted.0.0)
+spells (Begun true ∷ calls) account None is accepted =
+    let then = spells calls (noted account (Begun true)) (Some (NoFields, [])) (record {
+      newest = begun_packet true account;
+      older = account.packets;
+      packets_are = refl;
+      going = refl;
+      kept = refl;
+      plain = rw is.kept refl;
+      levels_are = rw is.kept refl;
+    }) accepted.1 in
+    record {
+      trees = then.trees;
+      rest = then.rest;
+      calls_are = then.calls_are;
+      unended = then.unended;
+      emitted = then.emitted ∙ ap (λ (xs : List (List ℕ)). xs ++ map encoding_of then.trees) (emitted_going (begun_packet true account) account.packets refl);
+    }
+spells (Begun kept ∷ calls) account (Some (tree, around)) is accepted = absurd (false≢true (sym accepted.0.1 ∙ is_going account tree around is))
+spells (Number field value ∷ calls) account None is accepted = not_writing account is accepted.0.begun
+spells (Number field value ∷ calls) account (Some (tree, around)) is accepted =
+    let more : Fields = NumberField field value NoFields in
+    goes_on account (Number field value) calls (tree, around) (joined tree more, around) refl
+    (ap (λ (cs : List Call). Begun true ∷ cs) (sym (more_calls tree more around)))
+    (same_emitted account tree around is (with_more (number_field field value)) is.going)
+    (spells calls (noted account (Number field value)) (Some (joined tree more, around))
+    (writes_more account tree around is (number_field field value) more (append-nil (number_field field value))) accepted.1)
+spells (Bytes field text times ∷ calls) account None is accepted = not_writing account is accepted.0.begun
+spells (Bytes field text times ∷ calls) account (Some (tree, around)) is accepted =
+    let more : Fields = BytesField field text times NoFields in
+    goes_on account (Bytes field text times) calls (tree, around) (joined tree more, around) refl
+    (ap (λ (cs : List Call). Begun true ∷ cs) (sym (more_calls tree more around)))
+    (same_emitted account tree around is (with_more (bytes_field field text times)) is.going)
+    (spells calls (noted account (Bytes field text times)) (Some (joined tree more, around))
+    (writes_more account tree around is (bytes_field field text times) more (append-nil (bytes_field field text times))) accepted.1)
+spells (Nested field ∷ calls) account None is accepted = not_writing account is accepted.0.0.begun
+spells (Nested field ∷ calls) account (Some (tree, around)) is accepted =
+    goes_on account (Nested field) calls (tree, around) (NoFields, (tree, field) ∷ around) refl refl
+    (same_emitted account tree around is (with_nested field) is.going)
+    (spells calls (noted account (Nested field)) (Some (NoFields, (tree, field) ∷ around)) (nests_in account tree around is field) accepted.1)
+spells (Ended ∷ calls) account None is accepted = not_writing account is accepted.0.0
+spells (Ended ∷ calls) account (Some (tree, [])) is accepted =
+    let depth : open_count account.packets ≡ 1 = ap open_count is.packets_are ∙ ap length is.levels_are in
+    let more = accepted.0.1 in
+    absurd (omega (arith, depth, more))
+spells (Ended ∷ calls) account (Some (tree, (outer, field) ∷ around)) is accepted =
+    let message : Fields = NestedField field tree NoFields in
+    goes_on account Ended calls (tree, (outer, field) ∷ around) (joined outer message, around) refl
+    (ap (λ (cs : List Call). Begun true ∷ cs) (append_assoc (calls_so_far outer around) (Nested field ∷ calls_of tree) (Ended ∷ []) ∙ sym (more_calls outer message around)))
+    (same_emitted account tree ((outer, field) ∷ around) is with_nested_ended is.going)
+    (spells calls (noted account Ended) (Some (joined outer message, around)) (ends_in account tree outer field around is) accepted.1)
+spells (GivenUp ∷ calls) account open_ones is accepted = absurd accepted.0
+spells (Finished ∷ calls) account None is accepted = not_writing account is accepted.0.0
+spells (Finished ∷ calls) account (Some (tree, (outer, field) ∷ around)) is accepted =
+    let depth : open_count account.packets ≡ length (encoding_of tree ∷ levels_around ((outer, field) ∷ around)) = ap open_count is.packets_are ∙ ap length is.levels_are in
+    let one = accepted.0.1 in
+    absurd (omega (arith, depth, one))
+spells (Finished ∷ calls) account (Some (tree, [])) is accepted =
+    let ended : (noted account Finished).packets ≡ finished_packet is.newest ∷ is.older = changed account tree [] is finished_packet in
+    let then = spells calls (noted account Finished) None (record {
+      ended = ap is_writing ended;
+      kept = ap newest_is_lost ended ∙ is.kept;
+    }) accepted.1 in
+    let encoding : packet_encoding (finished_packet is.newest) ≡ encoding_of tree = rw (is.plain, is.levels_are) refl in
+    record {
+      trees = tree ∷ then.trees;
+      rest = then.rest;
+      calls_are = ap (λ (cs : List Call). Begun true ∷ calls_of tree ++ Finished ∷ cs) then.calls_are
+          ∙ ap (λ (cs : List Call). Begun true ∷ cs)
+          (sym (append_assoc (calls_of tree) (Finished ∷ []) (flat_map (λ (other : Fields). packet_calls (whole other)) then.trees ++ then.rest)))
+          ∙ sym (append_assoc (packet_calls (whole tree)) (flat_map (λ (other : Fields). packet_calls (whole other)) then.trees) then.rest);
+      unended = then.unended;
+      emitted = then.emitted
+          ∙ ap (λ (xs : List (List ℕ)). xs ++ map encoding_of then.trees)
+          (ap emitted_of ended
+          ∙ emitted_cons (finished_packet is.newest) is.older true refl
+          ∙ ap (λ (xs : List ℕ). emitted_of is.older ++ xs ∷ []) encoding
+          ∙ ap (λ (xs : List (List ℕ)). xs ++ encoding_of tree ∷ []) (sym (ap emitted_of is.packets_are ∙ emitted_going is.newest is.older is.going)))
+          ∙ append_assoc (emitted_of account.packets) (encoding_of tree ∷ []) (map encoding_of then.trees);
+    }
+spells (Flushed ∷ calls) account (Some (tree, around)) is accepted = absurd (false≢true (sym accepted.0 ∙ is_going account tree around is))
+spells (Flushed ∷ calls) account None is accepted =
+    let then = spells calls (noted account Flushed) None (record { ended = is.ended; kept = is.kept }) accepted.1 in
+    record { trees = then.trees; rest = then.rest; calls_are = then.calls_are; unended = then.unended; emitted = then.emitted }
+
+-- ---- every scenario
+
+pub accepted_spells : (calls : List Call) → AreAccepted nothing_yet calls → SpellsTrees calls
+accepted_spells calls accepted =
+    let all = spells calls nothing_yet None (record { ended = refl; kept = refl }) accepted in
+    record { trees = all.trees; rest = all.rest; calls_are = all.calls_are; unended = all.unended; emitted = all.emitted }
+
+pub scenario_spells_trees : ScenariosSpellTrees
+scenario_spells_trees scenario is place writer get = accepted_spells (calls_asked (place + 1) scenario.lines) (scenario_is_accepted scenario is place writer get).accepted
+
+-- ---- one line
+
+packet_line : (number : ℕ) (tree : Fields) → line_calls number (line.Packet number (nodes_of tree)) ≡ packet_calls (whole tree)
+unfolding line_calls
+packet_line number tree =
+    ap (λ (b : Bool). cond b (Begun true ∷ map node_call (nodes_of tree) ++ Finished ∷ []) []) (eq-eqb number number refl)
+    ∙ ap (λ (cs : List Call). Begun true ∷ cs ++ Finished ∷ []) (called_as tree)
+
+pub lines_spell_trees : LinesSpellTrees
+lines_spell_trees = record {
+  nodes = called_as;
+  packet = packet_line;
+  emits = λ number tree. ap emissions_of (packet_line number tree ∙ sym (append-nil (packet_calls (whole tree)))) ∙ (calls_give_encodings (whole tree ∷ [])).0;
+}
