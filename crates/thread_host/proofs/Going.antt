@@ -38,9 +38,9 @@ use Rattle.thread_writer.specs.Lent.{lent}
 use Rattle.thread_writer.specs.Writing.{core_of, view_in, Writes}
 use Rattle.thread_writer.proofs.Calls.{writes_back}
 use Rattle.thread_writer.proofs.Identity.{works_stay}
-use Rattle.thread_host.specs.Playing.{NeverRefuses, IsGoing, WasAsked}
+use Rattle.thread_host.specs.Playing.{NeverRefuses, NotesNoLoss, IsGoing, WasAsked}
 use Rattle.thread_host.proofs.Doing.{done_more, call_done}
-use Rattle.thread_host.proofs.InVain.{AsksOn, works_ask, vain_on}
+use Rattle.thread_host.proofs.InVain.{AsksOn, works_ask, none_noted, vain_on}
 
 -- ---- a helper that never refuses
 
@@ -179,6 +179,13 @@ module _ {H : Type 0} (helps : H → ℕ → Bool → H → Type 0) (of_table : 
             (subst (λ (b : Bool). (view_in after).calls ≡ (view_in writer).calls ++ noted_as b (route_of core).spec.policy call) goes notes)
             ∙ going.whole stalls
 
+        none_lost : (spec_at (setup_in table.now).writers place).policy ≡ Stalls → NotesNoLoss (view_in after).calls
+        none_lost stalls =
+            let goes : called.stopped ≡ false = stops_not (route_of core).spec.policy called.stopped called.drops (ap (λ (s : WriterSpec). s.policy) policy_is ∙ stalls) in
+            subst NotesNoLoss (sym notes)
+            (subst (λ (b : Bool). NotesNoLoss ((view_in writer).calls ++ noted_as b (route_of core).spec.policy call)) (sym goes)
+            (none_noted (account_of going.ready.asked).packets (route_of core).spec.policy (view_in writer).calls call going.ready.accepted.0 (going.none_lost stalls)))
+
         range_here : range_of (setup_in table.now) (producer_of (setup_in table.now) place) ≡ range_in (route_of core).arbiter
         range_here =
             let setup : Setup = setup_in table.now in
@@ -189,7 +196,7 @@ module _ {H : Type 0} (helps : H → ℕ → Bool → H → Type 0) (of_table : 
         asks_on =
             subst (λ (c : WriterCore WriterSeat). AsksOn (route_of core).spec.policy (setup_in table.now) (producer_of (setup_in table.now) place) called.stopped
             (known_by c.seat) (view_in after)) is
-            (works_ask helps (setup_in table.now) (producer_of (setup_in table.now) place) (route_of core) range_here called.works)
+            (works_ask helps (setup_in table.now) (producer_of (setup_in table.now) place) (route_of core) range_here refl called.works)
 
         -- it goes on behind it
         pub goes_on : IsGoing helps of_table table.now place (asked ++ call ∷ []) coming left after
@@ -201,7 +208,9 @@ module _ {H : Type 0} (helps : H → ℕ → Bool → H → Type 0) (of_table : 
               (call_done (account_of going.ready.asked).packets called.stopped (route_of core).spec.policy call going.ready.accepted.0 called.drops);
           lose = loses_more asked (view_in writer) (view_in after) call (noted_as called.stopped (route_of core).spec.policy call) going.lose notes notes_it;
           vain = vain_on (setup_in table.now) (producer_of (setup_in table.now) place) (account_of going.ready.asked).packets called.stopped (route_of core).spec.policy call
-              (view_in writer) (view_in after) going.ready.accepted.0 called.drops asks_on notes going.vain;
+              (view_in writer) (view_in after) going.ready.accepted.0 called.drops asks_on
+              (λ stalls. none_lost (sym (ap (λ (s : WriterSpec). s.policy) policy_is) ∙ stalls)) notes going.vain;
+          none_lost = none_lost;
           whole = whole;
           ready = ready_behind (payload_at (setup_in table.now) place) (view_in writer) (view_in after) call coming (noted_as called.stopped (route_of core).spec.policy call)
               going.ready notes notes_it;

@@ -35,10 +35,10 @@ use Rattle.chunk_words.specs.Named.{identity_of}
 use Rattle.thread_writer.specs.Lent.{lent}
 use Rattle.thread_writer.specs.Writing.{core_of, view_in, Writes, IsQuietCall}
 use Rattle.thread_host.specs.Hosts.{IsReady, HasPlayed}
-use Rattle.thread_host.specs.Playing.{NeverRefuses, IsGoing}
+use Rattle.thread_host.specs.Playing.{NeverRefuses, NotesNoLoss, IsGoing}
 use Rattle.thread_host.proofs.Doing.{done_more}
 use Rattle.thread_host.proofs.Going.{spec_is}
-use Rattle.thread_host.proofs.InVain.{vain_none, vain_plain}
+use Rattle.thread_host.proofs.InVain.{none_yet, vain_none, vain_plain}
 
 -- ---- before its first line
 
@@ -61,7 +61,8 @@ begins helps of_table lines table place number help writer is ready of_this neve
   done = ap (λ (view : WriterView). done_calls view.calls) ready.fresh;
   lose = ap (λ (view : WriterView). written_calls view.calls) ready.fresh;
   vain = subst (λ (view : WriterView). LosesInVain (setup_in table) (producer_of (setup_in table) place) view.asked view.calls) (sym ready.fresh)
-      (vain_none (setup_in table) (producer_of (setup_in table) place) []);
+      (vain_none (setup_in table) (producer_of (setup_in table) place) [] [] none_yet);
+  none_lost = λ stalls. subst (λ (view : WriterView). NotesNoLoss view.calls) (sym ready.fresh) none_yet;
   whole = λ stalls. ap (λ (view : WriterView). lost_count (packets_of view.calls)) ready.fresh;
   ready = rw is ready.ready;
   of_this = of_this;
