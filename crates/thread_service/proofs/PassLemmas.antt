@@ -16,8 +16,9 @@ use Rattle.chunk_words.specs.declared.host.HostTable.{HostTable}
 use Rattle.chunk_words.specs.declared.seats.ReadPass.{ReadPass}
 use Rattle.chunk_words.specs.declared.seats.ServiceSeat.{ServiceSeat}
 use Rattle.chunk_words.specs.GoesOn.{IsReadNote, GoesOn}
+use Rattle.chunk_words.specs.Knows.{Desk, Away, with_stage}
 use Rattle.chunk_words.specs.Named.{identity_of}
-use Rattle.chunk_words.specs.Sits.{Attends, Passes, known_by_pass, known_by_service}
+use Rattle.chunk_words.specs.Sits.{Attends, Passes, known_by_pass, known_by_service, desk_by_service}
 use Rattle.chunk_words.proofs.Passing.{goes_same, goes_further}
 use Rattle.service_core.specs.declared.service.ServiceCore.{ServiceCore}
 use Rattle.service_core.specs.Agreement.{first_of}
@@ -27,24 +28,25 @@ use Rattle.thread_service.specs.Passing.{KnowsReads, NoneRead, SomeRead, PassesO
 use Rattle.thread_service.specs.Reading.{GoesUnread, records_of, IsKnownWhole, PassReads}
 use Rattle.thread_service.proofs.GoingOn.{goes_adds, goes_unread, goes_same_history, all_front, all_back, none_of_both, noted_are_reads, knows_further, knows_read, none_more, some_more}
 
-module _ (id : TableId) (passed before : ServiceView) (table : HostTable) where
+module _ (id : TableId) (passed before : ServiceView) (desk : Desk) (table : HostTable) where
   -- nothing is done yet
   pub passes_start : (pass : ReadPass) (seat : ServiceSeat) → Attends table seat → Passes table pass → identity_of table ≡ id
-      → known_by_pass pass ≡ passed → known_by_service seat ≡ before → IsKnownWhole (known_by_service seat) → PassesOn id passed before table pass seat
-  passes_start pass seat attends passes table_is passed_is before_is known =
+      → known_by_pass pass ≡ passed → known_by_service seat ≡ before → desk_by_service seat ≡ desk → IsKnownWhole (known_by_service seat) → PassesOn id passed before desk table pass seat
+  passes_start pass seat attends passes table_is passed_is before_is desk_is known =
       let view = known_by_service seat in
       record {
         attends = attends;
         passes = passes;
         same_table = table_is;
+        desk_is = ap (λ (d : Desk). with_stage d Away) desk_is;
         knows = subst (λ (v : ServiceView). KnowsReads v view) before_is (record { rest = []; events = sym (append-nil view.events); known = λ _. known });
         since = inl (record { same = passed_is; goes = subst (λ (v : ServiceView). GoesOn v view) before_is (goes_same view) });
       }
 
   -- the service's view goes on, and no read is noted
-  pub passes_further : (pass : ReadPass) (seat after : ServiceSeat) → PassesOn id passed before table pass seat → Attends table after
-      → GoesOn (known_by_service seat) (known_by_service after) → PassesOn id passed before table pass after
-  passes_further pass seat after on attends goes =
+  pub passes_further : (pass : ReadPass) (seat after : ServiceSeat) → PassesOn id passed before desk table pass seat → Attends table after
+      → desk_by_service after ≡ desk_by_service seat → GoesOn (known_by_service seat) (known_by_service after) → PassesOn id passed before desk table pass after
+  passes_further pass seat after on attends kept goes =
       let view = known_by_service seat in let next = known_by_service after in let known = known_by_pass pass in
       let none : NoneRead passed before known view → NoneRead passed before known next = λ n. record { same = n.same; goes = goes_further before view next n.goes goes } in
       let some : SomeRead passed before known view → SomeRead passed before known next = λ s. record {
@@ -59,16 +61,18 @@ module _ (id : TableId) (passed before : ServiceView) (table : HostTable) where
         attends = attends;
         passes = on.passes;
         same_table = on.same_table;
+        desk_is = ap (λ (d : Desk). with_stage d Away) kept ∙ on.desk_is;
         knows = knows_further before view next on.knows goes;
         since = elim on.since [ inl n ↦ inl (none n) | inr s ↦ inr (some s) ];
       }
 
   -- a read is noted with the pass
-  pub passes_read : (pass behind : ReadPass) (seat after : ServiceSeat) (note : Noted) → IsReadNote note → PassesOn id passed before table pass seat
-      → Passes table behind → Attends table after → GoesOn (known_by_pass pass) (known_by_service seat)
+  pub passes_read : (pass behind : ReadPass) (seat after : ServiceSeat) (note : Noted) → IsReadNote note → PassesOn id passed before desk table pass seat
+      → Passes table behind → Attends table after → desk_by_service after ≡ with_stage (desk_by_service seat) Away
+      → GoesOn (known_by_pass pass) (known_by_service seat)
       → known_by_service after ≡ notes (known_by_service seat) note → known_by_pass behind ≡ known_by_service after
-      → PassesOn id passed before table behind after
-  passes_read pass behind seat after note read on passes attends goes noted known =
+      → PassesOn id passed before desk table behind after
+  passes_read pass behind seat after note read on passes attends kept goes noted known =
       let view = known_by_service seat in let next = known_by_service after in
       let knows = knows_read before view note read on.knows in
       let goes_on = subst (λ (v : ServiceView). GoesOn v next) (sym known) (goes_same next) in
@@ -100,6 +104,7 @@ module _ (id : TableId) (passed before : ServiceView) (table : HostTable) where
         attends = attends;
         passes = passes;
         same_table = on.same_table;
+        desk_is = ap (λ (d : Desk). with_stage d Away) kept ∙ on.desk_is;
         knows = subst (λ (v : ServiceView). KnowsReads before v) (sym noted) knows;
         since = inr (elim on.since [ inl n ↦ none n | inr s ↦ some s ]);
       }

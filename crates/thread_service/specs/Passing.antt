@@ -7,8 +7,9 @@ use Rattle.chunk_words.specs.declared.host.HostTable.{HostTable}
 use Rattle.chunk_words.specs.declared.seats.ServiceSeat.{ServiceSeat}
 use Rattle.chunk_words.specs.declared.seats.ReadPass.{ReadPass}
 use Rattle.chunk_words.specs.GoesOn.{GoesOn, IsFront, IsReadNote}
+use Rattle.chunk_words.specs.Knows.{Desk, Away, with_stage}
 use Rattle.chunk_words.specs.Named.{identity_of}
-use Rattle.chunk_words.specs.Sits.{Attends, Passes, known_by_service, known_by_pass}
+use Rattle.chunk_words.specs.Sits.{Attends, Passes, known_by_service, known_by_pass, desk_by_service}
 use Rattle.service_core.specs.Agreement.{AreKnownNotes}
 
 -- The view has these notes more than the earlier one; where they are all reads, each of its notes is known.
@@ -32,10 +33,13 @@ pub record SomeRead (passed before pass view : ServiceView) : Type 0 where
   pub knows : KnowsReads before pass
   pub goes : GoesOn pass view
 
--- The seats are those of the table with this identity, and this became of the views since.
-pub record PassesOn (id : TableId) (passed before : ServiceView) (table : HostTable) (pass : ReadPass) (seat : ServiceSeat) : Type 0 where
+-- The seats are those of the table with this identity, and this became of the views since. What the service's seat has of the other seats
+-- is as it was, but for where the reading pass is.
+pub record PassesOn (id : TableId) (passed before : ServiceView) (desk : Desk) (table : HostTable) (pass : ReadPass)
+    (seat : ServiceSeat) : Type 0 where
   pub attends : Attends table seat
   pub passes : Passes table pass
   pub same_table : identity_of table ≡ id
+  pub desk_is : with_stage (desk_by_service seat) Away ≡ with_stage desk Away
   pub knows : KnowsReads before (known_by_service seat)
   pub since : NoneRead passed before (known_by_pass pass) (known_by_service seat) ⊎ SomeRead passed before (known_by_pass pass) (known_by_service seat)

@@ -13,21 +13,25 @@ use commit_body::Patch;
 use page_geometry::ChunkHeader;
 use std::marker::{Brand, PhantomData};
 
-/// What a read of a buffer starts from, known in proofs alone: which table it is, and what the pass
-/// and the service know.
+/// What a read of a buffer starts from, known in proofs alone: which table it is, what the pass and
+/// the service know, and what the service's seat has of the other seats.
 pub trait Start {
     ghost use Rattle.atomic_table.specs.Seated.{TableId};
     ghost use Rattle.chunk_plain.specs.Views.{ServiceView};
+    ghost use Rattle.chunk_words.specs.Knows.{Desk};
 
     ghost table: { TableId };
 
     ghost passed: { ServiceView };
 
     ghost view: { ServiceView };
+
+    ghost desk: { Desk };
 }
 
 impl Start for Brand {
     ghost use Rattle.chunk_plain.specs.Views.{newcomer_service};
+    ghost use Rattle.chunk_words.specs.Knows.{first_desk};
     ghost use Rattle.chunk_words.specs.Named.{no_table};
 
     ghost table = { no_table };
@@ -35,6 +39,8 @@ impl Start for Brand {
     ghost passed = { newcomer_service };
 
     ghost view = { newcomer_service };
+
+    ghost desk = { first_desk };
 }
 
 /// A table that threads share, with the reading pass.
@@ -69,7 +75,7 @@ impl<'t, N: Start> Words for Passing<'t, N> {
       sits = λ passing seat. Sits passing.table.now seat;
       place = λ seat. seat.place;
       view = λ _ seat. known_by seat;
-      serves = λ passing seat. PassesOn N.table N.passed N.view passing.table.now passing.pass seat;
+      serves = λ passing seat. PassesOn N.table N.passed N.view N.desk passing.table.now passing.pass seat;
       service_view = λ _ seat. known_by_service seat;
       told = λ _. None;
       takes_reads = λ _ _. Unit {0};

@@ -3,12 +3,13 @@ ghost use Rattle.std.specs.Prelude.{◌≡◌, List, ◌++◌, IfOk, OnErr, OnOk
 ghost use Rattle.byte_io.specs.Bytes.{CountsFaults, after_told};
 ghost use Rattle.trace_model.specs.Delivery.{Delivered, trace_of};
 ghost use Rattle.trace_model.specs.History as model;
+ghost use Rattle.chunk_words.specs.Knows.{Away, with_stage};
 ghost use Rattle.chunk_words.specs.Named.{identity_of};
 ghost use Rattle.chunk_words.specs.Sits.{Passes, setup_in, known_by_pass};
 ghost use Rattle.service_core.specs.Agreement.{KeepsRest};
 ghost use Rattle.service_core.specs.Reading.{NotesReads, ReadsAll, FailsAmong};
 ghost use Rattle.thread_service.specs.Reading.{IsKnownWhole, PassReads, records_of};
-ghost use Rattle.thread_service.specs.Serving.{core_of, view_in, Serves};
+ghost use Rattle.thread_service.specs.Serving.{core_of, view_in, desk_in, Serves};
 
 use crate::passing::{Passing, Start};
 use crate::service::Service;
@@ -20,7 +21,8 @@ use std::marker::{Brand, PhantomData};
 impl Service {
     /// Reads the sequences of a buffer in rising id, each with what is left of the limit, 0 included,
     /// and notes each read with the reading pass. Answers how many packets were delivered. A write
-    /// that fails ends the read before the packet whose record was being written.
+    /// that fails ends the read before the packet whose record was being written. What the seat has of
+    /// the other seats stays, but for where the pass is.
     pub fn read_passing<O: Sink>(
         &mut self,
         table: &HostTable,
@@ -35,6 +37,7 @@ impl Service {
         ensures serves { Serves table.now self.new }
         ensures pass { Passes table.now pass.new }
         ensures known { IsKnownWhole (known_by_pass pass.new) }
+        ensures desk { with_stage (desk_in self.new) Away ≡ with_stage (desk_in self.old) Away }
         ensures keeps { KeepsRest (setup_in table.now) (core_of self.old) (core_of self.new) }
         ensures reads { IfOk result (λ delivered. ReadsAll (setup_in table.now) (core_of self.old) buffer limit
             (view_in self.old) (view_in self.new) (O.taken out.old) (O.taken out.new) delivered) }
@@ -60,12 +63,14 @@ impl Service {
         requires table { identity_of table.now ≡ N.table }
         requires passed { known_by_pass pass.old ≡ N.passed }
         requires view { view_in self.old ≡ N.view }
+        requires desk { desk_in self.old ≡ N.desk }
         requires serves { Serves table.now self.old }
         requires pass { Passes table.now pass.old }
         requires known { IsKnownWhole (known_by_pass pass.old) }
         ensures serves { Serves table.now self.new }
         ensures pass { Passes table.now pass.new }
         ensures known { IsKnownWhole (known_by_pass pass.new) }
+        ensures desk { with_stage (desk_in self.new) Away ≡ with_stage N.desk Away }
         ensures keeps { KeepsRest (setup_in table.now) (core_of self.old) (core_of self.new) }
         ensures reads { IfOk result (λ delivered. ReadsAll (setup_in table.now) (core_of self.old) buffer limit
             (view_in self.old) (view_in self.new) (O.taken out.old) (O.taken out.new) delivered) }

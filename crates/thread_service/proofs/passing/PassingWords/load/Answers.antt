@@ -7,7 +7,7 @@ use Rattle.thread_service.proofs.passing.PassingWords.load.Goals as goal
 pub returns-clause-step : goal.returns-clause-step
 returns-clause-step g c = record {
   setup_stays = refl;
-  seat_stays = passes_further g.N.Start.table g.N.Start.passed g.N.Start.view c.args.self.now.table.now c.args.self.now.pass c.args.seat.now c.load.new.seat c.requires.seat c.load.ensures.seat
+  seat_stays = passes_further g.N.Start.table g.N.Start.passed g.N.Start.view g.N.Start.desk c.args.self.now.table.now c.args.self.now.pass c.args.seat.now c.load.new.seat c.requires.seat c.load.ensures.seat c.load.ensures.desk
       (goes_nowhere (known_by_service c.args.seat.now) (known_by_service c.load.new.seat) c.load.ensures.view);
   writers_stay = λ other there. (there, refl);
   reads_stay = λ takes. takes;

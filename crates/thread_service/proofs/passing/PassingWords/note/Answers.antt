@@ -16,9 +16,9 @@ returns-then-is_read-clause-step g c =
     let did = c.note_read.ensures in
     record {
       setup_stays = refl;
-      seat_stays = passes_read g.N.Start.table g.N.Start.passed g.N.Start.view c.args.self.now.table.now c.args.self.now.pass
+      seat_stays = passes_read g.N.Start.table g.N.Start.passed g.N.Start.view g.N.Start.desk c.args.self.now.table.now c.args.self.now.pass
           c.note_read.new.pass c.args.seat.now c.note_read.new.seat (event_of c.args.event)
-          (event_read c.args.event (c.is_read.ensures.yes c.if-is_read.true)) c.requires.seat did.pass did.seat did.goes_on did.view did.known;
+          (event_read c.args.event (c.is_read.ensures.yes c.if-is_read.true)) c.requires.seat did.pass did.seat did.desk did.goes_on did.view did.known;
       writers_stay = λ other there. (there, refl);
       reads_stay = λ takes. takes;
     }
@@ -26,7 +26,7 @@ returns-then-is_read-clause-step g c =
 pub returns-clause-step : goal.returns-clause-step
 returns-clause-step g c = record {
   setup_stays = refl;
-  seat_stays = passes_further g.N.Start.table g.N.Start.passed g.N.Start.view c.args.self.now.table.now c.args.self.now.pass c.args.seat.now c.note.new.seat c.requires.seat c.note.ensures.seat
+  seat_stays = passes_further g.N.Start.table g.N.Start.passed g.N.Start.view g.N.Start.desk c.args.self.now.table.now c.args.self.now.pass c.args.seat.now c.note.new.seat c.requires.seat c.note.ensures.seat c.note.ensures.desk
       (goes_noting c.args.event (known_by_service c.args.seat.now) (known_by_service c.note.new.seat) (c.is_read.ensures.no c.if-is_read.false) c.note.ensures.view);
   writers_stay = λ other there. (there, refl);
   reads_stay = λ takes. takes;

@@ -7,7 +7,7 @@ use Rattle.thread_service.proofs.passing.PassingWords.release.Goals as goal
 pub returns-clause-step : goal.returns-clause-step
 returns-clause-step g c = record {
   setup_stays = refl;
-  seat_stays = passes_further g.N.Start.table g.N.Start.passed g.N.Start.view c.args.self.now.table.now c.args.self.now.pass c.args.seat.now c.release.new.seat c.requires.seat c.release.ensures.seat
+  seat_stays = passes_further g.N.Start.table g.N.Start.passed g.N.Start.view g.N.Start.desk c.args.self.now.table.now c.args.self.now.pass c.args.seat.now c.release.new.seat c.requires.seat c.release.ensures.seat c.release.ensures.desk
       (goes_releasing c.args.taken.chunk (known_by_service c.args.seat.now) (known_by_service c.release.new.seat) c.release.ensures.view);
   writers_stay = λ other there. (there, refl);
   reads_stay = λ takes. takes;

@@ -7,8 +7,9 @@ use Rattle.thread_service.proofs.service.Service.read_at.Goals as goal
 
 pub read_buffer-read-requires-clause-serves : goal.read_buffer-read-requires-clause-serves
 read_buffer-read-requires-clause-serves g c =
-    passes_start g.N.Start.table g.N.Start.passed g.N.Start.view c.args.table.now c.hand_on.result c.args.self.now.core.seat
-    c.requires.serves.attends c.hand_on.ensures.pass c.requires.table (c.hand_on.ensures.known ∙ c.requires.passed) c.requires.view c.requires.serves.agrees.known
+    passes_start g.N.Start.table g.N.Start.passed g.N.Start.view g.N.Start.desk c.args.table.now c.hand_on.result c.args.self.now.core.seat
+    c.requires.serves.attends c.hand_on.ensures.pass c.requires.table (c.hand_on.ensures.known ∙ c.requires.passed) c.requires.view c.requires.desk
+    c.requires.serves.agrees.known
 
 pub returns-clause-serves : goal.returns-clause-serves
 returns-clause-serves g c =
@@ -22,6 +23,9 @@ pub returns-clause-pass : goal.returns-clause-pass
 returns-clause-pass g c =
     let on = c.read_buffer-read.ensures.step.seat_stays in
     passes_back c.args.table.now c.read_buffer-read.new.table.table.now c.read_buffer-read.new.table.pass (on.same_table ∙ sym c.requires.table) on.passes
+
+pub returns-clause-desk : goal.returns-clause-desk
+returns-clause-desk g c = c.read_buffer-read.ensures.step.seat_stays.desk_is
 
 pub returns-clause-known : goal.returns-clause-known
 returns-clause-known g c =
