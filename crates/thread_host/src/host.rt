@@ -1,6 +1,7 @@
 //! What runs a scenario on threads.
-ghost use Rattle.std.specs.Prelude.{◌≡◌, [], IfSome, IfOk, OnErr, OnOk};
+ghost use Rattle.std.specs.Prelude.{◌≡◌, [], IfSome, IsSomeAnd, IfOk, OnErr, OnOk};
 ghost use Rattle.byte_io.specs.Bytes.{CountsFaults};
+ghost use Rattle.chunk_plain.specs.Plain.{first_world};
 ghost use Rattle.chunk_words.specs.Sits.{setup_in, known_by_pass};
 ghost use Rattle.scenario_text.specs.Scenario.{IsScenario, parts_of};
 ghost use Rattle.replay_model.specs.Played.{buffers_of};
@@ -40,12 +41,15 @@ pub struct Host {
 }
 
 impl Host {
-    /// What runs the scenario, with its writers, of which nothing was asked. All memory that a run ever
-    /// needs is taken here; what it takes more only lets it find each writer's lines sooner.
+    /// What runs the scenario, whose service knows nothing yet, with its writers, of which nothing was
+    /// asked. All memory that a run ever needs is taken here; what it takes more only lets it find each
+    /// writer's lines sooner.
     pub fn make(alloc: Global, scenario: &Scenario) -> Result<(Host, Vec<TraceWriter>), AllocError>
         requires scenario { IsScenario scenario.now }
         requires closes { ClosesNone scenario.now.lines }
         ensures host { IfOk result (λ made. IsHost (parts_of scenario.now) made.0) }
+        ensures fresh { IfOk result (λ made. IsSomeAnd made.0.service (λ service.
+            view_in service ≡ (first_world (setup_in made.0.table)).service)) }
         ensures writers { IfOk result (λ made. AreReady scenario.now.lines made.0.table made.1.items) }
         ensures unread { IfOk result (λ made. (known_by_pass made.0.pass).events ≡ []) }
     {

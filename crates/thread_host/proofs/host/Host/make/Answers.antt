@@ -177,6 +177,7 @@ returns c =
             let asked = c.len-2.ensures in let long = scenario.writers.ok.0 in omega (arith, made, asked, long);
         flushes = c.in_ok-counts.ensures.flushes;
       };
+      fresh = seen;
       writers = are_ready scenario c.requires.scenario c.requires.closes table c.fill_writers.new.writers.items laid
           (c.fill_writers.ensures.many ∙ ap length (c.deref-8.ensures.value ∙ kept)) c.fill_writers.ensures.made;
       unread = sym (ap (λ (v : ServiceView). v.events) known);
