@@ -1,8 +1,8 @@
--- Every run is faithful.
-use Rattle.std.proofs.Common.{◌≡◌, ◌∙◌, ℕ, zero, suc, ◌+◌, ◌<◌, ◌≤◌, All, List, [], ◌∷◌, ◌++◌, length, Some, refl, sym, ap, subst, arith}
+-- Every run is faithful, whole or up to a write that failed.
+use Rattle.std.proofs.Common.{◌≡◌, ◌∙◌, ℕ, zero, suc, ◌+◌, ◌<◌, ◌≤◌, inl, inr, Bool, true, false, All, List, [], ◌∷◌, ◌++◌, length, Some, refl, sym, ap, subst, arith}
 use Rattle.std.specs.Prelude.{slice_get}
 use Rattle.trace_base.specs.declared.policy.WriterSpec.{WriterSpec}
-use Rattle.trace_model.specs.Delivery.{Delivered, records_of}
+use Rattle.trace_model.specs.Delivery.{Delivered, IsFaithful, records_of}
 use Rattle.trace_model.specs.Images.{Image}
 use Rattle.trace_model.specs.Packets.{emissions_of}
 use Rattle.trace_model.specs.Tells.{Tells}
@@ -27,9 +27,9 @@ use Rattle.replay_model.specs.Played.{buffer_specs, buffers_of, records_in}
 use Rattle.replay_model.proofs.CompleteLemmas.{emitted_at}
 use Rattle.replay_model.proofs.OwnedLemmas.{named, learnt, finds, in_order}
 use Rattle.replay_model.proofs.PlayedLemmas.{setup_writers}
-use Rattle.run_model.specs.Laws.{EveryRunIsFaithful}
-use Rattle.run_model.specs.Settled.{IsRun}
-use Rattle.run_model.proofs.RunLemmas.{there, within, shape}
+use Rattle.run_model.specs.Laws.{EveryRunIsFaithful, EveryStoppedRunIsFaithful}
+use Rattle.run_model.specs.Stopped.{HasDoneAll}
+use Rattle.run_model.proofs.RunLemmas.{done_of, there, within, shape}
 
 -- ---- what the lines have each writer emit
 
@@ -54,7 +54,7 @@ held_never (Completed other content ∷ begun) none (suc id) chunk draft at = he
 
 -- ---- the law
 
-module _ (scenario : Parts) (setup : Setup) (world : World) (run : IsRun scenario setup world) where
+module _ (scenario : Parts) (setup : Setup) (world : World) (closed : Bool) (run : HasDoneAll scenario setup world closed) where
   known : All (λ (d : Delivered). (2 ≤ d.sequence) × (d.sequence < length (emitted_in scenario) + 2)) (records_in scenario setup world)
   known =
       let writers = ap (λ (specs : List WriterSpec). length specs) (setup_writers scenario setup run.setup_is) in
@@ -94,12 +94,20 @@ module _ (scenario : Parts) (setup : Setup) (world : World) (run : IsRun scenari
       → Tells packets (place + 2) (records_of (place + 2) (records_in scenario setup world))
   told place packets get =
       let one = emitted_at scenario.lines 1 scenario.writers place packets get in
-      let inside = within scenario setup world run place one.spec one.get in
+      let inside = within scenario setup world closed run place one.spec one.get in
       let at : suc place ≡ 1 + place = omega arith in
       let same : emissions_of (writer world place).calls ≡ packets =
-      (shape scenario setup world run place inside).emitted ∙ ap (λ (n : ℕ). emissions_of (calls_asked n scenario.lines)) at ∙ sym one.is in
+      (shape scenario setup world closed run place inside).emitted ∙ ap (λ (n : ℕ). emissions_of (calls_asked n scenario.lines)) at ∙ sym one.is in
       subst (λ (ps : List (List ℕ)). Tells ps (place + 2) (records_of (place + 2) (records_in scenario setup world))) same
-      (tells place inside one.spec (there scenario setup world run place one.spec one.get))
+      (tells place inside one.spec (there scenario setup world closed run place one.spec one.get))
+
+faithful : (scenario : Parts) (setup : Setup) (world : World) (closed : Bool) → HasDoneAll scenario setup world closed
+    → IsFaithful (emitted_in scenario) (records_in scenario setup world)
+faithful scenario setup world closed run = record { known = known scenario setup world closed run; told = told scenario setup world closed run }
 
 pub every_run_is_faithful : EveryRunIsFaithful
-every_run_is_faithful scenario setup world run = record { known = known scenario setup world run; told = told scenario setup world run }
+every_run_is_faithful scenario setup world run = faithful scenario setup world true (done_of scenario setup world run)
+
+pub every_stopped_run_is_faithful : EveryStoppedRunIsFaithful
+every_stopped_run_is_faithful scenario setup world next (inl lines) = faithful scenario setup world false lines.done
+every_stopped_run_is_faithful scenario setup world next (inr ends) = faithful scenario setup world true ends.done

@@ -1,5 +1,5 @@
 -- What a run's writers wrote and its service noted: an account of each sequence.
-use Rattle.std.proofs.Common.{◌≡◌, ◌∙◌, ℕ, suc, ◌+◌, ◌<◌, false, List, [], length, Some, refl, sym, ap, subst, arith}
+use Rattle.std.proofs.Common.{◌≡◌, ◌∙◌, ℕ, suc, ◌+◌, ◌<◌, false, List, [], length, Some, refl, sym, ap, subst, arith, Bool, true}
 use Rattle.std.specs.Prelude.{slice_get}
 use Rattle.std.proofs.lemmas.Option.{slice_get_within}
 use Rattle.std.proofs.lemmas.Slice.Zip.{AllZip-long}
@@ -31,6 +31,7 @@ use Rattle.replay_model.proofs.PlayedLemmas.{setup_writers}
 use Rattle.replay_model.proofs.SpecLemmas.{some_page, few_pages}
 use Rattle.schedule_laws.proofs.BetweenLemmas.{has_written}
 use Rattle.run_model.specs.Settled.{IsRun}
+use Rattle.run_model.specs.Stopped.{HasDoneAll}
 
 -- ---- the set-up
 
@@ -45,7 +46,18 @@ laid_out scenario setup is set_up =
 
 -- ---- one writer
 
-module _ (scenario : Parts) (setup : Setup) (world : World) (run : IsRun scenario setup world) where
+-- a run whole is one whose writers have done all
+pub done_of : (scenario : Parts) (setup : Setup) (world : World) → IsRun scenario setup world → HasDoneAll scenario setup world true
+done_of scenario setup world run = record {
+  setup_is = run.setup_is;
+  many = run.many;
+  owned = run.owned;
+  writers = run.writers;
+  taken = run.taken;
+  order = run.order;
+}
+
+module _ (scenario : Parts) (setup : Setup) (world : World) (closed : Bool) (run : HasDoneAll scenario setup world closed) where
   pub there : (place : ℕ) (spec : WriterSpec) → slice_get scenario.writers place ≡ Some spec → slice_get setup.writers place ≡ Some spec
   there place spec get = ap (λ (specs : List WriterSpec). slice_get specs place) (setup_writers scenario setup run.setup_is) ∙ get
 
@@ -56,6 +68,7 @@ module _ (scenario : Parts) (setup : Setup) (world : World) (run : IsRun scenari
   pub shape : (place : ℕ) → place < length setup.writers → HasShapeOf (calls_asked (suc place) scenario.lines) (writer world place).calls
   shape place inside = losses_change_no_shape (calls_asked (suc place) scenario.lines) (writer world place).calls (run.writers place inside).lose
 
+module _ (scenario : Parts) (setup : Setup) (world : World) (run : IsRun scenario setup world) where
   module _ (laid : IsLaid setup) (place : ℕ) (inside : place < length setup.writers) where
     pub wrote : HasWritten setup place (writer world place)
     wrote = has_written setup place (writer world place) laid (run.writers place inside).between
@@ -85,7 +98,7 @@ run_done scenario setup world run laid = record {
   setup_is = run.setup_is;
   many = run.many;
   owned = run.owned;
-  shape = shape scenario setup world run;
+  shape = shape scenario setup world true (done_of scenario setup world run);
   drops = drops_lose scenario setup world run;
   claims = λ place inside. (run.writers place inside).between.agrees.claims;
   wrote = wrote scenario setup world run laid;

@@ -2,7 +2,7 @@
 use Rattle.std.specs.Prelude.{◌≡◌, ℕ, ◌≤◌, length, Some, slice_get}
 use Rattle.trace_model.specs.Balance.{PacketCounts}
 use Rattle.trace_model.specs.Counts.{last_count}
-use Rattle.trace_model.specs.Delivery.{IsFaithful, IsComplete}
+use Rattle.trace_model.specs.Delivery.{Delivered, IsFaithful, IsComplete}
 use Rattle.chunk_plain.specs.Setup.{Setup}
 use Rattle.chunk_plain.specs.World.{World}
 use Rattle.scenario_text.specs.Scenario.{Parts}
@@ -11,10 +11,16 @@ use Rattle.scenario_text.specs.Emissions.{emitted_in}
 use Rattle.replay_model.specs.Enough.{HasEnough, IsPlayable}
 use Rattle.replay_model.specs.Played.{records_in, packet_counts, AreBalanced, CountsPackets}
 use Rattle.run_model.specs.Settled.{IsRun}
+use Rattle.run_model.specs.Stopped.{StopsBefore}
 
 -- The records of a run are faithful to the packets that the lines have writers emit, whatever is lost on the way.
 abbrev pub EveryRunIsFaithful : Type 0
 EveryRunIsFaithful = (scenario : Parts) (setup : Setup) (world : World) → IsRun scenario setup world
+    → IsFaithful (emitted_in scenario) (records_in scenario setup world)
+
+-- So are those of a run up to a write that failed.
+abbrev pub EveryStoppedRunIsFaithful : Type 0
+EveryStoppedRunIsFaithful = (scenario : Parts) (setup : Setup) (world : World) (next : Delivered) → StopsBefore scenario setup world next
     → IsFaithful (emitted_in scenario) (records_in scenario setup world)
 
 -- The report counts every packet once, where no more lines are there than a count can tell and the set-up is within its

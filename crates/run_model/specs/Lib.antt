@@ -2,5 +2,6 @@ pub mod Noted
 pub mod Reads
 pub mod Vain
 pub mod Settled
+pub mod Stopped
 pub mod Runs
 pub mod Laws

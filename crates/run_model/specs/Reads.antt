@@ -1,8 +1,9 @@
 -- Which reads a scenario's lines have the service do, whenever it does them.
-use Rattle.std.specs.Prelude.{List, [], ◌∷◌, ◌++◌}
+use Rattle.std.specs.Prelude.{◌≡◌, ℕ, List, [], ◌∷◌, ◌++◌, length}
 use Rattle.trace_model.specs.Buffers.{Buffer}
+use Rattle.trace_model.specs.Delivery.{Delivered}
 use Rattle.trace_model.specs.History as model
-use Rattle.trace_model.specs.History.{buffers_after}
+use Rattle.trace_model.specs.History.{buffers_after, records_at}
 use Rattle.chunk_plain.specs.Setup.{Setup}
 use Rattle.scenario_text.specs.declared.scenario.LineKind.{LineKind}
 use Rattle.scenario_text.specs.declared.scenario.LineKind.TheVariants.{Read}
@@ -22,3 +23,30 @@ abbrev pub GoesByReads : Setup → (first : List Buffer) → List NumberedLine �
 GoesByReads setup first [] old new = GoesUnread old new
 GoesByReads setup first (line ∷ lines) old new =
     (here : List model.Event) × GoesUnread old here × GoesByReads setup first lines (here ++ reads_by setup (buffers_after first here) line.what) new
+
+-- ---- where they end before their end
+
+-- The reads of a line, which begin behind this history, ended before a record: those in front of one were done, then that one up to the packets whose
+-- records come before, and no further one. The record is the next that was due.
+pub record ReadsUpTo (setup : Setup) (first : List Buffer) (line : LineKind) (here new : List model.Event) (next : Delivered) : Type 0 where
+  pub firsts : List model.Event
+  pub sequence : ℕ
+  pub left : ℕ
+  pub count : ℕ
+  pub others : List model.Event
+  pub cut : reads_by setup (buffers_after first here) line ≡ firsts ++ model.Read sequence left ∷ others
+  pub history : new ≡ here ++ (firsts ++ model.Read sequence count ∷ [])
+  pub later : List Delivered
+  pub due : records_at (buffers_after first (here ++ firsts)) (model.Read sequence left)
+      ≡ records_at (buffers_after first (here ++ firsts)) (model.Read sequence count) ++ next ∷ later
+  pub many : length (records_at (buffers_after first (here ++ firsts)) (model.Read sequence count)) ≡ count
+
+-- The history went on by the reads of the first of these lines, in their order, and then by those of the next one up to this record. No other read came.
+pub record GoesUpTo (setup : Setup) (first : List Buffer) (lines : List NumberedLine) (old new : List model.Event) (next : Delivered) : Type 0 where
+  pub done : List NumberedLine
+  pub line : NumberedLine
+  pub later : List NumberedLine
+  pub all : lines ≡ done ++ line ∷ later
+  pub here : List model.Event
+  pub reads : GoesByReads setup first done old here
+  pub ends : ReadsUpTo setup first line.what here new next

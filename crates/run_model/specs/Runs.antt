@@ -1,8 +1,8 @@
 -- The run of a scenario on threads, end to end: the account that its threads led to, and the trace and the report that are functions of it.
 use Rattle.std.specs.Prelude.{◌≡◌, ℕ, List, [], Some, slice_get}
-use Rattle.byte_io.specs.Bytes.{Intake, after_told}
+use Rattle.byte_io.specs.Bytes.{Intake, after_told, TakesPart}
 use Rattle.trace_model.specs.Balance.{PacketCounts}
-use Rattle.trace_model.specs.Delivery.{IsFaithful, IsComplete, trace_of}
+use Rattle.trace_model.specs.Delivery.{Delivered, IsFaithful, IsComplete, trace_of}
 use Rattle.chunk_plain.specs.Setup.{Setup}
 use Rattle.chunk_plain.specs.World.{World}
 use Rattle.scenario_text.specs.Scenario.{Parts}
@@ -10,6 +10,7 @@ use Rattle.scenario_text.specs.Emissions.{emitted_in}
 use Rattle.replay_model.specs.Enough.{HasEnough}
 use Rattle.replay_model.specs.Played.{records_in, packet_counts, report_of, AreBalanced, CountsPackets}
 use Rattle.run_model.specs.Settled.{IsRun}
+use Rattle.run_model.specs.Stopped.{StopsBefore}
 
 -- The scenario was run: there is a world that its threads led to. The trace has taken that world's records and nothing else, and the text is its
 -- report, without a flush request. The records are faithful to what the scenario has its writers emit, and the report counts every packet once, under
@@ -25,3 +26,14 @@ pub record Runs (scenario : Parts) (old new : Intake) (text : List ℕ) : Type 0
   pub counted : (place : ℕ) (counts : PacketCounts) → slice_get (packet_counts scenario setup world) place ≡ Some counts
       → CountsPackets scenario setup world place counts
   pub complete : HasEnough scenario → IsComplete (emitted_in scenario) (records_in scenario setup world)
+
+-- A write failed, in the reads of the scenario's lines or in those of the end. There is a world that its threads led to, whose reads end before the
+-- record that was next. The trace has taken that world's records whole, then at most a front part of that record, and nothing else. The world's records
+-- are faithful to what the scenario has its writers emit.
+pub record FailsRun (scenario : Parts) (old new : Intake) : Type 0 where
+  pub setup : Setup
+  pub world : World
+  pub next : Delivered
+  pub run : StopsBefore scenario setup world next
+  pub trace : TakesPart (after_told old (trace_of (records_in scenario setup world))) new next.bytes
+  pub faithful : IsFaithful (emitted_in scenario) (records_in scenario setup world)

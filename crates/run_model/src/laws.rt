@@ -1,9 +1,14 @@
 //! The laws: contracts of functions with nothing to do.
-ghost use Rattle.run_model.specs.Laws.{EveryRunIsFaithful, EveryRunIsBalanced, EveryRunCountsPackets, EveryEnoughRunIsComplete};
+ghost use Rattle.run_model.specs.Laws.{EveryRunIsFaithful, EveryStoppedRunIsFaithful, EveryRunIsBalanced, EveryRunCountsPackets, EveryEnoughRunIsComplete};
 
 /// The records of a run are faithful to the packets that the lines have writers emit.
 pub fn every_run_is_faithful()
     ensures { EveryRunIsFaithful }
+{}
+
+/// The records of a run up to a write that failed are faithful to them too.
+pub fn every_stopped_run_is_faithful()
+    ensures { EveryStoppedRunIsFaithful }
 {}
 
 /// The report of a run counts every packet once.

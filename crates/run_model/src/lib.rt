@@ -1,13 +1,13 @@
 //! The run of a scenario on threads, as definitions and laws alone: what its writers and its service did,
 //! in whatever order the threads came, and what comes of it.
 //! A layer above may rely on this: where all is settled, the records are faithful to what the lines have
-//! the writers emit, the report counts every packet once, and where chunks and bytes are enough none is
-//! missing.
+//! the writers emit, also up to a write that failed, the report counts every packet once, and where chunks
+//! and bytes are enough none is missing.
 #![tactic(auto)]
 
 mod laws;
 
 pub use laws::{
     every_enough_run_is_complete, every_run_counts_packets, every_run_is_balanced,
-    every_run_is_faithful,
+    every_run_is_faithful, every_stopped_run_is_faithful,
 };
