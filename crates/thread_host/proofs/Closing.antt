@@ -3,10 +3,11 @@ use Rattle.std.proofs.Common.{◌≡◌, ◌∙◌, ℕ, zero, suc, ◌-◌, ◌
 use Rattle.std.specs.List.{All, flat_map}
 use Rattle.std.proofs.lemmas.List.{append_cancel_right}
 use Rattle.std.proofs.lemmas.List.Concat.{flat_map-append}
-use Rattle.std.proofs.lemmas.List.Elements.{All-nil, All-cons, All-append, All-head}
+use Rattle.std.proofs.lemmas.List.Elements.{All-nil, All-cons, All-append, All-head, All-tail}
 use Rattle.byte_io.specs.Bytes.{Intake}
 use Rattle.trace_model.specs.Buffers.{Buffer}
 use Rattle.trace_model.specs.Counts.{last_count}
+use Rattle.trace_model.specs.Delivery.{Delivered}
 use Rattle.trace_model.specs.History as model
 use Rattle.trace_model.specs.History.{buffers_after, reads_of}
 use Rattle.chunk_plain.specs.Histories.{history_of}
@@ -21,6 +22,7 @@ use Rattle.service_core.proofs.QuietLemmas.{places_below, long_still}
 use Rattle.service_core.proofs.RoomLemmas.{takes_grow}
 use Rattle.service_core.proofs.AnswerLemmas.{takes_own}
 use Rattle.run_model.specs.Settled.{ClosesTo, ReadsTo}
+use Rattle.run_model.specs.Stopped.{ReadsSomeTo}
 use Rattle.thread_service.specs.Reading.{GoesUnread, PassReads}
 use Rattle.thread_host.specs.Finishing.{ReadsOut}
 use Rattle.thread_host.specs.Jobs.{TellsReads}
@@ -96,6 +98,28 @@ reads_noted setup first (suc number) reads old new is =
     (All-append IsNotedRead is.1 here (reads_noted setup first number is.1 old is.0 is.2)
     (all_noted (sequences_to (suc number) 0 setup.writers) last_count (buffer_at (buffers_after first (history_of is.0)) (suc number - 1))))
 
+all_before : (reads others : List model.Event) → All IsNotedRead (reads ++ others) → All IsNotedRead reads
+all_before [] others all = All-nil IsNotedRead
+all_before (event ∷ reads) others all = All-cons IsNotedRead event reads (All-head IsNotedRead event (reads ++ others) all)
+    (all_before reads others (All-tail IsNotedRead event (reads ++ others) all))
+
+-- those that went as far as a record too
+pub some_noted : (setup : Setup) (first : List Buffer) (number : ℕ) (old new : ServiceView) (next : Delivered) (some : ReadsSomeTo setup first number old new next)
+    → All IsNotedRead (some.earlier ++ (some.ends.firsts ++ model.Read some.ends.sequence some.ends.count ∷ []))
+some_noted setup first number old new next some =
+    let ends = some.ends in
+    let here = buffers_after first (history_of some.between) in
+    let whole : All IsNotedRead (ends.firsts ++ model.Read ends.sequence ends.left ∷ ends.others) =
+    subst (λ (es : List model.Event). All IsNotedRead es) ends.cut
+    (all_noted (sequences_to (suc some.read) 0 setup.writers) last_count (buffer_at here (suc some.read - 1))) in
+    All-append IsNotedRead some.earlier (ends.firsts ++ model.Read ends.sequence ends.count ∷ [])
+    (reads_noted setup first some.read some.earlier old some.between some.reads)
+    (All-append IsNotedRead ends.firsts (model.Read ends.sequence ends.count ∷ [])
+    (all_before ends.firsts (model.Read ends.sequence ends.left ∷ ends.others) whole)
+    (All-cons IsNotedRead (model.Read ends.sequence ends.count) []
+    (λ none. let long = ap (λ (notes : List Noted). length notes) none in absurd (omega (arith, long)))
+    (All-nil IsNotedRead)))
+
 abbrev tail_of : List model.Event → List model.Event
 tail_of [] = []
 tail_of (event ∷ events) = events
@@ -131,6 +155,20 @@ unread_front (event ∷ one) behind (next ∷ other) reads same all noted =
       goes = ap (λ (e : model.Event). e ∷ other) (sym (ap (head_or event) same)) ∙ ap (λ (es : List model.Event). event ∷ es) rest.goes;
       unread = rest.unread;
     }
+
+-- nothing was read between what the pass knew and these reads of the service, where the pass knows nothing more than them
+pub none_between : (passed pass old new : ServiceView) (since last : List model.Event) → history_of new ≡ history_of old ++ last
+    → history_of pass ≡ history_of passed ++ since → flat_map noted_read since ≡ flat_map noted_read last → All IsNotedRead last
+    → GoesUnread (history_of pass) (history_of new) → GoesUnread (history_of passed) (history_of old)
+none_between passed pass old new since last history goes noted all behind =
+    unread_front (history_of passed) (since ++ behind.others) (history_of old) last
+    (sym (append_assoc (history_of passed) since behind.others)
+    ∙ ap (λ (es : List model.Event). es ++ behind.others) (sym goes)
+    ∙ sym behind.goes ∙ history)
+    all
+    (flat_map-append noted_read since behind.others
+    ∙ ap (λ (notes : List Noted). flat_map noted_read since ++ notes) behind.unread
+    ∙ append-nil (flat_map noted_read since) ∙ noted)
 
 -- none is read yet
 pub out_none : (setup : Setup) (first : List Buffer) (view pass : ServiceView) (taken : Intake) → ReadsOut setup first zero view view pass pass taken taken

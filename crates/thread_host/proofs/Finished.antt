@@ -1,34 +1,27 @@
 -- Once all is closed, read and taken apart, what the seats knew is a run of the scenario, and what was counted is its report.
-use Rattle.std.proofs.Common.{◌≡◌, ◌∙◌, ℕ, ◌<◌, ◌≤◌, Bool, true, List, [], ◌++◌, length, map, refl, sym, ap, subst, append_assoc, append-nil, arith}
+use Rattle.std.proofs.Common.{◌≡◌, ◌∙◌, ℕ, ◌<◌, ◌≤◌, true, List, [], ◌++◌, length, map, refl, ap, subst, arith}
 use Rattle.std.specs.Prelude.{slice_index_or}
-use Rattle.std.specs.List.{flat_map}
-use Rattle.std.proofs.lemmas.List.{length-map}
-use Rattle.std.proofs.lemmas.List.Concat.{flat_map-append}
 use Rattle.byte_io.specs.Bytes.{Intake}
 use Rattle.trace_buffer.specs.Answers as answers
 use Rattle.trace_model.specs.Buffers.{Buffer}
-use Rattle.trace_model.specs.History as model
-use Rattle.trace_model.specs.History.{buffers_after, records_after}
+use Rattle.trace_model.specs.History.{records_after}
 use Rattle.chunk_plain.specs.Histories.{history_of}
-use Rattle.chunk_plain.specs.Setup.{Setup, producer_of, sequence_of}
-use Rattle.chunk_plain.specs.Views.{Noted, ServiceView, Taken, WriterView, none_taken, taken_of}
-use Rattle.chunk_plain.specs.World.{World, writer}
+use Rattle.chunk_plain.specs.Setup.{Setup}
+use Rattle.chunk_plain.specs.Views.{ServiceView, Taken, none_taken, taken_of}
+use Rattle.chunk_plain.specs.World.{World}
 use Rattle.chunk_words.specs.declared.seats.ReadPass.{ReadPass}
 use Rattle.chunk_words.specs.Closed.{HasAllSeats, IsAccount, AllTaken, views_of}
 use Rattle.chunk_words.specs.GoesOn.{GoesOn}
-use Rattle.chunk_words.specs.Sits.{setup_in, known_by, known_by_pass}
+use Rattle.chunk_words.specs.Sits.{setup_in, known_by_pass}
 use Rattle.loss_report.specs.declared.counts.Done.{Done}
 use Rattle.loss_report.specs.Report.{report_text}
 use Rattle.scenario_text.specs.Scenario.{Parts}
-use Rattle.service_core.specs.Agreement.{KeepsRest, first_of, is_closed}
-use Rattle.service_core.specs.Order.{LeadTo, beginning}
-use Rattle.service_core.specs.Reading.{noted_read}
+use Rattle.service_core.specs.Agreement.{KeepsRest, first_of}
 use Rattle.service_core.proofs.AgreeLemmas.{first_stays}
 use Rattle.service_core.proofs.QuietLemmas.{adds_quiet}
 use Rattle.replay_model.specs.Played.{buffers_of, records_in}
-use Rattle.replay_host.proofs.TakenLemmas.{open_is, none_committed}
 use Rattle.run_model.specs.Reads.{GoesByReads}
-use Rattle.run_model.specs.Settled.{HasDoneLines, IsRun, ClosesTo}
+use Rattle.run_model.specs.Settled.{IsRun, ClosesTo}
 use Rattle.thread_service.specs.declared.service.Service.{Service}
 use Rattle.thread_service.specs.Reading.{GoesUnread, IsKnownWhole}
 use Rattle.thread_service.specs.Serving.{core_of, view_in, Serves}
@@ -39,8 +32,8 @@ use Rattle.thread_host.specs.Ending.{no_counts}
 use Rattle.thread_host.specs.Finishing.{AreClosedTo, HasFinished, ReadsOut}
 use Rattle.thread_host.specs.Hosts.{IsSettled}
 use Rattle.thread_host.specs.declared.settled.Settled.{Settled}
-use Rattle.thread_host.proofs.Closing.{closes_own, closes_rise, reads_noted, reads_own, reads_taken, unread_front}
-use Rattle.thread_host.proofs.Seating.{HasSeatAt, get_of, seat_at}
+use Rattle.thread_host.proofs.Closing.{closes_own, closes_rise, none_between, reads_noted, reads_own, reads_taken}
+use Rattle.thread_host.proofs.DoneAll.{all_seats, closed_here, done_all, opened_here, whole_here}
 use Rattle.thread_host.proofs.Tallying.{report_is}
 use Rattle.thread_host.proofs.Telling.{reads_further}
 
@@ -92,101 +85,42 @@ module _ (scenario : Parts) (settled : Settled) (is : IsSettled scenario settled
 
   -- each seat has nothing left to do
   pub has_all_seats : HasAllSeats settled.table (view_in final) settled.seats.items
-  has_all_seats = record {
-    count = is.many;
-    each = λ place seat at.
-        let there = get_of settled.seats.items place seat at in
-        let done = is.done place seat there in
-        let taken = is.taken place seat there in
-        let rise = rises place in (
-          done.place_is,
-          done.sits,
-          record {
-            claimed = done.done.between.agrees.claims.unclaimed;
-            held = done.done.none_held;
-            taken = omega (arith, taken, rise);
-          },
-        );
-  }
+  has_all_seats = all_seats scenario settled is final serves rises own
 
   -- ---- once all is taken apart
 
   module _ (account : IsAccount (views_of settled.seats.items) (view_in final)) (taken : AllTaken (view_in final) (views_of settled.seats.items))
       (goes : GoesOn (known_by_pass pass) (view_in final)) (known : IsKnownWhole (known_by_pass pass)) where
-    seat_here : (place : ℕ) → place < length (setup_in settled.table).writers → HasSeatAt settled.seats.items place
-    seat_here place inside = let many = is.many in seat_at settled.seats.items place (omega (arith, inside, many))
-
-    done_here : (place : ℕ) → place < length (setup_in settled.table).writers
-        → HasDoneLines (setup_in settled.table) scenario.lines place (writer (record { chunks = []; writers = views_of settled.seats.items; service = view_in final }) place)
-    done_here place inside =
-        let here = seat_here place inside in
-        subst (λ (v : WriterView). HasDoneLines setup scenario.lines place v) (sym here.view) (is.done place here.seat here.there).done
-
-    taken_here : (place : ℕ) → place < length (setup_in settled.table).writers
-        → (taken_of (view_in final) place).count ≡ length (writer (record { chunks = []; writers = views_of settled.seats.items; service = view_in final }) place).begun
-    taken_here place inside =
-        let here = seat_here place inside in
-        subst (λ (v : WriterView). (taken_of view place).count ≡ length v.begun) (sym here.view) (taken place (known_by here.seat) here.at)
-
-    closed_here : (place : ℕ) → place < length (setup_in settled.table).writers → is_closed (setup_in settled.table) (core_of final) place ≡ true
-    closed_here place inside =
-        let most = (is.served.serves.agrees.routed.producers place inside).most in
-        let many = is.producers in
-        keeps.closed place inside ∙ all_closed place inside (omega (arith, most, many))
-
-    order_here : (place : ℕ) → place < length (setup_in settled.table).writers
-        → LeadTo (view_in final) (sequence_of place) beginning (view_in final).events
-        (record { come = (taken_of (view_in final) place).count; closed = true; due = [] })
-    order_here place inside =
-        subst (λ (b : Bool). LeadTo view (sequence_of place) beginning view.events (record { come = (taken_of view place).count; closed = b; due = [] }))
-        (closed_here place inside) (serves.agrees.order place inside (none_committed view (sequence_of place) own))
-
-    whole_here : (place : ℕ) → place < length (setup_in settled.table).writers
-        → (taken_of (view_in settled.service) place).count
-        ≡ length (writer (record { chunks = []; writers = views_of settled.seats.items; service = view_in final }) place).begun
-    whole_here place inside =
-        let here = seat_here place inside in
-        let least = is.taken place here.seat here.there in
-        let rise = rises place in
-        let all = taken place (known_by here.seat) here.at in
-        let same : (taken_of (view_in settled.service) place).count ≡ length (known_by here.seat).begun = omega (arith, least, rise, all) in
-        subst (λ (v : WriterView). (taken_of (view_in settled.service) place).count ≡ length v.begun) (sym here.view) same
-
     -- nothing was read behind the lines, before the end
     none_read : GoesUnread (history_of (known_by_pass settled.pass)) (history_of (view_in closed))
     none_read =
         let told = reads_out.tells in
-        let behind = goes_unread (known_by_pass pass) view known goes in
-        unread_front (history_of (known_by_pass settled.pass)) (told.since ++ behind.others) (history_of (view_in closed)) reads_out.last
-        (sym (append_assoc (history_of (known_by_pass settled.pass)) told.since behind.others)
-        ∙ ap (λ (es : List model.Event). es ++ behind.others) (sym told.history)
-        ∙ sym behind.goes ∙ reads_out.history)
+        none_between (known_by_pass settled.pass) (known_by_pass pass) (view_in closed) view told.since reads_out.last reads_out.history told.history told.reads
         (reads_noted setup (buffers_of scenario setup) (length scenario.buffers) reads_out.last (view_in closed) view reads_out.reads)
-        (flat_map-append noted_read told.since behind.others
-        ∙ ap (λ (notes : List Noted). flat_map noted_read told.since ++ notes) behind.unread
-        ∙ append-nil (flat_map noted_read told.since) ∙ told.reads)
+        (goes_unread (known_by_pass pass) view known goes)
 
     -- the scenario was run
     pub run_is : GoesByReads (setup_in settled.table) (buffers_of scenario (setup_in settled.table)) scenario.lines [] (history_of (known_by_pass settled.pass))
         → IsRun scenario (setup_in settled.table) (record { chunks = []; writers = views_of settled.seats.items; service = view_in final })
-    run_is asked = record {
-      setup_is = is.laid;
-      many = length-map settled.seats.items known_by ∙ is.many;
-      owned = account;
-      writers = done_here;
-      taken = taken_here;
-      order = order_here;
-      settled = view_in settled.service;
-      closed = view_in closed;
-      whole = whole_here;
-      opened = λ place inside. open_is setup (view_in settled.service) (core_of settled.service) (producer_of setup place) is.served.serves.agrees is.served.own
-          (λ other below same. is.served.opened other below) place inside refl;
-      closes = subst (λ (n : ℕ). ClosesTo setup n (view_in settled.service) (view_in closed)) is.producers closes;
-      asked = reads_further setup (buffers_of scenario setup) scenario.lines [] (history_of (known_by_pass settled.pass)) (history_of (view_in closed)) asked
-          none_read;
-      last = reads_out.last;
-      reads = reads_out.reads;
-    }
+    run_is asked =
+        let done = done_all scenario settled is final serves rises own account taken true (closed_here scenario settled closed final is all_closed keeps) in
+        record {
+          setup_is = done.setup_is;
+          many = done.many;
+          owned = done.owned;
+          writers = done.writers;
+          taken = done.taken;
+          order = done.order;
+          settled = view_in settled.service;
+          closed = view_in closed;
+          whole = whole_here scenario settled is final serves rises own account taken;
+          opened = opened_here scenario settled is;
+          closes = subst (λ (n : ℕ). ClosesTo setup n (view_in settled.service) (view_in closed)) is.producers closes;
+          asked = reads_further setup (buffers_of scenario setup) scenario.lines [] (history_of (known_by_pass settled.pass)) (history_of (view_in closed)) asked
+              none_read;
+          last = reads_out.last;
+          reads = reads_out.reads;
+        }
 
     -- and its records are those that the pass knew, and then those that the sink took
     pub records_are : records_in scenario (setup_in settled.table) (record { chunks = []; writers = views_of settled.seats.items; service = view_in final })

@@ -9,7 +9,9 @@ pub mod Going
 pub mod PlayedLines
 pub mod PlayedWriters
 pub mod Closing
+pub mod DoneAll
 pub mod Finished
+pub mod Stopped
 pub mod Tallying
 pub mod Failing
 pub mod WholeLemmas

@@ -2,13 +2,13 @@
 use Rattle.std.proofs.Common.{◌≡◌, ◌⊎◌, inl, inr, ℕ, ◌-◌, Result, Ok, Err, IfOk, OnErr, List, [], ◌∷◌, ◌++◌, length, refl, sym, ap, ◌∙◌, subst, append_assoc, append-nil, length-append, arith}
 use Rattle.std.specs.List.{flat_map}
 use Rattle.std.proofs.lemmas.List.Concat.{flat_map-append}
-use Rattle.byte_io.specs.Bytes.{Intake, told, untold, after_told}
+use Rattle.byte_io.specs.Bytes.{Intake, told, untold, after_told, TakesPart}
 use Rattle.byte_io.specs.declared.put.WriteFault.{WriteFault}
 use Rattle.byte_io.proofs.Told.{after_told_again, after_told_nothing}
 use Rattle.trace_model.specs.Buffers.{Buffer}
 use Rattle.trace_model.specs.Delivery.{Delivered, trace_of}
 use Rattle.trace_model.specs.History as model
-use Rattle.trace_model.specs.History.{buffers_after, records_after, reads_of}
+use Rattle.trace_model.specs.History.{buffers_after, records_at, records_after, reads_of}
 use Rattle.chunk_plain.specs.Histories.{history_of}
 use Rattle.chunk_plain.specs.Setup.{Setup}
 use Rattle.chunk_plain.specs.Views.{Noted, ServiceView}
@@ -17,14 +17,14 @@ use Rattle.scenario_text.specs.declared.scenario.LineKind.TheVariants.{Packet, B
 use Rattle.scenario_text.specs.declared.scenario.NumberedLine.{NumberedLine}
 use Rattle.service_core.specs.declared.service.ServiceCore.{ServiceCore}
 use Rattle.service_core.specs.Agreement.{first_of}
-use Rattle.service_core.specs.Reading.{FailsAmong, FailsIn, NotesReads, ReadsAll, noted_read, reads_in, sequences_to}
+use Rattle.service_core.specs.Reading.{FailsAmong, NotesReads, ReadsAll, noted_read, reads_in, sequences_to}
 use Rattle.service_core.specs.Routing.{buffer_at}
 use Rattle.service_core.proofs.ReadingLemmas.{records_append, trace_append}
 use Rattle.service_core.proofs.RouteLemmas.{buffers_append}
 use Rattle.thread_service.specs.Reading.{GoesUnread, PassReads}
 use Rattle.thread_service.proofs.GoingOn.{unread_both}
-use Rattle.run_model.specs.Reads.{reads_by, GoesByReads}
-use Rattle.thread_host.specs.Jobs.{loans_of, KeepsLoans, FailsAt, FailsLine, FailsLines, TellsMore, TellsReads, TellsLine, TellsLines}
+use Rattle.run_model.specs.Reads.{reads_by, GoesByReads, ReadsUpTo}
+use Rattle.thread_host.specs.Jobs.{loans_of, KeepsLoans, FailsLine, FailsLines, TellsMore, TellsReads, TellsLine, TellsLines, TellsUpTo}
 
 -- ---- histories that go on
 
@@ -44,22 +44,6 @@ pub reads_further : (setup : Setup) (first : List Buffer) (lines : List Numbered
 reads_further setup first [] old mid new none goes = unread_further old mid new none goes
 reads_further setup first (next ∷ lines) old mid new some goes =
     (some.0, some.1, reads_further setup first lines (some.0 ++ reads_by setup (buffers_after first some.0) next.what) mid new some.2 goes)
-
--- in front of the reads of some lines
-unread_before : (setup : Setup) (first : List Buffer) (lines : List NumberedLine) (old mid new : List model.Event) → GoesUnread old mid
-    → GoesByReads setup first lines mid new → GoesByReads setup first lines old new
-unread_before setup first [] old mid new goes none = unread_further old mid new goes none
-unread_before setup first (line ∷ lines) old mid new goes some = (some.0, unread_further old mid some.0 goes some.1, some.2)
-
--- those of some lines, and then those of others
-pub reads_append : (setup : Setup) (first : List Buffer) (lines others : List NumberedLine) (old mid new : List model.Event)
-    → GoesByReads setup first lines old mid → GoesByReads setup first others mid new → GoesByReads setup first (lines ++ others) old new
-reads_append setup first [] others old mid new none some = unread_before setup first others old mid new none some
-reads_append setup first (line ∷ lines) others old mid new one some = (
-  one.0,
-  one.1,
-  reads_append setup first lines others (one.0 ++ reads_by setup (buffers_after first one.0) line.what) mid new one.2 some,
-)
 
 -- those of one line more
 reads_behind : (setup : Setup) (first : List Buffer) (lines : List NumberedLine) (line : NumberedLine) (old mid here new : List model.Event)
@@ -209,7 +193,7 @@ unread_records buffers (model.Read q limit ∷ events) none =
     let long = ap (λ (notes : List Noted). length notes) none in absurd (omega (arith, long))
 
 -- a history that goes on without a read writes no further record
-same_records : (first : List Buffer) (old new : List model.Event) → GoesUnread old new → records_after first new ≡ records_after first old
+pub same_records : (first : List Buffer) (old new : List model.Event) → GoesUnread old new → records_after first new ≡ records_after first old
 same_records first old new goes =
     ap (records_after first) goes.goes
     ∙ records_append first old goes.others
@@ -222,39 +206,83 @@ some_read firsts event none =
     let both = length-append firsts (event ∷ []) in
     omega (arith, long, both)
 
+-- the reads went as far as the record whose write failed, behind any history that leads to what the buffers held
+unfoldable pub reads_up_to : {S : Type 0} (setup : Setup) (core : ServiceCore S) (number shown limit : ℕ) (old new : ServiceView) (before after : Intake)
+    (fails : FailsAmong setup core number limit old new before after) (first : List Buffer) (here stopped : List model.Event) → number ≡ shown
+    → core.buffers.items ≡ buffers_after first here → stopped ≡ here ++ (fails.firsts ++ model.Read fails.sequence fails.count ∷ [])
+    → ReadsUpTo setup first (Read shown limit) here stopped fails.fails.failed
+reads_up_to setup core number shown limit old new before after fails first here stopped same held is =
+    let buffers : buffers_after core.buffers.items fails.firsts ≡ buffers_after first (here ++ fails.firsts) =
+    ap (λ (bs : List Buffer). buffers_after bs fails.firsts) held ∙ sym (buffers_append first here fails.firsts) in
+    record {
+      firsts = fails.firsts;
+      sequence = fails.sequence;
+      left = fails.left;
+      count = fails.count;
+      others = fails.others;
+      cut = ap (λ (n : ℕ). reads_in setup (buffers_after first here) n limit) (sym same)
+          ∙ ap (λ (bs : List Buffer). reads_in setup bs number limit) (sym held) ∙ fails.cut;
+      history = is;
+      later = fails.fails.later;
+      due = subst (λ (bs : List Buffer). records_at bs (model.Read fails.sequence fails.left)
+          ≡ records_at bs (model.Read fails.sequence fails.count) ++ fails.fails.failed ∷ fails.fails.later) buffers fails.fails.due;
+      many = subst (λ (bs : List Buffer). length (records_at bs (model.Read fails.sequence fails.count)) ≡ fails.count) buffers fails.fails.many;
+    }
+
 module _ {S : Type 0} (setup : Setup) (core : ServiceCore S) (number limit : ℕ) (old new passed pass : ServiceView) (before after : Intake)
     (fails : FailsAmong setup core number limit old new before after)
     (passes : (events : List model.Event) → NotesReads setup core events old new → PassReads setup core events passed pass) where
-  some_known : PassReads setup core (fails.firsts ++ model.Read fails.sequence fails.count ∷ []) passed pass
+  pub some_known : PassReads setup core (fails.firsts ++ model.Read fails.sequence fails.count ∷ []) passed pass
   some_known = passes (fails.firsts ++ model.Read fails.sequence fails.count ∷ []) fails.notes
 
   held : core.buffers.items ≡ buffers_after (first_of setup core) some_known.before
   held = elim some_known.buffers [ inl none ↦ absurd (some_read fails.firsts (model.Read fails.sequence fails.count) none) | inr is ↦ is ]
 
+  pub taken_up_to : TellsUpTo (first_of setup core) passed pass fails.fails.failed before after
+  taken_up_to =
+      let items = core.buffers.items in
+      let event = model.Read fails.sequence fails.count in
+      let wrote = records_after items fails.firsts in
+      let whole = records_at (buffers_after items fails.firsts) event in
+      let more : wrote ++ whole ≡ records_after items (fails.firsts ++ event ∷ []) =
+      ap (λ (ds : List Delivered). wrote ++ ds) (sym (append-nil whole)) ∙ sym (records_append items fails.firsts (event ∷ [])) in
+      record {
+        more = records_after items (fails.firsts ++ event ∷ []);
+        records = some_known.records;
+        part = subst (λ (intake : Intake). TakesPart intake after fails.fails.failed.bytes)
+            (after_told_again before (trace_of wrote) (trace_of whole)
+            ∙ ap (after_told before) (sym (trace_append wrote whole))
+            ∙ ap (λ (ds : List Delivered). after_told before (trace_of ds)) more)
+            fails.fails.part;
+      }
+
+  -- what the pass knows more are the reads that were done
+  abbrev pub since : List model.Event
+  since = some_known.goes.others ++ (fails.firsts ++ model.Read fails.sequence fails.count ∷ [])
+
+  pub since_goes : history_of pass ≡ history_of passed ++ (some_known.goes.others ++ (fails.firsts ++ model.Read fails.sequence fails.count ∷ []))
+  since_goes =
+      let events = fails.firsts ++ model.Read fails.sequence fails.count ∷ [] in
+      some_known.history
+      ∙ ap (λ (es : List model.Event). es ++ events) some_known.goes.goes ∙ append_assoc (history_of passed) some_known.goes.others events
+
+  pub since_noted : flat_map noted_read (some_known.goes.others ++ (fails.firsts ++ model.Read fails.sequence fails.count ∷ []))
+      ≡ flat_map noted_read (fails.firsts ++ model.Read fails.sequence fails.count ∷ [])
+  since_noted =
+      let events = fails.firsts ++ model.Read fails.sequence fails.count ∷ [] in
+      flat_map-append noted_read some_known.goes.others events
+      ∙ ap (λ (notes : List Noted). notes ++ flat_map noted_read events) some_known.goes.unread
+
   pub line_read_fails : (first : List Buffer) → first_of setup core ≡ first
       → FailsLine setup first (Read number limit) passed pass before after
   line_read_fails first same =
-      let from = first_of setup core in
-      let here = some_known.before in
-      let wrote = records_after core.buffers.items fails.firsts in
       subst (λ (bs : List Buffer). FailsLine setup bs (Read number limit) passed pass before after) same (record {
-        here = here;
+        next = fails.fails.failed;
+        here = some_known.before;
         goes = some_known.goes;
-        fails = record {
-          firsts = fails.firsts;
-          sequence = fails.sequence;
-          left = fails.left;
-          count = fails.count;
-          others = fails.others;
-          cut = ap (λ (bs : List Buffer). reads_in setup bs number limit) (sym held) ∙ fails.cut;
-          history = some_known.history;
-          more = wrote;
-          records = records_append from here fails.firsts
-              ∙ ap (λ (bs : List Buffer). records_after from here ++ records_after bs fails.firsts) (sym held)
-              ∙ ap (λ (ds : List Delivered). ds ++ wrote) (same_records from (history_of passed) here some_known.goes);
-          fails = subst (λ (bs : List Buffer). FailsIn bs fails.sequence fails.left fails.count (after_told before (trace_of wrote)) after)
-              (ap (λ (bs : List Buffer). buffers_after bs fails.firsts) held ∙ sym (buffers_append from here fails.firsts)) fails.fails;
-        };
+        reads = reads_up_to setup core number number limit old new before after fails (first_of setup core) some_known.before (history_of pass) refl held
+            some_known.history;
+        tells = taken_up_to;
       })
 
 -- behind the lock
@@ -267,24 +295,16 @@ locked_fails setup core number limit old new passed pass before after first same
     line_read_fails setup core number limit old new passed pass before after fails passes first same
 
 -- behind records that the sink had taken
-pub fails_at_behind : (setup : Setup) (first : List Buffer) (line : LineKind) (here : List model.Event) (old mid new : ServiceView)
-    (before between after : Intake) → TellsMore first old mid before between → FailsAt setup first line here (history_of mid) (history_of new) between after
-    → FailsAt setup first line here (history_of old) (history_of new) before after
-fails_at_behind setup first line here old mid new before between after was at = record {
-  firsts = at.firsts;
-  sequence = at.sequence;
-  left = at.left;
-  count = at.count;
-  others = at.others;
-  cut = at.cut;
-  history = at.history;
+pub up_to_behind : (first : List Buffer) (old mid new : ServiceView) (next : Delivered) (before between after : Intake)
+    → TellsMore first old mid before between → TellsUpTo first mid new next between after → TellsUpTo first old new next before after
+up_to_behind first old mid new next before between after was at = record {
   more = was.more ++ at.more;
   records = at.records ∙ ap (λ (ds : List Delivered). ds ++ at.more) was.records ∙ append_assoc (records_after first (history_of old)) was.more at.more;
-  fails = subst (λ (intake : Intake). FailsIn (buffers_after first (here ++ at.firsts)) at.sequence at.left at.count intake after)
+  part = subst (λ (intake : Intake). TakesPart intake after next.bytes)
       (ap (λ (intake : Intake). after_told intake (trace_of at.more)) was.taken
       ∙ after_told_again before (trace_of was.more) (trace_of at.more)
       ∙ ap (after_told before) (sym (trace_append was.more at.more)))
-      at.fails;
+      at.part;
 }
 
 -- behind lines that were done
@@ -292,13 +312,17 @@ pub fails_behind : (setup : Setup) (first : List Buffer) (done : List NumberedLi
     (before between after : Intake) → TellsLines setup first done old mid before between
     → FailsLine setup first line.what mid new between after → FailsLines setup first (done ++ line ∷ later) old new before after
 fails_behind setup first done line later old mid new before between after tells one = record {
-  done = done;
-  line = line;
-  later = later;
-  all = refl;
-  here = one.here;
-  reads = reads_further setup first done (history_of old) (history_of mid) one.here tells.reads one.goes;
-  fails = fails_at_behind setup first line.what one.here old mid new before between after tells.tells one.fails;
+  next = one.next;
+  reads = record {
+    done = done;
+    line = line;
+    later = later;
+    all = refl;
+    here = one.here;
+    reads = reads_further setup first done (history_of old) (history_of mid) one.here tells.reads one.goes;
+    ends = one.reads;
+  };
+  tells = up_to_behind first old mid new one.next before between after tells.tells one.tells;
 }
 
 -- ---- a line that is no read tells nothing

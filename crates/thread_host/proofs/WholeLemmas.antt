@@ -1,26 +1,31 @@
--- What the jobs told, and what was read and counted behind them, is a run of the scenario.
-use Rattle.std.proofs.Common.{◌≡◌, ◌∙◌, List, [], ◌++◌, sym, ap, subst}
+-- What the jobs told, and what was read and counted behind them, is a run of the scenario, whole or up to a write that failed.
+use Rattle.std.proofs.Common.{◌≡◌, ◌∙◌, inl, inr, List, [], ◌++◌, sym, ap, subst}
 use Rattle.std.specs.List.{flat_map}
-use Rattle.byte_io.specs.Bytes.{Intake, after_told}
+use Rattle.byte_io.specs.Bytes.{Intake, after_told, TakesPart}
 use Rattle.byte_io.proofs.Told.{after_told_again}
+use Rattle.trace_model.specs.Buffers.{Buffer}
 use Rattle.trace_model.specs.Delivery.{Delivered, trace_of}
 use Rattle.trace_model.specs.History as model
 use Rattle.trace_model.specs.History.{records_after}
+use Rattle.chunk_plain.specs.Setup.{Setup}
 use Rattle.chunk_plain.specs.Views.{Noted, ServiceView}
 use Rattle.chunk_plain.specs.Histories.{history_of, happened}
 use Rattle.chunk_words.specs.Sits.{setup_in, known_by_pass}
 use Rattle.loss_report.specs.declared.counts.Done.{Done}
 use Rattle.scenario_text.specs.declared.scenario.Scenario.{Scenario}
-use Rattle.scenario_text.specs.Scenario.{IsScenario, parts_of}
+use Rattle.scenario_text.specs.Scenario.{IsScenario, Parts, parts_of}
 use Rattle.service_core.proofs.ReadingLemmas.{trace_append}
 use Rattle.replay_model.specs.Played.{buffers_of, records_in}
 use Rattle.replay_host.proofs.ReplayingLemmas.{is_playable}
-use Rattle.run_model.specs.Laws.{EveryRunIsFaithful, EveryRunIsBalanced, EveryRunCountsPackets, EveryEnoughRunIsComplete}
-use Rattle.run_model.specs.Reads.{GoesByReads}
+use Rattle.run_model.specs.Laws.{EveryRunIsFaithful, EveryStoppedRunIsFaithful, EveryRunIsBalanced, EveryRunCountsPackets, EveryEnoughRunIsComplete}
+use Rattle.run_model.specs.Reads.{GoesByReads, GoesUpTo}
+use Rattle.run_model.specs.Runs.{FailsRun}
 use Rattle.run_model.specs.Settled.{IsRun}
-use Rattle.thread_host.specs.Finishing.{HasFinished, HasRun}
-use Rattle.thread_host.specs.Jobs.{TellsLines}
+use Rattle.run_model.specs.Stopped.{StopsInEnd, StopsInLines}
+use Rattle.thread_host.specs.Finishing.{HasFailed, HasFinished, HasLetGo, HasRun}
+use Rattle.thread_host.specs.Jobs.{FailsLines, TellsLines}
 use Rattle.thread_host.specs.declared.settled.Settled.{Settled}
+use Rattle.thread_host.proofs.Telling.{same_records}
 
 module _ (faithful : EveryRunIsFaithful) (balanced : EveryRunIsBalanced) (counted : EveryRunCountsPackets) (complete : EveryEnoughRunIsComplete) where
   pub has_run : (scenario : Scenario) (settled : Settled) (first : ServiceView) (before between after : Intake) (done : Done) → IsScenario scenario
@@ -57,4 +62,71 @@ module _ (faithful : EveryRunIsFaithful) (balanced : EveryRunIsBalanced) (counte
         balanced = balanced (parts_of scenario) setup world run playable.few playable.set_up;
         counted = counted (parts_of scenario) setup world run playable.few playable.set_up;
         complete = complete (parts_of scenario) setup world run playable;
+      }
+
+-- ---- up to a write that failed
+
+module _ (faithful : EveryStoppedRunIsFaithful) (scenario : Parts) (settled : Settled) (first : ServiceView) (none : first.events ≡ []) where
+  abbrev setup : Setup
+  setup = setup_in settled.table
+
+  abbrev known : ServiceView
+  known = known_by_pass settled.pass
+
+  abbrev buffers : List Buffer
+  buffers = buffers_of scenario (setup_in settled.table)
+
+  unread : history_of first ≡ []
+  unread = ap (λ (notes : List Noted). flat_map (happened first) notes) none
+
+  -- in the reads of the lines
+  pub lines_fail : (before after : Intake)
+      → FailsLines (setup_in settled.table) (buffers_of scenario (setup_in settled.table)) scenario.lines first (known_by_pass settled.pass) before after
+      → HasLetGo scenario settled → FailsRun scenario before after
+  lines_fail before after fails left =
+      let world = left.world in
+      let run : StopsInLines scenario setup world fails.next = record {
+        done = left.done;
+        stopped = history_of known;
+        reads = subst (λ (history : List model.Event). GoesUpTo setup buffers scenario.lines history (history_of known) fails.next) unread fails.reads;
+        goes = left.goes;
+      } in
+      let records : records_in scenario setup world ≡ fails.tells.more =
+      same_records buffers (history_of known) (history_of world.service) left.goes
+      ∙ fails.tells.records
+      ∙ ap (λ (history : List model.Event). records_after buffers history ++ fails.tells.more) unread in
+      record {
+        setup = setup;
+        world = world;
+        next = fails.next;
+        run = inl run;
+        trace = subst (λ (ds : List Delivered). TakesPart (after_told before (trace_of ds)) after fails.next.bytes) (sym records) fails.tells.part;
+        faithful = faithful scenario setup world fails.next (inl run);
+      }
+
+  -- or in those of the end
+  pub end_fails : (before between after : Intake)
+      → TellsLines (setup_in settled.table) (buffers_of scenario (setup_in settled.table)) scenario.lines first (known_by_pass settled.pass) before between
+      → HasFailed scenario settled between after → FailsRun scenario before after
+  end_fails before between after tells failed =
+      let world = failed.world in
+      let run : StopsInEnd scenario setup world failed.next = failed.run
+      (subst (λ (history : List model.Event). GoesByReads setup buffers scenario.lines history (history_of known)) unread tells.reads) in
+      let one = tells.tells.more in
+      let records : records_in scenario setup world ≡ one ++ failed.more =
+      failed.records
+      ∙ ap (λ (ds : List Delivered). ds ++ failed.more)
+      (tells.tells.records ∙ ap (λ (history : List model.Event). records_after buffers history ++ one) unread) in
+      record {
+        setup = setup;
+        world = world;
+        next = failed.next;
+        run = inr run;
+        trace = subst (λ (intake : Intake). TakesPart intake after failed.next.bytes)
+            (ap (λ (intake : Intake). after_told intake (trace_of failed.more)) tells.tells.taken
+            ∙ after_told_again before (trace_of one) (trace_of failed.more)
+            ∙ ap (after_told before) (sym (trace_append one failed.more))
+            ∙ ap (λ (ds : List Delivered). after_told before (trace_of ds)) (sym records))
+            failed.part;
+        faithful = faithful scenario setup world failed.next (inr run);
       }

@@ -1,32 +1,33 @@
 -- The end of a run, behind which all is read and counted.
-use Rattle.std.specs.Prelude.{◌≡◌, ℕ, zero, suc, ◌<◌, ◌≤◌, true, List, [], ◌∷◌, ◌++◌, length, Result, Ok, Err}
-use Rattle.byte_io.specs.Bytes.{Intake, after_told}
+use Rattle.std.specs.Prelude.{◌≡◌, ℕ, ◌<◌, ◌≤◌, true, false, List, [], ◌∷◌, ◌++◌, length, Result, Ok, Err}
+use Rattle.std.specs.List.{flat_map}
+use Rattle.byte_io.specs.Bytes.{Intake, after_told, TakesPart}
 use Rattle.trace_model.specs.Buffers.{Buffer}
-use Rattle.trace_model.specs.Counts.{last_count}
 use Rattle.trace_model.specs.Delivery.{Delivered, trace_of}
 use Rattle.trace_model.specs.History as model
 use Rattle.trace_model.specs.History.{records_after}
 use Rattle.chunk_plain.specs.Histories.{history_of}
 use Rattle.chunk_plain.specs.Setup.{Setup, producer_of}
-use Rattle.chunk_plain.specs.Views.{ServiceView, newcomer_service}
+use Rattle.chunk_plain.specs.Views.{ServiceView}
 use Rattle.chunk_plain.specs.World.{World}
 use Rattle.chunk_words.specs.Closed.{IsAccount, views_of}
 use Rattle.chunk_words.specs.Sits.{setup_in, known_by_pass}
 use Rattle.loss_report.specs.declared.counts.Done.{Done}
 use Rattle.loss_report.specs.Report.{report_text}
-use Rattle.scenario_text.specs.declared.scenario.LineKind.TheVariants as line
-use Rattle.scenario_text.specs.declared.scenario.NumberedLine.{NumberedLine}
 use Rattle.scenario_text.specs.Scenario.{Parts}
 use Rattle.service_core.specs.Agreement.{is_closed}
+use Rattle.service_core.specs.Reading.{noted_read}
 use Rattle.replay_host.specs.declared.fault.HostFault.{HostFault}
 use Rattle.replay_host.specs.declared.fault.HostFault.TheVariants.{OutOfMemory, WriteFault, Stalled}
-use Rattle.replay_model.specs.Played.{IsSetupOf, buffers_of, records_in, packet_counts, report_of, AreBalanced}
+use Rattle.replay_model.specs.Played.{buffers_of, records_in, packet_counts, report_of, AreBalanced}
 use Rattle.run_model.specs.Reads.{GoesByReads}
-use Rattle.run_model.specs.Runs.{Runs}
+use Rattle.run_model.specs.Runs.{FailsRun, Runs}
 use Rattle.run_model.specs.Settled.{IsRun, ClosesTo, ReadsTo}
+use Rattle.run_model.specs.Stopped.{HasDoneAll, ReadsSomeTo, StopsInEnd}
+use Rattle.thread_service.specs.Reading.{GoesUnread}
 use Rattle.thread_service.specs.declared.service.Service.{Service}
 use Rattle.thread_service.specs.Serving.{core_of, view_in}
-use Rattle.thread_host.specs.Jobs.{FailsLines, TellsReads}
+use Rattle.thread_host.specs.Jobs.{TellsReads, TellsUpTo}
 use Rattle.thread_host.specs.declared.settled.Settled.{Settled}
 
 -- the sequences of the writers of the producers up to this number are closed
@@ -42,10 +43,19 @@ pub record ReadsOut (setup : Setup) (first : List Buffer) (number : ℕ) (old ne
   pub history : history_of new ≡ history_of old ++ last
   pub tells : TellsReads first last passed pass before after
 
--- the reading of the buffers up to this number, each without limit, as lines
-abbrev pub end_lines : ℕ → List NumberedLine
-end_lines zero = []
-end_lines (suc number) = end_lines number ++ record { line = 0; what = line.Read (suc number) last_count } ∷ []
+-- A write failed in the reads of so many buffers: some were read in rising number, each without limit, and then the next one up to the record whose write
+-- it was. The history is more by these reads and nothing else, the pass knows them more, and the sink took their records, and then at most a front part of
+-- that one.
+pub record FailsOut (setup : Setup) (first : List Buffer) (number : ℕ) (old new passed pass : ServiceView) (before after : Intake) : Type 0 where
+  pub next : Delivered
+  pub reads : ReadsSomeTo setup first number old new next
+  pub last : List model.Event
+  pub last_is : last ≡ reads.earlier ++ (reads.ends.firsts ++ model.Read reads.ends.sequence reads.ends.count ∷ [])
+  pub history : history_of new ≡ history_of old ++ last
+  pub since : List model.Event
+  pub goes : history_of pass ≡ history_of passed ++ since
+  pub noted : flat_map noted_read since ≡ flat_map noted_read last
+  pub tells : TellsUpTo first passed pass next before after
 
 -- The service knows this view, once it has ended what was settled: from what it knew then all producers were closed in rising number, and then each
 -- buffer of the scenario read without limit. It knows nothing more.
@@ -72,17 +82,42 @@ pub record HasFinished (scenario : Parts) (settled : Settled) (old new : Intake)
   pub report : AreBalanced (packet_counts scenario (setup_in settled.table) world)
       → report_text done.buffers.items done.sequences.items done.flushes.items ≡ report_of scenario (setup_in settled.table) world []
 
+-- The service knows this view, where a write failed as it ended what was settled: from what it knew then all producers were closed in rising number, and
+-- then the buffers of the scenario read as far as this record, each without limit. It knows nothing more.
+pub record HasEndedUpTo (scenario : Parts) (settled : Settled) (view : ServiceView) (next : Delivered) : Type 0 where
+  pub closed : ServiceView
+  pub closes : ClosesTo (setup_in settled.table) settled.producers (view_in settled.service) closed
+  pub reads : ReadsSomeTo (setup_in settled.table) (buffers_of scenario (setup_in settled.table)) (length scenario.buffers) closed view next
+
+-- A write failed at the end. There is one owned world of what the seats that were settled know, and of what their service knows that went so far. Where the
+-- history that the pass knew went on by the reads of the scenario's lines, the scenario was run up to there. The sink took exactly the records that the
+-- world's history writes behind those that the pass knew, and then at most a front part of the next one.
+pub record HasFailed (scenario : Parts) (settled : Settled) (old new : Intake) : Type 0 where
+  pub world : World
+  pub next : Delivered
+  pub writers : world.writers ≡ views_of settled.seats.items
+  pub service : HasEndedUpTo scenario settled world.service next
+  pub account : IsAccount world.writers world.service
+  pub run : GoesByReads (setup_in settled.table) (buffers_of scenario (setup_in settled.table)) scenario.lines [] (history_of (known_by_pass settled.pass))
+      → StopsInEnd scenario (setup_in settled.table) world next
+  pub more : List Delivered
+  pub records : records_in scenario (setup_in settled.table) world
+      ≡ records_after (buffers_of scenario (setup_in settled.table)) (history_of (known_by_pass settled.pass)) ++ more
+  pub part : TakesPart (after_told old (trace_of more)) new next.bytes
+
+-- Nothing more was done of what was settled. There is one owned world of what its seats and its service know, in which all is done but that sequences are
+-- closed, and nothing was read behind what the pass knew.
+pub record HasLetGo (scenario : Parts) (settled : Settled) : Type 0 where
+  pub world : World
+  pub writers : world.writers ≡ views_of settled.seats.items
+  pub service : world.service ≡ view_in settled.service
+  pub account : IsAccount world.writers world.service
+  pub done : HasDoneAll scenario (setup_in settled.table) world false
+  pub goes : GoesUnread (history_of (known_by_pass settled.pass)) (history_of world.service)
+
 -- the scenario was run, and these are the counts of its report
 abbrev pub HasRun : Parts → (old new : Intake) → Done → Type 0
 HasRun scenario old new done = Runs scenario old new (report_text done.buffers.items done.sequences.items done.flushes.items)
-
--- A write failed, in the reads of the scenario's lines, or in those of the end behind them. The sink took the records of the reads that were done, each
--- with what was left of its limit by what its buffer held, and then at most a front part of the next record; nothing behind that.
-pub record FailsRun (scenario : Parts) (old new : Intake) : Type 0 where
-  pub setup : Setup
-  pub setup_is : IsSetupOf scenario setup
-  pub known : ServiceView
-  pub fails : FailsLines setup (buffers_of scenario setup) (scenario.lines ++ end_lines (length scenario.buffers)) newcomer_service known old new
 
 -- How a run ends: whole, or where memory is too little, before anything is written, or where a write failed. No writer ends stalled.
 abbrev pub EndsRun : Parts → Result Done HostFault → (old new : Intake) → Type 0

@@ -1,7 +1,7 @@
 -- What the service's job does of a scenario's lines.
-use Rattle.std.specs.Prelude.{◌≡◌, ℕ, List, [], ◌∷◌, ◌++◌}
+use Rattle.std.specs.Prelude.{◌≡◌, List, ◌++◌}
 use Rattle.std.specs.List.{flat_map}
-use Rattle.byte_io.specs.Bytes.{Loan, Intake, told, untold, after_told}
+use Rattle.byte_io.specs.Bytes.{Loan, Intake, told, untold, after_told, TakesPart}
 use Rattle.trace_model.specs.Buffers.{Buffer}
 use Rattle.trace_model.specs.Delivery.{Delivered, trace_of}
 use Rattle.trace_model.specs.History as model
@@ -11,8 +11,8 @@ use Rattle.chunk_plain.specs.Setup.{Setup}
 use Rattle.chunk_plain.specs.Views.{ServiceView}
 use Rattle.scenario_text.specs.declared.scenario.LineKind.{LineKind}
 use Rattle.scenario_text.specs.declared.scenario.NumberedLine.{NumberedLine}
-use Rattle.service_core.specs.Reading.{noted_read, FailsIn}
-use Rattle.run_model.specs.Reads.{reads_by, GoesByReads}
+use Rattle.service_core.specs.Reading.{noted_read}
+use Rattle.run_model.specs.Reads.{reads_by, GoesByReads, GoesUpTo, ReadsUpTo}
 use Rattle.thread_service.specs.Reading.{GoesUnread}
 
 -- the loans on which a sink hands its bytes on
@@ -51,33 +51,23 @@ pub record TellsLine (setup : Setup) (first : List Buffer) (line : LineKind) (ol
 
 -- ---- a write failed
 
--- A write failed in the reads of a line, which begin behind this history. Those before it were done, then this one up to the packets that it delivered,
--- and no further one. The sink took the records that the history writes before it, those of the packets that it delivered, and then a front part of the
--- next one at most.
-pub record FailsAt (setup : Setup) (first : List Buffer) (line : LineKind) (here old new : List model.Event) (before after : Intake) : Type 0 where
-  pub firsts : List model.Event
-  pub sequence : ℕ
-  pub left : ℕ
-  pub count : ℕ
-  pub others : List model.Event
-  pub cut : reads_by setup (buffers_after first here) line ≡ firsts ++ model.Read sequence left ∷ others
-  pub history : new ≡ here ++ (firsts ++ model.Read sequence count ∷ [])
+-- The sink took the records that the pass knows more, and then at most a front part of the next one.
+pub record TellsUpTo (first : List Buffer) (old new : ServiceView) (next : Delivered) (before after : Intake) : Type 0 where
   pub more : List Delivered
-  pub records : records_after first (here ++ firsts) ≡ records_after first old ++ more
-  pub fails : FailsIn (buffers_after first (here ++ firsts)) sequence left count (after_told before (trace_of more)) after
+  pub records : records_after first (history_of new) ≡ records_after first (history_of old) ++ more
+  pub part : TakesPart (after_told before (trace_of more)) after next.bytes
 
--- A write failed in the reads of one of these lines, behind those of the lines before it, and no further line was read.
+-- A write failed in the reads of one of these lines, behind those of the lines before it. They went as far as the record whose write it was, with the
+-- pass, and nothing else was read. The sink took their records, and then at most a front part of that one.
 pub record FailsLines (setup : Setup) (first : List Buffer) (lines : List NumberedLine) (old new : ServiceView) (before after : Intake) : Type 0 where
-  pub done : List NumberedLine
-  pub line : NumberedLine
-  pub later : List NumberedLine
-  pub all : lines ≡ done ++ line ∷ later
-  pub here : List model.Event
-  pub reads : GoesByReads setup first done (history_of old) here
-  pub fails : FailsAt setup first line.what here (history_of old) (history_of new) before after
+  pub next : Delivered
+  pub reads : GoesUpTo setup first lines (history_of old) (history_of new) next
+  pub tells : TellsUpTo first old new next before after
 
--- A write failed in the reads of one line.
+-- One failed in the reads of one line.
 pub record FailsLine (setup : Setup) (first : List Buffer) (line : LineKind) (old new : ServiceView) (before after : Intake) : Type 0 where
+  pub next : Delivered
   pub here : List model.Event
   pub goes : GoesUnread (history_of old) here
-  pub fails : FailsAt setup first line here (history_of old) (history_of new) before after
+  pub reads : ReadsUpTo setup first line here (history_of new) next
+  pub tells : TellsUpTo first old new next before after

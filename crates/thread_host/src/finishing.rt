@@ -3,22 +3,20 @@ ghost use Rattle.std.specs.Prelude.{◌≡◌, ℕ, ◌<◌, ◌≤◌, length, 
 ghost use Rattle.byte_io.specs.Bytes.{CountsFaults};
 ghost use Rattle.trace_base.specs.declared.limits.TheConstants.{MAX_BUFFERS};
 ghost use Rattle.trace_buffer.specs.Answers as answers;
-ghost use Rattle.chunk_plain.specs.Views.{ServiceView};
 ghost use Rattle.chunk_words.specs.declared.host.HostTable.{HostTable};
 ghost use Rattle.chunk_words.specs.Closed.{HasAllSeats, IsAccount, AllTaken, views_of};
 ghost use Rattle.chunk_words.specs.GoesOn.{GoesOn};
 ghost use Rattle.chunk_words.specs.Sits.{Passes, setup_in, known_by_pass};
 ghost use Rattle.scenario_text.specs.Scenario.{Parts};
 ghost use Rattle.service_core.specs.Agreement.{KeepsRest, first_of};
-ghost use Rattle.replay_model.specs.Played.{buffers_of};
 ghost use Rattle.run_model.specs.Settled.{ClosesTo};
 ghost use Rattle.thread_service.specs.Reading.{IsKnownWhole};
 ghost use Rattle.thread_service.specs.Serving.{core_of, view_in, Serves, IsServing};
 ghost use Rattle.thread_host.specs.Counting.{buffers_in, packets_in};
 ghost use Rattle.thread_host.specs.Ending.{no_counts};
-ghost use Rattle.thread_host.specs.Finishing.{AreClosedTo, ReadsOut, HasFinished, end_lines};
+ghost use Rattle.thread_host.specs.Finishing.{AreClosedTo, ReadsOut, FailsOut, HasFinished, HasFailed, HasLetGo};
 ghost use Rattle.thread_host.specs.Hosts.{IsSettled};
-ghost use Rattle.thread_host.specs.Jobs.{KeepsLoans, FailsLines};
+ghost use Rattle.thread_host.specs.Jobs.{KeepsLoans};
 ghost use Rattle.thread_host.specs.Keeping.{AllOpen};
 
 use crate::settled::Settled;
@@ -34,14 +32,13 @@ use trace_buffer::BufferCounts;
 impl Settled {
     /// Closes the producers in rising number, reads each buffer without limit, in rising number, and
     /// counts what became of packets and chunks. What it tells is the account of the seats and the
-    /// service that were settled.
+    /// service that were settled, also where a write failed.
     pub fn finish<T: Sink>(self, out: &mut T) -> Result<Done, WriteFault>
         requires settled { (scenario : Parts) × IsSettled scenario self }
         ensures done { (scenario : Parts) → IsSettled scenario self
             → IfOk result (HasFinished scenario self (T.taken out.old) (T.taken out.new)) }
-        ensures fails { (scenario : Parts) → IsSettled scenario self → OnErr result ((known : ServiceView)
-            × FailsLines (setup_in self.table) (buffers_of scenario (setup_in self.table)) (end_lines (length scenario.buffers))
-            (known_by_pass self.pass) known (T.taken out.old) (T.taken out.new)) }
+        ensures fails { (scenario : Parts) → IsSettled scenario self
+            → OnErr result (HasFailed scenario self (T.taken out.old) (T.taken out.new)) }
         ensures stands { KeepsLoans (T.taken out.old) (T.taken out.new) }
         ensures count { CountsFaults (T.faults out.old) (T.faults out.new) result }
     {
@@ -54,11 +51,35 @@ impl Settled {
             mut counts,
         } = self;
         close_all(&mut service, &table, producers);
-        read_all(&mut service, &table, &mut pass, counts.buffers.len(), out)?;
-        count_buffers(&service, &mut counts.buffers);
-        count_sequences(&service, &mut counts.sequences);
+        match read_all(&mut service, &table, &mut pass, counts.buffers.len(), out) {
+            Ok(()) => {
+                count_buffers(&service, &mut counts.buffers);
+                count_sequences(&service, &mut counts.sequences);
+                take_apart(table, service, pass, seats);
+                Ok(counts)
+            }
+            Err(WriteFault) => {
+                take_apart(table, service, pass, seats);
+                Err(WriteFault)
+            }
+        }
+    }
+
+    /// Lets all go, where a write failed before the end: nothing is closed, read or counted any more. What
+    /// it tells is the account of the seats and the service that were settled.
+    pub fn let_go(self)
+        requires settled { (scenario : Parts) × IsSettled scenario self }
+        ensures left { (scenario : Parts) → IsSettled scenario self → HasLetGo scenario self }
+    {
+        let Settled {
+            table,
+            service,
+            pass,
+            seats,
+            producers: _,
+            counts: _,
+        } = self;
         take_apart(table, service, pass, seats);
-        Ok(counts)
     }
 }
 
@@ -96,8 +117,8 @@ fn read_all<T: Sink>(
     ensures keeps { KeepsRest (setup_in table.now) (core_of service.old) (core_of service.new) }
     ensures reads { IfOk result (λ _. ReadsOut (setup_in table.now) (first_of (setup_in table.now) (core_of service.old)) buffers
         (view_in service.old) (view_in service.new) (known_by_pass pass.old) (known_by_pass pass.new) (T.taken out.old) (T.taken out.new)) }
-    ensures fails { OnErr result (FailsLines (setup_in table.now) (first_of (setup_in table.now) (core_of service.old)) (end_lines buffers)
-        (known_by_pass pass.old) (known_by_pass pass.new) (T.taken out.old) (T.taken out.new)) }
+    ensures fails { OnErr result (FailsOut (setup_in table.now) (first_of (setup_in table.now) (core_of service.old)) buffers
+        (view_in service.old) (view_in service.new) (known_by_pass pass.old) (known_by_pass pass.new) (T.taken out.old) (T.taken out.new)) }
     ensures stands { KeepsLoans (T.taken out.old) (T.taken out.new) }
     ensures count { CountsFaults (T.faults out.old) (T.faults out.new) result }
 {

@@ -2,7 +2,8 @@
 //! lines. The service stands behind a lock for so long, and a writer that stalls has a helper that takes
 //! it.
 //! A layer above may rely on this: where `run` answers Ok, the sink has taken exactly the records of an
-//! account to which the scenario leads, and the counts are that account's. No writer ends stalled. The
+//! account to which the scenario leads, and the counts are that account's; where a write failed, it has
+//! taken those of one up to there, and a front part of the next at most. No writer ends stalled. The
 //! parts of `run` say whose account it is: the seats that are settled know what the writers knew whose
 //! lines were played, and at the end it is of these seats and of the service that was settled.
 #![tactic(auto)]

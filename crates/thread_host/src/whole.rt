@@ -12,7 +12,7 @@ use loss_report::Done;
 use replay_host::HostFault;
 use run_model::{
     every_enough_run_is_complete, every_run_counts_packets, every_run_is_balanced,
-    every_run_is_faithful,
+    every_run_is_faithful, every_stopped_run_is_faithful,
 };
 use scenario_text::Scenario;
 use std::alloc::Global;
@@ -36,6 +36,7 @@ pub fn run<R: Threads + Wait + Sync, T: Sink + Send, G: Gate + Sync>(
     ensures count { CountsStop (T.faults out.old) (T.faults out.new) result }
 {
     every_run_is_faithful();
+    every_stopped_run_is_faithful();
     every_run_is_balanced();
     every_run_counts_packets();
     every_enough_run_is_complete();
@@ -49,6 +50,9 @@ pub fn run<R: Threads + Wait + Sync, T: Sink + Send, G: Gate + Sync>(
             Ok(done) => Ok(done),
             Err(WriteFault) => Err(HostFault::WriteFault),
         },
-        Err(WriteFault) => Err(HostFault::WriteFault),
+        Err(WriteFault) => {
+            settled.let_go();
+            Err(HostFault::WriteFault)
+        }
     }
 }

@@ -4,15 +4,13 @@ use Rattle.byte_io.specs.Bytes.{Intake, Loan, told, untold, after_told, lent_by,
 use Rattle.byte_io.proofs.Lent.{handed_on, lent_part}
 use Rattle.byte_io.proofs.Told.{after_told_again, after_told_nothing}
 use Rattle.trace_model.specs.Delivery.{trace_of}
-use Rattle.trace_model.specs.History as model
-use Rattle.trace_model.specs.History.{buffers_after, records_at}
 use Rattle.scenario_text.specs.Scenario.{Parts}
 use Rattle.loss_report.specs.declared.counts.Done.{Done}
-use Rattle.replay_model.specs.Played.{buffers_of, records_in}
+use Rattle.replay_model.specs.Played.{records_in}
 use Rattle.replay_host.specs.declared.fault.HostFault.{HostFault}
 use Rattle.replay_host.specs.declared.fault.HostFault.TheVariants.{OutOfMemory, WriteFault, Stalled}
-use Rattle.run_model.specs.Runs.{Runs}
-use Rattle.thread_host.specs.Finishing.{EndsRun, FailsRun, HasRun}
+use Rattle.run_model.specs.Runs.{FailsRun, Runs}
+use Rattle.thread_host.specs.Finishing.{EndsRun, HasRun}
 use Rattle.thread_host.specs.Jobs.{KeepsLoans}
 use Rattle.tracesmb_top.specs.Ran.{GathersRun, TakesSomeRun}
 use Rattle.tracesmb_top.specs.Replayed.{report_of}
@@ -48,45 +46,18 @@ record FailsBy (scenario : Parts) (old new : Intake) : Type 0 where
 
 fails_by : (scenario : Parts) (old new : Intake) → FailsRun scenario old new → FailsBy scenario old new
 fails_by scenario old new run =
-    let lines = run.fails in let at = lines.fails in let one = at.fails in
-    let buffers = buffers_after (buffers_of scenario run.setup) (lines.here ++ at.firsts) in
-    let wrote = trace_of at.more in
-    let whole = trace_of (records_at buffers (model.Read at.sequence at.count)) in
-    let both : (start : Intake) → after_told (after_told (after_told start wrote) whole) one.part.part ≡ after_told start (wrote ++ (whole ++ one.part.part)) =
-    λ start. after_told_again (after_told start wrote) whole one.part.part ∙ after_told_again start wrote (whole ++ one.part.part) in
+    let wrote = trace_of (records_in scenario run.setup run.world) in
+    let front = run.trace.part in
     record {
-      bytes = wrote ++ (whole ++ one.part.part);
-      took = one.part.taken ∙ both old;
+      bytes = wrote ++ front;
+      took = run.trace.taken ∙ after_told_again old wrote front;
       again = λ start. record {
         setup = run.setup;
-        setup_is = run.setup_is;
-        known = run.known;
-        fails = record {
-          done = lines.done;
-          line = lines.line;
-          later = lines.later;
-          all = lines.all;
-          here = lines.here;
-          reads = lines.reads;
-          fails = record {
-            firsts = at.firsts;
-            sequence = at.sequence;
-            left = at.left;
-            count = at.count;
-            others = at.others;
-            cut = at.cut;
-            history = at.history;
-            more = at.more;
-            records = at.records;
-            fails = record {
-              failed = one.failed;
-              later = one.later;
-              due = one.due;
-              many = one.many;
-              part = record { part = one.part.part; rest = one.part.rest; cut = one.part.cut; taken = sym (both start) };
-            };
-          };
-        };
+        world = run.world;
+        next = run.next;
+        run = run.run;
+        trace = record { part = front; rest = run.trace.rest; cut = run.trace.cut; taken = sym (after_told_again start wrote front) };
+        faithful = run.faithful;
       };
     }
 

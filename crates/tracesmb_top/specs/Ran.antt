@@ -10,8 +10,8 @@ use Rattle.scenario_text.specs.Scenario.{Parts, scenario_of}
 use Rattle.scenario_text.specs.Texts.{refusal_line}
 use Rattle.replay_host.specs.declared.fault.HostFault.{HostFault}
 use Rattle.replay_host.specs.declared.fault.HostFault.TheVariants as stops
-use Rattle.run_model.specs.Runs.{Runs}
-use Rattle.thread_host.specs.Finishing.{FailsRun, HasRun}
+use Rattle.run_model.specs.Runs.{FailsRun, Runs}
+use Rattle.thread_host.specs.Finishing.{HasRun}
 
 -- ---- which scenarios aren't for threads
 
@@ -58,7 +58,8 @@ pub record IsRanBy (text : List ℕ) (old new : Intake) (report : List ℕ) : Ty
   pub for_threads : IsForThreads text parts
   pub runs : Runs parts old new report
 
--- The trace took a front part of what a run writes that came to its end, or of what one writes up to a write that fails.
+-- The trace took a front part of what a run writes that came to its end, or of what one writes up to a write that fails: in both the records are
+-- faithful, and in the second a front part of one more record may stand behind them.
 pub record TakesSomeRun (scenario : Parts) (old new : Intake) : Type 0 where
   pub bytes : List ℕ
   pub would : ((report : List ℕ) × Runs scenario old (after_told old bytes) report) ⊎ FailsRun scenario old (after_told old bytes)

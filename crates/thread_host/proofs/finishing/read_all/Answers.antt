@@ -5,8 +5,8 @@ use Rattle.service_core.specs.Agreement.{first_of}
 use Rattle.service_core.proofs.AgreeLemmas.{first_stays, keeps_same, keeps_both}
 use Rattle.thread_service.specs.Serving.{core_of, view_in}
 use Rattle.thread_host.proofs.Closing.{out_none, out_more}
-use Rattle.thread_host.proofs.Failing.{end_fails, end_tells}
-use Rattle.thread_host.proofs.Telling.{loans_kept, on_err, tells_none}
+use Rattle.thread_host.proofs.Failing.{out_fails}
+use Rattle.thread_host.proofs.Telling.{loans_kept, on_err}
 use Rattle.thread_host.proofs.finishing.read_all.Goals as goal
 
 pub buffers-init : goal.buffers-init
@@ -18,7 +18,6 @@ buffers-init g c =
       known = c.requires.known;
       keeps = keeps_same setup (core_of c.args.service.now);
       reads = out_none setup (first_of setup (core_of c.args.service.now)) (view_in c.args.service.now) (known_by_pass c.args.pass.now) (g.T.Sink.taken c.args.out.now);
-      told = tells_none setup (first_of setup (core_of c.args.service.now)) (known_by_pass c.args.pass.now) (g.T.Sink.taken c.args.out.now);
       stands = refl;
       steady = refl;
     }
@@ -40,11 +39,6 @@ buffers-preserved g c =
           (g.T.Sink.taken c.args.out.now) (g.T.Sink.taken c.buffers.out) (g.T.Sink.taken c.read_passing.new.out)
           (let more : c.buffers.index + 1 ≡ suc c.buffers.index = omega arith in more)
           (first_stays setup start core i.keeps.fields) i.serves.agrees.buffers i.reads ok.reads ok.passes;
-      told = end_tells setup core (first_of setup start) c.buffers.index (c.buffers.index + 1) _ (view_in c.buffers.service) (view_in c.read_passing.new.self)
-          (known_by_pass c.args.pass.now) (known_by_pass c.buffers.pass) (known_by_pass c.read_passing.new.pass)
-          (g.T.Sink.taken c.args.out.now) (g.T.Sink.taken c.buffers.out) (g.T.Sink.taken c.read_passing.new.out)
-          (let more : c.buffers.index + 1 ≡ suc c.buffers.index = omega arith in more)
-          (first_stays setup start core i.keeps.fields) i.told ok.reads ok.passes;
       stands = loans_kept (g.T.Sink.taken c.buffers.out) (g.T.Sink.taken c.read_passing.new.out) _ ok.reads.taken ∙ i.stands;
       steady = ok.count ∙ i.steady;
     }
@@ -57,8 +51,8 @@ returns-in_err-read_passing-clause-fails g c =
     let core = core_of c.buffers.service in
     let start = core_of c.args.service.now in
     on_err c.from_residual.result
-    (end_fails setup core (first_of setup start) c.buffers.index (c.buffers.index + 1) c.args.buffers (view_in c.buffers.service) (view_in c.read_passing.new.self)
-    (known_by_pass c.args.pass.now) (known_by_pass c.buffers.pass) (known_by_pass c.read_passing.new.pass)
+    (out_fails setup core (first_of setup start) c.buffers.index (c.buffers.index + 1) c.args.buffers (view_in c.args.service.now) (view_in c.buffers.service)
+    (view_in c.read_passing.new.self) (known_by_pass c.args.pass.now) (known_by_pass c.buffers.pass) (known_by_pass c.read_passing.new.pass)
     (g.T.Sink.taken c.args.out.now) (g.T.Sink.taken c.buffers.out) (g.T.Sink.taken c.read_passing.new.out)
     (let more : c.buffers.index + 1 ≡ suc c.buffers.index = omega arith in more) c.buffers-test.true
-    (first_stays setup start core i.keeps.fields) i.told failed.fails failed.passes)
+    (first_stays setup start core i.keeps.fields) i.serves.agrees.buffers i.reads failed.fails failed.passes)

@@ -4,8 +4,8 @@ use Rattle.chunk_words.specs.Sits.{Passes, setup_in, known_by_pass}
 use Rattle.service_core.specs.Agreement.{KeepsRest, first_of}
 use Rattle.thread_service.specs.Reading.{IsKnownWhole}
 use Rattle.thread_service.specs.Serving.{core_of, view_in, Serves}
-use Rattle.thread_host.specs.Finishing.{ReadsOut, end_lines}
-use Rattle.thread_host.specs.Jobs.{KeepsLoans, TellsLines}
+use Rattle.thread_host.specs.Finishing.{ReadsOut}
+use Rattle.thread_host.specs.Jobs.{KeepsLoans}
 use Rattle.thread_host.proofs.finishing.read_all.Given as goal
 
 abbrev pub invariant-buffers : goal.invariant-buffers
@@ -16,8 +16,6 @@ invariant-buffers g l = record {
   keeps : KeepsRest (setup_in l.table) (core_of l.fn.service) (core_of l.service);
   reads : ReadsOut (setup_in l.table) (first_of (setup_in l.table) (core_of l.fn.service)) l.index (view_in l.fn.service) (view_in l.service)
       (known_by_pass l.fn.pass) (known_by_pass l.pass) (g.T.Sink.taken l.fn.out) (g.T.Sink.taken l.out);
-  told : TellsLines (setup_in l.table) (first_of (setup_in l.table) (core_of l.fn.service)) (end_lines l.index) (known_by_pass l.fn.pass) (known_by_pass l.pass)
-      (g.T.Sink.taken l.fn.out) (g.T.Sink.taken l.out);
   stands : KeepsLoans (g.T.Sink.taken l.fn.out) (g.T.Sink.taken l.out);
   steady : g.T.Sink.faults l.out ≡ g.T.Sink.faults l.fn.out;
 }

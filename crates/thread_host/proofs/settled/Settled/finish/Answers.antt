@@ -1,27 +1,22 @@
 -- The end of a settled run is a run of the scenario.
-use Rattle.std.proofs.Common.{◌≡◌, ◌∙◌, ℕ, List, length, sym, ap, subst, arith}
+use Rattle.std.proofs.Common.{◌≡◌, ◌∙◌, List, length, sym, ap, arith}
 use Rattle.std.specs.Prelude.{slice_index_or}
 use Rattle.std.specs.Vec.{with_items}
 use Rattle.std.proofs.lemmas.List.{length-map, with_items_is}
 use Rattle.trace_buffer.specs.Answers as answers
 use Rattle.trace_buffer.specs.declared.answers.BufferCounts.{BufferCounts}
 use Rattle.trace_base.specs.declared.policy.WriterSpec.{WriterSpec}
-use Rattle.trace_model.specs.Buffers.{Buffer}
-use Rattle.chunk_words.specs.Sits.{setup_in, known_by_pass}
+use Rattle.chunk_words.specs.Sits.{setup_in}
 use Rattle.loss_report.specs.declared.counts.SequenceCounts.{SequenceCounts}
-use Rattle.service_core.specs.Agreement.{first_of}
 use Rattle.service_core.proofs.AgreeLemmas.{first_stays}
 use Rattle.replay_host.proofs.CountingLemmas.{specs_many}
-use Rattle.replay_model.specs.Played.{buffers_of}
 use Rattle.replay_model.proofs.PlayedLemmas.{setup_writers}
 use Rattle.thread_service.specs.Serving.{core_of}
 use Rattle.thread_host.specs.Counting.{buffers_in, packets_in}
 use Rattle.thread_host.specs.Ending.{no_counts}
-use Rattle.thread_host.specs.Finishing.{end_lines}
-use Rattle.thread_host.specs.Jobs.{FailsLines}
 use Rattle.thread_host.proofs.Finished.{has_all_seats, has_finished}
+use Rattle.thread_host.proofs.Stopped.{has_failed, seats_back}
 use Rattle.thread_host.proofs.Tallying.{buffers_long}
-use Rattle.thread_host.proofs.Telling.{on_err}
 use Rattle.thread_host.proofs.settled.Settled.finish.Goals as goal
 
 pub read_all-requires-clause-few : goal.read_all-requires-clause-few
@@ -40,7 +35,7 @@ count_buffers-requires-clause-room g c =
     let ok = c.args.self.counts.buffers.ok.0 in
     let lent = ap (λ (xs : List BufferCounts). length xs) c.deref_mut.ensures.value in
     let specs = specs_many c.requires.settled.0 setup (core_of c.read_all.new.service)
-    (first_stays setup (core_of c.close_all.new.service) (core_of c.read_all.new.service) c.in_ok-read_all.ensures.keeps.fields
+    (first_stays setup (core_of c.close_all.new.service) (core_of c.read_all.new.service) c.in-Ok.ensures.keeps.fields
     ∙ c.close_all.ensures.first ∙ is.served.began) in
     omega (arith, many, ok, lent, specs)
 
@@ -57,22 +52,22 @@ pub take_apart-requires-clause-seats : goal.take_apart-requires-clause-seats
 take_apart-requires-clause-seats g c =
     let is = c.requires.settled.1 in
     has_all_seats c.requires.settled.0 c.args.self is c.close_all.new.service c.read_all.new.service c.read_all.new.pass (g.T.Sink.taken c.args.out.now)
-    (g.T.Sink.taken c.read_all.new.out) c.len.result c.close_all.ensures.closes c.close_all.ensures.closed c.close_all.ensures.first c.in_ok-read_all.ensures.keeps
-    c.in_ok-read_all.ensures.serves (c.len.ensures ∙ is.buffers) c.in_ok-read_all.ensures.reads
+    (g.T.Sink.taken c.read_all.new.out) c.len.result c.close_all.ensures.closes c.close_all.ensures.closed c.close_all.ensures.first c.in-Ok.ensures.keeps
+    c.in-Ok.ensures.serves (c.len.ensures ∙ is.buffers) c.in-Ok.ensures.reads
 
-pub returns-clause-done : goal.returns-clause-done
-returns-clause-done g c scenario is =
+pub returns-in-Ok-clause-done : goal.returns-in-Ok-clause-done
+returns-in-Ok-clause-done g c scenario is =
     let table = c.args.self.table in
     let setup = setup_in table in
-    let serves = c.in_ok-read_all.ensures.serves in
+    let serves = c.in-Ok.ensures.serves in
     let final = c.read_all.new.service in
     let buffers : List BufferCounts = c.count_buffers.new.buffers in
     let sequences : List SequenceCounts = c.count_sequences.new.sequences in
-    let lent = ap (λ (xs : List SequenceCounts). length xs) c.deref_mut-2.ensures.value in
+    let lent = ap (λ (xs : List SequenceCounts). length xs) c.deref_mut-in-Ok.ensures.value in
     let ok = c.args.self.counts.sequences.ok.0 in
     let long = c.count_sequences.ensures.room in
     let specs = specs_many scenario setup (core_of final)
-    (first_stays setup (core_of c.close_all.new.service) (core_of final) c.in_ok-read_all.ensures.keeps.fields ∙ c.close_all.ensures.first ∙ is.served.began) in
+    (first_stays setup (core_of c.close_all.new.service) (core_of final) c.in-Ok.ensures.keeps.fields ∙ c.close_all.ensures.first ∙ is.served.began) in
     let counted : length buffers ≡ length scenario.buffers =
     ap (λ (xs : List BufferCounts). length xs) (c.count_buffers.ensures table serves) ∙ length-map (buffers_in setup final) answers.counts_of ∙ buffers_long setup final ∙ specs in
     let same = with_items_is c.args.self.counts.sequences sequences (omega (arith, long, lent, ok)) in
@@ -80,28 +75,28 @@ returns-clause-done g c scenario is =
     let wide : length sequences ≡ length setup.writers =
     (let own = is.sequences in let there = ap (λ (ws : List WriterSpec). length ws) (setup_writers scenario setup is.laid) in omega (arith, long, lent, ok, own, there)) in
     has_finished scenario c.args.self is c.close_all.new.service final c.read_all.new.pass (g.T.Sink.taken c.args.out.now) (g.T.Sink.taken c.read_all.new.out)
-    c.len.result c.close_all.ensures.closes c.close_all.ensures.closed c.close_all.ensures.first c.in_ok-read_all.ensures.keeps c.in_ok-read_all.ensures.serves
-    (c.len.ensures ∙ is.buffers) c.in_ok-read_all.ensures.reads c.take_apart.ensures.account c.take_apart.ensures.taken c.take_apart.ensures.goes_on
-    c.in_ok-read_all.ensures.known
+    c.len.result c.close_all.ensures.closes c.close_all.ensures.closed c.close_all.ensures.first c.in-Ok.ensures.keeps c.in-Ok.ensures.serves
+    (c.len.ensures ∙ is.buffers) c.in-Ok.ensures.reads c.take_apart.ensures.account c.take_apart.ensures.taken c.take_apart.ensures.goes_on
+    c.in-Ok.ensures.known
     (record { buffers = with_items counts.buffers buffers; sequences = with_items counts.sequences sequences; flushes = counts.flushes })
     (with_items_is counts.buffers buffers (counted ∙ sym is.buffers) ∙ c.count_buffers.ensures table serves)
     (ap (λ (xs : List SequenceCounts). length xs) same ∙ wide)
     (λ place inside.
     ap (λ (xs : List SequenceCounts). slice_index_or xs place no_counts) same
     ∙ c.count_sequences.ensures.each table serves place (omega (arith, inside, wide, long))
-    ∙ ap (λ (xs : List SequenceCounts). packets_in setup final place (slice_index_or xs place no_counts)) c.deref_mut-2.ensures.value)
+    ∙ ap (λ (xs : List SequenceCounts). packets_in setup final place (slice_index_or xs place no_counts)) c.deref_mut-in-Ok.ensures.value)
     is.flushes
 
-pub returns-in_err-read_all-clause-fails : goal.returns-in_err-read_all-clause-fails
-returns-in_err-read_all-clause-fails g c scenario is =
-    let setup = setup_in c.args.self.table in
-    let began : first_of setup (core_of c.close_all.new.service) ≡ buffers_of scenario setup = c.close_all.ensures.first ∙ is.served.began in
-    let mid = known_by_pass c.args.self.pass in
-    let known = known_by_pass c.read_all.new.pass in
-    let before = g.T.Sink.taken c.args.out.now in let after = g.T.Sink.taken c.read_all.new.out in
-    on_err c.from_residual.result (
-      known,
-      subst (λ (first : List Buffer). FailsLines setup first (end_lines (length scenario.buffers)) mid known before after) began
-          (subst (λ (count : ℕ). FailsLines setup (first_of setup (core_of c.close_all.new.service)) (end_lines count) mid known before after)
-          (c.len.ensures ∙ is.buffers) c.in_err-read_all.ensures.fails),
-    )
+pub take_apart-requires-in-Err-clause-seats : goal.take_apart-requires-in-Err-clause-seats
+take_apart-requires-in-Err-clause-seats g c =
+    let is = c.requires.settled.1 in
+    seats_back c.requires.settled.0 c.args.self is c.close_all.new.service c.read_all.new.service c.read_all.new.pass (g.T.Sink.taken c.args.out.now)
+    (g.T.Sink.taken c.read_all.new.out) c.len.result c.close_all.ensures.closes c.close_all.ensures.closed c.close_all.ensures.first c.in-Err.ensures.keeps
+    c.in-Err.ensures.serves (c.len.ensures ∙ is.buffers) c.in-Err.ensures.fails
+
+pub returns-in-Err-clause-fails : goal.returns-in-Err-clause-fails
+returns-in-Err-clause-fails g c scenario is =
+    has_failed scenario c.args.self is c.close_all.new.service c.read_all.new.service c.read_all.new.pass (g.T.Sink.taken c.args.out.now)
+    (g.T.Sink.taken c.read_all.new.out) c.len.result c.close_all.ensures.closes c.close_all.ensures.closed c.close_all.ensures.first c.in-Err.ensures.keeps
+    c.in-Err.ensures.serves (c.len.ensures ∙ is.buffers) c.in-Err.ensures.fails c.take_apart-in-Err.ensures.account c.take_apart-in-Err.ensures.taken
+    c.take_apart-in-Err.ensures.goes_on c.in-Err.ensures.known

@@ -1,0 +1,115 @@
+-- Once all is taken apart, what the seats knew that were settled is a world in which all is done.
+use Rattle.std.proofs.Common.{◌≡◌, ◌∙◌, ℕ, ◌<◌, ◌≤◌, Bool, true, false, [], length, refl, sym, subst, arith}
+use Rattle.std.proofs.lemmas.List.{length-map}
+use Rattle.chunk_plain.specs.Setup.{Setup, producer_of, sequence_of}
+use Rattle.chunk_plain.specs.Views.{ServiceView, WriterView, taken_of}
+use Rattle.chunk_plain.specs.World.{World, writer}
+use Rattle.chunk_words.specs.Closed.{HasAllSeats, IsAccount, AllTaken, views_of}
+use Rattle.chunk_words.specs.Sits.{setup_in, known_by}
+use Rattle.scenario_text.specs.Scenario.{Parts}
+use Rattle.service_core.specs.Agreement.{KeepsRest, is_closed}
+use Rattle.service_core.specs.Order.{LeadTo, beginning}
+use Rattle.replay_host.proofs.TakenLemmas.{open_is, none_committed}
+use Rattle.replay_model.specs.Does.{is_shut}
+use Rattle.run_model.specs.Settled.{HasDoneLines}
+use Rattle.run_model.specs.Stopped.{HasDoneAll}
+use Rattle.thread_service.specs.declared.service.Service.{Service}
+use Rattle.thread_service.specs.Serving.{core_of, view_in, Serves}
+use Rattle.thread_host.specs.Finishing.{AreClosedTo}
+use Rattle.thread_host.specs.Hosts.{IsSettled}
+use Rattle.thread_host.specs.declared.settled.Settled.{Settled}
+use Rattle.thread_host.proofs.Seating.{HasSeatAt, get_of, seat_at}
+
+-- no sequence was closed when all was settled
+pub opened_here : (scenario : Parts) (settled : Settled) → IsSettled scenario settled → (place : ℕ) → place < length (setup_in settled.table).writers
+    → is_shut (sequence_of place) (view_in settled.service).events ≡ false
+opened_here scenario settled is place inside =
+    let setup = setup_in settled.table in
+    open_is setup (view_in settled.service) (core_of settled.service) (producer_of setup place) is.served.serves.agrees is.served.own
+    (λ other below same. is.served.opened other below) place inside refl
+
+-- and all are where all producers were
+pub closed_here : (scenario : Parts) (settled : Settled) (closed final : Service) → IsSettled scenario settled
+    → AreClosedTo (setup_in settled.table) settled.producers closed → KeepsRest (setup_in settled.table) (core_of closed) (core_of final)
+    → (place : ℕ) → place < length (setup_in settled.table).writers → is_closed (setup_in settled.table) (core_of final) place ≡ true
+closed_here scenario settled closed final is all_closed keeps place inside =
+    let most = (is.served.serves.agrees.routed.producers place inside).most in
+    let many = is.producers in
+    keeps.closed place inside ∙ all_closed place inside (omega (arith, most, many))
+
+module _ (scenario : Parts) (settled : Settled) (is : IsSettled scenario settled) (final : Service) (serves : Serves settled.table final)
+    (rises : (place : ℕ) → (taken_of (view_in settled.service) place).count ≤ (taken_of (view_in final) place).count)
+    (own : (view_in final).commits ≡ []) where
+  abbrev setup : Setup
+  setup = setup_in settled.table
+
+  abbrev view : ServiceView
+  view = view_in final
+
+  abbrev world : World
+  world = record { chunks = []; writers = views_of settled.seats.items; service = view_in final }
+
+  -- each seat has nothing left to do
+  pub all_seats : HasAllSeats settled.table (view_in final) settled.seats.items
+  all_seats = record {
+    count = is.many;
+    each = λ place seat at.
+        let there = get_of settled.seats.items place seat at in
+        let done = is.done place seat there in
+        let taken = is.taken place seat there in
+        let rise = rises place in (
+          done.place_is,
+          done.sits,
+          record {
+            claimed = done.done.between.agrees.claims.unclaimed;
+            held = done.done.none_held;
+            taken = omega (arith, taken, rise);
+          },
+        );
+  }
+
+  module _ (account : IsAccount (views_of settled.seats.items) (view_in final)) (taken : AllTaken (view_in final) (views_of settled.seats.items)) where
+    seat_here : (place : ℕ) → place < length (setup_in settled.table).writers → HasSeatAt settled.seats.items place
+    seat_here place inside = let many = is.many in seat_at settled.seats.items place (omega (arith, inside, many))
+
+    done_here : (place : ℕ) → place < length (setup_in settled.table).writers
+        → HasDoneLines (setup_in settled.table) scenario.lines place (writer (record { chunks = []; writers = views_of settled.seats.items; service = view_in final }) place)
+    done_here place inside =
+        let here = seat_here place inside in
+        subst (λ (v : WriterView). HasDoneLines setup scenario.lines place v) (sym here.view) (is.done place here.seat here.there).done
+
+    taken_here : (place : ℕ) → place < length (setup_in settled.table).writers
+        → (taken_of (view_in final) place).count ≡ length (writer (record { chunks = []; writers = views_of settled.seats.items; service = view_in final }) place).begun
+    taken_here place inside =
+        let here = seat_here place inside in
+        subst (λ (v : WriterView). (taken_of view place).count ≡ length v.begun) (sym here.view) (taken place (known_by here.seat) here.at)
+
+    pub whole_here : (place : ℕ) → place < length (setup_in settled.table).writers
+        → (taken_of (view_in settled.service) place).count
+        ≡ length (writer (record { chunks = []; writers = views_of settled.seats.items; service = view_in final }) place).begun
+    whole_here place inside =
+        let here = seat_here place inside in
+        let least = is.taken place here.seat here.there in
+        let rise = rises place in
+        let all = taken place (known_by here.seat) here.at in
+        let same : (taken_of (view_in settled.service) place).count ≡ length (known_by here.seat).begun = omega (arith, least, rise, all) in
+        subst (λ (v : WriterView). (taken_of (view_in settled.service) place).count ≡ length v.begun) (sym here.view) same
+
+    module _ (closed : Bool) (all_closed : (place : ℕ) → place < length (setup_in settled.table).writers
+        → is_closed (setup_in settled.table) (core_of final) place ≡ closed) where
+      order_here : (place : ℕ) → place < length (setup_in settled.table).writers
+          → LeadTo (view_in final) (sequence_of place) beginning (view_in final).events
+          (record { come = (taken_of (view_in final) place).count; closed = closed; due = [] })
+      order_here place inside =
+          subst (λ (b : Bool). LeadTo view (sequence_of place) beginning view.events (record { come = (taken_of view place).count; closed = b; due = [] }))
+          (all_closed place inside) (serves.agrees.order place inside (none_committed view (sequence_of place) own))
+
+      pub done_all : HasDoneAll scenario (setup_in settled.table) (record { chunks = []; writers = views_of settled.seats.items; service = view_in final }) closed
+      done_all = record {
+        setup_is = is.laid;
+        many = length-map settled.seats.items known_by ∙ is.many;
+        owned = account;
+        writers = done_here;
+        taken = taken_here;
+        order = order_here;
+      }
