@@ -1,5 +1,5 @@
 -- What a run's writers wrote and its service noted: an account of each sequence.
-use Rattle.std.proofs.Common.{◌≡◌, ◌∙◌, ℕ, suc, ◌+◌, ◌<◌, false, List, [], length, Some, refl, sym, ap, subst, arith, Bool, true}
+use Rattle.std.proofs.Common.{◌≡◌, ◌∙◌, ℕ, suc, ◌+◌, ◌<◌, false, List, [], length, Some, refl, sym, ap, subst, arith, Bool}
 use Rattle.std.specs.Prelude.{slice_get}
 use Rattle.std.proofs.lemmas.Option.{slice_get_within}
 use Rattle.std.proofs.lemmas.Slice.Zip.{AllZip-long}
@@ -15,6 +15,7 @@ use Rattle.delivery_laws.specs.WriterSheets.{sheets_of}
 use Rattle.chunk_plain.specs.Setup.{Setup, IsLaid, sequence_of}
 use Rattle.chunk_plain.specs.World.{World, writer}
 use Rattle.chunk_plain.specs.Histories.{history_of}
+use Rattle.chunk_plain.specs.Owned.{IsOwned}
 use Rattle.chunk_plain.proofs.LayingLemmas.{setup_laid}
 use Rattle.world_model.specs.FirstBuffers.{payload_at}
 use Rattle.world_model.specs.Accounts.{all_images, InOrder}
@@ -23,6 +24,7 @@ use Rattle.scenario_text.specs.Scenario.{Parts}
 use Rattle.scenario_text.specs.Accepted.{calls_asked}
 use Rattle.scenario_text.specs.Limits.{IsSetUp}
 use Rattle.service_core.specs.Agreement.{spec_at}
+use Rattle.service_core.specs.Order.{Stage, LeadTo, beginning}
 use Rattle.replay_model.specs.Played.{IsSpecOf, IsSetupOf}
 use Rattle.replay_model.specs.Written.{HasWritten}
 use Rattle.replay_model.proofs.DoneLemmas.{IsDone}
@@ -30,7 +32,7 @@ use Rattle.replay_model.proofs.OwnedLemmas.{named, learnt, finds, in_order}
 use Rattle.replay_model.proofs.PlayedLemmas.{setup_writers}
 use Rattle.replay_model.proofs.SpecLemmas.{some_page, few_pages}
 use Rattle.schedule_laws.proofs.BetweenLemmas.{has_written}
-use Rattle.run_model.specs.Settled.{IsRun}
+use Rattle.run_model.specs.Settled.{HasDoneLines, IsRun}
 use Rattle.run_model.specs.Stopped.{HasDoneAll}
 
 -- ---- the set-up
@@ -46,18 +48,32 @@ laid_out scenario setup is set_up =
 
 -- ---- one writer
 
--- a run whole is one whose writers have done all
-pub done_of : (scenario : Parts) (setup : Setup) (world : World) → IsRun scenario setup world → HasDoneAll scenario setup world true
-done_of scenario setup world run = record {
+-- what the records of a run are faithful by, whole or up to a write that failed: its writers have done their lines, and what was noted on each sequence is
+-- in order, with no patch due
+pub record HasLed (scenario : Parts) (setup : Setup) (world : World) : Type 0 where
+  pub setup_is : IsSetupOf scenario setup
+  pub owned : ∥ ((other : World) × IsOwned other × (other.writers ≡ world.writers) × (other.service ≡ world.service)) ∥₁
+  pub writers : (place : ℕ) → place < length setup.writers → HasDoneLines setup scenario.lines place (writer world place)
+  pub order : (place : ℕ) → place < length setup.writers
+      → (last : Stage) × LeadTo world.service (sequence_of place) beginning world.service.events last × (last.due ≡ [])
+
+pub run_led : (scenario : Parts) (setup : Setup) (world : World) → IsRun scenario setup world → HasLed scenario setup world
+run_led scenario setup world run = record {
   setup_is = run.setup_is;
-  many = run.many;
   owned = run.owned;
   writers = run.writers;
-  taken = run.taken;
-  order = run.order;
+  order = λ place inside. (_, run.order place inside, refl);
 }
 
-module _ (scenario : Parts) (setup : Setup) (world : World) (closed : Bool) (run : HasDoneAll scenario setup world closed) where
+pub all_led : (scenario : Parts) (setup : Setup) (world : World) (closed : Bool) → HasDoneAll scenario setup world closed → HasLed scenario setup world
+all_led scenario setup world closed all = record {
+  setup_is = all.setup_is;
+  owned = all.owned;
+  writers = all.writers;
+  order = λ place inside. (_, all.order place inside, refl);
+}
+
+module _ (scenario : Parts) (setup : Setup) (world : World) (run : HasLed scenario setup world) where
   pub there : (place : ℕ) (spec : WriterSpec) → slice_get scenario.writers place ≡ Some spec → slice_get setup.writers place ≡ Some spec
   there place spec get = ap (λ (specs : List WriterSpec). slice_get specs place) (setup_writers scenario setup run.setup_is) ∙ get
 
@@ -98,7 +114,7 @@ run_done scenario setup world run laid = record {
   setup_is = run.setup_is;
   many = run.many;
   owned = run.owned;
-  shape = shape scenario setup world true (done_of scenario setup world run);
+  shape = shape scenario setup world (run_led scenario setup world run);
   drops = drops_lose scenario setup world run;
   claims = λ place inside. (run.writers place inside).between.agrees.claims;
   wrote = wrote scenario setup world run laid;
