@@ -57,7 +57,8 @@ abbrev pub emitted_in : World → List (List (List ℕ))
 emitted_in world = map (λ (view : WriterView). emissions_of view.calls) world.writers
 
 -- A whole scenario: all sequences of all buffers at once. Of each writer's place `held` has what it holds, as an image. The facts on writers,
--- cuts and order are those of an account of the world, which has one more: that each chunk is owned.
+-- cuts and order are those of an account of the world, which has two more: that each chunk is owned, and that each writer began as many chunks as it
+-- completed and holds.
 pub record IsComputed (setup : Setup) (buffers : List BufferSpec) (world : World) (held : ℕ → List Image) (events : List Event)
     (records : List Delivered) : Type 0 where
   pub happened : history_of world.service ≡ events

@@ -258,6 +258,11 @@ module _ (setup : Setup) (world : World) (owned : ∥ IsOwned world ∥₁) (sta
   cut_by place (inl inside) low = (stands.wrote place inside).cut
   cut_by place (inr past) low = absurd (omega (arith, past, low))
 
+  begun_by : (place : ℕ) (c : (place < length setup.writers) ⊎ (length setup.writers ≤ place)) → place < length setup.writers
+      → length (writer world place).begun ≡ length (completed_images (writer world place).begun) + length (held_by place c)
+  begun_by place (inl inside) low = (stands.wrote place inside).begun
+  begun_by place (inr past) low = absurd (omega (arith, past, low))
+
   order_by : (place : ℕ) (c : (place < length setup.writers) ⊎ (length setup.writers ≤ place)) → place < length setup.writers
       → InOrder (all_images (writer world place) (held_by place c)) world.service (sequence_of place) 0 false [] world.service.events
   order_by place (inl inside) low = order_of setup world owned place (stands.wrote place inside) stands.sorted inside
@@ -271,6 +276,7 @@ module _ (setup : Setup) (world : World) (owned : ∥ IsOwned world ∥₁) (sta
         writers = many;
         held = λ place. held_by place (cases_lt place (length setup.writers));
         cuts = λ place low. cut_by place (cases_lt place (length setup.writers)) (omega (arith, low, many));
+        begun = λ place low. begun_by place (cases_lt place (length setup.writers)) (omega (arith, low, many));
         order = λ place low. order_by place (cases_lt place (length setup.writers)) (omega (arith, low, many));
       }
 

@@ -1,5 +1,5 @@
 -- What a schedule leads to is an account, and so it is faithful.
-use Rattle.std.proofs.Common.{◌≡◌, ◌∙◌, ℕ, ◌<◌, ◌≤◌, ◌⊎◌, false, List, [], length, get_or, arith, inl, inr}
+use Rattle.std.proofs.Common.{◌≡◌, ◌∙◌, ℕ, ◌+◌, ◌<◌, ◌≤◌, ◌⊎◌, false, List, [], length, get_or, arith, inl, inr}
 use Rattle.std.proofs.lemmas.Bool.{cases_lt}
 use Rattle.std.proofs.lemmas.List.{length-map}
 use Rattle.std.proofs.lemmas.Option.{slice_get-get_or}
@@ -11,6 +11,7 @@ use Rattle.chunk_plain.specs.Views.{WriterView, newcomer}
 use Rattle.chunk_plain.specs.World.{World, writer}
 use Rattle.chunk_plain.specs.Plain.{first_world}
 use Rattle.chunk_plain.specs.Owned.{IsOwned}
+use Rattle.chunk_plain.specs.Histories.{completed_images}
 use Rattle.chunk_plain.proofs.MadeLemmas.{first_owned}
 use Rattle.world_model.specs.FirstBuffers.{payload_at}
 use Rattle.world_model.specs.Accounts.{all_images, HasCut, InOrder, IsAccount}
@@ -55,6 +56,11 @@ module _ (setup : Setup) (world : World) (laid : IsLaid setup) (owned : IsOwned 
   cut_by place (inl inside) low = (wrote place inside).cut
   cut_by place (inr past) low = absurd (omega (arith, past, low))
 
+  begun_by : (place : ℕ) (c : (place < length setup.writers) ⊎ (length setup.writers ≤ place)) → place < length setup.writers
+      → length (writer world place).begun ≡ length (completed_images (writer world place).begun) + length (held_by place c)
+  begun_by place (inl inside) low = (wrote place inside).begun
+  begun_by place (inr past) low = absurd (omega (arith, past, low))
+
   order_by : (place : ℕ) (c : (place < length setup.writers) ⊎ (length setup.writers ≤ place)) → place < length setup.writers
       → InOrder (all_images (writer world place) (held_by place c)) world.service (sequence_of place) 0 false [] world.service.events
   order_by place (inl inside) low = in_order setup world place owned (wrote place inside) (noted place inside)
@@ -66,6 +72,7 @@ module _ (setup : Setup) (world : World) (laid : IsLaid setup) (owned : IsOwned 
     writers = many;
     held = λ place. held_by place (cases_lt place (length setup.writers));
     cuts = λ place low. cut_by place (cases_lt place (length setup.writers)) (omega (arith, low, many));
+    begun = λ place low. begun_by place (cases_lt place (length setup.writers)) (omega (arith, low, many));
     order = λ place low. order_by place (cases_lt place (length setup.writers)) (omega (arith, low, many));
   }
 

@@ -1,5 +1,5 @@
 -- A table as it is made is an account: nothing was called, nothing was begun, and nothing is noted.
-use Rattle.std.proofs.Common.{ℕ, ◌<◌, [], refl, sym, subst, arith}
+use Rattle.std.proofs.Common.{◌≡◌, ℕ, ◌+◌, ◌<◌, [], length, refl, sym, subst, arith}
 use Rattle.std.proofs.lemmas.Bool.{false≢true}
 use Rattle.std.proofs.lemmas.List.{length-map}
 use Rattle.std.proofs.lemmas.List.Elements.{All-nil}
@@ -7,6 +7,7 @@ use Rattle.trace_base.specs.declared.policy.WriterSpec.{WriterSpec}
 use Rattle.trace_model.specs.Fragments.{drop_size}
 use Rattle.trace_model.specs.Cut.{IsWellFormedPage, CutsInto}
 use Rattle.chunk_plain.specs.Views.{WriterView, newcomer}
+use Rattle.chunk_plain.specs.Histories.{completed_images}
 use Rattle.chunk_plain.proofs.MadeLemmas.{all_same, first_owned}
 use Rattle.world_model.specs.FirstBuffers.{payload_at}
 use Rattle.world_model.specs.Accounts.{HasCut}
@@ -40,5 +41,7 @@ tables_begin_as_accounts setup small =
       held = λ place. [];
       cuts = λ place inside. subst (λ (view : WriterView). HasCut (payload_at setup place) place view []) (sym (all_same newcomer setup.writers place))
           (newcomer_cut (payload_at setup place) place (small place (omega (arith, inside, many))));
+      begun = λ place inside. subst (λ (view : WriterView). length view.begun ≡ length (completed_images view.begun) + 0)
+          (sym (all_same newcomer setup.writers place)) refl;
       order = λ place inside. refl;
     }

@@ -1,6 +1,6 @@
 -- An account of a table of chunks: what its seats' views say of it, between two steps, when each writer has cut its packets into
 -- its chunks and the service noted what it did with these in order.
-use Rattle.std.specs.Prelude.{◌≡◌, ℕ, suc, ◌-◌, ◌%◌, ◌==◌, ◌<◌, Bool, true, false, List, [], ◌∷◌, ◌++◌, length, Some, slice_get, MatchBool}
+use Rattle.std.specs.Prelude.{◌≡◌, ℕ, suc, ◌+◌, ◌-◌, ◌%◌, ◌==◌, ◌<◌, Bool, true, false, List, [], ◌∷◌, ◌++◌, length, Some, slice_get, MatchBool}
 use Rattle.trace_base.specs.declared.limits.TheConstants.{FIRST_SEQUENCE}
 use Rattle.trace_model.specs.Fragments.{drop_size}
 use Rattle.trace_model.specs.Images.{Image, Patch}
@@ -88,12 +88,16 @@ InOrder images service sequence come closed due (Read other limit ∷ notes) =
 
 -- The whole
 
--- a world whose chunks are owned, whose writers have cut their packets into chunks, and whose service noted them in order
+-- a world whose chunks are owned, whose writers have cut their packets into chunks, as many as they began, and whose service noted them in
+-- order
 pub record IsAccount (setup : Setup) (world : World) : Type 0 where
   pub owned : IsOwned world
   pub writers : length world.writers ≡ length setup.writers
   -- by writer: what it holds, as an image
   pub held : ℕ → List Image
   pub cuts : (place : ℕ) → place < length world.writers → HasCut (payload_at setup place) place (writer world place) (held place)
+  -- each began as many chunks as it completed and holds: so one that began none holds nothing
+  pub begun : (place : ℕ) → place < length world.writers
+      → length (writer world place).begun ≡ length (completed_images (writer world place).begun) + length (held place)
   pub order : (place : ℕ) → place < length world.writers
       → InOrder (all_images (writer world place) (held place)) world.service (sequence_of place) 0 false [] world.service.events
