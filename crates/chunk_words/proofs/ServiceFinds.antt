@@ -1,11 +1,10 @@
 -- What the service finds at a chunk.
-use Rattle.std.proofs.Common.{◌≡◌, ◌≢◌, ℕ, ◌+◌, ◌*◌, ◌/◌, ◌%◌, ◌<◌, ◌==◌, if◌then◌else◌, Option, Some, None, List, length, get_or, subst, sym, refl, ap, ◌∙◌, arith}
+use Rattle.std.proofs.Common.{◌≡◌, ◌≢◌, ℕ, ◌+◌, ◌*◌, ◌/◌, ◌%◌, ◌<◌, Option, Some, None, List, length, get_or, subst, sym, refl, ap, ◌∙◌, arith}
 use Rattle.std.specs.Int.{bit_at}
-use Rattle.std.proofs.lemmas.Bool.Decides.{nat_tests}
 use native.Mathlib.Decide.{ℕ_discrete}
 use mathlib.Core.Logic.{dite}
 use Rattle.page_geometry.specs.Header.{unpacked}
-use Rattle.page_geometry.specs.PageBits.{HasState, state_number}
+use Rattle.page_geometry.specs.PageBits.{HasState}
 use Rattle.page_geometry.specs.declared.chunk_header.ChunkHeader.{ChunkHeader}
 use Rattle.page_geometry.specs.declared.chunk_state.ChunkState.TheVariants as state
 use Rattle.chunk_plain.specs.Setup.{Setup, spot}
@@ -21,28 +20,22 @@ use Rattle.chunk_plain.proofs.Lists.{at_one}
 use Rattle.chunk_plain.proofs.Sealing.{reads_same, length-first_bytes, first_byte}
 use Rattle.chunk_plain.proofs.OwnershipLemmas.{as_found, found_inside}
 use Rattle.chunk_plain.proofs.KeptService.{held_untaken, finished, header_reads, reading_of}
-use Rattle.chunk_words.specs.Knows.{Watch, Nothing, Started, Full, Lifted}
-use Rattle.chunk_words.specs.Rule.{IsStarted, IsCompleteChunk, IsWatched}
-use Rattle.chunk_words.specs.Moves.{watch_for, Tells}
+use Rattle.chunk_words.specs.Knows.{Watch, Nothing, Lifted}
+use Rattle.chunk_words.specs.Rule.{IsStarted, StaysFound, IsWatched}
+use Rattle.chunk_words.specs.Moves.{Tells}
 
 -- ---- what a page word says
 
-abbrev pub watch_by : (chunk low high : ℕ) → Watch
-watch_by chunk low high = if low == 0 then Nothing else if high == 0 then Started chunk else Full chunk
+bits_apart : {bit : ℕ} → bit ≡ 0 → bit ≡ 1 → ⊥
+bits_apart none one = absurd (omega arith)
 
-watch_true : (setup : Setup) (world : World) (chunk low high : ℕ) (is : Status) → status world chunk ≡ is
-    → low ≡ bit_at (state_number (state_of is)) 0 → high ≡ bit_at (state_number (state_of is)) 1 → IsWatched setup world (watch_by chunk low high)
-watch_true setup world chunk low high Unclaimed was l h = subst (λ n. IsWatched setup world (watch_by chunk n high)) (sym l) tt
-watch_true setup world chunk low high (Claimed k) was l h = subst (λ n. IsWatched setup world (watch_by chunk n high)) (sym l) tt
-watch_true setup world chunk low high (Stamped k i) was l h = subst (λ n. IsWatched setup world (watch_by chunk n high)) (sym l) tt
-watch_true setup world chunk low high (Writing k i d) was l h =
-    subst (λ n. IsWatched setup world (watch_by chunk n high)) (sym l) (subst (λ n. IsWatched setup world (watch_by chunk 1 n)) (sym h) (subst IsStarted (sym was) tt))
-watch_true setup world chunk low high (Ready k i m) was l h =
-    subst (λ n. IsWatched setup world (watch_by chunk n high)) (sym l) (subst (λ n. IsWatched setup world (watch_by chunk 1 n)) (sym h) (subst IsCompleteChunk (sym was) tt))
-watch_true setup world chunk low high (Reading k i m) was l h = subst (λ n. IsWatched setup world (watch_by chunk n high)) (sym l) tt
-
-pub watch_holds : (setup : Setup) (world : World) (chunk word place : ℕ) → HasState word place (state_of (status world chunk)) → IsWatched setup world (watch_for chunk word place)
-watch_holds setup world chunk word place state = watch_true setup world chunk (bit_at word (2 * place)) (bit_at word (2 * place + 1)) (status world chunk) refl state.low state.high
+pub stays_found : (word place : ℕ) (is : Status) → HasState word place (state_of is) → StaysFound word place is
+stays_found word place Unclaimed now = record { started = λ s. absurd (bits_apart now.low s.low); complete = λ s. absurd (bits_apart now.low s.low) }
+stays_found word place (Claimed k) now = record { started = λ s. absurd (bits_apart now.low s.low); complete = λ s. absurd (bits_apart now.low s.low) }
+stays_found word place (Stamped k i) now = record { started = λ s. absurd (bits_apart now.low s.low); complete = λ s. absurd (bits_apart now.low s.low) }
+stays_found word place (Writing k i d) now = record { started = λ s. tt; complete = λ s. absurd (bits_apart now.high s.high) }
+stays_found word place (Ready k i m) now = record { started = λ s. tt; complete = λ s. tt }
+stays_found word place (Reading k i m) now = record { started = λ s. absurd (bits_apart now.low s.low); complete = λ s. absurd (bits_apart now.low s.low) }
 
 -- ---- what a header word says of a chunk that was being written
 
@@ -119,24 +112,21 @@ pub record Finds (setup : Setup) (world : World) (chunk word header : ℕ) : Typ
   pub says : FindsWritten setup chunk word (unpacked header) world.service found
 
 pub finds_by : (setup : Setup) (front : List ℕ) (slots : List Stored) (world : World) (chunk word : ℕ) → IsKept setup front slots world → chunk < length setup.spots
-    → IsWatched setup world (watch_for chunk word (spot setup chunk).place) → Finds setup world chunk word (header_word setup front chunk)
-finds_by setup front slots world chunk word kept inside watched =
+    → StaysFound word (spot setup chunk).place (status world chunk) → Finds setup world chunk word (header_word setup front chunk)
+finds_by setup front slots world chunk word kept inside stays =
     let low = bit_at word (2 * (spot setup chunk).place) in let high = bit_at word (2 * (spot setup chunk).place + 1) in
     dite (ℕ_discrete low 0)
     (λ zero_. record { found = None; there = λ one e. absurd cc; says = record { some = λ (s : HasState word (spot setup chunk).place state.BeingWritten). absurd (let one : low ≡ 1 = s.low in omega arith); none = λ _. refl } })
     (λ low_set. dite (ℕ_discrete high 0)
-    (λ none. let started : IsStarted (status world chunk) = subst (λ (w : Watch). IsWatched setup world w) (watch_is chunk low high low_set none) watched in
-    let finds = starts_of setup front slots world chunk (status world chunk) kept inside refl started in
+    (λ none. let written : HasState word (spot setup chunk).place state.BeingWritten = record { low = low_one word (2 * (spot setup chunk).place) low_set; high = none } in
+    let finds = starts_of setup front slots world chunk (status world chunk) kept inside refl (stays.started written) in
     record {
       found = Some finds.one;
       there = λ one e. subst (λ (f : Found). IsFound f × IsThere (writer world f.place) chunk f) (let same : finds.one ≡ one = cc in same) (finds.found, finds.there);
-      says = record { some = λ _. (finds.one, refl, finds.of_header); none = λ no_. absurd (no_ (record { low = low_one word (2 * (spot setup chunk).place) low_set; high = none })) };
+      says = record { some = λ _. (finds.one, refl, finds.of_header); none = λ no_. absurd (no_ written) };
     })
     (λ high_set. record { found = None; there = λ one e. absurd cc; says = record { some = λ (s : HasState word (spot setup chunk).place state.BeingWritten). absurd (high_set s.high); none = λ _. refl } }))
   where
-    watch_is : (chunk low high : ℕ) → low ≢ 0 → high ≡ 0 → watch_by chunk low high ≡ Started chunk
-    watch_is chunk low high one zero_ = grind (arith, nat_tests, one, zero_)
-
     low_one : (word at : ℕ) → bit_at word at ≢ 0 → bit_at word at ≡ 1
     low_one word at set_ = let below = Rattle.std.proofs.lemmas.Nat.Bits.bit_at-lt word at in omega (arith, set_)
 

@@ -18,20 +18,20 @@ use Rattle.chunk_plain.specs.Words.{LooksAt}
 use Rattle.chunk_plain.specs.Plain.{IsKept}
 use Rattle.chunk_plain.proofs.Owned.{looks_owned}
 use Rattle.chunk_plain.proofs.KeptService.{serviced_shown, header_reads, take_kept}
-use Rattle.chunk_words.specs.Knows.{Watch, Tale, Desk, Nothing, Full, Known, Lifted, Service, hand_with}
+use Rattle.chunk_words.specs.Knows.{Watch, Tale, Desk, Nothing, Peeked, Known, Lifted, Service, hand_with}
 use Rattle.chunk_words.specs.Places.{front_place, payload_start, payload_words}
 use Rattle.chunk_words.specs.Rule.{Roll, IsIn, IsOf, IsRead, IsCompleteChunk, IsWatched, HasHeader, IsMade, IsTrue, IsManned, IsShared}
 use Rattle.chunk_words.specs.GoesOn.{GoesOn}
 use Rattle.chunk_words.specs.Told.{ShowsTold, TellsComplete}
 use Rattle.chunk_words.proofs.Telling.{told_ready, packed_back, look_shows}
 use Rattle.chunk_words.proofs.Passing.{goes_same, goes_further, goes_look, goes_take}
-use Rattle.chunk_words.specs.Moves.{Mine, watch_for, IsSeen, IsTakenWith, Peeks, Recalls, Looks, Serves, Takes, Loads}
+use Rattle.chunk_words.specs.Moves.{Mine, IsSeen, IsTakenWith, Peeks, ReadsHeader, Recalls, Looks, Misses, Serves, Takes, Loads}
 use Rattle.chunk_words.proofs.Standing.{words_front}
 use Rattle.chunk_words.proofs.Bodies.{with_service_hand, in_before_service, bodies_stay, bodies_out}
 use Rattle.chunk_words.proofs.Turns.{served_change, serviced_change, service_turn}
 use Rattle.chunk_words.proofs.WriterMoves.{Table, front_many, page_front, page_is, chunk_inside}
 use Rattle.chunk_words.proofs.WriterEnds.{words_loaded}
-use Rattle.chunk_words.proofs.ServiceFinds.{watch_holds, finds_by, watch_on, watch_on_true, tells_of}
+use Rattle.chunk_words.proofs.ServiceFinds.{stays_found, finds_by, watch_on, watch_on_true, tells_of}
 
 pub header_is : (setup : Setup) (s : Table) (r : IsShared setup s) (chunk : ℕ) → chunk < length setup.spots → get_or s.words (front_place (setup.pages + chunk)) 0 ≡ header_word setup r.front chunk
 header_is setup s r chunk inside = r.words.front_is (setup.pages + chunk) (omega arith)
@@ -72,17 +72,17 @@ module _ (setup : Setup) (count id made : ℕ) (desk : Desk) where
 
   pub peeks_allowed : (chunk : ℕ) (watch : Watch) (v : ServiceView) → chunk < length setup.spots
       → Allows (IsShared setup) count id (Service 0 made desk watch v, []) (front_place (spot setup chunk).page) (λ found. found)
-      (Peeks setup chunk (spot setup chunk).place (Service 0 made desk watch v, []))
+      (Peeks setup chunk (Service 0 made desk watch v, []))
   peeks_allowed chunk watch v inside s r deep at small =
       let f = r.manned.each id (Service 0 made desk watch v) at in
       let found = get_or s.words (front_place (spot setup chunk).page) 0 in
       let state = subst (λ w. HasState w (spot setup chunk).place (state_of (status r.world chunk))) (sym (page_is setup s r chunk inside)) (r.kept.shown.page chunk inside).state in
-      let seen = watch_for chunk found (spot setup chunk).place in (
+      let seen = Peeked chunk found in (
         Service 0 made desk seen v,
         keeps,
         tt,
         subst (λ z. IsShared setup (record { words = set s.words (front_place (spot setup chunk).page) found; homes = s.homes; views = set s.views id (Service 0 made desk seen z) })) (sym f.0)
-            (serviced_allowed setup s r id (front_place (spot setup chunk).page) made desk watch seen v r.world.service at r.kept (λ _. goes_same r.world.service) (λ i tale there true_. true_.1) (watch_holds setup r.world chunk found (spot setup chunk).place state)),
+            (serviced_allowed setup s r id (front_place (spot setup chunk).page) made desk watch seen v r.world.service at r.kept (λ _. goes_same r.world.service) (λ i tale there true_. true_.1) (stays_found found (spot setup chunk).place (status r.world chunk) state)),
         record {
           new_is = refl;
           told = λ i id_ tale content there begun untaken.
@@ -92,10 +92,10 @@ module _ (setup : Setup) (count id made : ℕ) (desk : Desk) where
       )
 
   pub finds_allowed : (chunk word : ℕ) (v : ServiceView) → chunk < length setup.spots → TellsComplete setup chunk word v desk
-      → Allows (IsShared setup) count id (Service 0 made desk (watch_for chunk word (spot setup chunk).place) v, []) (front_place (setup.pages + chunk)) (λ found. found)
-      (Looks setup chunk word (Service 0 made desk (watch_for chunk word (spot setup chunk).place) v, []))
+      → Allows (IsShared setup) count id (Service 0 made desk (Peeked chunk word) v, []) (front_place (setup.pages + chunk)) (λ found. found)
+      (Looks setup chunk word (Service 0 made desk (Peeked chunk word) v, []))
   finds_allowed chunk word v inside told s r deep at small =
-      let watch = watch_for chunk word (spot setup chunk).place in
+      let watch = Peeked chunk word in
       let f = r.manned.each id (Service 0 made desk watch v) at in
       let header = get_or s.words (front_place (setup.pages + chunk)) 0 in let is = header_is setup s r chunk inside in
       let finds = finds_by setup r.front r.slots r.world chunk word r.kept inside f.5 in
@@ -112,6 +112,7 @@ module _ (setup : Setup) (count id made : ℕ) (desk : Desk) where
               (head_of content, subst (λ w. IsHeader setup w tale.place id_ (head_of content)) (sym (packed_back setup header tale.place id_ (head_of content) shows)) shows),
             ))) tt,
         record {
+          peeked = refl;
           view = view;
           looks = record {
             found = finds.found;
@@ -143,19 +144,19 @@ module _ (setup : Setup) (count id made : ℕ) (desk : Desk) where
 
   -- ---- take: the header of a complete chunk, then the state
 
-  pub knows_allowed : (chunk : ℕ) (v : ServiceView) → chunk < length setup.spots
-      → Allows (IsShared setup) count id (Service 0 made desk (Full chunk) v, []) (front_place (setup.pages + chunk)) (λ found. found)
-      (λ found new. new ≡ (Service 0 made desk (Known chunk found) v, []))
-  knows_allowed chunk v inside s r deep at small =
-      let f = r.manned.each id (Service 0 made desk (Full chunk) v) at in
+  pub knows_allowed : (chunk word : ℕ) (v : ServiceView) → chunk < length setup.spots → HasState word (spot setup chunk).place state.Complete
+      → Allows (IsShared setup) count id (Service 0 made desk (Peeked chunk word) v, []) (front_place (setup.pages + chunk)) (λ found. found)
+      (ReadsHeader chunk word (Service 0 made desk (Peeked chunk word) v, []))
+  knows_allowed chunk word v inside complete s r deep at small =
+      let f = r.manned.each id (Service 0 made desk (Peeked chunk word) v) at in
       let header = get_or s.words (front_place (setup.pages + chunk)) 0 in
       let shows = subst (λ w. ShowsHeader setup w (status r.world chunk)) (sym (header_is setup s r chunk inside)) (r.kept.shown.header chunk inside) in (
-        Service 0 made desk (Known chunk header) v,
+        Service 0 made desk (Known chunk word header) v,
         keeps,
         tt,
-        subst (λ z. IsShared setup (record { words = set s.words (front_place (setup.pages + chunk)) header; homes = s.homes; views = set s.views id (Service 0 made desk (Known chunk header) z) })) (sym f.0)
-            (serviced_allowed setup s r id (front_place (setup.pages + chunk)) made desk (Full chunk) (Known chunk header) v r.world.service at r.kept (λ _. goes_same r.world.service) (λ i tale there true_. true_.1) (full_header header (status r.world chunk) f.5 shows)),
-        refl,
+        subst (λ z. IsShared setup (record { words = set s.words (front_place (setup.pages + chunk)) header; homes = s.homes; views = set s.views id (Service 0 made desk (Known chunk word header) z) })) (sym f.0)
+            (serviced_allowed setup s r id (front_place (setup.pages + chunk)) made desk (Peeked chunk word) (Known chunk word header) v r.world.service at r.kept (λ _. goes_same r.world.service) (λ i tale there true_. true_.1) (full_header header (status r.world chunk) (f.5.complete complete) shows)),
+        record { peeked = refl; new_is = refl },
       )
     where
       full_header : (header : ℕ) (is : Status) → IsCompleteChunk is → ShowsHeader setup header is → HasHeader setup header is
@@ -166,21 +167,21 @@ module _ (setup : Setup) (count id made : ℕ) (desk : Desk) where
       full_header header (Rattle.chunk_plain.specs.World.Writing k i d) full shows = absurd full
       full_header header (Reading k i m) full shows = absurd full
 
-  pub misses_allowed : (chunk word header index : ℕ) (v : ServiceView) → HasState word (spot setup chunk).place state.Complete
-      → Allows (IsShared setup) count id (Service 0 made desk (Known chunk header) v, []) index (λ found. found)
-      (λ _. Serves (λ view. looks_at view chunk word header None) (Service 0 made desk (Known chunk header) v, []))
+  pub misses_allowed : (chunk word : ℕ) (header : ChunkHeader) (index : ℕ) (v : ServiceView) → HasState word (spot setup chunk).place state.Complete
+      → Allows (IsShared setup) count id (Service 0 made desk (Known chunk word (packed header)) v, []) index (λ found. found)
+      (λ _. Misses chunk word header (Service 0 made desk (Known chunk word (packed header)) v, []))
   misses_allowed chunk word header index v complete s r deep at small =
-      let watch = Known chunk header in let f = r.manned.each id (Service 0 made desk watch v) at in
-      let view = looks_at r.world.service chunk word header None in
-      let kept = serviced_shown setup r.front r.slots r.world view r.kept (looks_owned r.world chunk word header None r.kept.owned (λ one e. absurd cc)) in (
-        Service 0 made desk Nothing (looks_at v chunk word header None),
+      let watch = Known chunk word (packed header) in let f = r.manned.each id (Service 0 made desk watch v) at in
+      let view = looks_at r.world.service chunk word (packed header) None in
+      let kept = serviced_shown setup r.front r.slots r.world view r.kept (looks_owned r.world chunk word (packed header) None r.kept.owned (λ one e. absurd cc)) in (
+        Service 0 made desk Nothing (looks_at v chunk word (packed header) None),
         keeps,
         tt,
-        subst (λ z. IsShared setup (record { words = set s.words index (get_or s.words index 0); homes = s.homes; views = set s.views id (Service 0 made desk Nothing (looks_at z chunk word header None)) })) (sym f.0)
-            (serviced_allowed setup s r id index made desk watch Nothing v view at kept (λ _. goes_look r.world.service chunk word header None)
-            (look_shows setup r.world desk chunk word header None r.kept.owned (λ i id_ tale content there begun untaken ready.
-            (complete, (head_of content, subst (λ t. HasHeader setup header t) ready f.5)))) tt),
-        record { new_is = refl; seen = seen_now setup r.front r.slots (serviced r.world view) (looks_at v chunk word header None) kept (ap (λ z. looks_at z chunk word header None) (sym f.0)) },
+        subst (λ z. IsShared setup (record { words = set s.words index (get_or s.words index 0); homes = s.homes; views = set s.views id (Service 0 made desk Nothing (looks_at z chunk word (packed header) None)) })) (sym f.0)
+            (serviced_allowed setup s r id index made desk watch Nothing v view at kept (λ _. goes_look r.world.service chunk word (packed header) None)
+            (look_shows setup r.world desk chunk word (packed header) None r.kept.owned (λ i id_ tale content there begun untaken ready.
+            (complete, (head_of content, subst (λ t. HasHeader setup (packed header) t) ready f.5)))) tt),
+        record { known = refl; serves = record { new_is = refl; seen = seen_now setup r.front r.slots (serviced r.world view) (looks_at v chunk word (packed header) None) kept (ap (λ z. looks_at z chunk word (packed header) None) (sym f.0)) } },
       )
 
   -- the status of a chunk that is known to be complete
@@ -203,11 +204,11 @@ module _ (setup : Setup) (count id made : ℕ) (desk : Desk) where
       → HasState word (spot setup chunk).place state.Complete → (unpacked header).writer_id ≡ place + 1 → (unpacked header).chunk_id ≡ (taken_of v place).count
       → ((found : ℕ) → found < 2 ^ 64 → HasState found (spot setup chunk).place state.Complete → SetsState found (bit_and found mask) (spot setup chunk).place state.BeingRead)
       → ((found : ℕ) → KeepsOthers found (bit_and found mask) (spot setup chunk).place)
-      → Allows (IsShared setup) count id (Service 0 made desk (Known chunk header) v, []) (front_place (spot setup chunk).page) (λ found. bit_and found mask)
-      (λ _. Takes place chunk (spot setup chunk).payload_size word (unpacked header) (Service 0 made desk (Known chunk header) v, []))
+      → Allows (IsShared setup) count id (Service 0 made desk (Known chunk word header) v, []) (front_place (spot setup chunk).page) (λ found. bit_and found mask)
+      (λ _. Takes place chunk (spot setup chunk).payload_size word (unpacked header) (Service 0 made desk (Known chunk word header) v, []))
   takes_allowed place chunk word header mask v inside inside_w complete writer_is id_is sets keep s r deep at small =
       let at_ = spot setup chunk in let found = get_or s.words (front_place at_.page) 0 in let new = bit_and found mask in
-      let world = r.world in let f = r.manned.each id (Service 0 made desk (Known chunk header) v) at in
+      let world = r.world in let f = r.manned.each id (Service 0 made desk (Known chunk word header) v) at in
       let is = page_is setup s r chunk inside in let c_inside = chunk_inside setup s r chunk inside in
       let known = known_by world chunk header (status world chunk) refl f.5 in let content = known.content in
       let reads = header_reads setup header known.place known.at_id (head_of content) known.header_is in
@@ -232,7 +233,7 @@ module _ (setup : Setup) (count id made : ℕ) (desk : Desk) where
       let roll = with_service_hand r.roll (hand_with chunk) in
       let i = (unpacked header).chunk_id in
       let i_is : i ≡ n = fields_id ∙ same_id in
-      let turn = service_turn setup world next r.roll s.views id 0 (hand_with chunk) made desk (Known chunk header) (Lifted chunk place i content) v view r.manned at
+      let turn = service_turn setup world next r.roll s.views id 0 (hand_with chunk) made desk (Known chunk word header) (Lifted chunk place i content) v view r.manned at
       (served_change world chunk view to c_inside (λ other has. absurd (subst (IsOf other) ready has)))
       (λ _. goes_further world.service (looks_at world.service chunk word (packed (unpacked header)) None) view (goes_look world.service chunk word (packed (unpacked header)) None) (goes_take _ place chunk))
       (look_shows setup world desk chunk word (packed (unpacked header)) None r.kept.owned (λ i id_ tale content_ there begun untaken ready_.
@@ -257,6 +258,7 @@ module _ (setup : Setup) (count id made : ℕ) (desk : Desk) where
           manned = subst (λ z. IsManned setup next roll (set s.views id (Service (hand_with chunk) made desk (Lifted chunk place i content) (takes_in (looks_at z chunk word (packed (unpacked header)) None) place chunk)))) (sym f.0) turn;
         },
         record {
+          known = ap (Known chunk word) (sym (packed_back setup header known.place known.at_id (head_of content) known.header_is));
           content = content;
           body = slot.body.0;
           with_header = record {

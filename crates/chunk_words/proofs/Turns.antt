@@ -9,7 +9,7 @@ use Rattle.chunk_plain.specs.Views.{At, BegunChunk, Completed, WriterView, Servi
 use Rattle.chunk_plain.specs.World.{World, Status, Unclaimed, Claimed, Stamped, Writing, Ready, Reading, status, writer}
 use Rattle.chunk_plain.specs.Steps.{moved, with_writer_view, served, serviced}
 use Rattle.chunk_plain.proofs.Lists.{changed, at_one, at_inside}
-use Rattle.chunk_words.specs.Knows.{Watch, Desk, Nothing, Started, Full, Known, Lifted, Tale, Knows, Spent, Writer, Service, Pass, Report, hand_with, place_of, put}
+use Rattle.chunk_words.specs.Knows.{Watch, Desk, Nothing, Peeked, Known, Lifted, Tale, Knows, Spent, Writer, Service, Pass, Report, hand_with, place_of, put}
 use Rattle.chunk_words.specs.Rule.{Roll, IsOf, IsRead, IsStarted, IsCompleteChunk, HasHeader, IsWatched, IsMade, IsTrue, Fits, IsManned}
 use Rattle.chunk_words.specs.Told.{StaysCompleted, ShowsTold}
 use Rattle.chunk_words.specs.GoesOn.{GoesOn}
@@ -99,9 +99,11 @@ header_stays setup header (Reading place id content) is same has = absurd has
 watch_stays : (setup : Setup) (world next : World) (place : ℕ) (watch : Watch) → ((chunk : ℕ) → Still place (status world chunk) (status next chunk))
     → IsWatched setup world watch → IsWatched setup next watch
 watch_stays setup world next place Nothing still is = tt
-watch_stays setup world next place (Started chunk) still is = (still chunk).started is
-watch_stays setup world next place (Full chunk) still is = subst IsCompleteChunk (sym ((still chunk).full is)) is
-watch_stays setup world next place (Known chunk header) still is = header_stays setup header (status world chunk) (status next chunk) ((still chunk).full) is
+watch_stays setup world next place (Peeked chunk word) still is = record {
+  started = λ s. (still chunk).started (is.started s);
+  complete = λ c. let was = is.complete c in subst IsCompleteChunk (sym ((still chunk).full was)) was;
+}
+watch_stays setup world next place (Known chunk word header) still is = header_stays setup header (status world chunk) (status next chunk) ((still chunk).full) is
 watch_stays setup world next place (Lifted chunk other id content) still is = (still chunk).read (subst IsRead (sym is) tt) ∙ is
 
 fits_on : (setup : Setup) (world next : World) (roll : Roll) (seat place hand : ℕ) (view : WriterView) (knows : Knows) → IsWriterChange world next place view

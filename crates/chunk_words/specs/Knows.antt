@@ -5,12 +5,10 @@ use Rattle.chunk_plain.specs.Views.{Content, BegunChunk, WriterView, newcomer, S
 -- What the service found at one step of a call and relies on at the next one.
 pub data Watch : Type 0 where
   Nothing : Watch
-  -- the chunk was being written: it still is, or it is complete
-  Started : (chunk : ℕ) → Watch
-  -- the chunk is complete
-  Full : (chunk : ℕ) → Watch
-  -- it is complete, with this header word
-  Known : (chunk header : ℕ) → Watch
+  -- this page word was found, and what it said of the chunk is so still
+  Peeked : (chunk word : ℕ) → Watch
+  -- by this page word the chunk was found complete, and it is, with this header word
+  Known : (chunk word header : ℕ) → Watch
   -- it is being read, of this writer and under this id, with this content
   Lifted : (chunk place id : ℕ) → Content → Watch
 

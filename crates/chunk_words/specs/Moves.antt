@@ -24,7 +24,7 @@ use Rattle.chunk_words.specs.declared.moves.Move.{Move}
 use Rattle.chunk_words.specs.declared.moves.Move.TheVariants.{Ask, Claim, Stamp, Begin, SetHeader, Publish, Fetch, Complete as CompleteStep, Call as CallStep, Peek, Find, Know, Miss, Take, Load, Learn, Lift, Release, Event, NoteRead, Recall, Commit}
 use Rattle.chunk_words.specs.GoesOn.{GoesOn}
 use Rattle.chunk_words.specs.Told.{ShowsAllTold, TellsComplete}
-use Rattle.chunk_words.specs.Knows.{Watch, Nothing, Started, Full, Known, Lifted, Here, Knows, Service, hand_with, made_of, desk_of, stage_of, staged, with_stage, no_content, hand_of, view_of, place_of, service_of, watch_of, by_writer, by_service}
+use Rattle.chunk_words.specs.Knows.{Watch, Nothing, Peeked, Known, Lifted, Here, Knows, Service, hand_with, made_of, desk_of, stage_of, staged, with_stage, no_content, hand_of, view_of, place_of, service_of, watch_of, by_writer, by_service}
 
 -- what a seat knows and has
 abbrev pub Mine : Type 0
@@ -33,11 +33,6 @@ Mine = Me (Option CommitBody) Knows
 -- the claim bit of the chunk at this place is clear
 abbrev pub is_clear : ℕ → ℕ → Bool
 is_clear word place = not (bit_at word (CLAIM_BIT + place) == 1)
-
--- what the service watches once it found a page word
-abbrev pub watch_for : (chunk word place : ℕ) → Watch
-watch_for chunk word place =
-    if bit_at word (2 * place) == 0 then Nothing else if bit_at word (2 * place + 1) == 0 then Started chunk else Full chunk
 
 -- the body in the slot that was taken last
 abbrev pub body_in : List (ℕ × Option CommitBody) → Option CommitBody
@@ -140,17 +135,19 @@ Completes chunk id body me new =
 abbrev pub Notes : Call → Mine → Mine → Type 0
 Notes call me new = new ≡ (by_writer 0 (λ view. notes_call view call) me.0, [])
 
--- the page word is found, and what it says is watched; it shows the chunk complete where that was told
-pub record Peeks (setup : Setup) (chunk place : ℕ) (me : Mine) (found : ℕ) (new : Mine) : Type 0 where
-  pub new_is : new ≡ (by_service 0 (watch_for chunk found place) (λ view. view) me.0, [])
+-- the page word is found and watched; it shows the chunk complete where that was told
+pub record Peeks (setup : Setup) (chunk : ℕ) (me : Mine) (found : ℕ) (new : Mine) : Type 0 where
+  pub new_is : new ≡ (by_service 0 (Peeked chunk found) (λ view. view) me.0, [])
   pub told : TellsComplete setup chunk found (service_of me.0) (desk_of me.0)
 
--- the header of a complete chunk is found
-abbrev pub ReadsHeader : (chunk : ℕ) → Mine → ℕ → Mine → Type 0
-ReadsHeader chunk me found new = new ≡ (by_service 0 (Known chunk found) (λ view. view) me.0, [])
+-- the header of a chunk is found whose page word was found
+pub record ReadsHeader (chunk word : ℕ) (me : Mine) (found : ℕ) (new : Mine) : Type 0 where
+  pub peeked : watch_of me.0 ≡ Peeked chunk word
+  pub new_is : new ≡ (by_service 0 (Known chunk word found) (λ view. view) me.0, [])
 
--- the chunk is looked at, after its page word was found
+-- The chunk is looked at. The look has the page word that was found before, and the header word that is found now.
 pub record Looks (setup : Setup) (chunk word : ℕ) (me : Mine) (header : ℕ) (new : Mine) : Type 0 where
+  pub peeked : watch_of me.0 ≡ Peeked chunk word
   pub view : ServiceView
   pub looks : LooksAt setup chunk word (unpacked header) (service_of me.0) view
   pub new_is : new ≡ (by_service 0 Nothing (λ _. view) me.0, [])
@@ -160,6 +157,11 @@ pub record Looks (setup : Setup) (chunk word : ℕ) (me : Mine) (header : ℕ) (
 pub record Serves (step : ServiceView → ServiceView) (me new : Mine) : Type 0 where
   pub new_is : new ≡ (by_service 0 Nothing step me.0, [])
   pub seen : IsSeen (step (service_of me.0))
+
+-- a look is noted that has the page word and the header word that were found before
+pub record Misses (chunk word : ℕ) (header : ChunkHeader) (me new : Mine) : Type 0 where
+  pub known : watch_of me.0 ≡ Known chunk word (packed header)
+  pub serves : Serves (λ view. looks_at view chunk word (packed header) None) me new
 
 -- A read is noted while the reading pass is with the service: the service's view goes on from the pass's, and both are one behind it.
 pub record NotesRead (event : Noted) (me new : Mine) : Type 0 where
@@ -177,6 +179,7 @@ pub record Recalls (setup : Setup) (me new : Mine) : Type 0 where
 
 -- The chunk is taken, whose page word and header were found: the slot is out with the service.
 pub record Takes (place chunk size word : ℕ) (header : ChunkHeader) (me new : Mine) : Type 0 where
+  pub known : watch_of me.0 ≡ Known chunk word (packed header)
   pub content : Content
   pub body : CommitBody
   pub with_header : IsTakenWith place header.chunk_id size header content body
@@ -221,7 +224,7 @@ pub record FindsReady (setup : Setup) (chunk writer id word : ℕ) (header : Chu
   pub fields : unpacked (packed header) ≡ header
   pub count_fits : header.count ≤ MAX_FRAGMENTS
   pub flags_fit : header.flags ≤ MAX_FLAGS
-  pub new_is : new ≡ (by_service 0 (Known chunk (packed header)) (λ view. view) me.0, [])
+  pub new_is : new ≡ (by_service 0 (Known chunk word (packed header)) (λ view. view) me.0, [])
 
 -- the content that the service watches
 abbrev pub watched : Watch → Content
@@ -239,10 +242,10 @@ After (Publish chunk id index word) me found new = Publishes chunk id index word
 After (Fetch chunk) me found new = Fetches chunk me new
 After (CompleteStep chunk id) me found new = IfSome (body_in me.1) (λ body. Completes chunk id body me new)
 After (CallStep call) me found new = Notes (call_of call) me new
-After (Peek layout chunk place) me found new = Peeks layout.now chunk place me found new
+After (Peek layout chunk) me found new = Peeks layout.now chunk me found new
 After (Find layout chunk word) me found new = Looks layout.now chunk word me found new
-After (Know chunk) me found new = ReadsHeader chunk me found new
-After (Miss chunk word header) me found new = Serves (λ view. looks_at view chunk word (packed header) None) me new
+After (Know chunk word) me found new = ReadsHeader chunk word me found new
+After (Miss chunk word header) me found new = Misses chunk word header me new
 After (Take place chunk word header payload_size) me found new = Takes place chunk payload_size word header me new
 After (Load chunk index payload_size) me found new = Loads chunk index payload_size me found new
 After (Learn place) me found new = Serves (λ view. learns view place (watched (watch_of me.0))) me new

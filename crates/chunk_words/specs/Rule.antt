@@ -5,14 +5,16 @@ use mathlib.Core.Option.{some}
 use lib.ListN.{get_elem?}
 use Rattle.atomic_table.specs.Table.{State}
 use Rattle.commit_body.specs.declared.body.CommitBody.{CommitBody}
-use Rattle.chunk_plain.specs.Setup.{Setup, IsLaid}
+use Rattle.page_geometry.specs.declared.chunk_state.ChunkState.TheVariants.{BeingWritten, Complete}
+use Rattle.page_geometry.specs.PageBits.{HasState}
+use Rattle.chunk_plain.specs.Setup.{Setup, IsLaid, spot}
 use Rattle.chunk_plain.specs.Views.{At, WriterView, ServiceView, newcomer}
 use Rattle.chunk_plain.specs.World.{World, Status, Claimed, Stamped, Writing, Ready, Reading, status, writer}
 use Rattle.chunk_plain.specs.Drafts.{head_of}
 use Rattle.chunk_plain.specs.Stored.{Stored, stored_at}
 use Rattle.chunk_plain.specs.Shows.{IsHeader}
 use Rattle.chunk_plain.specs.Plain.{IsKept, first_world}
-use Rattle.chunk_words.specs.Knows.{Watch, Nothing, Started, Full, Known, Lifted, Stage, Unmade, Away, Here, Tale, Desk, first_desk, Knows, Spent, Writer, Service, Pass, Report, hand_with}
+use Rattle.chunk_words.specs.Knows.{Watch, Nothing, Peeked, Known, Lifted, Stage, Unmade, Away, Here, Tale, Desk, first_desk, Knows, Spent, Writer, Service, Pass, Report, hand_with}
 use Rattle.chunk_words.specs.Told.{StaysCompleted, ShowsTold}
 use Rattle.chunk_words.specs.GoesOn.{GoesOn}
 use Rattle.chunk_words.specs.Places.{front_place, front_count, payload_start, payload_words, word_total}
@@ -77,12 +79,16 @@ abbrev pub HasHeader : Setup → ℕ → Status → Type 0
 HasHeader setup header (Ready place id content) = IsHeader setup header place id (head_of content)
 HasHeader setup header _ = ⊥
 
+-- What a page word said of the chunk at this place is so still: one that was being written is so or is complete, and one that was complete is complete.
+pub record StaysFound (word place : ℕ) (is : Status) : Type 0 where
+  pub started : HasState word place BeingWritten → IsStarted is
+  pub complete : HasState word place Complete → IsCompleteChunk is
+
 -- what the service found is so still
 abbrev pub IsWatched : Setup → World → Watch → Type 0
 IsWatched setup world Nothing = Unit {0}
-IsWatched setup world (Started chunk) = IsStarted (status world chunk)
-IsWatched setup world (Full chunk) = IsCompleteChunk (status world chunk)
-IsWatched setup world (Known chunk header) = HasHeader setup header (status world chunk)
+IsWatched setup world (Peeked chunk word) = StaysFound word (spot setup chunk).place (status world chunk)
+IsWatched setup world (Known chunk word header) = HasHeader setup header (status world chunk)
 IsWatched setup world (Lifted chunk place id content) = status world chunk ≡ Reading place id content
 
 -- these are the views of the first writers, which have no slot

@@ -52,7 +52,6 @@ pub enum Move<'a> {
     Peek {
         layout: &'a Layout,
         chunk: u32,
-        place: u8,
     },
     /// The header word is read, and the look is noted.
     Find {
@@ -63,6 +62,7 @@ pub enum Move<'a> {
     /// The header word of a complete chunk is read.
     Know {
         chunk: u32,
+        word: u64,
     },
     /// The look at a chunk that wasn't the one asked for is noted.
     Miss {

@@ -140,7 +140,7 @@ impl HostTable {
                 header,
             });
         }
-        let header = ChunkHeader::unpack(self.step_know(seat, chunk));
+        let header = ChunkHeader::unpack(self.step_know(seat, chunk, word));
         if header.writer_id != writer || header.chunk_id != id {
             self.step_miss(seat, chunk, word, header);
             return Err(NotComplete {
@@ -166,7 +166,7 @@ impl HostTable {
         requires writer { writer < length self.now.layout.writers }
         requires serving { IsServing self.now.layout (service_of seat.old.seat.me.0) }
         requires complete { HasState word (spot self.now.layout chunk).place Complete }
-        requires watch { watch_of seat.old.seat.me.0 ≡ Known chunk (packed header) }
+        requires watch { watch_of seat.old.seat.me.0 ≡ Known chunk word (packed header) }
         requires fields { unpacked (packed header) ≡ header }
         requires writer_is { header.writer_id ≡ writer + 1 }
         requires next { header.chunk_id ≡ (taken_of (service_of seat.old.seat.me.0) writer).count }

@@ -6,10 +6,10 @@ ghost use Rattle.page_geometry.specs.declared.chunk_state.ChunkState.TheVariants
 ghost use Rattle.chunk_plain.specs.Setup.{spot};
 ghost use Rattle.chunk_plain.specs.Views.{taken_of};
 ghost use Rattle.chunk_plain.specs.Owned.{times};
-ghost use Rattle.chunk_plain.specs.Steps.{looks_at, learns, lets_go, notes, notes_commit};
+ghost use Rattle.chunk_plain.specs.Steps.{learns, lets_go, notes, notes_commit};
 ghost use Rattle.chunk_plain.specs.Words.{IsReadEvent, event_of, committed_of};
-ghost use Rattle.chunk_words.specs.Knows.{Full, Known, Lifted, Unmade, desk_of, stage_of, watch_of, service_of};
-ghost use Rattle.chunk_words.specs.Moves.{watch_for, watched, body_in, Peeks, Looks, ReadsHeader, Serves, Takes, Loads, Lifts};
+ghost use Rattle.chunk_words.specs.Knows.{Peeked, Known, Lifted, Unmade, desk_of, stage_of, watch_of, service_of};
+ghost use Rattle.chunk_words.specs.Moves.{watched, body_in, Peeks, Looks, ReadsHeader, Misses, Serves, Takes, Loads, Lifts};
 ghost use Rattle.chunk_words.specs.Places.{payload_start, payload_words};
 ghost use Rattle.chunk_words.specs.Told.{TellsComplete};
 ghost use Rattle.chunk_words.specs.Seats.{IsServiceIdle, IsService, HasLifted};
@@ -30,13 +30,12 @@ impl HostTable {
         requires idle { IsServiceIdle seat.old.seat.me }
         requires chunk { chunk < length self.now.layout.spots }
         ensures seat { seat.new.seat.table_id ≡ seat.old.seat.table_id }
-        ensures me { Peeks self.now.layout chunk (spot self.now.layout chunk).place seat.old.seat.me result seat.new.seat.me }
+        ensures me { Peeks self.now.layout chunk seat.old.seat.me result seat.new.seat.me }
     {
         let spot = self.layout.spot(chunk);
         let step = Move::Peek {
             layout: &self.layout,
             chunk,
-            place: spot.place,
         };
         let table = &self.table;
         make_load(
@@ -52,7 +51,7 @@ impl HostTable {
         requires seat { seat.old.seat.table_id ≡ self.now.table.shared.table_id }
         requires idle { IsServiceIdle seat.old.seat.me }
         requires chunk { chunk < length self.now.layout.spots }
-        requires watch { watch_of seat.old.seat.me.0 ≡ watch_for chunk word (spot self.now.layout chunk).place }
+        requires watch { watch_of seat.old.seat.me.0 ≡ Peeked chunk word }
         requires told { TellsComplete self.now.layout chunk word (service_of seat.old.seat.me.0) (desk_of seat.old.seat.me.0) }
         ensures seat { seat.new.seat.table_id ≡ seat.old.seat.table_id }
         ensures me { Looks self.now.layout chunk word seat.old.seat.me result seat.new.seat.me }
@@ -72,20 +71,21 @@ impl HostTable {
     }
 
     /// Reads the header word of a chunk that was found complete.
-    pub(crate) fn step_know(&self, seat: &mut ServiceSeat, chunk: u32) -> u64
+    pub(crate) fn step_know(&self, seat: &mut ServiceSeat, chunk: u32, word: u64) -> u64
         requires seat { seat.old.seat.table_id ≡ self.now.table.shared.table_id }
         requires idle { IsServiceIdle seat.old.seat.me }
         requires chunk { chunk < length self.now.layout.spots }
-        requires watch { watch_of seat.old.seat.me.0 ≡ Full chunk }
+        requires complete { HasState word (spot self.now.layout chunk).place Complete }
+        requires watch { watch_of seat.old.seat.me.0 ≡ Peeked chunk word }
         ensures seat { seat.new.seat.table_id ≡ seat.old.seat.table_id }
-        ensures me { ReadsHeader chunk seat.old.seat.me result seat.new.seat.me }
+        ensures me { ReadsHeader chunk word seat.old.seat.me result seat.new.seat.me }
     {
         let table = &self.table;
         make_load(
             &table.shared,
             &mut seat.seat,
             self.header_index(chunk),
-            &Move::Know { chunk },
+            &Move::Know { chunk, word },
         )
     }
 
@@ -99,10 +99,10 @@ impl HostTable {
     )
         requires seat { seat.old.seat.table_id ≡ self.now.table.shared.table_id }
         requires idle { IsServiceIdle seat.old.seat.me }
-        requires watch { watch_of seat.old.seat.me.0 ≡ Known chunk (packed header) }
+        requires watch { watch_of seat.old.seat.me.0 ≡ Known chunk word (packed header) }
         requires complete { HasState word (spot self.now.layout chunk).place Complete }
         ensures seat { seat.new.seat.table_id ≡ seat.old.seat.table_id }
-        ensures me { Serves (λ view. looks_at view chunk word (packed header) None) seat.old.seat.me seat.new.seat.me }
+        ensures me { Misses chunk word header seat.old.seat.me seat.new.seat.me }
     {
         let step = Move::Miss {
             chunk,
@@ -127,7 +127,7 @@ impl HostTable {
         requires chunk { chunk < length self.now.layout.spots }
         requires writer { writer < length self.now.layout.writers }
         requires complete { HasState word (spot self.now.layout chunk).place Complete }
-        requires watch { watch_of seat.old.seat.me.0 ≡ Known chunk (packed header) }
+        requires watch { watch_of seat.old.seat.me.0 ≡ Known chunk word (packed header) }
         requires fields { unpacked (packed header) ≡ header }
         requires writer_is { header.writer_id ≡ writer + 1 }
         requires next { header.chunk_id ≡ (taken_of (service_of seat.old.seat.me.0) writer).count }

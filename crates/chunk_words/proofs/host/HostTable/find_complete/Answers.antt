@@ -18,8 +18,8 @@ returns-then-ne-clause-seat c =
 
 pub returns-then-header-writer-clause-seat : goal.returns-then-header-writer-clause-seat
 returns-then-header-writer-clause-seat c =
-    let self = c.args.self.now in let seat = c.args.seat.now in let serves = c.step_miss.ensures.me in let serving = c.requires.seat.waits.serving in
-    let known = ap (λ (m : Mine). m.0) c.step_know.ensures.me ∙ ap (λ (m : Mine). let k : Knows = by_service 0 (Rattle.chunk_words.specs.Knows.Known c.args.chunk c.step_know.result) (λ v. v) m.0 in k) c.step_peek-word.ensures.me.new_is in
+    let self = c.args.self.now in let seat = c.args.seat.now in let serves = c.step_miss.ensures.me.serves in let serving = c.requires.seat.waits.serving in
+    let known = ap (λ (m : Mine). m.0) c.step_know.ensures.me.new_is ∙ ap (λ (m : Mine). let k : Knows = by_service 0 (Rattle.chunk_words.specs.Knows.Known c.args.chunk c.step_peek-word.result c.step_know.result) (λ v. v) m.0 in k) c.step_peek-word.ensures.me.new_is in
     let header = c.unpack-header-2.result in
     let look : ServiceView → ServiceView = λ v. looks_at v c.args.chunk c.step_peek-word.result (packed header) None in
     attends_now self seat c.step_miss.new.seat Nothing (look (service_of seat.seat.me.0)) c.requires.seat (c.step_miss.ensures.seat ∙ (c.step_know.ensures.seat ∙ c.step_peek-word.ensures.seat))
