@@ -113,6 +113,7 @@ module _ {H : Type 0} (helps : H → ℕ → Bool → H → Type 0) (of_table : 
         has_played = record {
           writes = writes;
           place_is = place_is;
+          going = flushed.goes ∙ going.going;
           done = record {
             between = record {
               writer = (core_of after).writer;

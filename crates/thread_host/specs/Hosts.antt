@@ -35,10 +35,11 @@ pub record IsReady (lines : List NumberedLine) (table : HostTable) (place : ℕ)
   pub going : is_stalled (core_of writer) ≡ false
   pub ready : IsReadyFor (payload_at (setup_in table) place) (view_in writer) (calls_asked (suc place) lines ++ Flushed ∷ [])
 
--- It has done its lines and flushed: no packet is begun, and no chunk is held.
+-- It has done its lines and flushed: it isn't stalled, no packet is begun, and no chunk is held.
 pub record HasPlayed (lines : List NumberedLine) (table : HostTable) (place : ℕ) (writer : TraceWriter) : Type 0 where
   pub writes : Writes table writer
   pub place_is : (core_of writer).seat.place ≡ place
+  pub going : is_stalled (core_of writer) ≡ false
   pub done : HasDoneLines (setup_in table) lines place (view_in writer)
   pub none_begun : in_packet (view_in writer) ≡ false
   pub none_held : holds_chunk (core_of writer) ≡ false
