@@ -2,13 +2,15 @@
 ghost use Rattle.std.specs.Prelude.{◌≡◌, List, IfOk, OnErr};
 ghost use Rattle.byte_io.specs.Bytes.{CountsFaults};
 ghost use Rattle.trace_model.specs.History as model;
+ghost use Rattle.chunk_words.specs.Knows.{Away, with_stage};
 ghost use Rattle.chunk_words.specs.Sits.{Passes, known_by_pass};
 ghost use Rattle.scenario_text.specs.declared.scenario.LineKind.TheVariants as line;
+ghost use Rattle.service_core.specs.Agreement.{KeepsRest};
 ghost use Rattle.service_core.specs.Reading.{NotesReads, ReadsAll, FailsAmong};
 ghost use Rattle.service_core.specs.Scraping.{TakesAndScrapes};
 ghost use Rattle.service_core.specs.Taking.{Takes, places_of};
 ghost use Rattle.thread_service.specs.Reading.{IsKnownWhole, PassReads};
-ghost use Rattle.thread_service.specs.Serving.{core_of, view_in};
+ghost use Rattle.thread_service.specs.Serving.{core_of, view_in, desk_in};
 ghost use Rattle.thread_host.specs.Growing.{Grows};
 ghost use Rattle.thread_host.specs.Jobs.{FailsLine, TellsLine};
 ghost use Rattle.thread_host.specs.Keeping.{IsNamed, ServesNamed, AllOpen, BeganWith, HasOwn};
@@ -65,8 +67,10 @@ impl<N: HostName> Locked<N> {
     /// Takes the complete chunks of the producer's writers. Answers how many.
     pub fn collect(&mut self, table: &HostTable, producer: u16) -> u64
         requires table { IsNamed N.table N.setup table.now }
+        ensures keeps { KeepsRest N.setup (core_of self.old.service) (core_of self.new.service) }
         ensures takes { Takes N.setup (places_of producer 0 N.setup.writers) result
             (view_in self.old.service) (view_in self.new.service) }
+        ensures desk { desk_in self.new.service ≡ desk_in self.old.service }
     {
         self.service.collect(table, producer)
     }
@@ -74,7 +78,9 @@ impl<N: HostName> Locked<N> {
     /// Takes them, and then the finished fragments of the chunks that the writers hold.
     pub fn scrape(&mut self, table: &HostTable, producer: u16) -> u64
         requires table { IsNamed N.table N.setup table.now }
+        ensures keeps { KeepsRest N.setup (core_of self.old.service) (core_of self.new.service) }
         ensures scrapes { TakesAndScrapes N.setup producer result (view_in self.old.service) (view_in self.new.service) }
+        ensures desk { desk_in self.new.service ≡ desk_in self.old.service }
     {
         self.service.scrape(table, producer)
     }
@@ -93,6 +99,8 @@ impl<N: HostName> Locked<N> {
         requires known { IsKnownWhole (known_by_pass pass.old) }
         ensures pass { Passes table.now pass.new }
         ensures known { IsKnownWhole (known_by_pass pass.new) }
+        ensures desk { with_stage (desk_in self.new.service) Away ≡ with_stage (desk_in self.old.service) Away }
+        ensures keeps { KeepsRest N.setup (core_of self.old.service) (core_of self.new.service) }
         ensures told { IfOk result (λ _. TellsLine N.setup N.first (line.Read buffer limit)
             (known_by_pass pass.old) (known_by_pass pass.new) (O.taken out.old) (O.taken out.new)) }
         ensures reads { IfOk result (λ delivered. ReadsAll N.setup (core_of self.old.service) buffer limit
