@@ -133,12 +133,16 @@ trace_cut first second third later last failed part rest cut =
     (trace_append (third ++ failed ∷ later) last ∙ ap (λ (x : List ℕ). x ++ trace_of last) (trace_append third (failed ∷ later))))
     ∙ front_of (trace_of first) (trace_of second) (trace_of third) failed.bytes (trace_of later) (trace_of last) part rest cut
 
-pub read_fails : {T W S : Type 0} (means : Meaning T W S) (number limit : ℕ) (old : Host T W S) (new : ServiceView)
+pub read_fails : {T W S : Type 0} (means : Meaning T W S) (number limit : ℕ) (old new : Host T W S)
     (taken left : Intake) → IsServed means old.table old.helper.service
+    → IsServiceStep means old.table old.helper.service.seat new.table new.helper.service.seat
+    → KeepsRest (means.setup old.table) old.helper.service new.helper.service
     → FailsAmong (means.setup old.table) old.helper.service number limit
-    (means.service_view old.table old.helper.service.seat) new taken left
-    → FailsReading means number limit old taken left WriteFault
-read_fails means number limit old new taken left served fails =
+    (means.service_view old.table old.helper.service.seat) (means.service_view new.table new.helper.service.seat) taken left
+    → ((was : World) → means.told old.table ≡ Some was
+    → means.told new.table ≡ Some (serviced was (means.service_view new.table new.helper.service.seat)))
+    → FailsReading means number limit old taken new left WriteFault
+read_fails means number limit old new taken left served step keeps fails told =
     let setup : Setup = means.setup old.table in
     let core = old.helper.service in
     let first : List Buffer = first_of setup core in
@@ -153,6 +157,10 @@ read_fails means number limit old new taken left served fails =
     let front : List ℕ = trace_of firsts ++ (trace_of cut ++ part.part) in
     record {
       fault_is = refl;
+      setup_is = step.setup_stays;
+      first = first_stays setup core new.helper.service keeps.fields;
+      among = fails;
+      told = told;
       part = λ start is. record {
         part = trace_of written ++ front;
         rest = part.rest ++ (trace_of fails.fails.later ++ trace_of last);

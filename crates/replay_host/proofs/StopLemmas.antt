@@ -132,9 +132,9 @@ stopped_one {T} {W} {S} means laws place call old new fault stalled taken was to
 
 -- the read stops in which a write failed
 pub stopped_read : {T W S : Type 0} (means : Meaning T W S) → AreLaws means
-    → (number limit : ℕ) (old : Host T W S) (taken left : Intake) (fault : HostFault)
-    → IsHost means old → FailsReading means number limit old taken left fault → StopsIn means (ReadAll number limit ∷ []) old taken fault left
-stopped_read {T} {W} {S} means laws number limit old taken left fault host fails was told start traced = record {
+    → (number limit : ℕ) (old new : Host T W S) (taken left : Intake) (fault : HostFault)
+    → IsHost means old → FailsReading means number limit old taken new left fault → StopsIn means (ReadAll number limit ∷ []) old taken fault left
+stopped_read {T} {W} {S} means laws number limit old new taken left fault host fails was told start traced = record {
   done = [];
   act = ReadAll number limit;
   rest = [];

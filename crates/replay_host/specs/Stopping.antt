@@ -11,10 +11,11 @@ use Rattle.chunk_plain.specs.Histories.{history_of}
 use Rattle.chunk_plain.specs.Meaning.{Meaning}
 use Rattle.chunk_plain.specs.Owned.{IsOwned}
 use Rattle.chunk_plain.specs.Setup.{Setup, IsChunkOf, producer_of}
+use Rattle.chunk_plain.specs.Steps.{serviced}
 use Rattle.chunk_plain.specs.Views.{Draft, ServiceView}
 use Rattle.chunk_plain.specs.World.{World, Writing, status}
 use Rattle.service_core.specs.Agreement.{first_of}
-use Rattle.service_core.specs.Reading.{reads_in, noted_read}
+use Rattle.service_core.specs.Reading.{reads_in, noted_read, FailsAmong}
 use Rattle.service_core.specs.Taking.{noted_more}
 use Rattle.replay_model.specs.Acts.{Act, Ask, ReadAll}
 use Rattle.replay_model.specs.Does.{MayNeedChunk, IsOut, Works, LeavesRest, Collects, Reads, policy_of}
@@ -67,9 +68,18 @@ abbrev pub with_reads : Setup → List Buffer → (number limit : ℕ) → Servi
 with_reads setup buffers number limit view =
     noted_more view (flat_map noted_read (reads_in setup (buffers_after buffers (history_of view)) number limit))
 
--- a write failed in the reading of a buffer: the sink took a front part of the trace that is written where it is read whole
-pub record FailsReading {T W S : Type 0} (means : Meaning T W S) (number limit : ℕ) (old : Host T W S) (taken left : Intake) (fault : HostFault) : Type 0 where
+-- A write failed in the reading of a buffer. The service noted the reads before the one that failed, then this one with the number that it
+-- delivered, and nothing else; in the world that is told its notes are all that changed. The sink took the records of these reads and a front
+-- part of the next one: a front part of the trace that is written where the buffer is read whole.
+pub record FailsReading {T W S : Type 0} (means : Meaning T W S) (number limit : ℕ) (old : Host T W S) (taken : Intake) (new : Host T W S)
+    (left : Intake) (fault : HostFault) : Type 0 where
   pub fault_is : fault ≡ WriteFault
+  pub setup_is : means.setup new.table ≡ means.setup old.table
+  pub first : first_of (means.setup old.table) new.helper.service ≡ first_of (means.setup old.table) old.helper.service
+  pub among : FailsAmong (means.setup old.table) old.helper.service number limit
+      (means.service_view old.table old.helper.service.seat) (means.service_view new.table new.helper.service.seat) taken left
+  pub told : (was : World) → means.told old.table ≡ Some was
+      → means.told new.table ≡ Some (serviced was (means.service_view new.table new.helper.service.seat))
   pub part : (start : Intake) → IsTraceOf start (first_of (means.setup old.table) old.helper.service) (means.service_view old.table old.helper.service.seat) taken
       → TakesPart start left (trace_of (records_after (first_of (means.setup old.table) old.helper.service)
       (history_of (with_reads (means.setup old.table) (first_of (means.setup old.table) old.helper.service) number limit (means.service_view old.table old.helper.service.seat)))))

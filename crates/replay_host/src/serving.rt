@@ -62,7 +62,8 @@ impl<W: Words> Host<W, W::Writer, W::Service> {
     }
 
     /// The sequences of a buffer are read in rising id, each with what is left of the limit. Buffers
-    /// count from 1. Where a write fails, the sink has taken a front part of what was to be written.
+    /// count from 1. Where a write fails, the sink has taken a front part of what was to be written, and the
+    /// packets that it took whole are noted as read, no others.
     pub fn read<O: Sink>(&mut self, buffer: u8, limit: u64, out: &mut O) -> Result<(), HostFault>
         requires host { IsHost W.means self.old }
         ensures host { IsHost W.means self.new }
@@ -70,7 +71,7 @@ impl<W: Words> Host<W, W::Writer, W::Service> {
         ensures opened { self.new.open_producers ≡ self.old.open_producers }
         ensures session { self.new.helper.service.session ≡ self.old.helper.service.session }
         ensures done { OnOk result (HasDone W.means (ReadAll buffer limit ∷ []) [] self.old (O.taken out.old) self.new (O.taken out.new)) }
-        ensures fails { IfErr result (λ fault. FailsReading W.means buffer limit self.old (O.taken out.old) (O.taken out.new) fault) }
+        ensures fails { IfErr result (λ fault. FailsReading W.means buffer limit self.old (O.taken out.old) self.new (O.taken out.new) fault) }
         ensures count { CountsFaults (O.faults out.old) (O.faults out.new) result }
     {
         match self

@@ -35,7 +35,7 @@ returns-in_err-read-clause-stops g c =
     let cut = reads_cut c.args.buffers index c.loop-index-test.true in
     let here : StopsIn means (ReadAll (suc index) last_count ∷ []) mid between found left =
     subst (λ (n : ℕ). StopsIn means (ReadAll n last_count ∷ []) mid between found left) (add-one index)
-    (stopped_read means laws (index + 1) last_count mid between left found c.loop-index.invariant.ended.host c.in_err-read.ensures.fails) in
+    (stopped_read means laws (index + 1) last_count mid c.read.new.self between left found c.loop-index.invariant.ended.host c.in_err-read.ensures.fails) in
     if_err_is c.from_residual.result found _ result_is
     (subst (λ (acts : List Act). StopsIn means acts old taken found left) (sym cut.1)
     (stopped_more means (reads_to index ++ ReadAll (suc index) last_count ∷ []) cut.0 old taken found left

@@ -30,5 +30,5 @@ returns-clause-stops g c =
     if_err_map c.read.result _ _ c.read.ensures.fails
     (λ fault fails moment comes.
     subst (λ (acts : List Act). StopsIn means acts c.args.self.now (g.O.Sink.taken c.args.out.now) fault (g.O.Sink.taken c.read.new.out)) (sym comes.acts_are)
-    (stopped_read means laws c.args.buffer c.args.limit c.args.self.now (g.O.Sink.taken c.args.out.now) (g.O.Sink.taken c.read.new.out) fault
+    (stopped_read means laws c.args.buffer c.args.limit c.args.self.now c.read.new.self (g.O.Sink.taken c.args.out.now) (g.O.Sink.taken c.read.new.out) fault
     comes.next.at.going.kept.is_host fails))

@@ -87,5 +87,5 @@ returns-in-Err-clause-fails g c =
     let view : ServiceView = means.service_view call.new.table call.new.self.seat in
     let fails = subst (λ r. OnErr r (FailsAmong setup old.helper.service c.args.buffer c.args.limit before view
     (g.O.Sink.taken c.args.out.now) (g.O.Sink.taken call.new.out))) c.in-Err.is call.ensures.fails in
-    read_fails means c.args.buffer c.args.limit old view (g.O.Sink.taken c.args.out.now) (g.O.Sink.taken call.new.out)
-    c.requires.host.stands.served fails
+    read_fails means c.args.buffer c.args.limit old _ (g.O.Sink.taken c.args.out.now) (g.O.Sink.taken call.new.out)
+    c.requires.host.stands.served call.ensures.step call.ensures.keeps fails call.ensures.told
