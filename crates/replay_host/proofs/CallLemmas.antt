@@ -62,8 +62,9 @@ pub asked_stalled : {H T W S : Type 0} (means : Meaning T W S) (needs : H → T 
     (call : Call) (helper : H) (old : T) (core : WriterCore W) (steps : ℕ) (stopped : Bool) (noted : List Call) (left : H) (new : T) (after : WriterCore W) (later : ℕ)
     → MayNeedChunk call → IsAsked means needs helps (route_of core) helper old core.seat steps stopped noted (is_stalled after) left new after.seat later
     → CoreAgrees (means.setup old) (means.place core.seat) (means.view new after.seat) after → is_stalled after ≡ true
+    → noted ≡ noted_as stopped (route_of core).spec.policy call
     → IsStalledCall means needs helps call helper old core left new after
-asked_stalled means needs helps call helper old core steps stopped noted left new after later may asked agrees halted =
+asked_stalled means needs helps call helper old core steps stopped noted left new after later may asked agrees halted is =
     let by = stalls_by (route_of core).spec.policy stopped (sym asked.stalls ∙ halted) in
     record {
       may = may;
@@ -75,6 +76,9 @@ asked_stalled means needs helps call helper old core steps stopped noted left ne
       works = subst (λ (b : Bool). Works (route_of core).spec.policy (IsSilent means) (IsQuiet means) (GetsChunk means (route_of core)) (IsOutNow means (route_of core))
           (λ asked table answer behind freed. helps asked table (route_of core).spec.producer answer behind freed × LeavesWriters means table freed)
           helper old core.seat b left new after.seat) by.1 asked.works;
+      notes = asked.notes ∙ ap (λ (cs : List Call). (means.view old core.seat).calls ++ cs)
+          (is ∙ ap (λ (b : Bool). noted_as b (route_of core).spec.policy call) by.1
+          ∙ ap (λ (p : WriterPolicy). noted_as true p call) by.0);
     }
 
 -- a call that asks for none

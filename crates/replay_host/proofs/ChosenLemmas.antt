@@ -25,7 +25,7 @@ use Rattle.replay_host.proofs.AskedLemmas.{IsProper, proper_is, route_is, asked_
 use Rattle.replay_host.proofs.HostLemmas.{host_still, played_ask, call_next}
 use Rattle.replay_host.specs.Stopping.{Stalls}
 use Rattle.replay_host.proofs.RowLemmas.{AreLaws}
-use Rattle.replay_host.proofs.StallLemmas.{FitAll, stalled_keeps, stalled_told}
+use Rattle.replay_host.proofs.StallLemmas.{FitAll, stalled_keeps, stalled_told, stalled_own, stalled_others}
 use Rattle.replay_host.proofs.WroteLemmas.{size_is}
 
 -- The writer at this place is chosen for a call that it accepts, and its producer's chunks are what a helper takes.
@@ -129,16 +129,27 @@ module _ {T W S : Type 0} (means : Meaning T W S) (laws : AreLaws means) (old : 
 pub chosen_stalls : {T W S : Type 0} (means : Meaning T W S) (laws : AreLaws means) (old : Host T W S) (place : ℕ) (call : Call)
     (core : WriterCore W) (producer : ℕ)
     (chosen : IsChosen means old place call core producer) (new : Host T W S) (after : WriterCore W)
+    → new.writers.items ≡ set old.writers.items place after → KeepsBooks old new
     → FitAll (set old.writers.items place after)
     → (fault : HostFault) → fault ≡ Stalled (suc place)
     → IsStalledCall means (MayHelp means) (Helps means) call (chosen_helper old producer) old.table core new.helper new.table after
     → Stalls means place call old new fault
-chosen_stalls means laws old place call core producer chosen new after fits fault is stalled = record {
+chosen_stalls {T} {W} {S} means laws old place call core producer chosen new after items books fits fault is stalled = record {
   fault_is = is;
   may = stalled.may;
   serves = stalled.needed.served.serves;
-  quiet = (stalled_keeps means laws call place old.table old.writers.items (chosen_helper old producer) core new.table new.helper after
-      chosen.was.stands chosen.was.apart chosen.at chosen.producer_is stalled).quiet;
+  service = stalled_keeps means laws call place old.table old.writers.items (chosen_helper old producer) core new.table new.helper after
+      chosen.was.stands chosen.was.apart chosen.at chosen.producer_is stalled;
+  books = books;
+  many = ap length items ∙ length-set old.writers.items place after;
+  own = λ was is before behind.
+      stalled_own means laws call place old.table old.writers.items (chosen_helper old producer) core new.table new.helper after
+      chosen.was.stands chosen.was.apart chosen.at chosen.producer_is stalled was is before
+      (ap (λ (cores : List (WriterCore W)). slice_get cores place) (sym items) ∙ behind);
+  others = λ other was is differs before behind.
+      stalled_others means laws call place old.table old.writers.items (chosen_helper old producer) core new.table new.helper after
+      chosen.was.stands chosen.was.apart chosen.at chosen.producer_is stalled other was is differs before
+      (ap (λ (cores : List (WriterCore W)). slice_get cores other) (sym items) ∙ behind);
   told = stalled_told means laws call place old.table old.writers.items (chosen_helper old producer) core new.table new.helper after
       chosen.was.stands chosen.was.apart chosen.at chosen.producer_is stalled fits;
 }

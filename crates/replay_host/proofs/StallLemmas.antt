@@ -1,8 +1,8 @@
 -- What a call in which its writer stalls makes of the service and of the world.
-use Rattle.std.proofs.Common.{◌≡◌, ◌∙◌, ℕ, ◌<◌, ◌≤◌, ◌==◌, ◌⊎◌, inl, inr, Bool, true, false, not, Some, List, [], length, length-set, get_or, set, refl, sym, ap, subst, arith}
-use Rattle.std.specs.Prelude.{slice_get, slice_index_or}
+use Rattle.std.proofs.Common.{◌≡◌, ◌∙◌, ℕ, ◌<◌, ◌≤◌, ◌==◌, ◌⊎◌, inl, inr, Bool, true, false, not, Some, List, [], ◌++◌, length, length-set, get_or, set, refl, sym, ap, subst, arith}
+use Rattle.std.specs.Prelude.{◌≢◌, slice_get, slice_index_or}
 use Rattle.std.proofs.lemmas.Bool.{cases_eq, ne_eqb}
-use Rattle.std.proofs.lemmas.Option.{slice_get-get_or, slice_get_within}
+use Rattle.std.proofs.lemmas.Option.{slice_get-get_or, slice_get_within, same_Some}
 use Rattle.trace_base.specs.declared.policy.WriterPolicy.TheVariants.{Drops, Stalls}
 use Rattle.trace_base.specs.declared.policy.WriterSpec.{WriterSpec}
 use Rattle.trace_model.specs.Calls.{Call}
@@ -26,7 +26,7 @@ use Rattle.replay_model.specs.Does as acts
 use Rattle.replay_model.specs.Does.{LeavesRest, MayNeedChunk, IsOut, Collects, policy_of}
 use Rattle.replay_model.proofs.StandsLemmas.{works_others}
 use Rattle.replay_host.specs.declared.helper.Collecting.{Collecting}
-use Rattle.replay_host.specs.Asking.{IsStalledCall, KeepsService}
+use Rattle.replay_host.specs.Asking.{IsStalledCall, KeepsService, noted_as}
 use Rattle.replay_host.specs.Helping.{MayHelp, Helps}
 use Rattle.replay_host.specs.Standing.{IsSeated, Stands}
 use Rattle.replay_host.specs.Stopping.{StallsIn}
@@ -186,6 +186,23 @@ module _ {T W S : Type 0} (means : Meaning T W S) (laws : AreLaws means) (call :
     pub stalled_keeps : KeepsService means old helper.service new left.service
     stalled_keeps = (works_keep means (route_of core) _ (λ table seat next moved quiet. quiet) stalled.works producer_is
         stands.served.serves).service
+
+    -- the writer noted what is noted of a call in which it stalls
+    pub stalled_own : (was is : WriterCore W) → slice_get cores place ≡ Some was → slice_get (set cores place after) place ≡ Some is
+        → (means.view new is.seat).calls ≡ (means.view old was.seat).calls ++ noted_as true Stalls call
+    stalled_own was is before behind =
+        ap (λ (c : WriterCore W). (means.view new c.seat).calls) (set_here cores place after place is behind refl)
+        ∙ stalled.notes
+        ∙ ap (λ (c : WriterCore W). (means.view old c.seat).calls ++ noted_as true Stalls call) (sym (same_Some was core (sym before ∙ at)))
+
+    -- and the others nothing
+    pub stalled_others : (other : ℕ) (was is : WriterCore W) → other ≢ place → slice_get cores other ≡ Some was
+        → slice_get (set cores place after) other ≡ Some is → (means.view new is.seat).calls ≡ (means.view old was.seat).calls
+    stalled_others other was is differs before behind =
+        let same : is ≡ was = same_Some _ _ (sym (set_there cores place after other is behind differs) ∙ before) in
+        let here = stands.seated other was before in
+        let stays = stalled.others.writers_stay was.seat here.sits (λ at_own. differs (sym here.place_is ∙ at_own ∙ seated.place_is)) in
+        ap (λ (c : WriterCore W). (means.view new c.seat).calls) same ∙ ap (λ (v : WriterView). v.calls) stays.1
 
     below : place < length (means.setup old).writers
     below = let inside = slice_get_within cores place core at in let many = stands.many in omega (arith, inside, many)

@@ -118,7 +118,7 @@ stopped_one {T} {W} {S} means laws place call old new fault stalled taken was to
     last.0,
     last.2,
     quiet_writes start taken buffers (means.service_view old.table old.helper.service.seat)
-        (means.service_view new.table new.helper.service.seat) (stalled.quiet buffers) traced
+        (means.service_view new.table new.helper.service.seat) (stalled.service.quiet buffers) traced
         ∙ ap (λ (v : ServiceView). after_told start (trace_of (records_after buffers (history_of v))))
         (laws.told_service_view new.table new.helper.service.seat last.0 last.1 stalled.serves),
   );

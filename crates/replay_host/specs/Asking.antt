@@ -74,7 +74,8 @@ pub record IsCalled {H T W S : Type 0} (means : Meaning T W S) (needs : H → T 
       helper old core.seat stopped left new after.seat
   pub notes : (means.view new after.seat).calls ≡ (means.view old core.seat).calls ++ noted_as stopped (route_of core).spec.policy call
 
--- A call of a writer over any helper in which it stalls: what it did, up to a help that freed no chunk.
+-- A call of a writer over any helper in which it stalls: what it did, up to a help that freed no chunk. It noted a call that writes, and
+-- nothing of a packet's begin.
 pub record IsStalledCall {H T W S : Type 0} (means : Meaning T W S) (needs : H → T → Type 0) (helps : H → T → ℕ → Bool → H → T → Type 0)
     (call : Call) (helper : H) (old : T) (core : WriterCore W) (left : H) (new : T) (after : WriterCore W) : Type 0 where
   pub may : MayNeedChunk call
@@ -86,6 +87,7 @@ pub record IsStalledCall {H T W S : Type 0} (means : Meaning T W S) (needs : H �
   pub works : Works (route_of core).spec.policy (IsSilent means) (IsQuiet means) (GetsChunk means (route_of core)) (IsOutNow means (route_of core))
       (λ asked table answer behind freed. helps asked table (route_of core).spec.producer answer behind freed × LeavesWriters means table freed)
       helper old core.seat true left new after.seat
+  pub notes : (means.view new after.seat).calls ≡ (means.view old core.seat).calls ++ noted_as true Stalls call
 
 -- The service is as before, but that it may have taken chunks for the writer: the same sequences are closed, and its session and set-up stay.
 pub record KeepsService {T W S : Type 0} (means : Meaning T W S) (old : T) (before : ServiceCore S) (new : T) (after : ServiceCore S) : Type 0 where

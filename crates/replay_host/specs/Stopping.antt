@@ -1,5 +1,5 @@
 -- Why a scenario isn't played to its end, and what the sink has taken then.
-use Rattle.std.specs.Prelude.{◌≡◌, ◌≢◌, ℕ, suc, List, ◌∷◌, ◌++◌, Some}
+use Rattle.std.specs.Prelude.{◌≡◌, ◌≢◌, ℕ, suc, true, List, ◌∷◌, ◌++◌, length, Some, slice_get}
 use Rattle.std.specs.List.{flat_map}
 use Rattle.byte_io.specs.Bytes.{Intake, after_told, TakesPart}
 use Rattle.trace_base.specs.declared.policy.WriterPolicy.TheVariants as policies
@@ -14,6 +14,7 @@ use Rattle.chunk_plain.specs.Setup.{Setup, IsChunkOf, producer_of}
 use Rattle.chunk_plain.specs.Steps.{serviced}
 use Rattle.chunk_plain.specs.Views.{Draft, ServiceView}
 use Rattle.chunk_plain.specs.World.{World, Writing, status}
+use Rattle.trace_writer.specs.declared.writer.WriterCore.{WriterCore}
 use Rattle.service_core.specs.Agreement.{first_of}
 use Rattle.service_core.specs.Reading.{reads_in, noted_read, FailsAmong}
 use Rattle.service_core.specs.Taking.{noted_more}
@@ -24,7 +25,8 @@ use Rattle.replay_model.specs.Plays.{Plays}
 use Rattle.replay_host.specs.declared.fault.HostFault.{HostFault}
 use Rattle.replay_host.specs.declared.fault.HostFault.TheVariants.{WriteFault, Stalled}
 use Rattle.replay_host.specs.declared.host.Host.{Host}
-use Rattle.replay_host.specs.Playing.{IsTraceOf}
+use Rattle.replay_host.specs.Asking.{KeepsService, noted_as}
+use Rattle.replay_host.specs.Playing.{IsTraceOf, KeepsBooks}
 
 -- ---- a writer that stalls
 
@@ -51,13 +53,21 @@ pub record StallsIn (setup : Setup) (place : ℕ) (call : Call) (old new : World
   pub stuck : AreOthers setup (producer_of setup place) place new
   pub before : AreOthers setup (producer_of setup place) place old
 
--- the writer at this place stalled in a call: the fault says so, and no record was written
+-- The writer at this place stalled in a call, and the fault says so. It noted the call, or nothing where that was a packet's begin, and the
+-- other writers noted nothing. No record was written, the service is as before, but that it may have taken chunks for the writer, and what is
+-- kept of the set-up and of flush requests is as before.
 pub record Stalls {T W S : Type 0} (means : Meaning T W S) (place : ℕ) (call : Call) (old new : Host T W S) (fault : HostFault) : Type 0 where
   pub fault_is : fault ≡ Stalled (suc place)
   pub may : MayNeedChunk call
   pub serves : means.serves new.table new.helper.service.seat
-  pub quiet : (buffers : List Buffer) → records_after buffers (history_of (means.service_view new.table new.helper.service.seat))
-      ≡ records_after buffers (history_of (means.service_view old.table old.helper.service.seat))
+  pub service : KeepsService means old.table old.helper.service new.table new.helper.service
+  pub books : KeepsBooks old new
+  pub many : length new.writers.items ≡ length old.writers.items
+  pub own : (was is : WriterCore W) → slice_get old.writers.items place ≡ Some was → slice_get new.writers.items place ≡ Some is
+      → (means.view new.table is.seat).calls ≡ (means.view old.table was.seat).calls ++ noted_as true policies.Stalls call
+  pub others : (other : ℕ) (was is : WriterCore W) → other ≢ place
+      → slice_get old.writers.items other ≡ Some was → slice_get new.writers.items other ≡ Some is
+      → (means.view new.table is.seat).calls ≡ (means.view old.table was.seat).calls
   pub told : (was : World) → means.told old.table ≡ Some was
       → (is : World) × (means.told new.table ≡ Some is) × StallsIn (means.setup old.table) place call was is
 

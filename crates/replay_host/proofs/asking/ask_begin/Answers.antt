@@ -22,4 +22,4 @@ pub returns-in-Err-clause-stalled : goal.returns-in-Err-clause-stalled
 returns-in-Err-clause-stalled g c = λ _.
     let none = none_refused c.args.core.now refl c.requires.going in
     asked_stalled g.W.Words.means g.H.HelperOn.needs g.H.HelperOn.helps (Begun true) c.args.help.now c.args.table.now c.args.core.now c.args.steps.now true
-    _ c.begin.new.help c.begin.new.table c.begin.new.self c.begin.new.steps tt (c.in-Err.ensures.done none) c.in-Err.ensures.agrees (c.in-Err.ensures.answers none).1
+    _ c.begin.new.help c.begin.new.table c.begin.new.self c.begin.new.steps tt (c.in-Err.ensures.done none) c.in-Err.ensures.agrees (c.in-Err.ensures.answers none).1 refl

@@ -21,4 +21,4 @@ returns-in-Err-clause-stalled g c = λ _.
     let none = none_refused c.args.core.now (field_accepted c.requires.ready.1.asked (g.W.Words.means.view c.args.table.now c.args.core.now.seat) c.requires.ready.1.loses c.args.field (bytes_size c.args.field c.args.times c.args.text.now) c.requires.ready.1.accepted.0) c.requires.going in
     let done = c.in-Err.ensures.done none in
     asked_stalled g.W.Words.means g.H.HelperOn.needs g.H.HelperOn.helps (Bytes c.args.field c.args.text.now c.args.times) c.args.help.now c.args.table.now c.args.core.now c.args.steps.now done.0
-    _ c.bytes.new.help c.bytes.new.table c.bytes.new.self c.bytes.new.steps tt done.1 c.in-Err.ensures.agrees (c.in-Err.ensures.answers none).1
+    _ c.bytes.new.help c.bytes.new.table c.bytes.new.self c.bytes.new.steps tt done.1 c.in-Err.ensures.agrees (c.in-Err.ensures.answers none).1 refl

@@ -20,4 +20,4 @@ returns-in-Err-clause-stalled g c = λ _.
     let none = none_refused c.args.core.now (nested_accepted c.requires.ready.1.asked (g.W.Words.means.view c.args.table.now c.args.core.now.seat) c.requires.ready.1.loses c.args.field c.requires.ready.1.accepted.0.0 c.requires.ready.1.accepted.0.1) c.requires.going in
     let done = c.in-Err.ensures.done none in
     asked_stalled g.W.Words.means g.H.HelperOn.needs g.H.HelperOn.helps (Nested c.args.field) c.args.help.now c.args.table.now c.args.core.now c.args.steps.now done.0
-    _ c.begin_nested.new.help c.begin_nested.new.table c.begin_nested.new.self c.begin_nested.new.steps tt done.1 c.in-Err.ensures.agrees (c.in-Err.ensures.answers none).1
+    _ c.begin_nested.new.help c.begin_nested.new.table c.begin_nested.new.self c.begin_nested.new.steps tt done.1 c.in-Err.ensures.agrees (c.in-Err.ensures.answers none).1 refl

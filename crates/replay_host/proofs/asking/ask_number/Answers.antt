@@ -22,4 +22,4 @@ returns-in-Err-clause-stalled g c = λ _.
     let none = none_refused c.args.core.now (field_accepted c.requires.ready.1.asked (g.W.Words.means.view c.args.table.now c.args.core.now.seat) c.requires.ready.1.loses c.args.field (length (number_field c.args.field c.args.value)) c.requires.ready.1.accepted.0) c.requires.going in
     let done = c.in-Err.ensures.done none in
     asked_stalled g.W.Words.means g.H.HelperOn.needs g.H.HelperOn.helps (Number c.args.field c.args.value) c.args.help.now c.args.table.now c.args.core.now c.args.steps.now done.0
-    _ c.varint.new.help c.varint.new.table c.varint.new.self c.varint.new.steps tt done.1 c.in-Err.ensures.agrees (c.in-Err.ensures.answers none).1
+    _ c.varint.new.help c.varint.new.table c.varint.new.self c.varint.new.steps tt done.1 c.in-Err.ensures.agrees (c.in-Err.ensures.answers none).1 refl

@@ -67,4 +67,4 @@ returns-in-Err-clause-stalls g c =
     c.requires.ready.0
     c.requires.host (g.met.W.Words.laid c.args.self.now.table) c.requires.place c.index_mut-core.ensures.value c.index.ensures
     c.requires.ready.1)
-    _ c.ask_one.new.core (subst FitAll c.deref.ensures.value c.ids_fit.ensures) c.stalled.result c.stalled.ensures c.in-Err.ensures.stalled
+    _ c.ask_one.new.core refl (record { flushes = refl; specs = refl; opened = refl }) (subst FitAll c.deref.ensures.value c.ids_fit.ensures) c.stalled.result c.stalled.ensures c.in-Err.ensures.stalled
