@@ -1,5 +1,5 @@
 -- A step of a writer that changes the entry of a chunk that it holds: its header or a payload word is stored, or it is completed.
-use Rattle.std.proofs.Common.{◌≡◌, ◌≢◌, ℕ, ◌+◌, ◌-◌, ◌*◌, ◌<◌, ◌≤◌, inl, zero, suc, List, [], ◌∷◌, length, map, set, get_or, subst, sym, refl, ap, ◌∙◌, arith, ⊎_elim, length-set, lt_of_not-le}
+use Rattle.std.proofs.Common.{◌≡◌, ◌≢◌, ℕ, ◌+◌, ◌-◌, ◌*◌, ◌<◌, ◌≤◌, zero, suc, List, [], ◌∷◌, length, map, set, get_or, subst, sym, refl, ap, ◌∙◌, arith, ⊎_elim, length-set, lt_of_not-le}
 use native.Mathlib.Decide.{dec_le, ℕ_discrete}
 use mathlib.Core.Logic.{dite}
 use mathlib.Core.Option.{some-injective, some-ne-none}
@@ -12,6 +12,7 @@ use Rattle.chunk_plain.specs.Steps.{redrafts, with_head, with_word, with_words, 
 use Rattle.chunk_plain.specs.Owned.{times, claims_of, reads_of, stamped_chunks, IsOwned}
 use Rattle.chunk_plain.specs.Drafts.{MayFollow, IsDraft, HasFinished, head_of, StillHas, IsThere}
 use Rattle.chunk_plain.proofs.Lists.{at_inside, at_one}
+use Rattle.chunk_plain.proofs.AskOrder.{order_stays}
 use Rattle.chunk_plain.proofs.Owned.{Foreign, writer_step, won_stays}
 use Rattle.chunk_plain.proofs.Sealing.{reads_same, ends_grow, word_bytes}
 
@@ -135,7 +136,7 @@ entry_owned world place chunk id head entry o inside_w inside_c at same_chunk na
       level = q.level;
     }
     (λ i ask e. e)
-    (λ i ask e. inl e)
+    (order_stays world.writers place (record v { begun = set v.begun id entry }) o.ordered inside_w refl)
     (won_stays world place chunk chunk (record v { begun = set v.begun id entry }) is inside_w (λ i ask e. e) (o.claimed_won chunk (λ free. absurd cc)))
     (λ about found there. there_still v.begun chunk id head entry about found at inside carries there)
   where

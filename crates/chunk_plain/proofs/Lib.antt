@@ -24,3 +24,4 @@ pub mod WorldSet
 pub mod Publishing
 pub mod Taking
 pub mod Agreeing
+pub mod AskOrder

@@ -92,7 +92,7 @@ first_owned setup =
       counts = λ k. subst (λ t. Counts t k (writer (first_world setup) k)) (sym (untaken k)) (subst (λ v. Counts none_taken k v) (sym (fresh k)) (nothing_counted k));
       reads = λ c. subst (λ t. 0 ≡ reads_of t) (sym (free c)) refl;
       claimed_won = λ c claimed. absurd (claimed (free c));
-      asked_won = λ k i ask at. absurd (some-ne-none ask (sym (subst (λ (v : WriterView). At v.asked i ask) (fresh k) at)));
+      ordered = record { order = []; each = λ k. ap (λ (v : WriterView). v.asked) (fresh k); won_before = λ n one at lost. absurd (some-ne-none one (sym at)) };
       looks = λ n look found at is. absurd (some-ne-none look (sym at));
       all_taken = length-map setup.writers (λ _. none_taken) ∙ sym (length-map setup.writers (λ _. newcomer));
     }

@@ -1,5 +1,5 @@
 -- A world that is owned stays owned where one writer's view and one chunk change, and where the service's view and one chunk do.
-use Rattle.std.proofs.Common.{◌≡◌, ◌≢◌, ℕ, ◌+◌, ◌<◌, ◌≤◌, ◌⊎◌, true, inl, Option, Some, List, [], ◌++◌, length, map, length-append, set, get_or, subst, sym, refl, ap, ◌∙◌, arith, ⊎_elim, length-set}
+use Rattle.std.proofs.Common.{◌≡◌, ◌≢◌, ℕ, ◌+◌, ◌<◌, Option, Some, List, [], ◌++◌, length, map, length-append, set, get_or, subst, sym, refl, ap, ◌∙◌, arith, ⊎_elim, length-set}
 use Rattle.std.proofs.lemmas.List.{get_or-set_other, length-map}
 use Rattle.std.proofs.lemmas.Bool.Decides.{nat_tests}
 use native.Mathlib.Decide.{ℕ_discrete}
@@ -7,9 +7,9 @@ use mathlib.Core.Logic.{dite}
 use Rattle.chunk_plain.specs.Views.{At, Ask, chunk_of, Look, Found, WriterView, ServiceView, Taken, newcomer, taken_of}
 use Rattle.chunk_plain.specs.World.{World, Status, Unclaimed, Claimed, Stamped, Writing, Ready, Reading, status, writer}
 use Rattle.chunk_plain.specs.Steps.{looks_at, taken_counts, moved, served, with_writer_view, serviced}
-use Rattle.chunk_plain.specs.Owned.{times, claims_of, reads_of, stamped_chunks, won_chunks, Owns, Counts, Won, WonBefore, IsOwned}
+use Rattle.chunk_plain.specs.Owned.{times, claims_of, reads_of, stamped_chunks, won_chunks, Owns, Counts, Won, AreInOrder, IsOwned}
 use Rattle.chunk_plain.specs.Drafts.{IsFound, IsThere}
-use Rattle.chunk_plain.proofs.Lists.{at_inside, at_more, changed, matrix, times-both, same_many}
+use Rattle.chunk_plain.proofs.Lists.{at_more, changed, matrix, times-both, same_many}
 
 -- the status isn't one of this writer's
 abbrev pub Foreign : ℕ → Status → Type 0
@@ -72,19 +72,6 @@ won_stays world place chunk about view is inside grows won = (
   won.5,
 )
 
--- somebody's claim won
-pub somebody_won : (world : World) (place i about : ℕ) → WonBefore world place i about → Won world about
-somebody_won world place i about won = (won.0, won.1, won.2, won.3, won.4, won.5)
-
--- and one that isn't behind another claim stays so
-won_before_stays : (world : World) (place chunk other i about : ℕ) (view : WriterView) (is : Status) → place < length world.writers
-    → ((k : ℕ) (ask : Ask) → At (writer world place).asked k ask → At view.asked k ask)
-    → WonBefore world other i about → WonBefore (moved world place view chunk is) other i about
-unfolding somebody_won won_stays
-won_before_stays world place chunk other i about view is inside grows won =
-    let kept = won_stays world place chunk about view is inside grows (somebody_won world other i about won) in
-    (won.0, won.1, won.2, kept.3, won.4, won.5, won.6)
-
 -- what was found is there still, where one writer's view changes and has of its begun chunks what was found
 looks_stay : (world : World) (place : ℕ) (view : WriterView) → IsOwned world → place < length world.writers
     → ((about : ℕ) (found : Found) → IsThere (writer world place) about found → IsThere view about found)
@@ -106,11 +93,11 @@ pub writer_step : (world : World) (place chunk : ℕ) (view : WriterView) (is : 
     → reads_of is ≡ reads_of (status world chunk)
     → Counts (taken_of world.service place) place view
     → ((i : ℕ) (ask : Ask) → At (writer world place).asked i ask → At view.asked i ask)
-    → ((i : ℕ) (ask : Ask) → At view.asked i ask → At (writer world place).asked i ask ⊎ (ask.won ≡ true))
+    → AreInOrder (set world.writers place view)
     → Won (moved world place view chunk is) chunk
     → ((about : ℕ) (found : Found) → IsThere (writer world place) about found → IsThere view about found)
     → IsOwned (moved world place view chunk is)
-writer_step world place chunk view is o inside_w inside_c cell row was_mine is_mine same_reads counts grows back won still =
+writer_step world place chunk view is o inside_w inside_c cell row was_mine is_mine same_reads counts grows ordered won still =
     record {
       owns = matrix
           (λ u v d t. Owns (taken_of world.service u).count u v d t)
@@ -139,20 +126,10 @@ writer_step world place chunk view is o inside_w inside_c cell row was_mine is_m
           (λ same. subst (Won (moved world place view chunk is)) (sym same) won)
           (λ differs. won_stays world place chunk d view is inside_w grows
           (o.claimed_won d (λ free. claimed (get_or-set_other world.chunks chunk d is Unclaimed differs ∙ free))));
-      asked_won = λ u i ask at.
-          ⊎_elim
-          (λ old. won_before_stays world place chunk u i ask.chunk view is inside_w grows (o.asked_won u i ask old))
-          (λ new. (u, i, ask, at, new, refl, λ same. omega arith))
-          (old_or_new u i ask at);
+      ordered = ordered;
       looks = looks_stay world place view o inside_w still;
       all_taken = o.all_taken ∙ sym (length-set world.writers place view);
     }
-  where
-    old_or_new : (u i : ℕ) (ask : Ask) → At (writer (moved world place view chunk is) u).asked i ask → At (writer world u).asked i ask ⊎ (ask.won ≡ true)
-    old_or_new u i ask =
-        changed (λ (v : WriterView). At v.asked i ask → At (writer world u).asked i ask ⊎ (ask.won ≡ true)) world.writers place u view newcomer inside_w
-        (λ same at. subst (λ k. At (writer world k).asked i ask ⊎ (ask.won ≡ true)) (sym same) (back i ask at))
-        (λ _ at. inl at)
 
 -- a step by which a writer has as many chunks as before
 pub noted_owned : (world : World) (place : ℕ) (view : WriterView) → IsOwned world → place < length world.writers
@@ -160,10 +137,10 @@ pub noted_owned : (world : World) (place : ℕ) (view : WriterView) → IsOwned 
     → Owns (taken_of world.service place).count place view chunk (status world chunk))
     → Counts (taken_of world.service place) place view
     → ((i : ℕ) (ask : Ask) → At (writer world place).asked i ask → At view.asked i ask)
-    → ((i : ℕ) (ask : Ask) → At view.asked i ask → At (writer world place).asked i ask ⊎ (Won world ask.chunk × (length (writer world place).asked ≤ i)))
+    → AreInOrder (set world.writers place view)
     → ((about : ℕ) (found : Found) → IsThere (writer world place) about found → IsThere view about found)
     → IsOwned (with_writer_view world place view)
-noted_owned world place view o inside row counts grows back still =
+noted_owned world place view o inside row counts grows ordered still =
     record {
       owns = λ u chunk. changed (λ v. Owns (taken_of world.service u).count u v chunk (status world chunk)) world.writers place u view newcomer inside
           (λ same. subst (λ k. Owns (taken_of world.service k).count k view chunk (status world chunk)) (sym same) (row chunk (o.owns place chunk)))
@@ -172,34 +149,11 @@ noted_owned world place view o inside row counts grows back still =
           (λ same. subst (λ k. Counts (taken_of world.service k) k view) (sym same) counts)
           (λ _. o.counts u);
       reads = o.reads;
-      claimed_won = λ chunk claimed. stays chunk (o.claimed_won chunk claimed);
-      asked_won = λ u i ask.
-          changed (λ (v : WriterView). At v.asked i ask → WonBefore (with_writer_view world place view) u i ask.chunk) world.writers place u view newcomer inside
-          (λ same at. subst (λ k. WonBefore (with_writer_view world place view) k i ask.chunk) (sym same)
-          (stays_before place i ask.chunk (⊎_elim (λ old. o.asked_won place i ask old) (λ new. won_by_now i ask.chunk new.0 new.1) (back i ask at))))
-          (λ _ at. stays_before u i ask.chunk (o.asked_won u i ask at));
+      claimed_won = λ chunk claimed. won_stays world place chunk chunk view Unclaimed inside grows (o.claimed_won chunk claimed);
+      ordered = ordered;
       looks = looks_stay world place view o inside still;
       all_taken = o.all_taken ∙ sym (length-set world.writers place view);
     }
-  where
-    stays : (chunk : ℕ) → Won world chunk → Won (with_writer_view world place view) chunk
-    stays chunk won = won_stays world place chunk chunk view Unclaimed inside grows won
-
-    stays_before : (u i chunk : ℕ) → WonBefore world u i chunk → WonBefore (with_writer_view world place view) u i chunk
-    stays_before u i chunk won = won_before_stays world place chunk u i chunk view Unclaimed inside grows won
-
-    won_by_now : (i chunk : ℕ) → Won world chunk → length (writer world place).asked ≤ i → WonBefore world place i chunk
-    won_by_now i chunk won far = (
-      won.0,
-      won.1,
-      won.2,
-      won.3,
-      won.4,
-      won.5,
-      λ same.
-          let here = at_inside (writer world place).asked won.2 won.1 (subst (λ k. At (writer world k).asked won.1 won.2) same won.3) in
-          omega (arith, here, far),
-    )
 
 -- the step of the service
 pub service_step : (world : World) (service : ServiceView) (chunk : ℕ) (is : Status) → IsOwned world → chunk < length world.chunks
@@ -218,7 +172,7 @@ service_step world service chunk is o inside owns counts reads had taken looks =
           dite (ℕ_discrete d chunk)
           (λ same. subst (Won world) (sym same) (o.claimed_won chunk had))
           (λ differs. o.claimed_won d (λ free. claimed (get_or-set_other world.chunks chunk d is Unclaimed differs ∙ free)));
-      asked_won = o.asked_won;
+      ordered = o.ordered;
       looks = λ n look found at is. o.looks n look found (subst (λ (l : List Look). At l n look) looks at) is;
       all_taken = taken ∙ o.all_taken;
     }
@@ -233,7 +187,7 @@ serviced_with world service o taken reading looks =
       counts = λ place. subst (λ (l : List Taken). Counts (get_or l place (record { count = 0; contents = [] })) place (writer world place)) (sym taken) (o.counts place);
       reads = λ chunk. subst (λ (l : List ℕ). times chunk l ≡ reads_of (status world chunk)) (sym reading) (o.reads chunk);
       claimed_won = o.claimed_won;
-      asked_won = o.asked_won;
+      ordered = o.ordered;
       looks = looks;
       all_taken = subst (λ (l : List Taken). length l ≡ length world.writers) (sym taken) o.all_taken;
     }

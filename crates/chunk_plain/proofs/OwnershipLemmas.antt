@@ -168,6 +168,6 @@ ownership setup words slots world kept =
           let inside : chunk < length setup.spots = is_chunk setup world chunk shown.chunk_count (λ free. absurd cc) in
           subst (λ t. HasState (page_word setup words chunk) (spot setup chunk).place (state_of t)) is (shown.page chunk inside).state;
       won = λ chunk inside one. owned.claimed_won chunk (λ free. absurd (let claim = (shown.page chunk inside).claim in let none : claim_of (status world chunk) ≡ 0 = ap claim_of free in omega arith));
-      asked = owned.asked_won;
+      ordered = owned.ordered;
       wins = λ place chunk. (owned.counts place).wins chunk;
     }

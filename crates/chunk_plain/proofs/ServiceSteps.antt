@@ -103,7 +103,7 @@ learns_owned world place chunk content o inside_w room at =
           (λ _. o.counts u);
       reads = o.reads;
       claimed_won = o.claimed_won;
-      asked_won = o.asked_won;
+      ordered = o.ordered;
       looks = o.looks;
       all_taken = length-set s.taken place more ∙ o.all_taken;
     }

@@ -1,5 +1,5 @@
 -- Each step of a writer keeps a world owned.
-use Rattle.std.proofs.Common.{◌≡◌, ℕ, ◌+◌, ◌<◌, inl, inr, Bool, true, false, cond, Option, Some, None, List, [], ◌∷◌, ◌++◌, length, map, subst, sym, refl, ap, ◌∙◌, arith, ⊎_elim}
+use Rattle.std.proofs.Common.{◌≡◌, ℕ, ◌+◌, ◌<◌, Bool, true, false, cond, Option, Some, None, List, [], ◌∷◌, ◌++◌, length, map, subst, sym, refl, ap, ◌∙◌, arith, ⊎_elim}
 use Rattle.std.proofs.lemmas.Bool.Decides.{nat_tests}
 use Rattle.std.proofs.lemmas.List.{get_or-set_same, map-append}
 use native.Mathlib.Decide.{ℕ_discrete}
@@ -12,6 +12,7 @@ use Rattle.chunk_plain.specs.Steps.{without, claims, stamps, begins, notes_call,
 use Rattle.chunk_plain.specs.Drafts.{IsDraft}
 use Rattle.chunk_plain.specs.Owned.{times, claims_of, reads_of, stamped_chunks, won_chunks, Won, IsOwned}
 use Rattle.chunk_plain.proofs.Lists.{times-append, times-here, times-other, times-without_same, times-without_other, at_more}
+use Rattle.chunk_plain.proofs.AskOrder.{order_stays, order_grows}
 use Rattle.chunk_plain.proofs.Owned.{Foreign, claims_of-mine, claimed_status, writer_step, noted_owned, won_stays}
 
 -- a stamp's chunk and id, where there is one
@@ -84,7 +85,7 @@ claims_owned world place chunk found o inside_w inside_c free =
       level = q.level;
     }
     (λ i old at. at_longer v.asked (ask ∷ []) i old at)
-    (λ i old at. ⊎_elim (λ before. inl before) (λ new. inr (sym (ap (λ (a : Ask). a.won) new.1))) (at_more v.asked ask old i at))
+    (order_grows world place (claims v chunk found true) ask o.ordered inside_w refl (λ lost. absurd cc))
     (won_here world place chunk (length v.asked) (claims v chunk found true) (Claimed place) ask inside_w (at_last v.asked ask (length v.asked) refl) refl)
     (λ about found there. record { entry = there.entry; at = there.at; has = there.has })
 
@@ -98,7 +99,7 @@ misses_owned world place chunk found o inside taken =
     (λ other p. record { claimed = p.claimed; stamp_is = p.stamp_is; stamped_is = p.stamped_is; held_is = p.held_is; writing_is = p.writing_is; completed_is = p.completed_is; ready_is = p.ready_is; reading_is = p.reading_is })
     record { wins = λ about. ap (times about) (won_chunks-lost v.asked ask refl) ∙ q.wins about; next = q.next; named = q.named; drafts = q.drafts; wholes = q.wholes; completed = q.completed; learnt = q.learnt; level = q.level }
     (λ i old at. at_longer v.asked (ask ∷ []) i old at)
-    (λ i old at. ⊎_elim (λ before. inl before) (λ new. inr (subst (λ (a : Ask). Won world a.chunk) new.1 (o.claimed_won chunk taken), omega (arith, new.0))) (at_more v.asked ask old i at))
+    (order_grows world place (claims v chunk found false) ask o.ordered inside refl (λ _. o.claimed_won chunk taken))
     (λ about found there. record { entry = there.entry; at = there.at; has = there.has })
 
 -- a call is noted
@@ -109,7 +110,7 @@ notes_call_owned world place call o inside =
     (λ other p. record { claimed = p.claimed; stamp_is = p.stamp_is; stamped_is = p.stamped_is; held_is = p.held_is; writing_is = p.writing_is; completed_is = p.completed_is; ready_is = p.ready_is; reading_is = p.reading_is })
     record { wins = q.wins; next = q.next; named = q.named; drafts = q.drafts; wholes = q.wholes; completed = q.completed; learnt = q.learnt; level = q.level }
     (λ i old at. at)
-    (λ i old at. inl at)
+    (order_stays world.writers place (notes_call (writer world place) call) o.ordered inside refl)
     (λ about found there. record { entry = there.entry; at = there.at; has = there.has })
 
 -- the header of a claimed chunk is stored
@@ -156,7 +157,7 @@ stamps_owned world place chunk o inside_w inside_c mine unstamped =
       level = q.level;
     }
     (λ i ask at. at)
-    (λ i ask at. inl at)
+    (order_stays world.writers place (stamps v chunk) o.ordered inside_w refl)
     (won_stays world place chunk chunk (stamps v chunk) (Stamped place n) inside_w (λ i ask at. at) (o.claimed_won chunk (λ free. absurd cc)))
     (λ about found there. record { entry = there.entry; at = there.at; has = there.has })
 
@@ -213,6 +214,6 @@ begins_owned world place chunk words o inside_w inside_c stamped =
       level = q.level;
     }
     (λ i ask at. at)
-    (λ i ask at. inl at)
+    (order_stays world.writers place (begins v chunk words) o.ordered inside_w refl)
     (won_stays world place chunk chunk (begins v chunk words) (Writing place n (fresh words)) inside_w (λ i ask at. at) (o.claimed_won chunk (λ free. absurd cc)))
     (λ about found there. record { entry = there.entry; at = at_longer v.begun (Held chunk (fresh words) ∷ []) found.id there.entry there.at; has = there.has })

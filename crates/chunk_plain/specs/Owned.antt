@@ -1,8 +1,8 @@
 -- Ownership in a world: who has each chunk, between any two steps. It is said as facts on one writer and one chunk, on one writer, and on one
 -- chunk. Since each status names one writer and one id, that exactly one seat has a chunk is then true by the form.
-use Rattle.std.specs.Prelude.{◌≡◌, ℕ, ◌+◌, ◌<◌, ◌≤◌, ◌==◌, true, Option, Some, None, List, [], ◌∷◌, length, map, if◌then◌else◌}
+use Rattle.std.specs.Prelude.{◌≡◌, ℕ, ◌+◌, ◌<◌, ◌≤◌, ◌==◌, true, false, Option, Some, None, List, [], ◌∷◌, length, map, slice_index_or, if◌then◌else◌}
 use Rattle.chunk_plain.specs.Setup.{sequence_of}
-use Rattle.chunk_plain.specs.Views.{At, Ask, Draft, Content, BegunChunk, chunk_of, Held, Completed, Stamp, WriterView, Taken, Look, Found, taken_of}
+use Rattle.chunk_plain.specs.Views.{At, Ask, Draft, Content, BegunChunk, chunk_of, Held, Completed, Stamp, WriterView, newcomer, Taken, Look, Found, taken_of}
 use Rattle.chunk_plain.specs.World.{World, Status, Unclaimed, Claimed, Stamped, Writing, Ready, Reading, status, writer}
 use Rattle.chunk_plain.specs.Drafts.{IsDraft, HasFinished, IsFound, IsThere}
 
@@ -73,18 +73,36 @@ pub record Counts (taken : Taken) (place : ℕ) (view : WriterView) : Type 0 whe
 abbrev pub Won : World → ℕ → Type 0
 Won world chunk = (place i : ℕ) × (ask : Ask) × At (writer world place).asked i ask × (ask.won ≡ true) × (ask.chunk ≡ chunk)
 
--- so did one that isn't behind this place of this writer's claims: another writer's, or its own at the place or before it
-abbrev pub WonBefore : World → (place i chunk : ℕ) → Type 0
-WonBefore world place i chunk = (other j : ℕ) × (ask : Ask) × At (writer world other).asked j ask × (ask.won ≡ true) × (ask.chunk ≡ chunk) × (other ≡ place → j ≤ i)
+-- a claim, and the place of the writer that tried it
+pub record AskOf : Type 0 where
+  pub place : ℕ
+  pub ask : Ask
+
+-- one writer's claims among those of all, in their order
+abbrev pub asks_of : ℕ → List AskOf → List Ask
+asks_of place [] = []
+asks_of place (one ∷ asks) = if one.place == place then one.ask ∷ asks_of place asks else asks_of place asks
+
+-- one of the claims before this place won the chunk
+abbrev pub WonBefore : List AskOf → (n chunk : ℕ) → Type 0
+WonBefore asks n chunk = (m : ℕ) × (one : AskOf) × At asks m one × (m < n) × (one.ask.won ≡ true) × (one.ask.chunk ≡ chunk)
+
+-- The claims of all writers stand in one order, each writer's own as they stand in its view. Before each claim in vain there stands one
+-- that won the same chunk: so the first claim of a chunk, whoever tried it, won.
+pub record AreInOrder (writers : List WriterView) : Type 0 where
+  pub order : List AskOf
+  pub each : (place : ℕ) → (slice_index_or writers place newcomer).asked ≡ asks_of place order
+  pub won_before : (n : ℕ) (one : AskOf) → At order n one → one.ask.won ≡ false → WonBefore order n one.ask.chunk
 
 -- each chunk is owned by exactly one, as a table keeps it between two steps
 pub record IsOwned (world : World) : Type 0 where
   pub owns : (place chunk : ℕ) → Owns (taken_of world.service place).count place (writer world place) chunk (status world chunk)
   pub counts : (place : ℕ) → Counts (taken_of world.service place) place (writer world place)
   pub reads : (chunk : ℕ) → times chunk world.service.reading ≡ reads_of (status world chunk)
-  -- a chunk that somebody has was won, and so was one that somebody claimed in vain, and not by a later claim of the same writer
+  -- a chunk that somebody has was won
   pub claimed_won : (chunk : ℕ) → (status world chunk ≡ Unclaimed → ⊥) → Won world chunk
-  pub asked_won : (place i : ℕ) (ask : Ask) → At (writer world place).asked i ask → WonBefore world place i ask.chunk
+  -- so was one that somebody claimed in vain, and before that claim
+  pub ordered : AreInOrder world.writers
   -- what the service found of a chunk that was being written is there still, taken or not
   pub looks : (n : ℕ) (look : Look) (found : Found) → At world.service.looks n look → look.found ≡ Some found
       → IsFound found × IsThere (writer world found.place) look.chunk found

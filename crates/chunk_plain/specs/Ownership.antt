@@ -7,9 +7,9 @@ use Rattle.page_geometry.specs.PageBits.{HasState}
 use Rattle.commit_body.specs.declared.body.CommitBody.{CommitBody}
 use Rattle.chunk_plain.specs.Setup.{Setup, spot}
 use Rattle.chunk_plain.specs.Payload.{byte_at}
-use Rattle.chunk_plain.specs.Views.{At, Ask, Head, no_head, Draft, Content, chunk_of, Held, Completed, Look, Found, taken_of}
+use Rattle.chunk_plain.specs.Views.{At, Head, no_head, Draft, Content, chunk_of, Held, Completed, Look, Found, taken_of}
 use Rattle.chunk_plain.specs.World.{World, writer}
-use Rattle.chunk_plain.specs.Owned.{times, stamped_chunks, won_chunks, Won, WonBefore}
+use Rattle.chunk_plain.specs.Owned.{times, stamped_chunks, won_chunks, Won, AreInOrder}
 use Rattle.chunk_plain.specs.Drafts.{MayFollow, IsDraft, HasFinished, BeginsAs, head_of}
 use Rattle.chunk_plain.specs.Stored.{Stored, stored_at}
 use Rattle.chunk_plain.specs.Shows.{IsSpare, ShowsLayout, IsHeader, HoldsPayload, IsBodyOf, page_word, header_word}
@@ -120,7 +120,8 @@ pub record Ownership (setup : Setup) (words : List ℕ) (slots : List Stored) (w
   pub untaken : (place chunk id : ℕ) (content : Content) → Completes world place chunk id content → (taken_of world.service place).count ≤ id
       → HasState (page_word setup words chunk) (spot setup chunk).place Complete
   pub won : (chunk : ℕ) → chunk < length setup.spots → bit_at (page_word setup words chunk) (CLAIM_BIT + (spot setup chunk).place) ≡ 1 → Won world chunk
-  pub asked : (place i : ℕ) (ask : Ask) → At (writer world place).asked i ask → WonBefore world place i ask.chunk
+  -- the claims of all writers stand in one order, and each in vain is behind one that won the same chunk
+  pub ordered : AreInOrder world.writers
   -- of each chunk a writer won as many claims as it has it claimed, its header stored or not, and has begun it
   pub wins : (place chunk : ℕ) → times chunk (won_chunks (writer world place).asked)
       ≡ times chunk (writer world place).claimed + times chunk (stamped_chunks (writer world place).stamped) + times chunk (map chunk_of (writer world place).begun)

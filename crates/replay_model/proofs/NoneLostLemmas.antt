@@ -21,7 +21,7 @@ use Rattle.chunk_plain.specs.Setup.{Setup, range_of, producer_of, size_of, IsChu
 use Rattle.chunk_plain.specs.Views.{At, WriterView, newcomer}
 use Rattle.chunk_plain.specs.World.{World, Status, writer}
 use Rattle.chunk_plain.specs.Owned.{IsOwned, Won}
-use Rattle.chunk_plain.proofs.Owned.{somebody_won}
+use Rattle.chunk_plain.proofs.AskOrder.{asked_won}
 use Rattle.world_model.specs.FirstBuffers.{payload_at}
 use Rattle.scenario_text.specs.declared.scenario.ProducerLine.{ProducerLine}
 use Rattle.scenario_text.specs.Scenario.{Parts}
@@ -162,7 +162,7 @@ module _ (scenario : Parts) (setup : Setup) (world : World) (done : IsDone scena
         let chunk : ℕ = (range_of setup (producer_of setup place)).first + k in
         let is : IsChunkOf setup (producer_of setup place) chunk = record { least = omega arith; below = omega (arith, low) } in
         let asked = asked_at (writer world place).asked chunk ((done.claims place inside).vain some chunk is) in
-        let won : Won world chunk = subst (Won world) asked.3 (somebody_won world place asked.0 _ (owned.asked_won place asked.0 asked.1 asked.2)) in
+        let won : Won world chunk = subst (Won world) asked.3 (asked_won (with_chunks world chunks) owned.ordered place asked.0 asked.1 asked.2) in
         winner chunk is won
 
     -- where it lost a packet, as many chunks were begun as the producer has

@@ -12,7 +12,7 @@ use Rattle.chunk_plain.specs.Setup.{Setup, IsLaid, HasProducer, IsChunkOf, range
 use Rattle.chunk_plain.specs.Views.{At, WriterView, newcomer}
 use Rattle.chunk_plain.specs.World.{World, writer}
 use Rattle.chunk_plain.specs.Owned.{IsOwned, Won}
-use Rattle.chunk_plain.proofs.Owned.{somebody_won}
+use Rattle.chunk_plain.proofs.AskOrder.{asked_won}
 use Rattle.world_model.specs.FirstBuffers.{payload_at}
 use Rattle.trace_writer.specs.Claims.{KeepsClaims}
 use Rattle.service_core.specs.Agreement.{spec_at}
@@ -85,7 +85,7 @@ module _ (setup : Setup) (world : World) (laid : IsLaid setup) (owned : IsOwned 
         let chunk : ℕ = range.first + k in
         let is : IsChunkOf setup (producer_of setup place) chunk = record { least = omega arith; below = omega (arith, low) } in
         let asked = asked_at (writer world place).asked chunk ((claims_of place inside).vain some chunk is) in
-        let won : Won world chunk = subst (Won world) asked.3 (somebody_won world place asked.0 _ (owned.asked_won place asked.0 asked.1 asked.2)) in
+        let won : Won world chunk = subst (Won world) asked.3 (asked_won world owned.ordered place asked.0 asked.1 asked.2) in
         winner place chunk inside is won
 
     -- so they began as many chunks as the producer has
