@@ -5,7 +5,6 @@ use Rattle.std.proofs.lemmas.Bool.{cases_lt}
 use Rattle.std.proofs.lemmas.Grind.{flat_map-append}
 use Rattle.trace_model.specs.Buffers.{Buffer}
 use Rattle.trace_model.specs.Counts.{last_count}
-use Rattle.trace_model.specs.History as model
 use Rattle.trace_model.specs.History.{Event, buffers_after}
 use Rattle.chunk_plain.specs.Setup.{Setup}
 use Rattle.chunk_plain.specs.Views.{Noted, Arrive, Partial, Patched, Closed, Read, Commit, ServiceView}

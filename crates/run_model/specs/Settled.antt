@@ -27,6 +27,7 @@ use Rattle.replay_model.specs.Played.{IsSetupOf, buffers_of}
 use Rattle.schedule_laws.specs.Resting.{IsBetweenCalls}
 use Rattle.run_model.specs.Noted.{done_calls}
 use Rattle.run_model.specs.Reads.{GoesByReads}
+use Rattle.run_model.specs.Scraped.{ScrapedByLines}
 use Rattle.run_model.specs.Vain.{LosesInVain}
 
 -- ---- a writer
@@ -60,7 +61,8 @@ ReadsTo setup first (suc number) reads old new =
 -- ---- all of it
 
 -- The scenario was run, and all is settled. Its writers and its service are those of one owned world. Each writer has done its lines, and all that it
--- completed was taken. What was noted on each sequence is in order. The reads are those of the read lines in their order, each by what its buffer held
+-- completed was taken. What was noted on each sequence is in order, and finished fragments of a chunk before it was complete only
+-- where a line scrapes the writer's producer. The reads are those of the read lines in their order, each by what its buffer held
 -- when the line was played, and then those of the end, where each producer is closed and then each buffer read without limit.
 pub record IsRun (scenario : Parts) (setup : Setup) (world : World) : Type 0 where
   pub setup_is : IsSetupOf scenario setup
@@ -71,6 +73,7 @@ pub record IsRun (scenario : Parts) (setup : Setup) (world : World) : Type 0 whe
   pub order : (place : ℕ) → place < length setup.writers
       → LeadTo world.service (sequence_of place) beginning world.service.events
       (record { come = (taken_of world.service place).count; closed = true; due = [] })
+  pub scraped : ScrapedByLines setup scenario.lines world.service
   -- the service once all was taken, and once all sequences were closed
   pub settled : ServiceView
   pub closed : ServiceView

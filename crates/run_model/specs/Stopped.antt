@@ -19,10 +19,12 @@ use Rattle.replay_model.specs.Does.{is_shut}
 use Rattle.replay_model.specs.Played.{IsSetupOf, buffers_of}
 use Rattle.thread_service.specs.Reading.{GoesUnread}
 use Rattle.run_model.specs.Reads.{GoesByReads, GoesUpTo, ReadsUpTo}
+use Rattle.run_model.specs.Scraped.{ScrapedByLines}
 use Rattle.run_model.specs.Settled.{HasDoneLines, ClosesTo, ReadsTo}
 
 -- The writers and the service are those of one owned world. Each writer has done its lines, and all that it completed was taken. What was noted on each
--- sequence is in order, and they are all closed, or none is.
+-- sequence is in order, and they are all closed, or none is. Finished fragments of a chunk before it was complete were noted only
+-- where a line scrapes the writer's producer.
 pub record HasDoneAll (scenario : Parts) (setup : Setup) (world : World) (closed : Bool) : Type 0 where
   pub setup_is : IsSetupOf scenario setup
   pub many : length world.writers ≡ length setup.writers
@@ -32,6 +34,7 @@ pub record HasDoneAll (scenario : Parts) (setup : Setup) (world : World) (closed
   pub order : (place : ℕ) → place < length setup.writers
       → LeadTo world.service (sequence_of place) beginning world.service.events
       (record { come = (taken_of world.service place).count; closed = closed; due = [] })
+  pub scraped : ScrapedByLines setup scenario.lines world.service
 
 -- A write failed in the reads of the lines: they went as far as this record, and nothing was read behind that. No sequence is closed.
 pub record StopsInLines (scenario : Parts) (setup : Setup) (world : World) (next : Delivered) : Type 0 where

@@ -18,6 +18,7 @@ use Rattle.thread_service.specs.Serving.{core_of, view_in, Serves}
 use Rattle.thread_host.specs.Finishing.{AreClosedTo}
 use Rattle.thread_host.specs.Hosts.{IsSettled}
 use Rattle.thread_host.specs.declared.settled.Settled.{Settled}
+use Rattle.thread_host.proofs.Parts.{AddsNoPart, none_scraped}
 use Rattle.thread_host.proofs.Seating.{HasSeatAt, get_of, seat_at}
 
 -- no sequence was closed when all was settled
@@ -39,7 +40,7 @@ closed_here scenario settled closed final is all_closed keeps place inside =
 
 module _ (scenario : Parts) (settled : Settled) (is : IsSettled scenario settled) (final : Service) (serves : Serves settled.table final)
     (rises : (place : ℕ) → (taken_of (view_in settled.service) place).count ≤ (taken_of (view_in final) place).count)
-    (own : (view_in final).commits ≡ []) where
+    (own : (view_in final).commits ≡ []) (none : AddsNoPart (view_in settled.service) (view_in final)) where
   abbrev setup : Setup
   setup = setup_in settled.table
 
@@ -112,4 +113,5 @@ module _ (scenario : Parts) (settled : Settled) (is : IsSettled scenario settled
         writers = done_here;
         taken = taken_here;
         order = order_here;
+        scraped = none_scraped setup scenario.lines (view_in settled.service) view none is.served.scraped;
       }

@@ -34,6 +34,7 @@ use Rattle.thread_host.specs.Hosts.{IsSettled}
 use Rattle.thread_host.specs.declared.settled.Settled.{Settled}
 use Rattle.thread_host.proofs.Closing.{closes_own, closes_rise, none_between, reads_noted, reads_own, reads_taken}
 use Rattle.thread_host.proofs.DoneAll.{all_seats, closed_here, done_all, opened_here, whole_here}
+use Rattle.thread_host.proofs.Parts.{AddsNoPart, closes_to_none, reads_to_none}
 use Rattle.thread_host.proofs.Tallying.{report_is}
 use Rattle.thread_host.proofs.Telling.{reads_further}
 
@@ -75,6 +76,12 @@ module _ (scenario : Parts) (settled : Settled) (is : IsSettled scenario settled
       reads_own setup (buffers_of scenario setup) (length scenario.buffers) reads_out.last (view_in closed) view reads_out.reads
       ∙ closes_own setup settled.producers (view_in settled.service) (view_in closed) closes ∙ is.served.own
 
+  -- a part is noted by neither
+  no_part : AddsNoPart (view_in settled.service) (view_in final)
+  no_part sequence =
+      reads_to_none setup (buffers_of scenario setup) (length scenario.buffers) reads_out.last (view_in closed) view reads_out.reads sequence
+      ∙ closes_to_none setup settled.producers (view_in settled.service) (view_in closed) closes sequence
+
   rises : (place : ℕ) → (taken_of (view_in settled.service) place).count ≤ (taken_of (view_in final) place).count
   rises place =
       let rise = closes_rise setup settled.producers (view_in settled.service) (view_in closed) is.served.serves.agrees.many closes place in
@@ -85,7 +92,7 @@ module _ (scenario : Parts) (settled : Settled) (is : IsSettled scenario settled
 
   -- each seat has nothing left to do
   pub has_all_seats : HasAllSeats settled.table (view_in final) settled.seats.items
-  has_all_seats = all_seats scenario settled is final serves rises own
+  has_all_seats = all_seats scenario settled is final serves rises own no_part
 
   -- ---- once all is taken apart
 
@@ -103,7 +110,7 @@ module _ (scenario : Parts) (settled : Settled) (is : IsSettled scenario settled
     pub run_is : GoesByReads (setup_in settled.table) (buffers_of scenario (setup_in settled.table)) scenario.lines [] (history_of (known_by_pass settled.pass))
         → IsRun scenario (setup_in settled.table) (record { chunks = []; writers = views_of settled.seats.items; service = view_in final })
     run_is asked =
-        let done = done_all scenario settled is final serves rises own account taken true (closed_here scenario settled closed final is all_closed keeps) in
+        let done = done_all scenario settled is final serves rises own no_part account taken true (closed_here scenario settled closed final is all_closed keeps) in
         record {
           setup_is = done.setup_is;
           many = done.many;
@@ -111,9 +118,10 @@ module _ (scenario : Parts) (settled : Settled) (is : IsSettled scenario settled
           writers = done.writers;
           taken = done.taken;
           order = done.order;
+          scraped = done.scraped;
           settled = view_in settled.service;
           closed = view_in closed;
-          whole = whole_here scenario settled is final serves rises own account taken;
+          whole = whole_here scenario settled is final serves rises own no_part account taken;
           opened = opened_here scenario settled is;
           closes = subst (λ (n : ℕ). ClosesTo setup n (view_in settled.service) (view_in closed)) is.producers closes;
           asked = reads_further setup (buffers_of scenario setup) scenario.lines [] (history_of (known_by_pass settled.pass)) (history_of (view_in closed)) asked

@@ -2,6 +2,7 @@ pub mod Doing
 pub mod InVain
 pub mod Telling
 pub mod Hosting
+pub mod Parts
 pub mod Growing
 pub mod Made
 pub mod Seating

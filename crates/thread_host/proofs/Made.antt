@@ -9,7 +9,9 @@ use Rattle.scenario_text.specs.Accepted.{calls_asked}
 use Rattle.scenario_text.specs.Scenario.{IsScenario, Parts, parts_of}
 use Rattle.scenario_text.proofs.ShortLemmas.{scenario_is_short}
 use Rattle.chunk_plain.specs.Plain.{first_world}
+use Rattle.chunk_plain.specs.Setup.{sequence_of}
 use Rattle.chunk_plain.specs.Views.{At, ServiceView, WriterView, newcomer}
+use Rattle.run_model.specs.Scraped.{has_part}
 use Rattle.chunk_words.specs.declared.host.HostTable.{HostTable}
 use Rattle.chunk_words.specs.declared.seats.WriterSeat.{WriterSeat}
 use Rattle.chunk_words.specs.Sits.{setup_in}
@@ -77,6 +79,7 @@ is_served scenario table service serves laid opened buffers view = record {
   began = ap (λ (specs : List BufferSpec). first_buffers (setup_in table) 1 (map spec_value specs)) buffers
       ∙ ap (first_buffers (setup_in table) 1) (asked_values scenario.buffers);
   own = ap (λ (v : ServiceView). v.commits) view;
+  scraped = λ place below other. ap (λ (v : ServiceView). has_part (sequence_of place) v.events) view;
 }
 
 -- ---- seats

@@ -34,6 +34,7 @@ use Rattle.thread_writer.specs.declared.writer.TraceWriter.{TraceWriter}
 use Rattle.thread_writer.specs.Writing.{core_of, view_in}
 use Rattle.thread_host.specs.Ending.{begun_counts, no_counts, IsDoneSeat, AreDoneSeats, HasHeard, HasHeardAll}
 use Rattle.thread_host.specs.Hosts.{HasPlayed, IsServed}
+use Rattle.thread_host.proofs.Parts.{AddsNoPart, none_scraped}
 
 -- ---- lists
 
@@ -61,12 +62,13 @@ only_keeps table old new only = record {
 -- it is served on
 pub served_on : (scenario : Parts) (table : HostTable) (old new : Service) → IsServed scenario table old → Serves table new
     → KeepsRest (setup_in table) (serving.core_of old) (serving.core_of new) → (serving.view_in new).commits ≡ (serving.view_in old).commits
-    → IsServed scenario table new
-served_on scenario table old new served serves keeps own = record {
+    → AddsNoPart (serving.view_in old) (serving.view_in new) → IsServed scenario table new
+served_on scenario table old new served serves keeps own none = record {
   serves = serves;
   opened = λ place inside. keeps.closed place inside ∙ served.opened place inside;
   began = first_stays (setup_in table) (serving.core_of old) (serving.core_of new) keeps.fields ∙ served.began;
   own = own ∙ served.own;
+  scraped = none_scraped (setup_in table) scenario.lines (serving.view_in old) (serving.view_in new) none served.scraped;
 }
 
 -- ---- one writer

@@ -30,6 +30,7 @@ use Rattle.thread_host.specs.Hosts.{IsSettled}
 use Rattle.thread_host.specs.declared.settled.Settled.{Settled}
 use Rattle.thread_host.proofs.Closing.{IsNotedRead, closes_own, closes_rise, none_between, reads_own, reads_taken, some_noted}
 use Rattle.thread_host.proofs.DoneAll.{all_seats, closed_here, done_all, opened_here, whole_here}
+use Rattle.thread_host.proofs.Parts.{AddsNoPart, closes_to_none, reads_some_none}
 use Rattle.thread_host.proofs.Telling.{reads_further}
 
 -- ---- at the end
@@ -66,6 +67,12 @@ module _ (scenario : Parts) (settled : Settled) (is : IsSettled scenario settled
       ∙ reads_own setup (buffers_of scenario setup) some.read some.earlier (view_in closed) some.between some.reads
       ∙ closes_own setup settled.producers (view_in settled.service) (view_in closed) closes ∙ is.served.own
 
+  -- a part is noted by neither
+  no_part : AddsNoPart (view_in settled.service) (view_in final)
+  no_part sequence =
+      reads_some_none setup (buffers_of scenario setup) (length scenario.buffers) (view_in closed) view fails_out.next fails_out.reads sequence
+      ∙ closes_to_none setup settled.producers (view_in settled.service) (view_in closed) closes sequence
+
   rises : (place : ℕ) → (taken_of (view_in settled.service) place).count ≤ (taken_of (view_in final) place).count
   rises place =
       let some = fails_out.reads in
@@ -78,7 +85,7 @@ module _ (scenario : Parts) (settled : Settled) (is : IsSettled scenario settled
 
   -- each seat has nothing left to do
   pub seats_back : HasAllSeats settled.table (view_in final) settled.seats.items
-  seats_back = all_seats scenario settled is final serves rises own
+  seats_back = all_seats scenario settled is final serves rises own no_part
 
   -- once all is taken apart
   module _ (account : IsAccount (views_of settled.seats.items) (view_in final)) (taken : AllTaken (view_in final) (views_of settled.seats.items))
@@ -95,10 +102,10 @@ module _ (scenario : Parts) (settled : Settled) (is : IsSettled scenario settled
     stops_in_end : GoesByReads (setup_in settled.table) (buffers_of scenario (setup_in settled.table)) scenario.lines [] (history_of (known_by_pass settled.pass))
         → StopsInEnd scenario (setup_in settled.table) (record { chunks = []; writers = views_of settled.seats.items; service = view_in final }) fails_out.next
     stops_in_end asked = record {
-      done = done_all scenario settled is final serves rises own account taken true (closed_here scenario settled closed final is all_closed keeps);
+      done = done_all scenario settled is final serves rises own no_part account taken true (closed_here scenario settled closed final is all_closed keeps);
       settled = view_in settled.service;
       closed = view_in closed;
-      whole = whole_here scenario settled is final serves rises own account taken;
+      whole = whole_here scenario settled is final serves rises own no_part account taken;
       opened = opened_here scenario settled is;
       closes = subst (λ (n : ℕ). ClosesTo setup n (view_in settled.service) (view_in closed)) is.producers closes;
       asked = reads_further setup (buffers_of scenario setup) scenario.lines [] (history_of (known_by_pass settled.pass)) (history_of (view_in closed)) asked
@@ -126,7 +133,7 @@ module _ (scenario : Parts) (settled : Settled) (is : IsSettled scenario settled
   same_count place = omega arith
 
   pub settled_seats : HasAllSeats settled.table (view_in settled.service) settled.seats.items
-  settled_seats = all_seats scenario settled is settled.service is.served.serves same_count is.served.own
+  settled_seats = all_seats scenario settled is settled.service is.served.serves same_count is.served.own (λ sequence. refl)
 
   pub has_let_go : IsAccount (views_of settled.seats.items) (view_in settled.service) → AllTaken (view_in settled.service) (views_of settled.seats.items)
       → GoesOn (known_by_pass settled.pass) (view_in settled.service) → HasLetGo scenario settled
@@ -135,6 +142,6 @@ module _ (scenario : Parts) (settled : Settled) (is : IsSettled scenario settled
     writers = refl;
     service = refl;
     account = account;
-    done = done_all scenario settled is settled.service is.served.serves same_count is.served.own account taken false is.served.opened;
+    done = done_all scenario settled is settled.service is.served.serves same_count is.served.own (λ sequence. refl) account taken false is.served.opened;
     goes = goes_unread (known_by_pass settled.pass) (view_in settled.service) is.known goes;
   }

@@ -1,34 +1,37 @@
 -- How what a service knows grows, whose calls are made one after another by whoever holds its lock.
-use Rattle.std.specs.Prelude.{◌≡◌, ◌⊎◌, ℕ, List, [], ◌∷◌}
+use Rattle.std.specs.Prelude.{◌≡◌, ◌⊎◌, ℕ, true, List, [], ◌∷◌}
 use Rattle.std.specs.List.{flat_map}
 use Rattle.trace_model.specs.History as model
 use Rattle.chunk_plain.specs.Setup.{Setup}
 use Rattle.chunk_plain.specs.Views.{ServiceView}
+use Rattle.scenario_text.specs.declared.scenario.NumberedLine.{NumberedLine}
 use Rattle.service_core.specs.Reading.{noted_read}
 use Rattle.service_core.specs.Scraping.{TakesAndScrapes}
 use Rattle.service_core.specs.Taking.{Takes, noted_more, places_of}
+use Rattle.run_model.specs.Scraped.{is_scraped_by}
 
 -- Complete chunks of a producer's writers were taken.
 abbrev pub IsCollect : Setup → ServiceView → ServiceView → Type 0
 IsCollect setup old new = (producer taken : ℕ) × Takes setup (places_of producer 0 setup.writers) taken old new
 
--- They were, and then the finished fragments of the chunks that these writers hold.
-abbrev pub IsScrape : Setup → ServiceView → ServiceView → Type 0
-IsScrape setup old new = (producer taken : ℕ) × TakesAndScrapes setup producer taken old new
+-- They were, and then the finished fragments of the chunks that these writers hold; one of the lines scrapes the producer.
+abbrev pub IsScrape : Setup → List NumberedLine → ServiceView → ServiceView → Type 0
+IsScrape setup lines old new = (producer taken : ℕ) × (is_scraped_by lines producer ≡ true) × TakesAndScrapes setup producer taken old new
 
 -- Reads were noted, and nothing else.
 abbrev pub IsReading : ServiceView → ServiceView → Type 0
 IsReading old new = (reads : List model.Event) × (new ≡ noted_more old (flat_map noted_read reads))
 
 -- by one call
-abbrev pub GrowsOnce : Setup → ServiceView → ServiceView → Type 0
-GrowsOnce setup old new = IsCollect setup old new ⊎ (IsScrape setup old new ⊎ IsReading old new)
+abbrev pub GrowsOnce : Setup → List NumberedLine → ServiceView → ServiceView → Type 0
+GrowsOnce setup lines old new = IsCollect setup old new ⊎ (IsScrape setup lines old new ⊎ IsReading old new)
 
--- The view is what these calls made of the earlier one: each collects, scrapes or reads, and leaves one of these views to the next.
-abbrev pub GrowsBy : Setup → List ServiceView → ServiceView → ServiceView → Type 0
-GrowsBy setup [] old new = new ≡ old
-GrowsBy setup (view ∷ views) old new = GrowsOnce setup old view × GrowsBy setup views view new
+-- The view is what these calls made of the earlier one: each collects, scrapes a producer that one of the lines scrapes, or reads,
+-- and leaves one of these views to the next.
+abbrev pub GrowsBy : Setup → List NumberedLine → List ServiceView → ServiceView → ServiceView → Type 0
+GrowsBy setup lines [] old new = new ≡ old
+GrowsBy setup lines (view ∷ views) old new = GrowsOnce setup lines old view × GrowsBy setup lines views view new
 
 -- there are such calls
-abbrev pub Grows : Setup → ServiceView → ServiceView → Type 0
-Grows setup old new = ∥ ((views : List ServiceView) × GrowsBy setup views old new) ∥₁
+abbrev pub Grows : Setup → List NumberedLine → ServiceView → ServiceView → Type 0
+Grows setup lines old new = ∥ ((views : List ServiceView) × GrowsBy setup lines views old new) ∥₁

@@ -13,6 +13,7 @@ use Rattle.scenario_text.specs.Accepted.{calls_asked, is_closed_by}
 use Rattle.service_core.specs.Agreement.{first_of}
 use Rattle.replay_model.specs.Played.{IsSetupOf, buffers_of}
 use Rattle.replay_host.specs.Asking.{IsReadyFor}
+use Rattle.run_model.specs.Scraped.{ScrapedByLines}
 use Rattle.run_model.specs.Settled.{HasDoneLines}
 use Rattle.thread_service.specs.declared.service.Service.{Service}
 use Rattle.thread_service.specs.Reading.{IsKnownWhole}
@@ -70,12 +71,14 @@ ClosesNone lines = (producer : ℕ) → is_closed_by lines producer ≡ false
 
 -- ---- the service
 
--- The service is one of the table, with the scenario's buffers. No sequence is closed, and no image came by a commit.
+-- The service is one of the table, with the scenario's buffers. No sequence is closed, and no image came by a commit. Finished
+-- fragments of a chunk before it was complete were noted only where a line scrapes the writer's producer.
 pub record IsServed (scenario : Parts) (table : HostTable) (service : Service) : Type 0 where
   pub serves : Serves table service
   pub opened : AllOpen (setup_in table) service
   pub began : first_of (setup_in table) (serving.core_of service) ≡ buffers_of scenario (setup_in table)
   pub own : (serving.view_in service).commits ≡ []
+  pub scraped : ScrapedByLines (setup_in table) scenario.lines (serving.view_in service)
 
 -- ---- the host
 

@@ -79,7 +79,8 @@ impl Host {
 
     /// Runs the scenario: each writer plays its lines on a thread of its own, beside the service's own
     /// lines. The sink takes the records of the reads. After a write fault the service plays no more. What
-    /// the service knows grows by what is collected, scraped and read, and by nothing else.
+    /// the service knows grows by what is collected, scraped and read, and by nothing else; scraped is no
+    /// producer but one that a line scrapes.
     pub fn run<R: Threads + Wait + Sync, T: Sink + Send, G: Gate + Sync>(
         &mut self,
         rt: &R,
@@ -93,7 +94,7 @@ impl Host {
         ensures host { IsHost (parts_of scenario.now) self.new }
         ensures table { self.new.table ≡ self.old.table }
         ensures grows { IfSome self.old.service (λ before. IfSome self.new.service (λ after.
-            Grows (setup_in self.old.table) (view_in before) (view_in after))) }
+            Grows (setup_in self.old.table) scenario.now.lines (view_in before) (view_in after))) }
         ensures played { HavePlayed scenario.now.lines self.new.table writers.new.items }
         ensures told { OnOk result (TellsLines (setup_in self.old.table) (buffers_of (parts_of scenario.now) (setup_in self.old.table))
             scenario.now.lines (known_by_pass self.old.pass) (known_by_pass self.new.pass) (T.taken out.old) (T.taken out.new)) }

@@ -1,7 +1,9 @@
 //! The service's own job of a run.
-ghost use Rattle.std.specs.Prelude.{IfOk, OnErr};
+ghost use Rattle.std.specs.Prelude.{◌≡◌, ℕ, true, IfOk, OnErr};
 ghost use Rattle.byte_io.specs.Bytes.{CountsFaults};
 ghost use Rattle.chunk_words.specs.Sits.{Passes, known_by_pass};
+ghost use Rattle.scenario_text.specs.declared.scenario.LineKind.TheVariants as line_kinds;
+ghost use Rattle.run_model.specs.Scraped.{is_scraped_by};
 ghost use Rattle.thread_service.specs.Reading.{IsKnownWhole};
 ghost use Rattle.thread_host.specs.Keeping.{IsNamed};
 ghost use Rattle.thread_host.specs.Jobs.{KeepsLoans, FailsLine, FailsLines, TellsLine, TellsLines};
@@ -27,6 +29,7 @@ pub fn service_job<N: HostName, R: Wait, G: Gate, O: Sink>(
     out: &mut O,
 ) -> Result<(), WriteFault>
     requires table { IsNamed N.table N.setup table.now }
+    requires lines { lines.now ≡ N.lines }
     requires pass { Passes table.now pass.old }
     requires known { IsKnownWhole (known_by_pass pass.old) }
     ensures pass { Passes table.now pass.new }
@@ -76,6 +79,7 @@ fn play_line<N: HostName, R: Wait, O: Sink>(
     out: &mut O,
 ) -> Result<(), WriteFault>
     requires table { IsNamed N.table N.setup table.now }
+    requires scraped { (producer : ℕ) → line.now ≡ line_kinds.Scrape producer → is_scraped_by N.lines producer ≡ true }
     requires pass { Passes table.now pass.old }
     requires known { IsKnownWhole (known_by_pass pass.old) }
     ensures pass { Passes table.now pass.new }

@@ -1,5 +1,5 @@
 //! The service behind a lock.
-ghost use Rattle.std.specs.Prelude.{◌≡◌, List, IfOk, OnErr};
+ghost use Rattle.std.specs.Prelude.{◌≡◌, true, List, IfOk, OnErr};
 ghost use Rattle.byte_io.specs.Bytes.{CountsFaults};
 ghost use Rattle.trace_model.specs.History as model;
 ghost use Rattle.chunk_words.specs.Knows.{Away, with_stage};
@@ -9,6 +9,7 @@ ghost use Rattle.service_core.specs.Agreement.{KeepsRest};
 ghost use Rattle.service_core.specs.Reading.{NotesReads, ReadsAll, FailsAmong};
 ghost use Rattle.service_core.specs.Scraping.{TakesAndScrapes};
 ghost use Rattle.service_core.specs.Taking.{Takes, places_of};
+ghost use Rattle.run_model.specs.Scraped.{is_scraped_by};
 ghost use Rattle.thread_service.specs.Reading.{IsKnownWhole, PassReads};
 ghost use Rattle.thread_service.specs.Serving.{core_of, view_in, desk_in};
 ghost use Rattle.thread_host.specs.Growing.{Grows};
@@ -25,7 +26,7 @@ use thread_service::Service;
 
 /// The service of the table that its type names, none of whose sequences is closed. No image came by a
 /// commit. What it knows is what the type says that it knew, and what was collected, scraped and read
-/// since.
+/// since; scraped was none but a producer that a line of those scrapes which the type names.
 #[derive(Drop)]
 pub struct Locked<N: HostName> {
     pub(crate) service: Service,
@@ -34,7 +35,7 @@ pub struct Locked<N: HostName> {
     ghost open: { AllOpen N.setup service },
     ghost began: { BeganWith N.setup N.first service } by { began_prop N.setup N.first service },
     ghost own: { HasOwn service } by { own_prop service },
-    ghost grows: { Grows N.setup N.start (view_in service) },
+    ghost grows: { Grows N.setup N.lines N.start (view_in service) },
 }
 
 impl<N: HostName> Locked<N> {
@@ -43,7 +44,7 @@ impl<N: HostName> Locked<N> {
         requires open { AllOpen N.setup service }
         requires began { BeganWith N.setup N.first service }
         requires own { HasOwn service }
-        requires grows { Grows N.setup N.start (view_in service) }
+        requires grows { Grows N.setup N.lines N.start (view_in service) }
         ensures service { result.service ≡ service }
     {
         Locked {
@@ -58,7 +59,7 @@ impl<N: HostName> Locked<N> {
         ensures open { AllOpen N.setup result }
         ensures began { BeganWith N.setup N.first result }
         ensures own { HasOwn result }
-        ensures grows { Grows N.setup N.start (view_in result) }
+        ensures grows { Grows N.setup N.lines N.start (view_in result) }
     {
         let Locked { service, of: _ } = self;
         service
@@ -75,9 +76,11 @@ impl<N: HostName> Locked<N> {
         self.service.collect(table, producer)
     }
 
-    /// Takes them, and then the finished fragments of the chunks that the writers hold.
+    /// Takes them, and then the finished fragments of the chunks that the writers hold. A line scrapes
+    /// the producer.
     pub fn scrape(&mut self, table: &HostTable, producer: u16) -> u64
         requires table { IsNamed N.table N.setup table.now }
+        requires line { is_scraped_by N.lines producer ≡ true }
         ensures keeps { KeepsRest N.setup (core_of self.old.service) (core_of self.new.service) }
         ensures scrapes { TakesAndScrapes N.setup producer result (view_in self.old.service) (view_in self.new.service) }
         ensures desk { desk_in self.new.service ≡ desk_in self.old.service }

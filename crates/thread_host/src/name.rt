@@ -8,6 +8,7 @@ pub trait HostName {
     ghost use Rattle.trace_model.specs.Buffers.{Buffer};
     ghost use Rattle.chunk_plain.specs.Setup.{Setup};
     ghost use Rattle.chunk_plain.specs.Views.{ServiceView};
+    ghost use Rattle.scenario_text.specs.declared.scenario.NumberedLine.{NumberedLine};
 
     ghost table: { TableId };
 
@@ -18,6 +19,9 @@ pub trait HostName {
 
     // what its service knew when it was locked
     ghost start: { ServiceView };
+
+    // the lines that are played beside it
+    ghost lines: { List NumberedLine };
 }
 
 impl HostName for Brand {
@@ -33,4 +37,6 @@ impl HostName for Brand {
     ghost first = { [] };
 
     ghost start = { newcomer_service };
+
+    ghost lines = { [] };
 }

@@ -1,5 +1,5 @@
 //! The jobs of a run, beside each other.
-ghost use Rattle.std.specs.Prelude.{ℕ, ◌<◌, length, IfOk, OnErr};
+ghost use Rattle.std.specs.Prelude.{◌≡◌, ℕ, ◌<◌, length, IfOk, OnErr};
 ghost use Rattle.byte_io.specs.Bytes.{CountsFaults};
 ghost use Rattle.chunk_words.specs.Sits.{Passes, known_by_pass};
 ghost use Rattle.thread_service.specs.Reading.{IsKnownWhole};
@@ -115,11 +115,12 @@ pub fn run_named<
     writers: &mut [TraceWriter],
 ) -> (Service, Result<(), WriteFault>)
     requires table { IsNamed N.table N.setup table.now }
+    requires lines { lines.now ≡ N.lines }
     requires serves { ServesNamed N.table N.setup service }
     requires open { AllOpen N.setup service }
     requires began { BeganWith N.setup N.first service }
     requires own { HasOwn service }
-    requires grows { Grows N.setup N.start (view_in service) }
+    requires grows { Grows N.setup N.lines N.start (view_in service) }
     requires pass { Passes table.now pass.old }
     requires known { IsKnownWhole (known_by_pass pass.old) }
     requires ready { AreReadyFrom own.now table.now 0 writers.old }
@@ -127,7 +128,7 @@ pub fn run_named<
     ensures open { AllOpen N.setup result.0 }
     ensures began { BeganWith N.setup N.first result.0 }
     ensures own { HasOwn result.0 }
-    ensures grows { Grows N.setup N.start (view_in result.0) }
+    ensures grows { Grows N.setup N.lines N.start (view_in result.0) }
     ensures pass { Passes table.now pass.new }
     ensures known { IsKnownWhole (known_by_pass pass.new) }
     ensures told { IfOk result.1 (λ _. TellsLines N.setup N.first lines.now (known_by_pass pass.old) (known_by_pass pass.new)

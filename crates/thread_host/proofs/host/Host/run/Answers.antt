@@ -1,5 +1,5 @@
 -- The service is there, and comes back as what the lock's type says of it.
-use Rattle.std.proofs.Common.{◌≡◌, ◌∙◌, Option, IfSome, List, length, sym, ap, subst}
+use Rattle.std.proofs.Common.{◌≡◌, ◌∙◌, Option, IfSome, List, length, refl, sym, ap, subst}
 use Rattle.chunk_words.specs.Sits.{setup_in}
 use Rattle.scenario_text.specs.declared.scenario.NumberedLine.{NumberedLine}
 use Rattle.scenario_text.specs.Scenario.{parts_of}
@@ -10,6 +10,7 @@ use Rattle.thread_host.specs.Growing.{Grows}
 use Rattle.thread_host.specs.Hosts.{AreReadyFrom, IsServed, HavePlayed, HavePlayedFrom}
 use Rattle.thread_host.proofs.Growing.{grows_none}
 use Rattle.thread_host.proofs.Hosting.{all_played, given_back, held_of, never_none, ready_from, serves_named}
+use Rattle.thread_host.proofs.Parts.{grown_scraped}
 use Rattle.thread_host.proofs.host.Host.run.Goals as goal
 
 pub unreachable-requires : goal.unreachable-requires
@@ -41,13 +42,43 @@ run_named-service-requires-clause-ready g c κs within =
     (subst (AreReadyFrom lines table 0) (sym c.as_mut_slice.ensures.value) (ready_from lines table c.args.writers.now.items c.requires.writers))
 
 pub run_named-service-requires-clause-grows : goal.run_named-service-requires-clause-grows
-run_named-service-requires-clause-grows g c κs within = grows_none (setup_in c.args.self.now.table) (view_in c.in-Some.service)
+run_named-service-requires-clause-grows g c κs within = grows_none (setup_in c.args.self.now.table) c.args.scenario.now.lines (view_in c.in-Some.service)
+
+pub returns-clause-host : goal.returns-clause-host
+returns-clause-host g c =
+    let table = c.args.self.now.table in
+    let setup = setup_in table in
+    let host = c.requires.host in
+    let before = c.in-Some.service in
+    let after = c.run_named-service.result.0 in
+    let back = c.run_named-service.ensures in
+    let served = held_of (IsServed (parts_of c.args.scenario.now) table) c.args.self.now.service before host.served (sym c.take.ensures.value ∙ c.in-Some.is) in
+    record {
+      laid = host.laid;
+      specs = host.specs;
+      producers = host.producers;
+      served = record {
+        serves = back.serves table (record { identity = refl; setup_is = refl });
+        opened = back.«open»;
+        began = back.began ∙ served.began;
+        own = back.own;
+        scraped = grown_scraped setup c.args.scenario.now.lines (view_in before) (view_in after) back.grows served.scraped;
+      };
+      pass = back.pass;
+      known = back.known;
+      no_seats = host.no_seats;
+      room = host.room;
+      few_buffers = host.few_buffers;
+      buffers = host.buffers;
+      sequences = host.sequences;
+      flushes = host.flushes;
+    }
 
 pub returns-clause-grows : goal.returns-clause-grows
 returns-clause-grows g c =
     let setup = setup_in c.args.self.now.table in
     let after = view_in c.run_named-service.result.0 in
-    subst (λ (o : Option Service). IfSome o (λ before. Grows setup (view_in before) after)) (sym (sym c.take.ensures.value ∙ c.in-Some.is))
+    subst (λ (o : Option Service). IfSome o (λ before. Grows setup c.args.scenario.now.lines (view_in before) after)) (sym (sym c.take.ensures.value ∙ c.in-Some.is))
     c.run_named-service.ensures.grows
 
 pub returns-clause-played : goal.returns-clause-played

@@ -11,4 +11,5 @@ ghosts-run_named g a = record {
   setup = setup_in a.table.now;
   first = first_of (setup_in a.table.now) (core_of a.service);
   start = view_in a.service;
+  lines = a.lines.now;
 }

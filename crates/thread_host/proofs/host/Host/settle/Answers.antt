@@ -13,6 +13,8 @@ use Rattle.thread_service.specs.Serving as serving
 use Rattle.thread_service.specs.Settling.{TakesAllOut}
 use Rattle.thread_host.specs.Ending.{AreDoneSeats}
 use Rattle.thread_host.specs.Hosts.{IsServed}
+use Rattle.run_model.specs.Scraped.{has_part}
+use Rattle.thread_host.proofs.Parts.{takes_out_none}
 use Rattle.thread_host.proofs.Seating.{only_keeps, served_on, whole_tale}
 use Rattle.thread_host.proofs.host.Host.settle.Goals as goal
 
@@ -50,7 +52,9 @@ returns-clause-settled c scenario host played =
     record {
       laid = host.laid;
       producers = host.producers;
-      served = served_on scenario table first last was settles.serves keeps (settles.own ∙ ap (λ v. v.commits) ends.view);
+      served = served_on scenario table first last was settles.serves keeps (settles.own ∙ ap (λ v. v.commits) ends.view)
+          (λ sequence. takes_out_none (setup_in table) (setup_in table).writers (serving.view_in mid) (serving.view_in last) settles.takes sequence
+          ∙ ap (λ (v : ServiceView). has_part sequence v.events) ends.view);
       many = ends.many;
       done = subst (λ (xs : List SequenceCounts). AreDoneSeats scenario.lines table seats xs)
           (sym (with_items_is c.args.self.counts.sequences wrote (omega (arith, long, lent, ok)))) done;

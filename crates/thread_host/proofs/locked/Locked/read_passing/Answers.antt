@@ -43,6 +43,6 @@ invariant_of-self g c = record {
       let core = core_of c.args.self.now.service in
       let old = view_in c.args.self.now.service in let new = view_in c.read_passing.new.self in
       let before = g.O.Sink.taken c.args.out.now in let after = g.O.Sink.taken c.read_passing.new.out in
-      read_grows g.N.HostName.setup (setup_in c.args.table.now) core c.args.buffer c.args.limit g.N.HostName.start old new before after c.read_passing.result
+      read_grows g.N.HostName.setup (setup_in c.args.table.now) g.N.HostName.lines core c.args.buffer c.args.limit g.N.HostName.start old new before after c.read_passing.result
       c.read_passing.ensures.reads c.read_passing.ensures.fails c.args.self.now.grows;
 }

@@ -17,7 +17,7 @@ invariant_of-self g c = record {
       let start = g.N.HostName.start in
       let old = view_in c.args.self.now.service in
       let new = view_in c.scrape.new.self in
-      scrape_grows g.N.HostName.setup c.args.producer c.scrape.result start old new
+      scrape_grows g.N.HostName.setup g.N.HostName.lines c.args.producer c.scrape.result start old new c.requires.line
       (subst (λ (s : Setup). TakesAndScrapes s c.args.producer c.scrape.result old new) setup_is c.scrape.ensures.scrapes)
       c.args.self.now.grows;
 }
