@@ -3,16 +3,12 @@
 use Rattle.std.proofs.Common.{◌≡◌, ◌∙◌, ℕ, zero, suc, ◌<◌, ◌≤◌, ◌⊎◌, Bool, true, false, not, ◌&&◌, ◌||◌, List, [], ◌∷◌, ◌++◌, drop, map, Some, refl, sym, ap, subst, arith, inl, inr}
 use Rattle.std.specs.Prelude.{cond, ◌==◌, slice_get, filter, is_some, MatchBool}
 use Rattle.std.proofs.lemmas.Bool.{false≢true, eq-eqb, ne_eqb, cases_eq}
-use Rattle.trace_model.specs.Packets.{Packet, is_lost, front_of, packet_encoding}
+use Rattle.trace_model.specs.Packets.{Packet, is_lost, front_of, packet_encoding, finished_encodings}
 use Rattle.trace_model.specs.Record.{record_of, mark_where}
 use Rattle.trace_model.specs.Reads.{Delivery}
 use Rattle.trace_model.specs.Tells.{TellsFrom}
 use Rattle.delivery_laws.specs.Sheets.{WrittenPacket}
 use Rattle.delivery_laws.specs.Histories.{AreTold}
-
--- the encodings of the finished ones
-abbrev pub emitted : List Packet → List (List ℕ)
-emitted packets = map packet_encoding (filter (λ packet. packet.finished) packets)
 
 -- what was written whole of a packet is its front mark and its encoding, and the packet is finished and not lost
 pub record Fits (packet : Packet) (told : WrittenPacket) : Type 0 where
@@ -111,13 +107,13 @@ module _ (all : List WrittenPacket) (all_emitted : List (List ℕ)) (q : ℕ) wh
 
   abbrev TellsOn : List Packet → Type 0
   TellsOn packets =
-      (told : List WrittenPacket) (lost first : Bool) (next at behind place : ℕ) → drop at all ≡ told → drop place all_emitted ≡ emitted packets
+      (told : List WrittenPacket) (lost first : Bool) (next at behind place : ℕ) → drop at all ≡ told → drop place all_emitted ≡ finished_encodings packets
       → Pairs packets told → InTurn lost packets → IsAt lost first next at behind place
       → (d : Delivery) (ds : List Delivery) (is : IsNext first next d ds) → at ≤ is.at
       → TellsFrom all_emitted q first behind (record_bytes q d ∷ map (record_bytes q) ds)
 
   -- the packet stands next among those emitted, where it is finished
-  emitted_next : (packet : Packet) (packets : List Packet) → packet.finished ≡ true → emitted (packet ∷ packets) ≡ packet_encoding packet ∷ emitted packets
+  emitted_next : (packet : Packet) (packets : List Packet) → packet.finished ≡ true → finished_encodings (packet ∷ packets) ≡ packet_encoding packet ∷ finished_encodings packets
   emitted_next packet packets e = ap (λ (b : Bool). map packet_encoding (cond b (packet ∷ filter (λ p. p.finished) packets) (filter (λ p. p.finished) packets))) e
 
   -- where a packet is told of behind, this one is finished
@@ -129,21 +125,21 @@ module _ (all : List WrittenPacket) (all_emitted : List (List ℕ)) (q : ℕ) wh
       by_finish false e = absurd (some (h e))
 
   tells_dropped : (packet : Packet) (packets : List Packet) → TellsOn packets
-      → (told : List WrittenPacket) (lost first : Bool) (next at behind place : ℕ) → drop at all ≡ told → drop place all_emitted ≡ emitted (packet ∷ packets)
+      → (told : List WrittenPacket) (lost first : Bool) (next at behind place : ℕ) → drop at all ≡ told → drop place all_emitted ≡ finished_encodings (packet ∷ packets)
       → packet.kept ≡ false → Pairs packets told → InTurn lost (packet ∷ packets) → IsAt lost first next at behind place
       → (d : Delivery) (ds : List Delivery) (is : IsNext first next d ds) → at ≤ is.at
       → TellsFrom all_emitted q first behind (record_bytes q d ∷ map (record_bytes q) ds)
   tells_dropped packet packets rest told lost first next at behind place t e kept pairs turn is_at d ds is low =
       let finished = finished_before packet packets turn.1 (λ none. none_there at is.at all (record { bytes = d.body; whole = true })
       (t ∙ subst (λ (ps : List Packet). Pairs ps told) none pairs) low is.get) in
-      let one = drop_one place all_emitted (packet_encoding packet) (emitted packets) (e ∙ emitted_next packet packets finished) in
+      let one = drop_one place all_emitted (packet_encoding packet) (finished_encodings packets) (e ∙ emitted_next packet packets finished) in
       let lost_one : is_lost packet ≡ true = ap (λ (b : Bool). not b || is_some packet.given_up) kept in
       rest told true first next at behind (suc place) t one.0 pairs
       (subst (λ (b : Bool). InTurn b packets) lost_one turn.2)
       (passed_dropped lost first next at behind place is_at) d ds is low
 
   tells_kept : (packet : Packet) (packets : List Packet) → TellsOn packets
-      → (one : WrittenPacket) (told : List WrittenPacket) (lost first : Bool) (next at behind place : ℕ) → drop at all ≡ one ∷ told → drop place all_emitted ≡ emitted (packet ∷ packets)
+      → (one : WrittenPacket) (told : List WrittenPacket) (lost first : Bool) (next at behind place : ℕ) → drop at all ≡ one ∷ told → drop place all_emitted ≡ finished_encodings (packet ∷ packets)
       → packet.kept ≡ true → Fits packet one → Pairs packets told → InTurn lost (packet ∷ packets) → IsAt lost first next at behind place
       → (d : Delivery) (ds : List Delivery) (is : IsNext first next d ds) → at ≤ is.at
       → TellsFrom all_emitted q first behind (record_bytes q d ∷ map (record_bytes q) ds)
@@ -160,7 +156,7 @@ module _ (all : List WrittenPacket) (all_emitted : List (List ℕ)) (q : ℕ) wh
 
       -- what comes behind this delivery
       behind_it : (ds : List Delivery) → AreTold all false (suc at) ds → packet.finished ≡ true → is_lost packet ≡ false
-          → drop (suc place) all_emitted ≡ emitted packets → TellsFrom all_emitted q false (suc place) (map (record_bytes q) ds)
+          → drop (suc place) all_emitted ≡ finished_encodings packets → TellsFrom all_emitted q false (suc place) (map (record_bytes q) ds)
       behind_it [] h f l e' = tt
       behind_it (d' ∷ ds') h f l e' =
           rest told (is_lost packet) false (suc at) (suc at) (suc place) (suc place) here_all.0 e' pairs turn.2
@@ -177,7 +173,7 @@ module _ (all : List WrittenPacket) (all_emitted : List (List ℕ)) (q : ℕ) wh
           let whole : one.whole ≡ true = ap (λ (w : WrittenPacket). w.whole) is_one in
           let finished = fits.finished whole in
           let not_lost = fits.kept whole in
-          let stands = drop_one place all_emitted (packet_encoding packet) (emitted packets) (e ∙ emitted_next packet packets finished) in
+          let stands = drop_one place all_emitted (packet_encoding packet) (finished_encodings packets) (e ∙ emitted_next packet packets finished) in
           let body : d.body ≡ front_of packet ++ packet_encoding packet = sym (ap (λ (w : WrittenPacket). w.bytes) is_one) ∙ fits.bytes whole in
           let front : front_of packet ≡ mark_where lost = ap mark_where (ap (λ (b : Bool). b && packet.follows_loss) kept ∙ turn.0) in (
             place,
@@ -196,7 +192,7 @@ module _ (all : List WrittenPacket) (all_emitted : List (List ℕ)) (q : ℕ) wh
           let higher : suc at ≤ is.at = grind (arith, low, other) in
           let finished = finished_before packet packets turn.1 (λ none. none_there (suc at) is.at all (record { bytes = d.body; whole = true })
           (here_all.0 ∙ subst (λ (ps : List Packet). Pairs ps told) none pairs) higher is.get) in
-          let stands = drop_one place all_emitted (packet_encoding packet) (emitted packets) (e ∙ emitted_next packet packets finished) in
+          let stands = drop_one place all_emitted (packet_encoding packet) (finished_encodings packets) (e ∙ emitted_next packet packets finished) in
           rest told (is_lost packet) first next (suc at) behind (suc place) here_all.0 stands.0 pairs turn.2
           (passed_kept lost (is_lost packet) first next at behind place is_at) d ds is higher
 
@@ -214,9 +210,9 @@ module _ (all : List WrittenPacket) (all_emitted : List (List ℕ)) (q : ℕ) wh
       by_kept false k p rest = tells_dropped packet packets rest (one ∷ told) lost first next at behind place t e k p turn is_at d ds is low
 
 pub first_told : (packets : List Packet) (told : List WrittenPacket) (q : ℕ) (ds : List Delivery) → Pairs packets told → InTurn false packets
-    → AreTold told true 0 ds → TellsFrom (emitted packets) q true 0 (map (record_bytes q) ds)
+    → AreTold told true 0 ds → TellsFrom (finished_encodings packets) q true 0 (map (record_bytes q) ds)
 first_told packets told q [] pairs turn h = tt
 first_told packets told q (d ∷ ds) pairs turn h =
-    tells_on told (emitted packets) q packets told false true 0 0 0 0 refl refl pairs turn
+    tells_on told (finished_encodings packets) q packets told false true 0 0 0 0 refl refl pairs turn
     (record { told = omega arith; emitted_there = omega arith; turn = λ f. absurd (false≢true (sym f)) })
     d ds (record { at = h.0; get = h.2; mark = h.3; rest = h.4 }) h.1

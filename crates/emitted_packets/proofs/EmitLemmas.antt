@@ -1,25 +1,21 @@
 -- How an emitter goes from call to call.
-use Rattle.std.proofs.Common.{◌≡◌, ℕ, zero, suc, ◌+◌, ◌-◌, ◌≤◌, Bool, true, false, cond, List, [], ◌∷◌, ◌++◌, length, map, reverse, take, drop, Option, None, refl, sym, ap, ◌∙◌, subst, arith, append_assoc, length-append}
-use Rattle.std.specs.Prelude.{filter, not, ◌||◌, ◌&&◌, is_some}
+use Rattle.std.proofs.Common.{◌≡◌, ℕ, zero, suc, ◌+◌, ◌-◌, ◌≤◌, Bool, true, false, List, [], ◌∷◌, ◌++◌, length, map, reverse, take, drop, Option, None, refl, sym, ap, ◌∙◌, subst, arith, append_assoc, length-append}
+use Rattle.std.specs.Prelude.{not, ◌||◌, ◌&&◌, is_some}
 use Rattle.std.specs.List.{repeat}
 use Rattle.std.proofs.Math.ListN.{replicate}
 use Rattle.std.proofs.lemmas.Bool.{false≢true}
-use Rattle.std.proofs.lemmas.List.{append-nil, map-append, reverse-append, reverse-reverse, length-drop, drop_all, take_all, take_at, drop_at, take-append-le, drop-append-le}
-use Rattle.std.proofs.lemmas.List.Elements.{filter-append}
-use Rattle.std.proofs.lemmas.Grind.{common_steps, reverse_onto}
+use Rattle.std.proofs.lemmas.List.{append-nil, reverse-append, reverse-reverse, length-drop, drop_all, take_all, take_at, drop_at, take-append-le, drop-append-le}
+use Rattle.std.proofs.lemmas.Grind.{common_steps}
 use Rattle.trace_model.specs.Calls as calls
 use Rattle.trace_model.specs.Encoding.{number_field, bytes_field, nested_tag}
 use Rattle.wire_varint.specs.Varint.{redundant}
 use Rattle.wire_varint.proofs.Lengths.{length-redundant}
 use Rattle.trace_model.specs.Images.{with_bytes}
 use Rattle.trace_model.specs.Record.{mark_where}
-use Rattle.trace_model.specs.Packets.{Account, Packet, Text, begun_packet, closed_levels, flat, newest_is_lost, open_count, with_nested_ended, finished_packet, is_writing, noted, nothing_yet, open_length, open_places, packet_encoding, with_more, with_nested, written}
-use Rattle.trace_model.proofs.PacketLemmas.{flat_written}
+use Rattle.trace_model.specs.Packets.{Account, Packet, Text, begun_packet, closed_levels, flat, newest_is_lost, open_count, with_nested_ended, finished_packet, is_writing, noted, nothing_yet, open_length, open_places, packet_encoding, with_more, with_nested, written, emissions_in}
+use Rattle.trace_model.proofs.PacketLemmas.{flat_written, emitted_more, emitted_still}
 use Rattle.packet_runs.specs.Pieces.{pieces, AreEnds}
 use Rattle.emitted_packets.specs.Emitting.{last_end, AreKept, Writes, IsGoingOn, IsEmitting}
-
-abbrev pub Emitted : List Packet → List (List ℕ)
-Emitted packets = map packet_encoding (filter (λ (packet : Packet). packet.finished) (reverse packets))
 
 pub emitting_none : IsEmitting nothing_yet [] [] []
 emitting_none = record { done = []; current = []; cut = refl; last = refl; rising = tt; finished = refl; kept = tt; goes_on = (refl, refl) }
@@ -61,21 +57,6 @@ filled_up bytes len more times byte longer same =
     ap (λ (xs : List ℕ). xs ++ replicate more byte) (take_all len bytes longer)
     ∙ ap (λ (xs : List ℕ). bytes ++ xs) (repeat_one more byte ∙ ap (λ (n : ℕ). repeat n (byte ∷ [])) same)
 
--- ---- the finished packets
-
-emitted-cons : (packet : Packet) (older : List Packet) → Emitted (packet ∷ older) ≡ Emitted older ++ map packet_encoding (cond packet.finished (packet ∷ []) [])
-emitted-cons packet older =
-    ap (λ (ps : List Packet). map packet_encoding (filter (λ (p : Packet). p.finished) ps)) (reverse_onto older packet [])
-    ∙ ap (map packet_encoding) (filter-append (λ (p : Packet). p.finished) (reverse older) (packet ∷ []))
-    ∙ map-append packet_encoding (filter (λ (p : Packet). p.finished) (reverse older)) (cond packet.finished (packet ∷ []) [])
-
-pub emitted_open : (packet : Packet) (older : List Packet) → packet.finished ≡ false → Emitted (packet ∷ older) ≡ Emitted older
-emitted_open packet older e =
-    emitted-cons packet older ∙ ap (λ (b : Bool). Emitted older ++ map packet_encoding (cond b (packet ∷ []) [])) e ∙ append-nil (Emitted older)
-
-pub emitted_more : (packet : Packet) (older : List Packet) → packet.finished ≡ true → Emitted (packet ∷ older) ≡ Emitted older ++ packet_encoding packet ∷ []
-emitted_more packet older e = emitted-cons packet older ∙ ap (λ (b : Bool). Emitted older ++ map packet_encoding (cond b (packet ∷ []) [])) e
-
 -- ---- a packet that goes on
 
 -- the newest packet is written on
@@ -90,7 +71,7 @@ written_on packet new older flushed bytes ends opens new_bytes new_opens current
   cut = cut;
   last = h.last;
   rising = h.rising;
-  finished = h.finished ∙ emitted_open packet older unfinished ∙ sym (emitted_open new older still);
+  finished = h.finished ∙ emitted_still packet older unfinished ∙ sym (emitted_still new older still);
   kept = (kept ∙ h.kept.0, given_up ∙ h.kept.1, follows ∙ h.kept.2, h.kept.3);
   goes_on = (λ e. absurd (false≢true (sym still ∙ e)), λ e. writes);
 }
@@ -272,7 +253,7 @@ begun_on account bytes ends opens h idle =
       cut = h.cut;
       last = h.last;
       rising = h.rising;
-      finished = h.finished ∙ sym (emitted_open (begun_packet true account) account.packets refl);
+      finished = h.finished ∙ sym (emitted_still (begun_packet true account) account.packets refl);
       kept = (refl, refl, clean, h.kept);
       goes_on = (
         λ e. absurd (false≢true e),
@@ -354,9 +335,9 @@ finished_at packet older flushed bytes ends opens level h unfinished levels curr
       finished = pieces_push bytes 0 ends (length bytes)
           ∙ ap (λ (x : List ℕ). pieces bytes 0 ends ++ x ∷ []) piece
           ∙ ap (λ (xs : List (List ℕ)). xs ++ level ∷ []) (ap (λ (b : List ℕ). pieces b 0 ends) cut ∙ pieces_append h.done level 0 ends (omega arith) h.rising
-          ∙ h.finished ∙ emitted_open packet older unfinished)
-          ∙ ap (λ (x : List ℕ). Emitted older ++ x ∷ []) (sym encoding)
-          ∙ sym (emitted_more (finished_packet packet) older refl);
+          ∙ h.finished ∙ emitted_still packet older unfinished)
+          ∙ ap (λ (x : List ℕ). emissions_in older ++ x ∷ []) (sym encoding)
+          ∙ sym (emitted_more (finished_packet packet) older true refl);
       kept = h.kept;
       goes_on = (λ e. (refl, opens_none), λ e. absurd (false≢true (sym e)));
     }

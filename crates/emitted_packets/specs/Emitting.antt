@@ -1,6 +1,6 @@
 -- What one writer has emitted, and what it has written of the packet that it writes.
-use Rattle.std.specs.Prelude.{◌≡◌, ℕ, ◌+◌, true, false, List, [], ◌∷◌, ◌++◌, length, map, filter, reverse, None, ⊤}
-use Rattle.trace_model.specs.Packets.{Account, Packet, flat, open_length, open_places, packet_encoding}
+use Rattle.std.specs.Prelude.{◌≡◌, ℕ, ◌+◌, true, false, List, [], ◌∷◌, ◌++◌, length, map, reverse, None, ⊤}
+use Rattle.trace_model.specs.Packets.{Account, Packet, flat, open_length, open_places, emissions_in}
 use Rattle.packet_runs.specs.Pieces.{pieces, AreEnds}
 
 -- where the last of these ends is
@@ -34,6 +34,6 @@ pub record IsEmitting (account : Account) (bytes ends opens : List ℕ) : Type 0
   pub cut : bytes ≡ done ++ current
   pub last : last_end 0 ends ≡ length done
   pub rising : AreEnds (length done) 0 ends
-  pub finished : pieces done 0 ends ≡ map packet_encoding (filter (λ packet. packet.finished) (reverse account.packets))
+  pub finished : pieces done 0 ends ≡ emissions_in account.packets
   pub kept : AreKept account.packets
   pub goes_on : IsGoingOn account.packets (length done) current opens

@@ -12,17 +12,17 @@ use Rattle.wire_varint.proofs.Lengths.{length-redundant}
 use Rattle.trace_model.specs.Images.{Image}
 use Rattle.trace_model.specs.Record.{mark_where}
 use Rattle.trace_model.specs.Sequences.{is_among}
-use Rattle.trace_model.specs.Packets.{Packet, Text, flat, open_length, open_places, body_of, front_of, packet_encoding, is_lost, packets_of, kept_of, lost_count}
+use Rattle.trace_model.specs.Packets.{Packet, Text, flat, open_length, open_places, body_of, front_of, packet_encoding, is_lost, packets_of, kept_of, lost_count, emissions_in}
 use Rattle.trace_model.specs.PacketLaws.{AreFronted}
 use Rattle.trace_model.specs.Row.{Piece, Chain, bytes_of}
 use Rattle.trace_model.specs.Sent.{text_of}
 use Rattle.trace_model.specs.Cut.{IsGivenUp, Begins, IsChainOf, length_places, left_behind, ends_well, all_end_well, is_marked_fate}
 use Rattle.trace_model.specs.Enough.{most_chunks}
 use Rattle.trace_model.specs.Written.{chains_of}
-use Rattle.trace_model.proofs.PacketLemmas.{packets_are_fronted}
+use Rattle.trace_model.proofs.PacketLemmas.{packets_are_fronted, emitted_more}
 use Rattle.trace_model.proofs.PageLemmas.{images_long}
 use Rattle.model_laws.specs.ChunkCounts.{EveryPageIsCounted, EveryImageIsCounted}
-use Rattle.model_laws.proofs.LossLemmas.{emitted_by, emitted_one, emitted_more, losses_change_no_shape}
+use Rattle.model_laws.proofs.LossLemmas.{emitted_one, losses_change_no_shape}
 use Rattle.model_laws.proofs.TextSizes.{text_size, AllInside, inside_among, all_inside, open_inside, IsSized, AllSized, AllFinished, all_sized, all_finished}
 use Rattle.model_laws.proofs.WrittenShapes.{is_first_of_chunk, firsts, chains_firsts, AreShaped, EachShaped, chains_counted, chains_shaped}
 
@@ -193,10 +193,10 @@ packet_counted size packet chain large is shaped sized kept finished fronted = s
 -- All packets
 
 most_more : (size : ℕ) (packet : Packet) (older : List Packet) → packet.finished ≡ true
-    → most_chunks size (emitted_by (packet ∷ older)) ≡ most_chunks size (emitted_by older) + (1 + length (packet_encoding packet) / (size - 7))
+    → most_chunks size (emissions_in (packet ∷ older)) ≡ most_chunks size (emissions_in older) + (1 + length (packet_encoding packet) / (size - 7))
 most_more size packet older finished =
-    let all = ap (most_chunks size) (emitted_more packet older) in
-    let both = sum_by-append (λ (one : List ℕ). 1 + length one / (size - 7)) (emitted_by older) (emitted_one packet) in
+    let all = ap (most_chunks size) (emitted_more packet older packet.finished refl) in
+    let both = sum_by-append (λ (one : List ℕ). 1 + length one / (size - 7)) (emissions_in older) (emitted_one packet) in
     let newest : most_chunks size (emitted_one packet) ≡ 0 + (1 + length (packet_encoding packet) / (size - 7)) =
     ap (λ (b : Bool). most_chunks size (cond b (packet_encoding packet ∷ []) [])) finished in
     omega (arith, all, both, newest)
@@ -209,15 +209,15 @@ lost_more packet older = step (is_lost packet)
     step false = omega arith
 
 all_counted : (size : ℕ) (packets : List Packet) (chains : List Chain) → 7 < size → AllZip (IsChainOf size) (kept_of packets) chains → EachShaped size chains
-    → AllSized packets → AllFinished packets → AreFronted packets → chains_firsts chains + lost_count packets ≤ most_chunks size (emitted_by packets)
+    → AllSized packets → AllFinished packets → AreFronted packets → chains_firsts chains + lost_count packets ≤ most_chunks size (emissions_in packets)
 all_counted size [] [] large are shaped sized finished fronted = omega arith
 all_counted size [] (chain ∷ chains) large are shaped sized finished fronted = absurd are
 all_counted size (packet ∷ older) chains large are shaped sized finished fronted =
     step packet.kept refl chains are shaped (λ rest ones shapes. all_counted size older rest large ones shapes sized.1 finished.1 fronted.2)
   where
     step : (b : Bool) → packet.kept ≡ b → (chains : List Chain) → AllZip (IsChainOf size) (cond b (packet ∷ kept_of older) (kept_of older)) chains → EachShaped size chains
-        → ((rest : List Chain) → AllZip (IsChainOf size) (kept_of older) rest → EachShaped size rest → chains_firsts rest + lost_count older ≤ most_chunks size (emitted_by older))
-        → chains_firsts chains + lost_count (packet ∷ older) ≤ most_chunks size (emitted_by (packet ∷ older))
+        → ((rest : List Chain) → AllZip (IsChainOf size) (kept_of older) rest → EachShaped size rest → chains_firsts rest + lost_count older ≤ most_chunks size (emissions_in older))
+        → chains_firsts chains + lost_count (packet ∷ older) ≤ most_chunks size (emissions_in (packet ∷ older))
     step true e [] are shaped later = absurd are
     step true e (chain ∷ rest) are shaped later =
         let one = packet_counted size packet chain large are.0 shaped.0 sized.0 e finished.0 fronted.1 in

@@ -5,20 +5,21 @@ use Rattle.std.proofs.lemmas.Bool.{and_parts}
 use Rattle.std.proofs.lemmas.List.Sums.{sum_by-append}
 use Rattle.trace_model.specs.Calls.{Call, Begun, Number, Bytes, Nested, Ended, GivenUp, Finished, Flushed}
 use Rattle.trace_model.specs.Encoding.{number_field, bytes_field}
-use Rattle.trace_model.specs.Packets.{Packet, Account, begun_packet, on_newest, with_more, with_nested, with_nested_ended, given_up_packet, finished_packet, newest_is_lost, packet_encoding, noted, nothing_yet, is_writing, open_count, is_possible, are_possible_after}
+use Rattle.trace_model.specs.Packets.{Packet, Account, begun_packet, on_newest, with_more, with_nested, with_nested_ended, given_up_packet, finished_packet, newest_is_lost, packet_encoding, noted, nothing_yet, is_writing, open_count, is_possible, are_possible_after, emissions_in}
 use Rattle.trace_model.specs.Enough.{most_chunks}
+use Rattle.trace_model.proofs.PacketLemmas.{emitted_more}
 use Rattle.model_laws.specs.ChunkCounts.{MoreCallsTakeMore}
-use Rattle.model_laws.proofs.LossLemmas.{emitted_by, emitted_one, emitted_more, account_with}
+use Rattle.model_laws.proofs.LossLemmas.{emitted_one, account_with}
 
 taken_with : (size : ℕ) (packet : Packet) (older : List Packet)
-    → most_chunks size (emitted_by (packet ∷ older)) ≡ most_chunks size (emitted_by older) + most_chunks size (emitted_one packet)
+    → most_chunks size (emissions_in (packet ∷ older)) ≡ most_chunks size (emissions_in older) + most_chunks size (emitted_one packet)
 taken_with size packet older =
-    ap (most_chunks size) (emitted_more packet older)
-    ∙ sum_by-append (λ (one : List ℕ). 1 + length one / (size - 7)) (emitted_by older) (emitted_one packet)
+    ap (most_chunks size) (emitted_more packet older packet.finished refl)
+    ∙ sum_by-append (λ (one : List ℕ). 1 + length one / (size - 7)) (emissions_in older) (emitted_one packet)
 
 -- a packet that is being written was not emitted yet
 newest_changed : (size : ℕ) (change : Packet → Packet) (packets : List Packet) (flushed : Bool) → is_writing packets ≡ true
-    → most_chunks size (emitted_by packets) ≤ most_chunks size (emitted_by (on_newest change (account_with packets flushed)).packets)
+    → most_chunks size (emissions_in packets) ≤ most_chunks size (emissions_in (on_newest change (account_with packets flushed)).packets)
 newest_changed size change [] flushed writes = omega arith
 newest_changed size change (packet ∷ older) flushed writes =
     let before = taken_with size packet older in
@@ -31,7 +32,7 @@ newest_changed size change (packet ∷ older) flushed writes =
     step false e = refl
 
 one_more : (size : ℕ) (call : Call) (packets : List Packet) (flushed : Bool) → IsTrue (is_possible packets call)
-    → most_chunks size (emitted_by packets) ≤ most_chunks size (emitted_by (noted (account_with packets flushed) call).packets)
+    → most_chunks size (emissions_in packets) ≤ most_chunks size (emissions_in (noted (account_with packets flushed) call).packets)
 one_more size (Begun kept) packets flushed possible =
     let taken = taken_with size (begun_packet kept (account_with packets flushed)) packets in
     omega (arith, taken)
@@ -47,7 +48,7 @@ one_more size Finished packets flushed possible =
 one_more size Flushed packets flushed possible = omega arith
 
 more_after : (size : ℕ) (more : List Call) (account : Account) → IsTrue (are_possible_after account more)
-    → most_chunks size (emitted_by account.packets) ≤ most_chunks size (emitted_by (fold noted account more).packets)
+    → most_chunks size (emissions_in account.packets) ≤ most_chunks size (emissions_in (fold noted account more).packets)
 more_after size [] account possible = omega arith
 more_after size (call ∷ more) account possible =
     let both = and_parts (is_possible account.packets call) (are_possible_after (noted account call) more) possible in
@@ -57,7 +58,7 @@ more_after size (call ∷ more) account possible =
 
 -- those calls first, one by one
 all_more : (size : ℕ) (calls more : List Call) (account : Account) → IsTrue (are_possible_after account (calls ++ more))
-    → most_chunks size (emitted_by (fold noted account calls).packets) ≤ most_chunks size (emitted_by (fold noted account (calls ++ more)).packets)
+    → most_chunks size (emissions_in (fold noted account calls).packets) ≤ most_chunks size (emissions_in (fold noted account (calls ++ more)).packets)
 all_more size [] more account possible = more_after size more account possible
 all_more size (call ∷ calls) more account possible =
     all_more size calls more (noted account call) (and_parts (is_possible account.packets call) (are_possible_after (noted account call) (calls ++ more)) possible).1

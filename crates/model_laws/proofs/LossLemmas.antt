@@ -1,14 +1,13 @@
 -- Losses change no shape: packets that were lost, or follow a lost one, are those that were asked but for the mark in front.
-use Rattle.std.proofs.Common.{◌≡◌, ◌∙◌, ℕ, suc, Bool, true, false, not, ◌&&◌, ◌||◌, List, [], ◌∷◌, ◌++◌, map, length, drop, reverse, refl, sym, ap, subst, append_assoc, append-nil, Option, None, is_some, cond}
-use Rattle.std.specs.Prelude.{filter, fold}
-use Rattle.std.proofs.lemmas.List.{reverse-append, map-append}
-use Rattle.std.proofs.lemmas.List.Elements.{filter-append}
+use Rattle.std.proofs.Common.{◌≡◌, ◌∙◌, ℕ, suc, Bool, true, false, not, ◌&&◌, ◌||◌, List, [], ◌∷◌, ◌++◌, length, drop, refl, sym, ap, subst, append_assoc, append-nil, Option, None, is_some, cond}
+use Rattle.std.specs.Prelude.{fold}
 use Rattle.std.proofs.Math.Seq.{drop-append_seam}
 use Rattle.wire_varint.specs.Varint.{redundant}
 use Rattle.trace_model.specs.Calls.{Call, Begun, Number, Bytes, Nested, Ended, GivenUp, Finished, Flushed}
 use Rattle.trace_model.specs.Encoding.{number_field, bytes_field, nested_tag}
 use Rattle.trace_model.specs.Record.{mark_where}
-use Rattle.trace_model.specs.Packets.{Packet, Account, Text, NestedLength, flat, open_length, written, closed_levels, begun_packet, on_newest, with_more, with_nested, with_nested_ended, given_up_packet, finished_packet, newest_is_lost, front_of, body_of, packet_encoding, noted, packets_of, emissions_of, is_writing, open_count, newest_length}
+use Rattle.trace_model.specs.Packets.{Packet, Account, Text, NestedLength, flat, open_length, written, closed_levels, begun_packet, on_newest, with_more, with_nested, with_nested_ended, given_up_packet, finished_packet, newest_is_lost, front_of, body_of, packet_encoding, noted, packets_of, emissions_in, emissions_of, is_writing, open_count, newest_length}
+use Rattle.trace_model.proofs.PacketLemmas.{emitted_more}
 use Rattle.model_laws.specs.Losses.{written_calls, HasShapeOf, LossesChangeNoShape}
 
 -- Levels with a mark in front
@@ -238,33 +237,19 @@ same_encoding packet asked h =
     ∙ drop-append_seam front (body_of asked)
     ∙ sym (ap (λ (xs : List ℕ). drop (length xs) (body_of asked)) unmarked)
 
-abbrev pub emitted_by : List Packet → List (List ℕ)
-emitted_by packets = map packet_encoding (filter (λ packet. packet.finished) (reverse packets))
-
 abbrev pub emitted_one : Packet → List (List ℕ)
 emitted_one packet = cond packet.finished (packet_encoding packet ∷ []) []
 
-pub emitted_more : (packet : Packet) (packets : List Packet) → emitted_by (packet ∷ packets) ≡ emitted_by packets ++ emitted_one packet
-emitted_more packet packets =
-    ap (λ (ps : List Packet). map packet_encoding (filter (λ one. one.finished) ps)) (reverse-append (packet ∷ []) packets)
-    ∙ ap (map packet_encoding) (filter-append (λ (one : Packet). one.finished) (reverse packets) (packet ∷ []))
-    ∙ map-append packet_encoding (filter (λ one. one.finished) (reverse packets)) (filter (λ one. one.finished) (packet ∷ []))
-    ∙ ap (λ (xs : List (List ℕ)). emitted_by packets ++ xs) (last packet.finished)
-  where
-    last : (b : Bool) → map packet_encoding (cond b (packet ∷ []) []) ≡ cond b (packet_encoding packet ∷ []) []
-    last true = refl
-    last false = refl
-
-same_emitted : (packets asked : List Packet) → AllSame packets asked → emitted_by packets ≡ emitted_by asked
+same_emitted : (packets asked : List Packet) → AllSame packets asked → emissions_in packets ≡ emissions_in asked
 same_emitted [] [] h = refl
 same_emitted [] (one ∷ others) h = absurd h
 same_emitted (packet ∷ packets) [] h = absurd h
 same_emitted (packet ∷ packets) (one ∷ others) h =
-    emitted_more packet packets
+    emitted_more packet packets packet.finished refl
     ∙ ap (λ (xs : List (List ℕ)). xs ++ emitted_one packet) (same_emitted packets others h.1)
-    ∙ ap (λ (b : Bool). emitted_by others ++ cond b (packet_encoding packet ∷ []) []) h.0.finished
-    ∙ ap (λ (xs : List ℕ). emitted_by others ++ cond one.finished (xs ∷ []) []) (same_encoding packet one h.0)
-    ∙ sym (emitted_more one others)
+    ∙ ap (λ (b : Bool). emissions_in others ++ cond b (packet_encoding packet ∷ []) []) h.0.finished
+    ∙ ap (λ (xs : List ℕ). emissions_in others ++ cond one.finished (xs ∷ []) []) (same_encoding packet one h.0)
+    ∙ sym (emitted_more one others one.finished refl)
 
 same_many : (packets asked : List Packet) → AllSame packets asked → length packets ≡ length asked
 same_many [] [] h = refl

@@ -1,6 +1,6 @@
 -- A line that makes a flush request, and later one that reads the writer's buffer without limit, are a flush that is taken and read.
 use Rattle.std.proofs.Common.{◌≡◌, ◌≢◌, ◌∙◌, ℕ, zero, suc, ◌+◌, ◌-◌, ◌<◌, ◌≤◌, Bool, true, false, List, [], ◌∷◌, ◌++◌, length, map, Some, refl, sym, ap, subst, arith, inl, inr, cond, append_assoc, append-nil, length-append}
-use Rattle.std.specs.Prelude.{slice_get, MatchBool, filter, reverse}
+use Rattle.std.specs.Prelude.{slice_get, MatchBool}
 use Rattle.std.proofs.lemmas.Option.{slice_get_within, slice_get-get_or}
 use Rattle.trace_base.specs.declared.policy.WriterSpec.{WriterSpec}
 use Rattle.trace_model.specs.Buffers.{Buffer}
@@ -12,7 +12,7 @@ use Rattle.trace_model.specs.Written.{chains_of}
 use Rattle.delivery_laws.specs.FlushLaws.{IsFlushed, AreSettled}
 use Rattle.trace_model.specs.Enough.{most_chunks}
 use Rattle.trace_model.specs.Images.{Image}
-use Rattle.trace_model.specs.Packets.{Packet, packets_of, packet_encoding, is_writing, emissions_of, begun_count}
+use Rattle.trace_model.specs.Packets.{Packet, packets_of, is_writing, emissions_in, emissions_of, begun_count}
 use Rattle.trace_model.proofs.PageLemmas.{images_long}
 use Rattle.model_laws.specs.Losses.{HasShapeOf}
 use Rattle.model_laws.proofs.ChunkCountLemmas.{every_page_is_counted}
@@ -161,7 +161,7 @@ flushed_few setup place old new asks ended large =
     let pages : List Page = asks.wrote.cut.cut.pages in
     let counted = every_page_is_counted size (writer new place).calls pages asks.wrote.cut.cut.cut asks.wrote.cut.possible (ap is_writing packets ∙ ended) large in
     let emitted : most_chunks size (emissions_of (writer new place).calls) ≡ most_chunks size (emissions_of (writer old place).calls) =
-    ap (λ (ps : List Packet). most_chunks size (map packet_encoding (filter (λ packet. packet.finished) (reverse ps)))) packets in
+    ap (λ (ps : List Packet). most_chunks size (emissions_in ps)) packets in
     let begun = asks.wrote.begun in
     let images = ap (λ (xs : List Image). length xs) asks.wrote.cut.cut.images_are in
     let both = length-append (completed_images (writer new place).begun) asks.wrote.held in

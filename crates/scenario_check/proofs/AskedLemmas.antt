@@ -1,7 +1,7 @@
 -- The packets of the emitters that have taken all lines, one after another.
-use Rattle.std.proofs.Common.{◌≡◌, ◌∙◌, ℕ, zero, suc, ◌+◌, ◌≤◌, ◌⊎◌, List, [], ◌∷◌, ◌++◌, Some, length, map, reverse, refl, sym, ap, arith, inl, inr, length-append}
-use Rattle.std.specs.Prelude.{filter, slice_get}
-use Rattle.trace_model.specs.Packets.{Account, account_of, packet_encoding}
+use Rattle.std.proofs.Common.{◌≡◌, ◌∙◌, ℕ, zero, suc, ◌+◌, ◌≤◌, ◌⊎◌, List, [], ◌∷◌, ◌++◌, Some, length, refl, sym, ap, arith, inl, inr, length-append}
+use Rattle.std.specs.Prelude.{slice_get}
+use Rattle.trace_model.specs.Packets.{Account, account_of, emissions_in}
 use Rattle.emitted_packets.specs.declared.emitter.Emitter.{Emitter}
 use Rattle.scenario_text.specs.declared.scenario.NumberedLine.{NumberedLine}
 use Rattle.scenario_text.specs.Accepted.{calls_asked}
@@ -35,7 +35,7 @@ push_there (first ∷ xs) x y (suc place) there = later (push_there xs x y place
 
 pub asked_more : (emitters : List Emitter) (count : ℕ) (packets : List (List (List ℕ))) (emitter : Emitter) (one : List (List ℕ))
     → AreAskedUpTo emitters count packets → slice_get emitters count ≡ Some emitter
-    → ((account : Account) → Holds account emitter → one ≡ map packet_encoding (filter (λ packet. packet.finished) (reverse account.packets)))
+    → ((account : Account) → Holds account emitter → one ≡ emissions_in account.packets)
     → length one ≡ length emitter.ends.items → AreAskedUpTo emitters (count + 1) (packets ++ one ∷ [])
 asked_more emitters count packets emitter one asked here is as_many = record {
   many = omega (arith, asked.many, length-append packets (one ∷ []));

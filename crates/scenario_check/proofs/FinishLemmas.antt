@@ -1,7 +1,6 @@
 -- The packets of an emitter that has taken all lines.
-use Rattle.std.proofs.Common.{◌≡◌, ◌∙◌, ℕ, ◌≤◌, List, [], ◌∷◌, length, map, reverse, ap, arith, length-append}
-use Rattle.std.specs.Prelude.{filter}
-use Rattle.trace_model.specs.Packets.{Account, packet_encoding}
+use Rattle.std.proofs.Common.{◌≡◌, ◌∙◌, ℕ, ◌≤◌, List, [], ◌∷◌, length, ap, arith, length-append}
+use Rattle.trace_model.specs.Packets.{Account, emissions_in}
 use Rattle.packet_runs.specs.Pieces.{pieces, AreEnds}
 use Rattle.packet_runs.proofs.PieceLemmas.{many}
 use Rattle.emitted_packets.specs.declared.emitter.Emitter.{Emitter}
@@ -18,7 +17,7 @@ finish_rising account emitter holds =
     (omega (arith, ap length holds.cut, length-append holds.done holds.current)) holds.rising
 
 pub finish_is : (account : Account) (emitter : Emitter) (packets : List (List ℕ)) → packets ≡ pieces emitter.bytes.items 0 emitter.ends.items → Holds account emitter
-    → packets ≡ map packet_encoding (filter (λ packet. packet.finished) (reverse account.packets))
+    → packets ≡ emissions_in account.packets
 finish_is account emitter packets is holds =
     is ∙ ap (λ (bytes : List ℕ). pieces bytes 0 emitter.ends.items) holds.cut
     ∙ pieces_append holds.done holds.current 0 emitter.ends.items (omega arith) holds.rising ∙ holds.finished

@@ -10,10 +10,10 @@ use Rattle.trace_base.specs.Reserved.{is_reserved}
 use Rattle.trace_model.specs.Calls.{Call, Begun, Number, Bytes, Nested, Ended, GivenUp, Finished, Flushed}
 use Rattle.trace_model.specs.Encoding.{number_field, bytes_field, bytes_head, nested_tag}
 use Rattle.trace_model.specs.Record.{dropped_mark, mark_where}
-use Rattle.trace_model.specs.Packets.{Account, Packet, Text, NestedLength, closed_levels, flat, newest_is_lost, noted, nothing_yet, open_length, packet_encoding, packets_of, emissions_of, written}
+use Rattle.trace_model.specs.Packets.{Account, Packet, Text, NestedLength, closed_levels, flat, newest_is_lost, noted, nothing_yet, open_length, packet_encoding, packets_of, emissions_of, written, emissions_in}
+use Rattle.trace_model.proofs.PacketLemmas.{emitted_more, emitted_still}
 use Rattle.trace_file.specs.Apart.{BeginsWithMark}
 use Rattle.field_tree.specs.Nodes.{IsField}
-use Rattle.emitted_packets.proofs.EmitLemmas.{Emitted, emitted_open, emitted_more}
 use Rattle.scenario_text.specs.Accepted.{Accepts, AreAccepted}
 
 -- ---- bytes that begin with a field which isn't the service's own
@@ -239,15 +239,15 @@ unmarked_there (first ∷ packets) zero packet all there marked =
     let same : first ≡ packet = cc in all.0 (subst BeginsWithMark (sym same) marked)
 unmarked_there (first ∷ packets) (suc place) packet all there marked = unmarked_there packets place packet all.1 there marked
 
-emitted_unmarked : (packets : List Packet) → AllFree packets → AllUnmarked (Emitted packets)
+emitted_unmarked : (packets : List Packet) → AllFree packets → AllUnmarked (emissions_in packets)
 emitted_unmarked [] all = tt
 emitted_unmarked (packet ∷ older) all = by_end packet.finished refl (emitted_unmarked older all.1)
   where
-    by_end : (b : Bool) → packet.finished ≡ b → AllUnmarked (Emitted older) → AllUnmarked (Emitted (packet ∷ older))
+    by_end : (b : Bool) → packet.finished ≡ b → AllUnmarked (emissions_in older) → AllUnmarked (emissions_in (packet ∷ older))
     by_end true is others =
-        subst AllUnmarked (sym (emitted_more packet older is))
-        (unmarked_push (Emitted older) (packet_encoding packet) others (packet_unmarked packet all.0))
-    by_end false is others = subst AllUnmarked (sym (emitted_open packet older is)) others
+        subst AllUnmarked (sym (emitted_more packet older true is))
+        (unmarked_push (emissions_in older) (packet_encoding packet) others (packet_unmarked packet all.0))
+    by_end false is others = subst AllUnmarked (sym (emitted_still packet older is)) others
 
 -- no packet of calls that a writer accepts begins with the mark
 pub asked_unmarked : (calls : List Call) → AreAccepted nothing_yet calls → (place : ℕ) (packet : List ℕ) → slice_get (emissions_of calls) place ≡ Some packet

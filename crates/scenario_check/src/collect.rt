@@ -1,6 +1,6 @@
 //! The packets that the writers of a scenario emit.
 ghost use Rattle.std.specs.Prelude.{◌≡◌, ◌+◌, ◌≤◌, [], ◌∷◌, ◌++◌, List, length, map, filter, reverse, IfOk, OnOk};
-ghost use Rattle.trace_model.specs.Packets.{Account, packet_encoding};
+ghost use Rattle.trace_model.specs.Packets.{Account, emissions_in};
 ghost use Rattle.emitted_packets.specs.declared.emitter.Emitter.{Emitter};
 ghost use Rattle.scenario_text.specs.declared.scenario.NumberedLine.{NumberedLine};
 ghost use Rattle.scenario_text.specs.Scenario.{IsScenario, parts_of};
@@ -76,7 +76,7 @@ fn make_emitters(alloc: Global, count: usize) -> Result<Vec<Emitter>, AllocError
 fn finish(emitter: Emitter) -> Packets
     requires { (account : Account) × Holds account emitter }
     ensures packets { (account : Account) → Holds account emitter
-        → result ≡ map packet_encoding (filter (λ packet. packet.finished) (reverse account.packets)) }
+        → result ≡ emissions_in account.packets }
     ensures many { length result ≡ length emitter.ends.items }
 {
     let Emitter {

@@ -1,18 +1,17 @@
 -- The calls that a writer accepts write trees of fields, one packet behind another.
-use Rattle.std.proofs.Common.{◌≡◌, ◌∙◌, ℕ, ◌+◌, length, Bool, true, false, cond, not, ◌||◌, List, [], ◌∷◌, ◌++◌, Option, Some, None, map, reverse, refl, sym, ap, arith}
+use Rattle.std.proofs.Common.{◌≡◌, ◌∙◌, ℕ, ◌+◌, length, Bool, true, false, cond, not, ◌||◌, List, [], ◌∷◌, ◌++◌, Option, Some, None, map, refl, sym, ap, arith}
 use Rattle.std.specs.Prelude.{fold}
 use Rattle.std.specs.List.{filter, flat_map, list_any}
 use Rattle.std.proofs.lemmas.Bool.{false≢true, eq-eqb}
-use Rattle.std.proofs.lemmas.Grind.{reverse_onto}
-use Rattle.std.proofs.lemmas.List.{append-nil, append_assoc, map-append}
-use Rattle.std.proofs.lemmas.List.Elements.{filter-append}
+use Rattle.std.proofs.lemmas.List.{append-nil, append_assoc}
 use Rattle.std.proofs.lemmas.List.Folds.{list_any-append}
 use Rattle.wire_varint.specs.Varint.{redundant}
 use Rattle.trace_model.specs.Calls.{Call, Begun, Number, Bytes, Nested, Ended, GivenUp, Finished, Flushed}
 use Rattle.trace_model.specs.Encoding.{Fields, NoFields, NumberField, BytesField, NestedField, number_field, bytes_field, nested_tag, encoding_of, calls_of}
-use Rattle.trace_model.specs.Packets.{Packet, Account, nothing_yet, noted, on_newest, begun_packet, with_more, with_nested, with_nested_ended, finished_packet, is_lost, is_writing, open_count, newest_is_lost, front_of, packet_encoding, emissions_of, closed_levels}
+use Rattle.trace_model.specs.Packets.{Packet, Account, nothing_yet, noted, on_newest, begun_packet, with_more, with_nested, with_nested_ended, finished_packet, is_lost, is_writing, open_count, newest_is_lost, front_of, packet_encoding, emissions_of, closed_levels, emissions_in}
 use Rattle.trace_model.specs.PacketLaws.{packet_calls}
 use Rattle.trace_model.proofs.CallLemmas.{calls_give_encodings}
+use Rattle.trace_model.proofs.PacketLemmas.{emitted_more, emitted_still}
 use Rattle.field_tree.specs.Nodes.{nodes_of}
 use Rattle.scenario_text.specs.declared.scenario.LineKind.TheVariants as line
 use Rattle.scenario_text.specs.Accepted.{node_call, line_calls, calls_asked, AreAccepted}
@@ -112,32 +111,13 @@ open_calls (Some (tree, around)) = Begun true ∷ calls_so_far tree around
 
 -- ---- what is emitted
 
-abbrev emitted_of : List Packet → List (List ℕ)
-emitted_of packets = map packet_encoding (filter (λ (packet : Packet). packet.finished) (reverse packets))
-
-emitted_cons : (packet : Packet) (packets : List Packet) (b : Bool) → packet.finished ≡ b
-    → emitted_of (packet ∷ packets) ≡ emitted_of packets ++ cond b (packet_encoding packet ∷ []) []
-emitted_cons packet packets b e =
-    let finished : Packet → Bool = λ p. p.finished in
-    ap (λ (ps : List Packet). map packet_encoding (filter finished ps)) (reverse_onto packets packet [])
-    ∙ ap (map packet_encoding) (filter-append finished (reverse packets) (packet ∷ []))
-    ∙ map-append packet_encoding (filter finished (reverse packets)) (filter finished (packet ∷ []))
-    ∙ ap (λ (xs : List (List ℕ)). emitted_of packets ++ xs) (ap (λ (x : Bool). map packet_encoding (cond x (packet ∷ []) [])) e ∙ one b)
-  where
-    one : (x : Bool) → map packet_encoding (cond x (packet ∷ []) []) ≡ cond x (packet_encoding packet ∷ []) []
-    one true = refl
-    one false = refl
-
-emitted_going : (packet : Packet) (packets : List Packet) → packet.finished ≡ false → emitted_of (packet ∷ packets) ≡ emitted_of packets
-emitted_going packet packets e = emitted_cons packet packets false e ∙ append-nil (emitted_of packets)
-
 -- what the calls from here on make of what is open, and what they emit
 record Spells (account : Account) (open_ones : Option (Fields × Around)) (calls : List Call) : Type 0 where
   trees : List Fields
   rest : List Call
   calls_are : open_calls open_ones ++ filter (λ (call : Call). not (is_flush call)) calls ≡ flat_map (λ (tree : Fields). packet_calls (whole tree)) trees ++ rest
   unended : list_any ends_packet rest ≡ false
-  emitted : emitted_of (fold noted account calls).packets ≡ emitted_of account.packets ++ map encoding_of trees
+  emitted : emissions_in (fold noted account calls).packets ≡ emissions_in account.packets ++ map encoding_of trees
 
 -- ---- one call after another
 
@@ -146,7 +126,7 @@ unflushed calls = filter (λ (call : Call). not (is_flush call)) calls
 
 -- a call that goes on with the packet
 goes_on : (account : Account) (call : Call) (calls : List Call) (before behind : Fields × Around) → is_flush call ≡ false
-    → open_calls (Some before) ++ call ∷ [] ≡ open_calls (Some behind) → emitted_of (noted account call).packets ≡ emitted_of account.packets
+    → open_calls (Some before) ++ call ∷ [] ≡ open_calls (Some behind) → emissions_in (noted account call).packets ≡ emissions_in account.packets
     → Spells (noted account call) (Some behind) calls → Spells account (Some before) (call ∷ calls)
 goes_on account call calls before behind no_flush same emits then = record {
   trees = then.trees;
@@ -170,11 +150,11 @@ module _ (account : Account) (tree : Fields) (around : Around) (is : IsWritten a
   changed : (f : Packet → Packet) → (on_newest f account).packets ≡ f is.newest ∷ is.older
   changed f = ap (λ (ps : List Packet). (on_newest f (record { packets = ps; flushed = account.flushed })).packets) is.packets_are
 
-  same_emitted : (f : Packet → Packet) → (f is.newest).finished ≡ false → emitted_of (on_newest f account).packets ≡ emitted_of account.packets
+  same_emitted : (f : Packet → Packet) → (f is.newest).finished ≡ false → emissions_in (on_newest f account).packets ≡ emissions_in account.packets
   same_emitted f going =
-      ap emitted_of (changed f)
-      ∙ emitted_going (f is.newest) is.older going
-      ∙ sym (ap emitted_of is.packets_are ∙ emitted_going is.newest is.older is.going)
+      ap emissions_in (changed f)
+      ∙ emitted_still (f is.newest) is.older going
+      ∙ sym (ap emissions_in is.packets_are ∙ emitted_still is.newest is.older is.going)
 
   writes_more : (bytes : List ℕ) (more : Fields) → encoding_of more ≡ bytes → IsWritten (on_newest (with_more bytes) account) (joined tree more) around
   writes_more bytes more same = record {
@@ -219,13 +199,13 @@ ends_in account tree outer field around is = record {
 
 spells : (calls : List Call) (account : Account) (open_ones : Option (Fields × Around)) → Holds account open_ones → AreAccepted account calls
     → Spells account open_ones calls
-spells [] account None is accepted = record { trees = []; rest = []; calls_are = refl; unended = refl; emitted = sym (append-nil (emitted_of account.packets)) }
+spells [] account None is accepted = record { trees = []; rest = []; calls_are = refl; unended = refl; emitted = sym (append-nil (emissions_in account.packets)) }
 spells [] account (Some (tree, around)) is accepted = record {
   trees = [];
   rest = Begun true ∷ calls_so_far tree around;
   calls_are = append-nil (Begun true ∷ calls_so_far tree around);
   unended = no_end_so_far tree around;
-  emitted = sym (append-nil (emitted_of account.packets));
+  emitted = sym (append-nil (emissions_in account.packets));
 }
 spells (Begun false ∷ calls) account None is accepted = absurd (false≢true accepted.0.0)
 spells (Begun true ∷ calls) account None is accepted =
@@ -243,7 +223,7 @@ spells (Begun true ∷ calls) account None is accepted =
       rest = then.rest;
       calls_are = then.calls_are;
       unended = then.unended;
-      emitted = then.emitted ∙ ap (λ (xs : List (List ℕ)). xs ++ map encoding_of then.trees) (emitted_going (begun_packet true account) account.packets refl);
+      emitted = then.emitted ∙ ap (λ (xs : List (List ℕ)). xs ++ map encoding_of then.trees) (emitted_still (begun_packet true account) account.packets refl);
     }
 spells (Begun kept ∷ calls) account (Some (tree, around)) is accepted = absurd (false≢true (sym accepted.0.1 ∙ is_going account tree around is))
 spells (Number field value ∷ calls) account None is accepted = not_writing account is accepted.0.begun
@@ -301,11 +281,11 @@ spells (Finished ∷ calls) account (Some (tree, [])) is accepted =
       unended = then.unended;
       emitted = then.emitted
           ∙ ap (λ (xs : List (List ℕ)). xs ++ map encoding_of then.trees)
-          (ap emitted_of ended
-          ∙ emitted_cons (finished_packet is.newest) is.older true refl
-          ∙ ap (λ (xs : List ℕ). emitted_of is.older ++ xs ∷ []) encoding
-          ∙ ap (λ (xs : List (List ℕ)). xs ++ encoding_of tree ∷ []) (sym (ap emitted_of is.packets_are ∙ emitted_going is.newest is.older is.going)))
-          ∙ append_assoc (emitted_of account.packets) (encoding_of tree ∷ []) (map encoding_of then.trees);
+          (ap emissions_in ended
+          ∙ emitted_more (finished_packet is.newest) is.older true refl
+          ∙ ap (λ (xs : List ℕ). emissions_in is.older ++ xs ∷ []) encoding
+          ∙ ap (λ (xs : List (List ℕ)). xs ++ encoding_of tree ∷ []) (sym (ap emissions_in is.packets_are ∙ emitted_still is.newest is.older is.going)))
+          ∙ append_assoc (emissions_in account.packets) (encoding_of tree ∷ []) (map encoding_of then.trees);
     }
 spells (Flushed ∷ calls) account (Some (tree, around)) is accepted = absurd (false≢true (sym accepted.0 ∙ is_going account tree around is))
 spells (Flushed ∷ calls) account None is accepted =

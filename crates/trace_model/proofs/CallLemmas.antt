@@ -1,18 +1,18 @@
 -- The calls by which fields are written give their encoding.
 use Rattle.std.proofs.Common.{◌≡◌, ◌∙◌, ℕ, length, Bool, true, false, ◌&&◌, List, [], ◌∷◌, ◌++◌, None, map, reverse, refl, sym, ap, append_assoc}
-use Rattle.std.specs.Prelude.{fold, filter}
+use Rattle.std.specs.Prelude.{fold}
 use Rattle.std.specs.List.{flat_map}
 use Rattle.std.proofs.lemmas.List.{append-nil, map-append}
 use Rattle.std.proofs.lemmas.List.Sums.{fold-append}
-use Rattle.std.proofs.lemmas.List.Elements.{filter-append}
 use Rattle.std.proofs.lemmas.Grind.{reverse_onto}
 use Rattle.std.proofs.Math.Seq.{drop-append_seam}
 use Rattle.wire_varint.specs.Varint.{redundant}
 use Rattle.trace_model.specs.Calls.{Call, Begun, Ended, Finished}
 use Rattle.trace_model.specs.Encoding.{Fields, NoFields, NumberField, BytesField, NestedField, number_field, bytes_field, nested_tag, encoding_of, calls_of}
-use Rattle.trace_model.specs.Packets.{Packet, NestedLength, Account, open_length, flat, noted, nothing_yet, begun_packet, newest_is_lost, body_of, packet_encoding, kept_of}
+use Rattle.trace_model.specs.Packets.{Packet, NestedLength, Account, open_length, flat, noted, nothing_yet, begun_packet, newest_is_lost, body_of, kept_of, emissions_in}
 use Rattle.trace_model.specs.PacketLaws.{WholePacket, packet_calls, whole_bodies, CallsGiveEncodings}
 use Rattle.trace_model.specs.Record.{mark_where}
+use Rattle.trace_model.proofs.PacketLemmas.{emitted_more}
 
 -- the account whose newest packet has these levels and closed lengths
 abbrev pub at_text : Packet → List Packet → Bool → List (List ℕ) → List NestedLength → Account
@@ -105,9 +105,6 @@ makes kept fields account =
           ∙ ap (λ (a : Account). fold noted a (Finished ∷ [])) within.is;
     }
 
-abbrev emitted : List Packet → List (List ℕ)
-emitted packets = map packet_encoding (filter (λ (packet : Packet). packet.finished) (reverse packets))
-
 abbrev bodies : List Packet → List (List ℕ)
 bodies packets = map body_of (reverse (kept_of packets))
 
@@ -115,15 +112,10 @@ reverse-cons : (packet : Packet) (packets : List Packet) → reverse (packet ∷
 reverse-cons packet packets = reverse_onto packets packet []
 
 emitted-made : (kept : Bool) (fields : Fields) (account : Account) (closed : List NestedLength)
-    → emitted (made kept fields account closed ∷ account.packets) ≡ emitted account.packets ++ encoding_of fields ∷ []
+    → emissions_in (made kept fields account closed ∷ account.packets) ≡ emissions_in account.packets ++ encoding_of fields ∷ []
 emitted-made kept fields account closed =
-    let packet : Packet = made kept fields account closed in
-    let finished : Packet → Bool = λ p. p.finished in
-    let front : List ℕ = mark_where (kept && newest_is_lost account.packets) in
-    ap (λ (ps : List Packet). map packet_encoding (filter finished ps)) (reverse-cons packet account.packets)
-    ∙ ap (map packet_encoding) (filter-append finished (reverse account.packets) (packet ∷ []))
-    ∙ map-append packet_encoding (filter finished (reverse account.packets)) (packet ∷ [])
-    ∙ ap (λ (xs : List ℕ). emitted account.packets ++ xs ∷ []) (drop-append_seam front (encoding_of fields))
+    emitted_more (made kept fields account closed) account.packets true refl
+    ∙ ap (λ (xs : List ℕ). emissions_in account.packets ++ xs ∷ []) (drop-append_seam (mark_where (kept && newest_is_lost account.packets)) (encoding_of fields))
 
 bodies-kept : (fields : Fields) (account : Account) (closed : List NestedLength)
     → bodies (made true fields account closed ∷ account.packets)
@@ -134,18 +126,18 @@ bodies-kept fields account closed =
     ∙ map-append body_of (reverse (kept_of account.packets)) (packet ∷ [])
 
 emitted-all : (packets : List WholePacket) (account : Account)
-    → emitted (fold noted account (flat_map packet_calls packets)).packets
-    ≡ emitted account.packets ++ map (λ (packet : WholePacket). encoding_of packet.fields) packets
-emitted-all [] account = sym (append-nil (emitted account.packets))
+    → emissions_in (fold noted account (flat_map packet_calls packets)).packets
+    ≡ emissions_in account.packets ++ map (λ (packet : WholePacket). encoding_of packet.fields) packets
+emitted-all [] account = sym (append-nil (emissions_in account.packets))
 emitted-all (packet ∷ packets) account =
     let here : Makes packet.kept packet.fields account = makes packet.kept packet.fields account in
     let after : Account = record { packets = made packet.kept packet.fields account here.closed ∷ account.packets; flushed = false } in
     let others : List (List ℕ) = map (λ (p : WholePacket). encoding_of p.fields) packets in
-    ap (λ (a : Account). emitted a.packets) (fold-append noted account (packet_calls packet) (flat_map packet_calls packets))
-    ∙ ap (λ (a : Account). emitted (fold noted a (flat_map packet_calls packets)).packets) here.is
+    ap (λ (a : Account). emissions_in a.packets) (fold-append noted account (packet_calls packet) (flat_map packet_calls packets))
+    ∙ ap (λ (a : Account). emissions_in (fold noted a (flat_map packet_calls packets)).packets) here.is
     ∙ emitted-all packets after
     ∙ ap (λ (xs : List (List ℕ)). xs ++ others) (emitted-made packet.kept packet.fields account here.closed)
-    ∙ append_assoc (emitted account.packets) (encoding_of packet.fields ∷ []) others
+    ∙ append_assoc (emissions_in account.packets) (encoding_of packet.fields ∷ []) others
 
 -- the bodies of the packets behind one that was kept or dropped
 bodies-step : (kept : Bool) (tree : Fields) (account : Account) (closed : List NestedLength) (packets : List WholePacket)

@@ -1,12 +1,14 @@
 -- Laws of the packets that a list of calls makes.
-use Rattle.std.proofs.Common.{◌≡◌, ◌∙◌, ℕ, length, ◌&&◌, List, [], ◌∷◌, ◌++◌, drop, refl, sym, ap, append_assoc}
-use Rattle.std.specs.Prelude.{fold}
-use Rattle.std.proofs.lemmas.List.{append-nil}
+use Rattle.std.proofs.Common.{◌≡◌, ◌∙◌, ℕ, length, Bool, true, false, cond, ◌&&◌, List, [], ◌∷◌, ◌++◌, map, drop, reverse, refl, sym, ap, append_assoc}
+use Rattle.std.specs.Prelude.{filter, fold}
+use Rattle.std.proofs.lemmas.Grind.{reverse_onto}
+use Rattle.std.proofs.lemmas.List.{append-nil, map-append}
+use Rattle.std.proofs.lemmas.List.Elements.{filter-append}
 use Rattle.std.proofs.Math.Seq.{drop-append_seam}
 use Rattle.wire_varint.specs.Varint.{redundant}
 use Rattle.trace_model.specs.Calls.{Call, Begun, Number, Bytes, Nested, Ended, GivenUp, Finished, Flushed}
 use Rattle.trace_model.specs.Encoding.{number_field, bytes_field, nested_tag}
-use Rattle.trace_model.specs.Packets.{Packet, NestedLength, Account, open_length, flat, written, closed_levels, front_of, body_of, newest_is_lost, noted, nothing_yet, packets_of, with_more, with_nested, with_nested_ended, given_up_packet, finished_packet, on_newest}
+use Rattle.trace_model.specs.Packets.{Packet, NestedLength, Account, open_length, flat, written, closed_levels, front_of, body_of, newest_is_lost, noted, nothing_yet, packets_of, with_more, with_nested, with_nested_ended, given_up_packet, finished_packet, on_newest, packet_encoding, finished_encodings, emissions_in}
 use Rattle.trace_model.specs.Cut.{Begins}
 use Rattle.trace_model.specs.PacketLaws.{AreFronted, PacketsAreFronted}
 use Rattle.trace_model.specs.Record.{mark_where}
@@ -109,3 +111,23 @@ fronted (packet ∷ older) h =
 
 pub packets_are_fronted : PacketsAreFronted
 packets_are_fronted calls = fronted (packets_of calls) (knows_all calls nothing_yet tt)
+
+-- ---- what is emitted
+
+-- a newer packet is emitted last, where it is finished
+pub emitted_more : (packet : Packet) (older : List Packet) (is_finished : Bool) → packet.finished ≡ is_finished
+    → emissions_in (packet ∷ older) ≡ emissions_in older ++ cond is_finished (packet_encoding packet ∷ []) []
+emitted_more packet older is_finished is =
+    let finished : Packet → Bool = λ p. p.finished in
+    ap finished_encodings (reverse_onto older packet [])
+    ∙ ap (map packet_encoding) (filter-append finished (reverse older) (packet ∷ []))
+    ∙ map-append packet_encoding (filter finished (reverse older)) (filter finished (packet ∷ []))
+    ∙ ap (λ (xs : List (List ℕ)). emissions_in older ++ xs) (ap (λ (b : Bool). map packet_encoding (cond b (packet ∷ []) [])) is ∙ one is_finished)
+  where
+    one : (b : Bool) → map packet_encoding (cond b (packet ∷ []) []) ≡ cond b (packet_encoding packet ∷ []) []
+    one true = refl
+    one false = refl
+
+-- and before that it isn't
+pub emitted_still : (packet : Packet) (older : List Packet) → packet.finished ≡ false → emissions_in (packet ∷ older) ≡ emissions_in older
+emitted_still packet older is = emitted_more packet older false is ∙ append-nil (emissions_in older)

@@ -1,23 +1,15 @@
 -- Laws of `Tells`.
-use Rattle.std.proofs.Common.{◌≡◌, ℕ, suc, length, Bool, true, false, not, ◌||◌, nat_eq, List, [], ◌∷◌, ◌++◌, Some, refl, sym, ap, subst, append_assoc, length-append, arith}
-use Rattle.std.specs.Prelude.{slice_get}
+use Rattle.std.proofs.Common.{◌≡◌, ℕ, suc, length, Bool, true, false, not, ◌||◌, nat_eq, List, [], ◌∷◌, ◌++◌, refl, sym, ap, subst, append_assoc, length-append, arith}
+use Rattle.std.proofs.lemmas.Bool.{eq-eqb}
+use Rattle.trace_base.proofs.Lists.{get_seam}
 use Rattle.trace_model.specs.Record.{record_of}
 use Rattle.trace_model.specs.Tells.{IsTold, TellsFrom}
 use Rattle.trace_model.specs.Laws.{all_records}
 
--- the element behind a list's front
-slice_get-append_seam : (front : List (List ℕ)) (x : List ℕ) (back : List (List ℕ))
-    → slice_get (front ++ x ∷ back) (length front) ≡ Some x
-slice_get-append_seam [] x back = refl
-slice_get-append_seam (y ∷ front) x back = slice_get-append_seam front x back
-
-same-eq : (n : ℕ) → nat_eq n n ≡ true
-same-eq n = grind arith
-
 -- a record at the very next place bears a mark exactly where it is the first
 marks_the_first : (first : Bool) (n : ℕ) → (false || first) ≡ (first || not (nat_eq n n))
 marks_the_first true n = refl
-marks_the_first false n = sym (ap not (same-eq n))
+marks_the_first false n = sym (ap not (eq-eqb n n refl))
 
 -- the records of the packets behind `front`, which all have theirs
 pub all_tell : (front rest : List (List ℕ)) (sequence : ℕ) (first : Bool)
@@ -27,7 +19,7 @@ all_tell front (packet ∷ rest) sequence first =
     let told : IsTold (front ++ packet ∷ rest) sequence first (length front) (length front) (record_of packet sequence first) =
     record {
       packet = packet;
-      emitted_there = slice_get-append_seam front packet rest;
+      emitted_there = get_seam front rest packet;
       not_before = omega arith;
       front = false;
       behind = first;

@@ -157,9 +157,17 @@ kept_of packets = filter (λ packet. packet.kept) packets
 abbrev pub bodies_of : List Call → List (List ℕ)
 bodies_of calls = map body_of (reverse (kept_of (packets_of calls)))
 
--- The packets that the writer emitted: the encodings of the finished ones, dropped ones among them, in their order.
+-- the encodings of the finished ones of these packets, in this order
+abbrev pub finished_encodings : List Packet → List (List ℕ)
+finished_encodings packets = map packet_encoding (filter (λ packet. packet.finished) packets)
+
+-- what was emitted of these packets, the newest first: the encodings of the finished ones, dropped ones among them, in the order of their begins
+abbrev pub emissions_in : List Packet → List (List ℕ)
+emissions_in packets = finished_encodings (reverse packets)
+
+-- The packets that the writer emitted.
 abbrev pub emissions_of : List Call → List (List ℕ)
-emissions_of calls = map packet_encoding (filter (λ packet. packet.finished) (reverse (packets_of calls)))
+emissions_of calls = emissions_in (packets_of calls)
 
 -- how many packets the calls begin, and how many of these were dropped at their begin
 abbrev pub begun_count : List Call → ℕ
