@@ -1,7 +1,7 @@
 -- A writer accepts what each accepted line asks of it.
 use Rattle.std.proofs.Common.{◌≡◌, ◌≢◌, ◌∙◌, ℕ, zero, suc, ◌+◌, ◌<◌, ◌≤◌, nat_eq, nat_le, nat_lt, Bool, true, false, cond, not, ◌&&◌, List, [], ◌∷◌, ◌++◌, Option, Some, None, Result, Ok, Err, is_none, is_some, map, refl, sym, ap, arith}
 use Rattle.std.proofs.lemmas.Grind.{common_steps}
-use Rattle.trace_base.specs.declared.limits.TheConstants.{MAX_FIELD, MAX_NESTING, MAX_PACKET_LEN}
+use Rattle.trace_base.specs.declared.limits.TheConstants.{MAX_FIELD, MAX_NESTING, MAX_PACKET_LEN, MAX_SCENARIO_PACKET_BYTES}
 use Rattle.trace_base.specs.Reserved.{is_reserved}
 use Rattle.trace_model.specs.Calls as call
 use Rattle.trace_model.specs.Calls.{Call}
@@ -103,25 +103,27 @@ given_nested depth field nodes is = nested_at _ _ _ depth field nodes refl refl 
 
 -- ---- what the reasons leave
 
-pub record IsGiven (len : ℕ) (step : WriterStep) (result : Result (List Shown) FieldFault) : Type 0 where
+pub record IsGiven (len bytes : ℕ) (step : WriterStep) (result : Result (List Shown) FieldFault) : Type 0 where
   pub nodes : List Shown
   pub is : result ≡ Ok nodes
   pub short : len + step_len step nodes ≤ MAX_PACKET_LEN
+  pub few : bytes + step_len step nodes ≤ MAX_SCENARIO_PACKET_BYTES
 
 given_at : (before len bytes : ℕ) (writer : Numeral) (step : WriterStep) (result : Result (List Shown) FieldFault)
     → first (bad_field before result ∷ reserved_field result ∷ too_deep result ∷ too_long len (OfWriter writer step) result
-    ∷ too_many_bytes bytes (OfWriter writer step) result ∷ []) ≡ None → IsGiven len step result
-given_at before len bytes writer step (Ok nodes) none = record {
-  nodes = nodes;
-  is = refl;
-  short = short_at (nat_lt MAX_PACKET_LEN (len + step_len step nodes)) refl none;
-}
+    ∷ too_many_bytes bytes (OfWriter writer step) result ∷ []) ≡ None → IsGiven len bytes step result
+given_at before len bytes writer step (Ok nodes) none =
+    let lengths = both_at (nat_lt MAX_PACKET_LEN (len + step_len step nodes)) (nat_lt MAX_SCENARIO_PACKET_BYTES (bytes + step_len step nodes)) refl refl none in
+    record { nodes = nodes; is = refl; short = lengths.0; few = lengths.1 }
   where
-    short_at : (long : Bool) → nat_lt MAX_PACKET_LEN (len + step_len step nodes) ≡ long
-        → first (None ∷ None ∷ None ∷ cond long (Some reasons.PacketTooLong) None ∷ too_many_bytes bytes (OfWriter writer step) (Ok nodes) ∷ []) ≡ None
-        → len + step_len step nodes ≤ MAX_PACKET_LEN
-    short_at true is none = cc
-    short_at false is none = within MAX_PACKET_LEN (len + step_len step nodes) is
+    both_at : (long many : Bool) → nat_lt MAX_PACKET_LEN (len + step_len step nodes) ≡ long
+        → nat_lt MAX_SCENARIO_PACKET_BYTES (bytes + step_len step nodes) ≡ many
+        → first (None ∷ None ∷ None ∷ cond long (Some reasons.PacketTooLong) None ∷ cond many (Some reasons.TooManyBytes) None ∷ []) ≡ None
+        → (len + step_len step nodes ≤ MAX_PACKET_LEN) × (bytes + step_len step nodes ≤ MAX_SCENARIO_PACKET_BYTES)
+    both_at true many long_is many_is none = cc
+    both_at false true long_is many_is none = cc
+    both_at false false long_is many_is none =
+        (within MAX_PACKET_LEN (len + step_len step nodes) long_is, within MAX_SCENARIO_PACKET_BYTES (bytes + step_len step nodes) many_is)
 given_at before len bytes writer step (Err (faults.BadField column)) none = cc
 given_at before len bytes writer step (Err (faults.Reserved field)) none = cc
 given_at before len bytes writer step (Err faults.TooDeep) none = cc
@@ -129,7 +131,7 @@ given_at before len bytes writer step (Err faults.PacketTooLong) none = cc
 
 -- the packet that the line's writer has begun, and what the line gives it
 pub line_given : (state : State) (line : List ℕ) (writer : Numeral) (step : WriterStep) → first (back_reasons state line (OfWriter writer step)) ≡ None
-    → IsGiven (len_of (packet_of state writer)) step (given_by (nesting_of (packet_of state writer)) line step)
+    → IsGiven (len_of (packet_of state writer)) state.bytes step (given_by (nesting_of (packet_of state writer)) line step)
 unfolding back_reasons given len_before
 line_given state line writer step none =
     given_at (before_fields line) (len_of (packet_of state writer)) state.bytes writer step (given_by (nesting_of (packet_of state writer)) line step) none

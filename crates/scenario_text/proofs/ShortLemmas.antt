@@ -1,11 +1,9 @@
 -- The lines of a scenario are few, and the packets that they ask for short.
-use Rattle.std.proofs.Common.{◌≡◌, ◌∙◌, ℕ, ◌+◌, ◌≤◌, nat_eq, nat_lt, Bool, true, false, cond, List, [], ◌∷◌, ◌++◌, Option, Some, None, Result, Ok, Err, length, refl, sym, ap, subst, arith, length-append}
+use Rattle.std.proofs.Common.{◌≡◌, ◌∙◌, ℕ, ◌+◌, ◌≤◌, nat_eq, Bool, true, false, cond, List, [], ◌∷◌, ◌++◌, Option, Some, None, Result, Ok, Err, length, refl, sym, ap, subst, arith, length-append}
 use Rattle.std.specs.List.{slice_split}
 use Rattle.std.proofs.lemmas.List.Splits.{length-slice_split}
 use Rattle.std.proofs.lemmas.List.Sums.{count_by-le-length, sum_by_push}
-use Rattle.trace_base.specs.declared.limits.TheConstants.{MAX_PACKET_LEN, MAX_SCENARIO_PACKET_BYTES}
-use Rattle.field_tree.specs.declared.fault.FieldFault.{FieldFault}
-use Rattle.field_tree.specs.declared.fault.FieldFault.TheVariants as faults
+use Rattle.trace_base.specs.declared.limits.TheConstants.{MAX_SCENARIO_PACKET_BYTES}
 use Rattle.field_tree.specs.Nodes.{Shown}
 use Rattle.scenario_text.specs.declared.numeral.Numeral.{Numeral}
 use Rattle.scenario_text.specs.declared.form.Form.{Form}
@@ -15,7 +13,6 @@ use Rattle.scenario_text.specs.declared.form.WriterStep.TheVariants.{Packet, Beg
 use Rattle.scenario_text.specs.declared.form.ProducerStep.{ProducerStep}
 use Rattle.scenario_text.specs.declared.form.ProducerStep.TheVariants.{Collect, Scrape, Close}
 use Rattle.scenario_text.specs.declared.reason.Reason.{Reason}
-use Rattle.scenario_text.specs.declared.reason.Reason.TheVariants as reasons
 use Rattle.scenario_text.specs.declared.scenario.LineKind.{LineKind}
 use Rattle.scenario_text.specs.declared.scenario.NumberedLine.{NumberedLine}
 use Rattle.scenario_text.specs.declared.scenario.Scenario.{Scenario}
@@ -23,13 +20,14 @@ use Rattle.scenario_text.specs.Pieces.{pieces}
 use Rattle.scenario_text.specs.Ranges.{value}
 use Rattle.scenario_text.specs.State.{State, beginning, packet_of}
 use Rattle.scenario_text.specs.State as state_words
-use Rattle.scenario_text.specs.Reasons.{first, front_reasons, back_reasons, refusal_of, given, given_by, step_len, bad_field, reserved_field, too_deep, too_long, too_many_bytes, before_fields, len_before}
+use Rattle.scenario_text.specs.Reasons.{first, front_reasons, back_reasons, refusal_of, given, given_by, step_len}
 use Rattle.scenario_text.specs.Effects.{moved, nodes_given, written, served, with_line, with_packet, with_closed, with_bytes, writer_kind, producer_kind}
 use Rattle.scenario_text.specs.Forms.{form_of}
 use Rattle.scenario_text.specs.Grammar.{unless, after_form, says_nothing, after_line, first_left, unless_left, at_end, and_then, after_lines, state_after}
 use Rattle.scenario_text.specs.Scenario.{Parts, parts_of, parts_said, said, scenario_of, IsScenario}
+use Rattle.scenario_text.proofs.AcceptedLines.{line_given}
 use Rattle.scenario_text.proofs.StateLemmas.{first_none, scenario_holds}
-use Rattle.scenario_text.proofs.TreeLemmas.{within, served_lines}
+use Rattle.scenario_text.proofs.TreeLemmas.{served_lines}
 use Rattle.scenario_text.specs.Lengths.{line_len, lines_len, AreShort}
 
 -- ---- how long packets are
@@ -61,28 +59,12 @@ producer_len producer Collect = refl
 producer_len producer Scrape = refl
 producer_len producer Close = refl
 
-bytes_at : (before len bytes : ℕ) (writer : Numeral) (step : WriterStep) (result : Result (List Shown) FieldFault)
-    → first (bad_field before result ∷ reserved_field result ∷ too_deep result ∷ too_long len (OfWriter writer step) result
-    ∷ too_many_bytes bytes (OfWriter writer step) result ∷ []) ≡ None → bytes + step_len step (nodes_given result) ≤ MAX_SCENARIO_PACKET_BYTES
-bytes_at before len bytes writer step (Ok nodes) none =
-    few_at (nat_lt MAX_PACKET_LEN (len + step_len step nodes)) (nat_lt MAX_SCENARIO_PACKET_BYTES (bytes + step_len step nodes)) refl none
-  where
-    few_at : (long many : Bool) → nat_lt MAX_SCENARIO_PACKET_BYTES (bytes + step_len step nodes) ≡ many
-        → first (None ∷ None ∷ None ∷ cond long (Some reasons.PacketTooLong) None ∷ cond many (Some reasons.TooManyBytes) None ∷ []) ≡ None
-        → bytes + step_len step nodes ≤ MAX_SCENARIO_PACKET_BYTES
-    few_at true many is none = cc
-    few_at false true is none = cc
-    few_at false false is none = within MAX_SCENARIO_PACKET_BYTES (bytes + step_len step nodes) is
-bytes_at before len bytes writer step (Err (faults.BadField column)) none = cc
-bytes_at before len bytes writer step (Err (faults.Reserved field)) none = cc
-bytes_at before len bytes writer step (Err faults.TooDeep) none = cc
-bytes_at before len bytes writer step (Err faults.PacketTooLong) none = cc
-
 line_bytes : (state : State) (line : List ℕ) (writer : Numeral) (step : WriterStep) → first (back_reasons state line (OfWriter writer step)) ≡ None
     → state.bytes + step_len step (nodes_given (given state line (OfWriter writer step))) ≤ MAX_SCENARIO_PACKET_BYTES
-unfolding back_reasons given len_before
+unfolding given
 line_bytes state line writer step none =
-    bytes_at (before_fields line) (state_words.len_of (packet_of state writer)) state.bytes writer step (given_by (state_words.nesting_of (packet_of state writer)) line step) none
+    let gives = line_given state line writer step none in
+    subst (λ (nodes : List Shown). state.bytes + step_len step nodes ≤ MAX_SCENARIO_PACKET_BYTES) (sym (ap nodes_given gives.is)) gives.few
 
 counted_line : (state : State) (number : ℕ) (kind : LineKind) → line_len kind ≡ 0 → AreCounted state → AreCounted (with_line state number kind)
 unfolding with_line
