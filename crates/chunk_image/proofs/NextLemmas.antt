@@ -1,13 +1,10 @@
 -- One call of the iterator.
-use Rattle.std.proofs.Common.{◌≡◌, ℕ, zero, suc, ◌-◌, ◌≤◌, ◌==◌, List, [], ◌∷◌, length, drop, Some, None, refl, ap, ◌∙◌, arith}
+use Rattle.std.proofs.Common.{◌≡◌, ℕ, zero, suc, ◌-◌, ◌==◌, List, [], ◌∷◌, drop, Some, None, refl, ap, ◌∙◌, arith}
 use Rattle.std.proofs.lemmas.Bool.Decides.{nat_tests}
 use Rattle.trace_model.specs.Images.{Fragment}
 use Rattle.trace_model.specs.Reading.{size_of, fragment_of, fragment_end}
 use Rattle.chunk_image.specs.Readable.{readable_from}
-use Rattle.chunk_image.proofs.ReadableLemmas.{readable_zero, readable_some, readable_none, length-readable_from-le}
-
-pub at_most : (left at : ℕ) (bytes : List ℕ) → length (readable_from left at bytes) ≤ left
-at_most left at bytes = length-readable_from-le left at bytes
+use Rattle.chunk_image.proofs.ReadableLemmas.{readable_zero, readable_some, readable_none}
 
 pub next_end : (left at : ℕ) (bytes : List ℕ) → left ≡ 0 → readable_from left at bytes ≡ []
 next_end left at bytes e = rw e (readable_zero at bytes)

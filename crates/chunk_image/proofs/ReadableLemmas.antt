@@ -34,15 +34,15 @@ length_on : (n : ℕ) (others : Fragment → List Fragment) (o : Option Fragment
 length_on n others None most = omega arith
 length_on n others (Some fragment) most = omega (arith, most fragment)
 
-pub length-readable_from-le : (left at : ℕ) (bytes : List ℕ) → length (readable_from left at bytes) ≤ left
-length-readable_from-le zero at bytes = omega (arith, ap length (readable_zero at bytes))
-length-readable_from-le (suc left) at bytes =
+pub at_most : (left at : ℕ) (bytes : List ℕ) → length (readable_from left at bytes) ≤ left
+at_most zero at bytes = omega (arith, ap length (readable_zero at bytes))
+at_most (suc left) at bytes =
     let others : Fragment → List Fragment = λ fragment. readable_from left (fragment_end fragment) (drop (fragment_end fragment - at) bytes) in
     omega (
       arith,
       ap length (readable_suc left at bytes),
       length_on left others (fragment_of (left == 0) at bytes (size_of 4 bytes))
-          (λ fragment. length-readable_from-le left (fragment_end fragment) (drop (fragment_end fragment - at) bytes)),
+          (λ fragment. at_most left (fragment_end fragment) (drop (fragment_end fragment - at) bytes)),
     )
 
 -- The model's reading

@@ -10,7 +10,7 @@ use Rattle.trace_model.proofs.ReadingLemmas.{StandsFirst, read_kept, read_droppe
 use Rattle.trace_model.proofs.ReadsAsLemmas.{reading_is_exact}
 use Rattle.chunk_image.specs.Readable.{readable_from}
 use Rattle.trace_model.specs.Unread.{BeginsWith, StopsAt, IsFirstUnread}
-use Rattle.chunk_image.proofs.ReadableLemmas.{readable_zero, readable_some, readable_none, length-readable_from-le, all_readable, part_readable}
+use Rattle.chunk_image.proofs.ReadableLemmas.{readable_zero, readable_some, readable_none, at_most, all_readable, part_readable}
 
 -- The model's reading of a payload, of which so many fragments are wanted, and at least one
 
@@ -23,7 +23,7 @@ pub reading_all : (count : ℕ) (payload : List ℕ) → max count 1 ≤ length 
     → reading_of count payload ≡ Fragments (readable_from count 0 payload)
 reading_all zero payload all = absurd (omega (arith, all, ap length (readable_zero 0 payload)))
 reading_all (suc more) payload all =
-    all_readable (suc more) 0 0 payload (omega (arith, all, length-readable_from-le (suc more) 0 payload))
+    all_readable (suc more) 0 0 payload (omega (arith, all, at_most (suc more) 0 payload))
 
 -- The relation
 

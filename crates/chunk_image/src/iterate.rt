@@ -34,7 +34,7 @@ impl<'a> Model for FragmentIter<'a> {
 
 impl<'a> FragmentIter<'a> {
     /// The fragments of the payload, at most `count`, up to the first that can't be read.
-    #[tactic(auto, using(crate::proofs::NextLemmas::at_most))]
+    #[tactic(auto, using(crate::proofs::ReadableLemmas::at_most))]
     pub(crate) fn new(payload: &'a [u8], count: u16) -> FragmentIter<'a>
         requires { length payload.now ≤ MAX_INPUT }
         ensures fragments { result ≡ readable_from count 0 payload.now }

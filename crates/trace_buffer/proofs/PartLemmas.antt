@@ -86,11 +86,10 @@ parts_map ring index rows f keeps parts = record {
 }
 
 -- a change of the sequence with a number
-pub keeps_at : (number : ℕ) (g : Sequence → Sequence) → KeepsRow g → KeepsRow (λ s. cond (s.number == number) (g s) s)
-keeps_at number g keeps = record {
+pub sizes_at : (number : ℕ) (g : Sequence → Sequence) → KeepsSize g → KeepsSize (λ s. cond (s.number == number) (g s) s)
+sizes_at number g keeps = record {
   number = λ s. of_number s (s.number == number);
   size = λ s. of_size s (s.number == number);
-  arrived = λ s. of_arrived s (s.number == number);
 }
   where
     of_number : (s : Sequence) (b : Bool) → (cond b (g s) s).number ≡ s.number
@@ -101,6 +100,11 @@ keeps_at number g keeps = record {
     of_size s true = keeps.size s
     of_size s false = refl
 
+pub keeps_at : (number : ℕ) (g : Sequence → Sequence) → KeepsRow g → KeepsRow (λ s. cond (s.number == number) (g s) s)
+keeps_at number g keeps =
+    let sized = sizes_at number g (sizes keeps) in
+    record { number = sized.number; size = sized.size; arrived = λ s. of_arrived s (s.number == number) }
+  where
     of_arrived : (s : Sequence) (b : Bool) → (cond b (g s) s).arrived ≡ s.arrived
     of_arrived s true = keeps.arrived s
     of_arrived s false = refl

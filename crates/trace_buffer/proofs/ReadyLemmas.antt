@@ -8,7 +8,7 @@ use Rattle.trace_model.specs.Reading.{Reading, Fragments, Unreadable}
 use Rattle.trace_model.specs.Reads.{Turn, advanced}
 use Rattle.trace_model.specs.Sequences.{Sequence, Cursor, is_known, sequence_in, changed_at}
 use Rattle.trace_buffer.specs.Calls.{with_advance}
-use Rattle.trace_buffer.proofs.PartLemmas.{KeepsSize, known_map, sequence_map, sizes}
+use Rattle.trace_buffer.proofs.PartLemmas.{KeepsSize, known_map, sequence_map, sizes, sizes_at}
 use Rattle.trace_buffer.proofs.SettledLemmas.{settled_rows, known_still, open_still}
 use Rattle.trace_buffer.specs.Ready.{IsReady, StayReady}
 
@@ -19,21 +19,6 @@ still rows f new keeps is size number ready = record {
       ∙ ap (λ (s : Sequence). s.size) (sequence_map f rows number keeps ready.known)
       ∙ keeps.size (sequence_in rows number) ∙ ready.size_is;
 }
-
--- a change of the sequence with a number
-sizes_at : (number : ℕ) (g : Sequence → Sequence) → KeepsSize g → KeepsSize (λ s. cond (s.number == number) (g s) s)
-sizes_at number g keeps = record {
-  number = λ s. of_number s (s.number == number);
-  size = λ s. of_size s (s.number == number);
-}
-  where
-    of_number : (s : Sequence) (b : Bool) → (cond b (g s) s).number ≡ s.number
-    of_number s true = keeps.number s
-    of_number s false = refl
-
-    of_size : (s : Sequence) (b : Bool) → (cond b (g s) s).size ≡ s.size
-    of_size s true = keeps.size s
-    of_size s false = refl
 
 still_at : (rows : List Sequence) (n : ℕ) (g : Sequence → Sequence) → KeepsSize g → (size number : ℕ) → IsReady rows size number → IsReady (changed_at n g rows) size number
 still_at rows n g keeps =
