@@ -1,8 +1,8 @@
 -- What `clap` finds in words that spell a command.
-use Rattle.std.proofs.Common.{◌≡◌, ℕ, Bool, ◌<◌, ◌^◌, ◌==◌, ◌&&◌, true, false, not, List, [], ◌∷◌, length, Option, Some, None, option_map, unwrap_or, map, slice_index_or, codes, decimal, refl, sym, ◌∙◌, ap, subst, arith}
+use Rattle.std.proofs.Common.{◌≡◌, ℕ, Bool, ◌<◌, ◌^◌, ◌==◌, ◌&&◌, true, false, List, [], ◌∷◌, length, Option, Some, None, option_map, unwrap_or, map, slice_index_or, codes, decimal, refl, sym, ◌∙◌, ap, subst, arith}
 use Rattle.std.specs.List.{list_all}
 use Rattle.std.specs.Str.Parse.{AllDigits}
-use Rattle.std.proofs.lemmas.Bool.{true≢false, ne_eqb}
+use Rattle.std.proofs.lemmas.Bool.{true≢false, and_parts, ne_eqb, not-true}
 use Rattle.std.proofs.lemmas.Fmt.{digits_decimal, decimal_nonempty}
 use Rattle.std.proofs.lemmas.Str.Parse.{digit_at, numerals_by_value, tells_digits}
 use Rattle.clap.specs.Walk.{Row, Text}
@@ -16,22 +16,10 @@ use Rattle.command_words.specs.Found.{HasNumbers}
 use Rattle.command_words.specs.Program.{program_app, is_plain}
 use Rattle.command_words.proofs.GenLemmas.{IsValue, is_value, gen_passes, gen_found, gen_values, gen_rows, lone_passes, lone_found}
 
-not_holds : (b : Bool) → not b ≡ true → b ≡ false
-not_holds true h = absurd (true≢false (sym h))
-not_holds false h = refl
-
-first_holds : (a b : Bool) → (a && b) ≡ true → a ≡ true
-first_holds true b h = refl
-first_holds false b h = absurd (true≢false (sym h))
-
-second_holds : (a b : Bool) → (a && b) ≡ true → b ≡ true
-second_holds true b h = h
-second_holds false b h = absurd (true≢false (sym h))
-
 -- a word that was let through is no flag
 pub plain_value : (word : Text) → is_plain word ≡ true → IsValue word
 plain_value [] plain = absurd (true≢false (sym plain))
-plain_value (byte ∷ bytes) plain = is_value byte bytes (not_holds _ (first_holds _ _ plain))
+plain_value (byte ∷ bytes) plain = is_value byte bytes (not-true _ (and_parts _ _ plain).0)
 
 -- digits are let through
 digits_plain : (text : Text) → AllDigits 10 text → 0 < length text → is_plain text ≡ true
@@ -137,13 +125,11 @@ pub gen_numbers : (m values : ArgMatches) (name number writers packets : Text)
 gen_numbers m values name number writers packets found plain named rows =
     let last = is_plain packets && true in
     let two_last = is_plain writers && last in
-    let behind_name = second_holds (is_plain name) (is_plain number && two_last) plain in
-    let one = first_holds (is_plain number) two_last behind_name in
-    let behind_number = second_holds (is_plain number) two_last behind_name in
-    let two = first_holds (is_plain writers) last behind_number in
-    let three = first_holds (is_plain packets) true (second_holds (is_plain writers) last behind_number) in
+    let first = and_parts (is_plain number) two_last (and_parts (is_plain name) (is_plain number && two_last) plain).1 in
+    let second = and_parts (is_plain writers) last first.1 in
+    let third = and_parts (is_plain packets) true second.1 in
     let whole = found ∙ ap (λ n. subcommand_of program_app (n ∷ number ∷ writers ∷ packets ∷ [])) named
-    ∙ gen_found number writers packets (plain_value number one) (plain_value writers two) (plain_value packets three) in
+    ∙ gen_found number writers packets (plain_value number first.0) (plain_value writers second.0) (plain_value packets third.0) in
     numbers_found values number writers packets
     (some_same _ _ (rows ∙ found_rows m (codes "gen") (gen_rows number writers packets) whole))
 

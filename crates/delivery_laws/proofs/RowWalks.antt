@@ -1,9 +1,10 @@
 -- The row of slots that fit what was written walks over it.
 use Rattle.std.proofs.Common.{◌≡◌, ◌∙◌, ℕ, zero, suc, ◌<◌, ◌≤◌, ◌⊎◌, max, Bool, true, false, not, ◌&&◌, List, [], ◌∷◌, ◌++◌, length, drop, Some, refl, sym, ap, subst, arith, inl, inr}
 use Rattle.std.specs.Prelude.{cond, ◌==◌, slice_get}
-use Rattle.std.proofs.lemmas.Bool.{ne_eqb, cases_lt, and_right}
+use Rattle.std.proofs.lemmas.Bool.{cases_lt, and_right}
 use Rattle.std.proofs.lemmas.List.{drop_all}
 use Rattle.std.proofs.Math.Bool.{and-false, and-true}
+use Rattle.trace_base.proofs.Choices.{more_isnt_none}
 use Rattle.trace_base.proofs.Lists.{one_left}
 use Rattle.trace_model.specs.Images.{Chunk, Fragment}
 use Rattle.trace_model.specs.Fading.{ShowFragments}
@@ -12,9 +13,6 @@ use Rattle.trace_model.proofs.FadingLemmas.{show_dropped}
 use Rattle.delivery_laws.specs.Sheets.{Sheet, Part, WrittenPacket, parts_from, all_parts, tail_bytes, ends_whole, packets_in, SheetsAgree}
 use Rattle.delivery_laws.proofs.Walks.{Follows, Walks, parts_at, Inside, StandsAt, ShowsSheet, FitsFrom}
 use Rattle.delivery_laws.proofs.PieceLemmas.{IsPiece, piece_walks}
-
-more_isnt_none : (k : ℕ) → (suc k == 0) ≡ false
-more_isnt_none k = ne_eqb (suc k) 0 (λ e. omega (arith, e))
 
 -- Places
 

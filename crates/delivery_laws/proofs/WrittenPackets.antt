@@ -2,9 +2,10 @@
 use Rattle.std.proofs.Common.{◌≡◌, ◌∙◌, ℕ, suc, ◌+◌, ◌<◌, Bool, true, false, not, ◌&&◌, ◌||◌, All, List, [], ◌∷◌, ◌++◌, length, reverse, refl, sym, ap, subst, arith, append-nil}
 use Rattle.std.specs.Prelude.{cond, ◌==◌}
 use Rattle.std.specs.List.{AllZip}
-use Rattle.std.proofs.lemmas.Bool.{false≢true, and_parts, ne_eqb}
+use Rattle.std.proofs.lemmas.Bool.{false≢true, and_parts}
 use Rattle.std.proofs.lemmas.List.{reverse-append}
 use Rattle.std.proofs.Math.Bool.{and-true, and-false}
+use Rattle.trace_base.proofs.Choices.{more_isnt_none}
 use Rattle.trace_model.specs.Images.{Chunk, Fragment, Patch, patched_last}
 use Rattle.trace_model.specs.Sequences.{Cursor}
 use Rattle.trace_model.specs.Pages.{Page, chunk_of, fragments_from, patches_of}
@@ -135,9 +136,6 @@ covers_fragments chunk settled chunk_id goes after rest follows c (f ∷ fs) k c
     by_stop ((chunk.awaits && is_last fs) && not false) (ap (λ (b : Bool). (b && is_last fs) && not false) settled)
     (covers_fragments chunk settled chunk_id goes after rest follows c fs (suc k) false (sym (ap (λ (b : Bool). chunk.continues && b) (more_isnt_none k) ∙ and-false chunk.continues)) drops.1)
   where
-    more_isnt_none : (k : ℕ) → (suc k == 0) ≡ false
-    more_isnt_none k = ne_eqb (suc k) 0 (λ e. omega (arith, e))
-
     onward : (fs : List Fragment) → Follows (not (chunk.runs_on && is_last fs)) (parts_from false goes fs ++ after)
     onward [] = subst (λ (b : Bool). Follows (not b) after) (sym (and-true chunk.runs_on)) follows
     onward (g ∷ gs) = ap not (sym (and-false chunk.runs_on))

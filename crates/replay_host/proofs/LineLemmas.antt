@@ -4,6 +4,7 @@ use Rattle.std.proofs.lemmas.Grind.{fold-append}
 use Rattle.std.proofs.lemmas.List.Folds.{list_any-append}
 use Rattle.std.specs.Prelude.{slice_get}
 use Rattle.std.proofs.lemmas.Bool.{eq-eqb, eqb-true, cases_eq}
+use Rattle.std.proofs.Math.Bool.{or-false}
 use Rattle.trace_model.specs.Calls.{Call}
 use Rattle.model_laws.specs.Losses.{Loses}
 use Rattle.scenario_text.specs.declared.scenario.NumberedLine.{NumberedLine}
@@ -17,7 +18,6 @@ use Rattle.service_core.proofs.AgreeLemmas.{first_stays}
 use Rattle.session_core.specs.Sessions.{SessionValue}
 use Rattle.replay_model.specs.Flushes.{FlushNote}
 use Rattle.replay_model.specs.Schedule.{is_due, is_due_after}
-use Rattle.replay_model.proofs.SortedLemmas.{or_none}
 use Rattle.replay_host.specs.declared.host.Host.{Host}
 use Rattle.replay_host.specs.Asking.{IsReadyFor, AreReady}
 use Rattle.replay_host.specs.Asks.{AsksFor, AsksNothing}
@@ -36,7 +36,7 @@ pub closed_more : (producer : ℕ) (before : List NumberedLine) (line : Numbered
     → is_closed_by (before ++ line ∷ []) producer ≡ (is_closed_by before producer || closes producer line.what)
 closed_more producer before line =
     list_any-append (λ (one : NumberedLine). closes producer one.what) before (line ∷ [])
-    ∙ ap (λ (b : Bool). is_closed_by before producer || b) (or_none (closes producer line.what))
+    ∙ ap (λ (b : Bool). is_closed_by before producer || b) (or-false (closes producer line.what))
 
 pub closed_same : (producer : ℕ) (before : List NumberedLine) (line : NumberedLine) → closes producer line.what ≡ false
     → is_closed_by (before ++ line ∷ []) producer ≡ is_closed_by before producer

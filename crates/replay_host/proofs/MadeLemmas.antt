@@ -1,7 +1,8 @@
 -- A host as it is made is ready for all lines, and the sink has taken the trace of what it noted: nothing.
-use Rattle.std.proofs.Common.{◌≡◌, ◌∙◌, ℕ, zero, suc, ◌+◌, ◌<◌, ◌≤◌, nat_lt, Bool, true, false, not, List, [], ◌∷◌, ◌++◌, length, map, reverse, filter, replicate, refl, sym, ap, subst, arith}
+use Rattle.std.proofs.Common.{◌≡◌, ◌∙◌, ℕ, zero, suc, ◌+◌, ◌<◌, ◌≤◌, nat_lt, Bool, true, false, not, List, [], ◌∷◌, ◌++◌, length, replicate, refl, sym, ap, subst, arith}
 use Rattle.std.specs.Prelude.{if◌then◌else◌, fold, slice_index_or}
 use Rattle.std.specs.List.{flat_map}
+use Rattle.std.proofs.lemmas.Bool.{not-true}
 use Rattle.std.proofs.lemmas.Bool.Decides.{nat_tests}
 use Rattle.std.proofs.lemmas.Grind.{fold-append}
 use Rattle.byte_io.specs.Bytes.{Intake, after_told}
@@ -10,7 +11,7 @@ use Rattle.trace_model.specs.Calls.{Call, Flushed}
 use Rattle.trace_model.specs.Delivery.{trace_of}
 use Rattle.trace_model.specs.Enough.{most_chunks}
 use Rattle.trace_model.specs.History.{records_after}
-use Rattle.trace_model.specs.Packets.{Account, Packet, nothing_yet, noted, packets_of, packet_encoding, emissions_of, is_writing}
+use Rattle.trace_model.specs.Packets.{Account, nothing_yet, noted, packets_of, emissions_in, emissions_of, is_writing}
 use Rattle.scenario_text.specs.declared.scenario.LineKind.{LineKind}
 use Rattle.scenario_text.specs.declared.scenario.LineKind.TheVariants as line
 use Rattle.scenario_text.specs.declared.scenario.NumberedLine.{NumberedLine}
@@ -42,7 +43,7 @@ flush_if last = if last then Flushed ∷ [] else []
 flush_emits : (last : Bool) (calls : List Call) → emissions_of (calls ++ flush_if last) ≡ emissions_of calls
 flush_emits last calls =
     let same : (b : Bool) → (fold noted (fold noted nothing_yet calls) (flush_if b)).packets ≡ packets_of calls = same_packets in
-    ap (λ (packets : List Packet). map packet_encoding (filter (λ packet. packet.finished) (reverse packets)))
+    ap emissions_in
     (ap (λ (account : Account). account.packets) (fold-append noted nothing_yet calls (flush_if last)) ∙ same last)
   where
     same_packets : (b : Bool) → (fold noted (fold noted nothing_yet calls) (flush_if b)).packets ≡ packets_of calls
@@ -55,10 +56,6 @@ flush_accepted : (last : Bool) (calls : List Call) → (last ≡ true → is_wri
 flush_accepted true calls ended = (ended refl, tt)
 flush_accepted false calls ended = tt
 
-open_is : (b : Bool) → not b ≡ true → b ≡ false
-open_is false is = refl
-open_is true is = absurd (cc)
-
 -- all that is to come for the writer at this place it accepts, and has ids enough for
 pub all_ready : (size : ℕ) (scenario : Parts) (place : ℕ) → AsksWell scenario.lines (suc place) (spec_at scenario.writers place)
     → AreShort scenario.lines
@@ -67,7 +64,7 @@ all_ready size scenario place asks short =
     let calls : List Call = calls_asked (suc place) scenario.lines in
     let closed : Bool = is_closed_by scenario.lines (spec_at scenario.writers place).producer in
     let accepted = accepted_both nothing_yet calls (flush_if (not closed)) asks.accepted
-    (flush_accepted (not closed) calls (λ last. asks.ended (open_is closed last))) in
+    (flush_accepted (not closed) calls (λ last. asks.ended (not-true closed last))) in
     let few = chunks_asked size (suc place) scenario.lines asks.accepted in
     let lines_few = short.few in
     let bytes_few = short.short in

@@ -4,6 +4,7 @@ use Rattle.std.specs.Prelude.{◌==◌, slice_get}
 use Rattle.std.proofs.Math.Logic.{∥∥₁_elim}
 use Rattle.std.specs.Coded.{le_prop}
 use Rattle.std.proofs.lemmas.Bool.{cases_eq, cases_lt, eq-eqb, false≢true}
+use Rattle.std.proofs.Math.Bool.{or-true}
 use Rattle.std.proofs.lemmas.List.Sums.{fold-append}
 use Rattle.trace_base.specs.declared.policy.WriterSpec.{WriterSpec}
 use Rattle.trace_model.specs.Buffers.{Buffer}
@@ -33,7 +34,7 @@ use Rattle.replay_model.specs.Flushes.{FlushNote, flush_notes}
 use Rattle.replay_model.specs.Plays.{Plays}
 use Rattle.replay_model.specs.Schedule.{open_places, open_producers}
 use Rattle.replay_model.proofs.ScrapedLemmas.{counted, one_held}
-use Rattle.replay_model.proofs.SortedLemmas.{IsSorted, Among, or_true, shut_append, sorted_took, sorted_takes, open_places_fit, shut_took}
+use Rattle.replay_model.proofs.SortedLemmas.{IsSorted, Among, shut_append, sorted_took, sorted_takes, open_places_fit, shut_took}
 use Rattle.replay_model.proofs.StandsLemmas.{Stands, works_others}
 
 -- ---- parts of a list of acts
@@ -62,7 +63,7 @@ plays_split setup buffers (act ∷ acts) others old new notes plays =
 
 holds_none : (packets : List Packet) (flushed : Bool) → flushed ≡ true → holds_newest (record { packets = packets; flushed = flushed }) ≡ false
 holds_none [] flushed is = refl
-holds_none (packet ∷ older) flushed is = ap (λ (b : Bool). not (is_lost packet || b)) is ∙ ap not (or_true (is_lost packet))
+holds_none (packet ∷ older) flushed is = ap (λ (b : Bool). not (is_lost packet || b)) is ∙ ap not (or-true (is_lost packet))
 
 flushed_now : (setup : Setup) (place : ℕ) (old new : World) → Notes setup place Flushed old new → (account_of (writer new place).calls).flushed ≡ true
 flushed_now setup place old new (inl is) =
@@ -269,7 +270,7 @@ shut_among place [] among = absurd among
 shut_among place (first ∷ places) (inl same) =
     ap (λ (b : Bool). b || is_shut (sequence_of place) (closes_of places)) (eq-eqb (sequence_of first) (sequence_of place) (ap sequence_of same))
 shut_among place (first ∷ places) (inr among) =
-    ap (λ (b : Bool). (sequence_of first == sequence_of place) || b) (shut_among place places among) ∙ or_true (sequence_of first == sequence_of place)
+    ap (λ (b : Bool). (sequence_of first == sequence_of place) || b) (shut_among place places among) ∙ or-true (sequence_of first == sequence_of place)
 
 pub closes_shut : (setup : Setup) (place : ℕ) (old new : World) → place < length setup.writers → Closes setup (producer_of setup place) old new
     → is_shut (sequence_of place) new.service.events ≡ true
@@ -280,7 +281,7 @@ closes_shut setup place old new inside closes =
     ap (λ (v : ServiceView). is_shut (sequence_of place) v.events) closes.closes.view
     ∙ shut_append (sequence_of place) closes.closes.between.events (closes_of places)
     ∙ ap (λ (b : Bool). is_shut (sequence_of place) closes.closes.between.events || b) (shut_among place places among)
-    ∙ or_true (is_shut (sequence_of place) closes.closes.between.events)
+    ∙ or-true (is_shut (sequence_of place) closes.closes.between.events)
 
 -- what is closed stays so
 pub closes_shut_still : (setup : Setup) (producer q : ℕ) (old new : World) → Stands setup old → Closes setup producer old new

@@ -3,6 +3,7 @@ use Rattle.std.proofs.Common.{◌≡◌, ◌∙◌, ℕ, zero, suc, ◌+◌, ◌
 use Rattle.std.specs.Prelude.{◌==◌, nat_lt, MatchBool}
 use Rattle.std.specs.List.{flat_map}
 use Rattle.std.proofs.lemmas.Bool.{eq-eqb, ne_eqb, ltb-true, cases_eq}
+use Rattle.std.proofs.Math.Bool.{or-false}
 use Rattle.trace_base.proofs.Choices.{match_true, match_false}
 use Rattle.trace_model.specs.Images.{Image}
 use Rattle.chunk_plain.specs.Setup.{Setup, sequence_of}
@@ -18,7 +19,7 @@ use Rattle.service_core.proofs.HistoryLemmas.{Grows, found_more}
 use Rattle.service_core.proofs.OrderLemmas.{lead_both}
 use Rattle.service_core.specs.Scraping.{part_of_entry, part_held, parts_held}
 use Rattle.replay_model.specs.Does.{Scrapes, Wrote, is_shut}
-use Rattle.replay_model.proofs.SortedLemmas.{at_stage, IsSorted, Among, or_none, shut_append, sorted_more, sorted_takes, open_places_fit}
+use Rattle.replay_model.proofs.SortedLemmas.{at_stage, IsSorted, Among, shut_append, sorted_more, sorted_takes, open_places_fit}
 
 -- ---- what a writer holds
 
@@ -214,7 +215,7 @@ module _ (setup : Setup) (producer : ℕ) (old new : World) (sorted : IsSorted s
       let closed : Bool = is_shut q between.events in
       let none = shut_parts q note_of places
       (λ p. shut_part q p (taken_of new.service p).count (next_of p)) in
-      let same : closed ≡ (closed || is_shut q notes) = sym (ap (λ (b : Bool). closed || b) none ∙ or_none closed) in
+      let same : closed ≡ (closed || is_shut q notes) = sym (ap (λ (b : Bool). closed || b) none ∙ or-false closed) in
       subst (λ (b : Bool). LeadTo view q (at_stage n closed) notes (at_stage n b)) same
       (lead_parts view target n closed note_of places (fits target))
 

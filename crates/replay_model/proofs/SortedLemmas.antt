@@ -3,6 +3,7 @@ use Rattle.std.proofs.Common.{◌≡◌, ◌≢◌, ◌∙◌, ℕ, suc, ◌+◌
 use Rattle.std.specs.Prelude.{◌==◌, slice_get}
 use Rattle.std.specs.List.{flat_map}
 use Rattle.std.proofs.lemmas.Bool.{eq-eqb, ne_eqb, eqb-true, cases_eq}
+use Rattle.std.proofs.Math.Bool.{or-false, or-true, or_assoc}
 use Rattle.std.proofs.lemmas.List.{length-set}
 use Rattle.trace_base.proofs.Choices.{match_true, match_false}
 use Rattle.trace_base.proofs.Lists.{get_behind}
@@ -42,22 +43,10 @@ abbrev pub Among : ℕ → List ℕ → Type 0
 Among n [] = ⊥
 Among n (m ∷ ms) = (m ≡ n) ⊎ Among n ms
 
-pub or_none : (b : Bool) → (b || false) ≡ b
-or_none true = refl
-or_none false = refl
-
-pub or_true : (b : Bool) → (b || true) ≡ true
-or_true true = refl
-or_true false = refl
-
-pub or_assoc : (a b c : Bool) → (a || (b || c)) ≡ ((a || b) || c)
-or_assoc true b c = refl
-or_assoc false b c = refl
-
 pub shut_append : (q : ℕ) (xs ys : List Noted) → is_shut q (xs ++ ys) ≡ (is_shut q xs || is_shut q ys)
 shut_append q [] ys = refl
 shut_append q (x ∷ xs) ys =
-    ap (λ (b : Bool). is_close_of q x || b) (shut_append q xs ys) ∙ or_assoc (is_close_of q x) (is_shut q xs) (is_shut q ys)
+    ap (λ (b : Bool). is_close_of q x || b) (shut_append q xs ys) ∙ sym (or_assoc (is_close_of q x) (is_shut q xs) (is_shut q ys))
 
 -- ---- more notes
 
@@ -170,7 +159,7 @@ pub shut_took : (q : ℕ) (view : ServiceView) (place : ℕ) (looks : List Look)
 shut_took q view place looks contents =
     shut_append q view.events (takings (sequence_of place) (taken_of view place).count contents)
     ∙ ap (λ (b : Bool). is_shut q view.events || b) (shut_takings q (sequence_of place) (taken_of view place).count contents)
-    ∙ or_none (is_shut q view.events)
+    ∙ or-false (is_shut q view.events)
 
 pub sorted_took : (setup : Setup) (view : ServiceView) (place : ℕ) (looks : List Look) (contents : List Content) → IsSorted setup view
     → place < length setup.writers → is_shut (sequence_of place) view.events ≡ false → IsSorted setup (took view place looks contents)
@@ -226,7 +215,7 @@ sorted_took setup view place looks contents sorted inside opened =
         let q : ℕ = sequence_of p in
         let notes : List Noted = takings (sequence_of place) t.count contents in
         let last_closed : is_shut q view.events ≡ (is_shut q view.events || is_shut q notes) =
-        sym (ap (λ (b : Bool). is_shut q view.events || b) (shut_takings q (sequence_of place) t.count contents) ∙ or_none (is_shut q view.events)) in
+        sym (ap (λ (b : Bool). is_shut q view.events || b) (shut_takings q (sequence_of place) t.count contents) ∙ or-false (is_shut q view.events)) in
         let last_count : (taken_of view p).count ≡ (taken_of new p).count = sym (ap (λ (x : Taken). x.count) (taken_other view place p looks contents differs)) in
         let apart : sequence_of place ≢ q = λ e. differs (let same : p ≡ place = omega (arith, e) in same) in
         let h : LeadTo new q (at_stage (taken_of view p).count (is_shut q view.events)) notes (at_stage (taken_of view p).count (is_shut q view.events)) =
@@ -315,7 +304,7 @@ rising_least low n (m ∷ ns) h (inr among) = let later = rising_least (suc m) n
 
 lead_closes : (view : ServiceView) (target come : ℕ) (closed : Bool) (low : ℕ) (places : List ℕ) → Rising low places → (Among target places → closed ≡ false)
     → LeadTo view (sequence_of target) (at_stage come closed) (closes_of places) (at_stage come (closed || is_shut (sequence_of target) (closes_of places)))
-lead_closes view target come closed low [] rising opened = ap (at_stage come) (sym (or_none closed))
+lead_closes view target come closed low [] rising opened = ap (at_stage come) (sym (or-false closed))
 lead_closes view target come closed low (place ∷ places) rising opened =
     by_place (λ behind. lead_closes view target come true (suc place) places rising.1 behind)
     (λ behind. lead_closes view target come closed (suc place) places rising.1 behind) (cases_eq place target)
@@ -332,7 +321,7 @@ lead_closes view target come closed low (place ∷ places) rising opened =
         let behind : Among target places → true ≡ false = λ among.
         let least = rising_least (suc place) target places rising.1 among in absurd (omega (arith, least, same)) in
         let last : (closed || ((sequence_of place == q) || is_shut q (closes_of places))) ≡ true =
-        ap (λ (b : Bool). closed || (b || is_shut q (closes_of places))) is ∙ or_true closed in (
+        ap (λ (b : Bool). closed || (b || is_shut q (closes_of places))) is ∙ or-true closed in (
           refl,
           match_true (sequence_of place == q) _ _ is (
             opened (inl same),
@@ -403,5 +392,5 @@ sorted_reads setup view events sorted =
     let q : ℕ = sequence_of place in
     let n : ℕ = (taken_of view place).count in
     let closed : Bool = is_shut q view.events in
-    let same : closed ≡ (closed || is_shut q notes) = sym (ap (λ (b : Bool). closed || b) (shut_reads q events) ∙ or_none closed) in
+    let same : closed ≡ (closed || is_shut q notes) = sym (ap (λ (b : Bool). closed || b) (shut_reads q events) ∙ or-false closed) in
     subst (λ (b : Bool). LeadTo new q (at_stage n closed) notes (at_stage n b)) same (lead_reads new q n closed events))

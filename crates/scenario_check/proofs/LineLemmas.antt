@@ -1,7 +1,7 @@
 -- How the emitters of all writers go on with lines.
 use Rattle.std.proofs.Common.{◌≡◌, ◌≢◌, ◌∙◌, ℕ, zero, suc, ◌+◌, ◌<◌, ◌≤◌, ◌⊎◌, nat_eq, Bool, true, false, cond, List, [], ◌∷◌, ◌++◌, Some, length, set, take, drop, refl, sym, ap, subst, arith, inl, inr, length-append, append_assoc}
 use Rattle.std.specs.Prelude.{fold, slice_get}
-use Rattle.std.proofs.lemmas.Bool.{cases_eq, eqb-false, ne_eqb}
+use Rattle.std.proofs.lemmas.Bool.{cases_eq, eq-eqb, ne_eqb}
 use Rattle.std.proofs.lemmas.Grind.{flat_map-append}
 use Rattle.std.proofs.lemmas.List.{append-nil}
 use Rattle.std.proofs.lemmas.List.Sums.{fold-append, sum_by-append}
@@ -43,19 +43,12 @@ named_at false number (Read buffer limit) is = refl
 named_at true number Request is = refl
 named_at false number Request is = refl
 
-self_eq : (number : ℕ) → nat_eq number number ≡ true
-self_eq number = by_value (nat_eq number number) refl
-  where
-    by_value : (b : Bool) → nat_eq number number ≡ b → nat_eq number number ≡ true
-    by_value true is = is
-    by_value false is = absurd (eqb-false number number is refl)
-
 calls_own : (number : ℕ) (lines : List NumberedLine) (line : NumberedLine) → named_writer line.what ≡ number
     → calls_asked number (lines ++ line ∷ []) ≡ calls_asked number lines ++ named_calls line.what
 calls_own number lines line is =
     calls_more number lines line
     ∙ ap (λ (calls : List Call). calls_asked number lines ++ calls)
-    (named_at true number line.what (ap (λ (n : ℕ). nat_eq number n) is ∙ self_eq number))
+    (named_at true number line.what (ap (λ (n : ℕ). nat_eq number n) is ∙ eq-eqb number number refl))
 
 calls_other : (number : ℕ) (lines : List NumberedLine) (line : NumberedLine) → (number ≡ named_writer line.what → ⊥)
     → calls_asked number (lines ++ line ∷ []) ≡ calls_asked number lines

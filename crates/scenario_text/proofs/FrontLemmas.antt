@@ -1,7 +1,8 @@
 -- What a line is known for once no reason of the front holds.
-use Rattle.std.proofs.Common.{◌≡◌, ℕ, ◌-◌, ◌%◌, ◌^◌, ◌<◌, ◌≤◌, nat_eq, nat_le, Bool, true, false, cond, not, ◌&&◌, List, ◌∷◌, length, Option, Some, None, is_none, slice_get, refl, arith}
+use Rattle.std.proofs.Common.{◌≡◌, ℕ, ◌-◌, ◌%◌, ◌^◌, ◌<◌, ◌≤◌, nat_eq, nat_le, Bool, true, false, cond, ◌&&◌, List, ◌∷◌, length, Option, Some, None, is_none, slice_get, refl, arith}
 use Rattle.std.proofs.lemmas.Grind.{common_steps}
 use Rattle.std.proofs.lemmas.Option.{slice_get_within}
+use Rattle.std.proofs.lemmas.Bool.{not-false}
 use Rattle.trace_base.specs.declared.limits.TheConstants.{MAX_BUFFERS, MAX_BUFFER_KB, MAX_PAGES, MAX_PAGE_SIZE, PAGE_SIZE_UNIT, MAX_PRODUCERS, MAX_WRITERS, MIN_BUFFER_KB}
 use Rattle.trace_base.specs.declared.policy.FullPolicy.{FullPolicy}
 use Rattle.trace_base.specs.declared.policy.WriterPolicy.{WriterPolicy}
@@ -67,10 +68,6 @@ passed state form none =
       level = twelve.0;
     }
 
-pub not_false : (b : Bool) → not b ≡ false → b ≡ true
-not_false true h = refl
-not_false false h = cc
-
 pub within_least : (low high : ℕ) (number : Numeral) → is_within low high number ≡ true → low ≤ value number
 unfolding is_within value
 within_least low high (Fits n) h = let parts = both (nat_le low n) (nat_le n high) h in grind (arith, common_steps, parts.0)
@@ -87,7 +84,7 @@ pub kb_small : (state : State) (kb : Numeral) (policy : FullPolicy) → first (f
     → value kb < 2 ^ 32
 unfolding is_out_of_range
 kb_small state kb policy none =
-    let most = within_most MIN_BUFFER_KB MAX_BUFFER_KB kb (not_false _ (passed state (Buffer kb policy) none).in_range) in
+    let most = within_most MIN_BUFFER_KB MAX_BUFFER_KB kb (not-false _ (passed state (Buffer kb policy) none).in_range) in
     omega arith
 
 pub room_for_buffer : (state : State) (kb : Numeral) (policy : FullPolicy) → first (front_reasons state (Buffer kb policy)) ≡ None
@@ -136,7 +133,7 @@ pub of_producer_line : (state : State) (pages page_size chunks : Numeral) → fi
     → IsKnown pages page_size chunks
 unfolding is_out_of_range
 of_producer_line state pages page_size chunks none =
-    producer_known pages page_size chunks (not_false _ (passed state (Producer pages page_size chunks) none).in_range)
+    producer_known pages page_size chunks (not-false _ (passed state (Producer pages page_size chunks) none).in_range)
 
 pub pages_small : (state : State) (pages page_size chunks : Numeral) → first (front_reasons state (Producer pages page_size chunks)) ≡ None
     → value pages < 2 ^ 8

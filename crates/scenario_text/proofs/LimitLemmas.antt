@@ -3,6 +3,7 @@ use Rattle.std.proofs.Common.{◌≡◌, ℕ, ◌-◌, ◌*◌, ◌<◌, ◌≤�
 use Rattle.std.specs.List.{AllByRecursion}
 use Rattle.std.proofs.lemmas.Grind.{common_steps}
 use Rattle.std.proofs.lemmas.List.{length-append}
+use Rattle.std.proofs.lemmas.Bool.{not-false}
 use Rattle.trace_base.proofs.Lists.{get_more}
 use Rattle.trace_base.specs.declared.limits.TheConstants.{BYTES_PER_KB, MAX_BUFFERS, MAX_BUFFER_KB, MAX_PRODUCERS, MAX_WRITERS, MIN_BUFFER_KB}
 use Rattle.trace_base.specs.declared.policy.FullPolicy.{FullPolicy}
@@ -29,7 +30,7 @@ use Rattle.scenario_text.specs.Scenario.{IsScenario, Parts}
 use Rattle.scenario_text.specs.Limits.{IsBuffer, IsProducer, IsSetUp, IsWriter}
 use Rattle.scenario_text.proofs.SoundLemmas.{cut_pages, cut_chunks}
 use Rattle.scenario_text.proofs.StateLemmas.{first_none, scenario_holds}
-use Rattle.scenario_text.proofs.FrontLemmas.{passed, not_false, within_least, within_most, of_producer_line, producer_cut, room_for_buffer, room_for_producer, room_for_writer}
+use Rattle.scenario_text.proofs.FrontLemmas.{passed, within_least, within_most, of_producer_line, producer_cut, room_for_buffer, room_for_producer, room_for_writer}
 
 abbrev KeepsLimits : State → Type 0
 KeepsLimits state = IsSetUp state.buffers state.producers state.writers
@@ -146,7 +147,7 @@ buffer_known : (state : State) (kb : Numeral) (policy : FullPolicy) → first (f
     → IsBuffer (record { kb = value kb; policy = policy })
 unfolding is_out_of_range
 buffer_known state kb policy none =
-    let within = not_false _ (passed state (Buffer kb policy) none).in_range in
+    let within = not-false _ (passed state (Buffer kb policy) none).in_range in
     record { least = within_least MIN_BUFFER_KB MAX_BUFFER_KB kb within; most = within_most MIN_BUFFER_KB MAX_BUFFER_KB kb within }
 
 producer_known : (state : State) (pages page_size chunks : Numeral)

@@ -6,7 +6,7 @@ use Rattle.std.proofs.lemmas.Grind.{common_steps}
 use Rattle.std.proofs.lemmas.List.{length-append, length-set}
 use Rattle.std.proofs.lemmas.List.Folds.{list_any-append}
 use Rattle.std.proofs.lemmas.Option.{slice_get_within}
-use Rattle.std.proofs.lemmas.Bool.{false_from_ne_true}
+use Rattle.std.proofs.lemmas.Bool.{false_from_ne_true, not-false}
 use Rattle.trace_base.specs.declared.limits.TheConstants.{MAX_NUMBER}
 use Rattle.trace_base.proofs.Lists.{get_more}
 use Rattle.trace_base.specs.declared.policy.WriterSpec.{WriterSpec}
@@ -34,7 +34,7 @@ use Rattle.scenario_text.specs.Scenario.{Parts, IsScenario}
 use Rattle.scenario_text.specs.Accepted.{closes, is_closed_by}
 use Rattle.scenario_text.specs.Reach.{NamesWriter, NamesProducer, ReadsBuffer, IsInReach, AreInReach}
 use Rattle.scenario_text.proofs.SoundLemmas.{both}
-use Rattle.scenario_text.proofs.FrontLemmas.{IsPassed, passed, not_false, within_least, within_most}
+use Rattle.scenario_text.proofs.FrontLemmas.{IsPassed, passed, within_least, within_most}
 use Rattle.scenario_text.proofs.LimitLemmas.{named}
 use Rattle.scenario_text.proofs.StateLemmas.{first_none, scenario_holds}
 
@@ -283,7 +283,7 @@ buffer_in_reach : (state : State) (buffer : Numeral) (limit : Option Numeral) â†
 unfolding lacks_buffer is_out_of_range
 buffer_in_reach state buffer limit pass =
     let n = named state.buffers buffer pass.buffer in
-    let in_range = both (fits buffer) (is_limit limit) (not_false (fits buffer && is_limit limit) pass.in_range) in
+    let in_range = both (fits buffer) (is_limit limit) (not-false (fits buffer && is_limit limit) pass.in_range) in
     record {
       least = n.counted;
       most = omega (arith, n.counted, slice_get_within state.buffers (value buffer - 1) n.thing n.is);

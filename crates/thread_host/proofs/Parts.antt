@@ -5,6 +5,7 @@ use Rattle.std.specs.List.{flat_map}
 use Rattle.std.specs.Coded.{Coded-set, codes}
 use Rattle.std.proofs.Math.Logic.{∥∥₁_elim}
 use Rattle.std.proofs.lemmas.Bool.{eq-eqb, ne_eqb}
+use Rattle.std.proofs.Math.Bool.{or-false, or-true}
 use Rattle.std.proofs.lemmas.List.Folds.{list_any-append}
 use Rattle.trace_model.specs.Buffers.{Buffer}
 use Rattle.trace_model.specs.Counts.{last_count}
@@ -23,7 +24,7 @@ use Rattle.service_core.specs.Closing.{closes_of}
 use Rattle.service_core.specs.Reading.{noted_read, reads_in}
 use Rattle.service_core.specs.Scraping.{ScrapesOne, ScrapesEach, TakesAndScrapes}
 use Rattle.service_core.specs.Taking.{Takes, places_of, patched_where, takings}
-use Rattle.replay_model.proofs.SortedLemmas.{Among, or_none, or_true, place_among}
+use Rattle.replay_model.proofs.SortedLemmas.{Among, place_among}
 use Rattle.run_model.specs.Scraped.{ScrapedByLines, has_part, is_part_of, is_scraped_by, scrapes}
 use Rattle.run_model.specs.Settled.{ClosesTo, ReadsTo}
 use Rattle.run_model.specs.Stopped.{ReadsSomeTo}
@@ -41,7 +42,7 @@ noted_none sequence before notes all is none =
     ap (has_part sequence) is
     ∙ list_any-append (is_part_of sequence) before notes
     ∙ ap (λ (b : Bool). has_part sequence before || b) none
-    ∙ or_none (has_part sequence before)
+    ∙ or-false (has_part sequence before)
 
 patched_none : (sequence q id : ℕ) (patches : List Patch) → has_part sequence (patched_where patches q id) ≡ false
 patched_none sequence q id [] = refl
@@ -184,4 +185,4 @@ scraped_here before later lines one producer all is =
     ∙ list_any-append (λ (l : NumberedLine). scrapes producer l.what) before (one ∷ later)
     ∙ ap (λ (k : LineKind). is_scraped_by before producer || (scrapes producer k || is_scraped_by later producer)) is
     ∙ ap (λ (b : Bool). is_scraped_by before producer || (b || is_scraped_by later producer)) (eq-eqb producer producer refl)
-    ∙ or_true (is_scraped_by before producer)
+    ∙ or-true (is_scraped_by before producer)

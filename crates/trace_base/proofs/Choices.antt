@@ -1,6 +1,7 @@
 -- What holds by a test: one thing where it is true, and another where it is false; and by a result.
-use Rattle.std.proofs.Common.{◌≡◌, Bool, true, false, sym, subst, refl}
+use Rattle.std.proofs.Common.{◌≡◌, ℕ, suc, ◌==◌, Bool, true, false, sym, subst, refl, arith}
 use Rattle.std.specs.Prelude.{MatchBool, Result, Ok, Err, OnOk}
+use Rattle.std.proofs.lemmas.Bool.{ne_eqb}
 
 pub match_true : (b : Bool) (P Q : Type 0) → b ≡ true → P → MatchBool b P Q
 match_true b P Q is h = subst (λ (x : Bool). MatchBool x P Q) (sym is) h
@@ -22,3 +23,7 @@ match_either false P Q R h same apart = apart refl h
 pub on_ok : {A E : Type 0} (r : Result A E) (P Q : Type 0) → (P → Q) → OnOk r P → OnOk r Q
 on_ok (Ok value) P Q follows holds = follows holds
 on_ok (Err fault) P Q follows holds = tt
+
+-- a number behind another isn't none
+pub more_isnt_none : (n : ℕ) → (suc n == 0) ≡ false
+more_isnt_none n = ne_eqb (suc n) 0 (λ same. omega (arith, same))

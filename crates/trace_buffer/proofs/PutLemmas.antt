@@ -1,8 +1,9 @@
 -- A payload of which four bytes are replaced inside its last fragment.
-use Rattle.std.proofs.Common.{◌≡◌, ℕ, zero, suc, ◌+◌, ◌-◌, ◌*◌, ◌%◌, ◌≤◌, ◌==◌, ◌⊎◌, ⊎_elim, inl, inr, nat_lt, nat_le, Bool, true, false, cond, List, [], ◌∷◌, length, take, drop, Option, Some, None, refl, sym, ap, ◌∙◌, subst, arith, ne_eqb, append_assoc, true≢false}
+use Rattle.std.proofs.Common.{◌≡◌, ℕ, zero, suc, ◌+◌, ◌-◌, ◌*◌, ◌%◌, ◌≤◌, ◌==◌, ◌⊎◌, ⊎_elim, inl, inr, nat_lt, nat_le, Bool, true, false, cond, List, [], ◌∷◌, length, take, drop, Option, Some, None, refl, sym, ap, ◌∙◌, subst, arith, append_assoc, true≢false}
 use Rattle.std.proofs.lemmas.Bool.Decides.{nat_tests}
 use Rattle.std.proofs.lemmas.List.{take_rest, length-drop}
 use Rattle.std.proofs.lemmas.Bool.{and_parts}
+use Rattle.trace_base.proofs.Choices.{more_isnt_none}
 use Rattle.ring_bytes.specs.Value.{put_at}
 use Rattle.ring_bytes.proofs.SliceLemmas.{length_put, put_same, slice_put_within}
 use Rattle.trace_model.specs.Fragments.{drop_size}
@@ -30,9 +31,6 @@ drop_put p k bs xs low fits =
 -- as the definitions have it
 put_is : (p : ℕ) (bs xs : List ℕ) → put_at p bs xs ≡ with_bytes xs p bs
 put_is p bs xs = sym (append_assoc (take p xs) bs (drop (p + length bs) xs))
-
-not_zero : (n : ℕ) → (suc n == 0) ≡ false
-not_zero n = ne_eqb (suc n) 0 (λ e. omega arith)
 
 -- The size in front
 
@@ -239,7 +237,7 @@ step_patched left number at bytes f gs patch four is later =
     let same = before_same at bytes f patch four is later.inside.from inside in
     let shift : patch.offset - at - (fragment_end f - at) ≡ patch.offset - fragment_end f = omega (arith, later.inside.from, is.offset) in (
       inside,
-      ap (λ b. read_on number (λ x. reading_from (suc left) (suc number) (fragment_end x) (drop (fragment_end x - at) (put_at (patch.offset - at) patch.bytes bytes))) (fragment_of b at (put_at (patch.offset - at) patch.bytes bytes) (size_of 4 (put_at (patch.offset - at) patch.bytes bytes)))) (not_zero left)
+      ap (λ b. read_on number (λ x. reading_from (suc left) (suc number) (fragment_end x) (drop (fragment_end x - at) (put_at (patch.offset - at) patch.bytes bytes))) (fragment_of b at (put_at (patch.offset - at) patch.bytes bytes) (size_of 4 (put_at (patch.offset - at) patch.bytes bytes)))) (more_isnt_none left)
           ∙ ap (read_on number (λ x. reading_from (suc left) (suc number) (fragment_end x) (drop (fragment_end x - at) (put_at (patch.offset - at) patch.bytes bytes)))) same
           ∙ ap (λ xs. behind f (reading_from (suc left) (suc number) (fragment_end f) xs))
           (drop_put (patch.offset - at) (fragment_end f - at) patch.bytes bytes (omega (arith, later.inside.from)) (omega (arith, inside.from, inside.to, four))
@@ -251,7 +249,7 @@ many_patched : (left number at : ℕ) (bytes : List ℕ) (fs : List Fragment) (p
 many_patched zero number at bytes fs patch four reads holds = one_patched number at bytes fs patch four reads holds
 many_patched (suc left) number at bytes fs patch four reads holds =
     of (fragment_of false at bytes (size_of 4 bytes)) refl
-    (sym (ap (λ b. read_on number (λ x. reading_from (suc left) (suc number) (fragment_end x) (drop (fragment_end x - at) bytes)) (fragment_of b at bytes (size_of 4 bytes))) (not_zero left)) ∙ reads)
+    (sym (ap (λ b. read_on number (λ x. reading_from (suc left) (suc number) (fragment_end x) (drop (fragment_end x - at) bytes)) (fragment_of b at bytes (size_of 4 bytes))) (more_isnt_none left)) ∙ reads)
     (λ f gs e h. many_patched left (suc number) (fragment_end f) (drop (fragment_end f - at) bytes) gs patch four e h)
   where
     later : (f : Fragment) (gs : List Fragment) → IsFragment false at bytes f → reading_from (suc left) (suc number) (fragment_end f) (drop (fragment_end f - at) bytes) ≡ Fragments gs → f ∷ gs ≡ fs → (last_holds gs patch ≡ true → IsPatched patch (suc left) (suc number) (fragment_end f) (drop (fragment_end f - at) bytes) gs) → IsPatched patch (suc (suc left)) number at bytes fs

@@ -1,7 +1,7 @@
 -- The chunks of a writer that agrees with its view are a cut of its packets.
 use Rattle.std.proofs.Common.{◌≡◌, ◌∙◌, ℕ, suc, ◌+◌, Bool, true, false, not, ◌&&◌, Option, Some, None, List, [], ◌∷◌, ◌++◌, length, map, reverse, is_some, MatchOption, MatchBool, cond, refl, sym, ap, subst, arith, append-nil, length-append, ◌||◌}
 use Rattle.std.specs.List.{AllZip}
-use Rattle.std.proofs.lemmas.Bool.{and_right, false≢true}
+use Rattle.std.proofs.lemmas.Bool.{and_right, false≢true, not-false}
 use Rattle.std.proofs.lemmas.List.{map-append}
 use Rattle.trace_model.specs.Images.{Image, Patch}
 use Rattle.trace_model.specs.Packets.{Packet, Text, account_of, body_of, finished_packet, is_lost, kept_of}
@@ -250,10 +250,6 @@ finished_whole size packet packets (chain ∷ chains) kept finished are =
     (subst (λ (o : Option Text). MatchOption o (MatchBool packet.finished (bytes_of chain.pieces ≡ body_of packet) (Begins (bytes_of chain.pieces) (body_of packet)))
     (IsGivenUp (bytes_of chain.pieces))) kept are.0.bytes)
 
-true_where : (b : Bool) → not b ≡ false → b ≡ true
-true_where true is = refl
-true_where false is = absurd (cc)
-
 kept_if : (kept : Bool) (given : Option Text) → (not kept || is_some given) ≡ false → (kept ≡ true) × (given ≡ None)
 kept_if true None is = (refl, refl)
 kept_if true (Some text) is = absurd (cc)
@@ -265,7 +261,7 @@ cut_whole size [] pages cut ended = tt
 cut_whole size (packet ∷ older) pages cut ended = λ kept.
     let both : (packet.kept ≡ true) × (packet.given_up ≡ None) = kept_if packet.kept packet.given_up kept in
     let open_end : not packet.finished ≡ false = sym (ap (λ (b : Bool). not b && not packet.finished) kept) ∙ ended in
-    finished_whole size packet (kept_of older) (chains_of pages) both.1 (true_where packet.finished open_end)
+    finished_whole size packet (kept_of older) (chains_of pages) both.1 (not-false packet.finished open_end)
     (subst (λ (b : Bool). AllZip (IsChainOf size) (cond b (packet ∷ kept_of older) (kept_of older)) (chains_of pages)) both.0 cut.chains)
 
 state_is_whole : (setup : Setup) (place : ℕ) (route : Route) (view : WriterView) (pending : Pending) (packet : Option OpenPacket) (state : State)

@@ -1,6 +1,6 @@
 -- Which chunk a writer holds, by the view of its seat, and the calls by which it asks for none.
 use Rattle.std.proofs.Common.{◌≡◌, ◌∙◌, ℕ, ◌<◌, ◌||◌, Bool, true, false, not, List, [], ◌∷◌, ◌++◌, Option, refl, sym, ap, subst, true≢false}
-use Rattle.std.proofs.Math.Bool.{or-false}
+use Rattle.std.proofs.Math.Bool.{or-false, or-true}
 use Rattle.trace_model.specs.Calls.{Ended, Finished, Flushed}
 use Rattle.trace_model.specs.Packets.{Packet, Account, account_of, packets_of, on_newest, finished_packet, newest_is_lost, is_lost, is_writing}
 use Rattle.commit_body.specs.Pending.{Pending}
@@ -61,13 +61,9 @@ finished_holds (packet ∷ older) flushed empty none writes is =
 flushed_holds : (account : Account) → holds_newest (record account { flushed = true }) ≡ false
 flushed_holds account = by account.packets
   where
-    or_true : (b : Bool) → (b || true) ≡ true
-    or_true true = refl
-    or_true false = refl
-
     by : (packets : List Packet) → holds_newest (record { packets = packets; flushed = true }) ≡ false
     by [] = refl
-    by (packet ∷ older) = ap not (or_true (is_lost packet))
+    by (packet ∷ older) = ap not (or-true (is_lost packet))
 
 module _ {T W S : Type 0} (means : Meaning T W S) where
   -- a stalled writer's call leaves all

@@ -1,8 +1,8 @@
-use Rattle.std.proofs.Common.{◌≡◌, Bool, true, false, not, List, [], ◌∷◌, map, Option, Some, None, option_map, IfSome, IfNone, slice_index_or, refl, sym, ◌∙◌, ap, subst}
+use Rattle.std.proofs.Common.{◌≡◌, true, false, not, List, [], ◌∷◌, map, Option, Some, None, option_map, IfSome, IfNone, slice_index_or, sym, ◌∙◌, ap, subst}
 use Rattle.std.specs.List.{list_all}
 use Rattle.std.specs.Str.{bytes_eq}
 use Rattle.std.specs.String.{string_bytes}
-use Rattle.std.proofs.lemmas.Bool.{true≢false}
+use Rattle.std.proofs.lemmas.Bool.{true≢false, not-false}
 use Rattle.std.proofs.lemmas.List.{length-map}
 use Rattle.std.proofs.lemmas.Slice.Eq.{bytes_eq-Decides}
 use Rattle.clap.specs.Walk.{Row, Text}
@@ -24,10 +24,6 @@ none_some {T} {P} value same = absurd (true≢false (ap (λ (o : Option T). elim
 
 same_bytes : (one other : Text) → bytes_eq one other ≡ true → one ≡ other
 same_bytes one other same = (bytes_eq-Decides one other).0 same
-
-not_false : (b : Bool) → not b ≡ false → b ≡ true
-not_false true h = refl
-not_false false h = absurd (true≢false h)
 
 pub returns-in_err-name-clause-none : goal.returns-in_err-name-clause-none
 returns-in_err-name-clause-none c = on_none c.from_residual.result (λ command spells.
@@ -58,7 +54,7 @@ pub returns-in-0-clause-some : goal.returns-in-0-clause-some
 returns-in-0-clause-some c =
     let words = c.in_ok-first.ensures.cases.0 in
     let same : string_bytes c.in_ok-first.first.now ≡ c.in_ok-name.name.now =
-    sym c.as_str.ensures.value ∙ same_bytes c.as_str.result.now c.in_ok-name.name.now (not_false _ (sym c.ne.ensures ∙ c.if-ne.false)) in
+    sym c.as_str.ensures.value ∙ same_bytes c.as_str.result.now c.in_ok-name.name.now (not-false _ (sym c.ne.ensures ∙ c.if-ne.false)) in
     let texts : map string_bytes c.args.words.now ≡ c.in_ok-name.name.now ∷ [] =
     ap (map string_bytes) (words ∙ ap (λ others. c.in_ok-first.first.now ∷ others) (none_of c.in_ok-first.others.now c.in-0.is)) ∙ ap (λ name. name ∷ []) same in
     let P : List Text → Type 0 = λ ws. IfSome c.lone_command.result (λ command. Spells ws command) in
@@ -68,7 +64,7 @@ pub returns-in-0-clause-none : goal.returns-in-0-clause-none
 returns-in-0-clause-none c =
     let words = c.in_ok-first.ensures.cases.0 in
     let same : string_bytes c.in_ok-first.first.now ≡ c.in_ok-name.name.now =
-    sym c.as_str.ensures.value ∙ same_bytes c.as_str.result.now c.in_ok-name.name.now (not_false _ (sym c.ne.ensures ∙ c.if-ne.false)) in
+    sym c.as_str.ensures.value ∙ same_bytes c.as_str.result.now c.in_ok-name.name.now (not-false _ (sym c.ne.ensures ∙ c.if-ne.false)) in
     let texts : map string_bytes c.args.words.now ≡ c.in_ok-name.name.now ∷ [] =
     ap (map string_bytes) (words ∙ ap (λ others. c.in_ok-first.first.now ∷ others) (none_of c.in_ok-first.others.now c.in-0.is)) ∙ ap (λ name. name ∷ []) same in
     let P : List Text → Type 0 = λ ws. IfNone c.lone_command.result ((command : Command) → Spells ws command → ⊥) in
@@ -79,7 +75,7 @@ returns-in-3-clause-some c =
     let words = c.in_ok-first.ensures.cases.0 in
     let name = c.in_ok-name.name.now in
     let same : string_bytes c.in_ok-first.first.now ≡ name =
-    sym c.as_str.ensures.value ∙ same_bytes c.as_str.result.now name (not_false _ (sym c.ne.ensures ∙ c.if-ne.false)) in
+    sym c.as_str.ensures.value ∙ same_bytes c.as_str.result.now name (not-false _ (sym c.ne.ensures ∙ c.if-ne.false)) in
     let three = three_of (map string_bytes c.in_ok-first.others.now) (length-map c.in_ok-first.others.now string_bytes ∙ c.in-3.is) in
     let texts : map string_bytes c.args.words.now ≡ name ∷ three.first ∷ three.second ∷ three.third ∷ [] =
     ap (map string_bytes) words ∙ ap (λ first. first ∷ map string_bytes c.in_ok-first.others.now) same ∙ ap (λ others. name ∷ others) three.same in
@@ -103,7 +99,7 @@ returns-in-3-clause-none c =
     let words = c.in_ok-first.ensures.cases.0 in
     let name = c.in_ok-name.name.now in
     let same : string_bytes c.in_ok-first.first.now ≡ name =
-    sym c.as_str.ensures.value ∙ same_bytes c.as_str.result.now name (not_false _ (sym c.ne.ensures ∙ c.if-ne.false)) in
+    sym c.as_str.ensures.value ∙ same_bytes c.as_str.result.now name (not-false _ (sym c.ne.ensures ∙ c.if-ne.false)) in
     let three = three_of (map string_bytes c.in_ok-first.others.now) (length-map c.in_ok-first.others.now string_bytes ∙ c.in-3.is) in
     let texts : map string_bytes c.args.words.now ≡ name ∷ three.first ∷ three.second ∷ three.third ∷ [] =
     ap (map string_bytes) words ∙ ap (λ first. first ∷ map string_bytes c.in_ok-first.others.now) same ∙ ap (λ others. name ∷ others) three.same in
