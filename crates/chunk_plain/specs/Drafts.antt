@@ -1,4 +1,5 @@
--- What a chunk that is written has finished, and how that stays: while it is written, once it is complete, and where the service has found it.
+-- What a chunk that is written has finished, and how that stays: while it is written, once it is complete, and where the service has found
+-- it.
 use Rattle.std.specs.Prelude.{◌≡◌, ◌≢◌, ℕ, ◌-◌, ◌%◌, ◌<◌, ◌≤◌, List, length, slice_index_or}
 use Rattle.chunk_plain.specs.Payload.{byte_at, byte_in, sealed_to, HasFragments, ends_from}
 use Rattle.chunk_plain.specs.Views.{At, Head, Draft, no_draft, Content, BegunChunk, Held, Completed, WriterView, Found}
@@ -36,8 +37,8 @@ pub record IsFound (found : Found) : Type 0 where
 abbrev pub BeginsAs : (ℕ → ℕ) → Found → Type 0
 BeginsAs byte found = (j : ℕ) → j < length found.sealed → byte j ≡ byte_in found.sealed j
 
--- What was found of a chunk that was begun is there still: the header may follow the one that was found, so its count is at least that one and flag 1
--- is as it was, and the finished fragments have the same bytes.
+-- What was found of a chunk that was begun is there still: the header may follow the one that was found, so its count is at least that one
+-- and flag 1 is as it was, and the finished fragments have the same bytes.
 abbrev pub StillHas : ℕ → Found → BegunChunk → Type 0
 StillHas about found (Held chunk draft) =
     (chunk ≡ about) × MayFollow found.head draft.head × (length found.sealed ≤ sealed_to draft.ends) × BeginsAs (byte_at draft.words) found

@@ -19,8 +19,8 @@ completed_patches [] = []
 completed_patches (Held chunk draft ∷ begun) = completed_patches begun
 completed_patches (Completed chunk content ∷ begun) = content.patches ∷ completed_patches begun
 
--- The history of the service is what it noted, with the images, patches and finished fragments that its view has. What the view doesn't have, and
--- what doesn't read, is no event.
+-- The history of the service is what it noted, with the images, patches and finished fragments that its view has. What the view doesn't
+-- have, and what doesn't read, is no event.
 
 -- the content of a taken chunk
 abbrev pub content_at : ServiceView → (sequence chunk_id : ℕ) → Option Content

@@ -16,8 +16,10 @@ use Rattle.chunk_plain.specs.Ownership.{Ownership}
 
 -- each step of a writer keeps the world owned
 pub record WriterStepsKeep (world : World) (place chunk : ℕ) : Type 0 where
-  pub wins : (found : ℕ) → status world chunk ≡ Unclaimed → IsOwned (moved world place (claims (writer world place) chunk found true) chunk (Claimed place))
-  pub misses : (found : ℕ) → (status world chunk ≡ Unclaimed → ⊥) → IsOwned (with_writer_view world place (claims (writer world place) chunk found false))
+  pub wins : (found : ℕ) → status world chunk ≡ Unclaimed
+      → IsOwned (moved world place (claims (writer world place) chunk found true) chunk (Claimed place))
+  pub misses : (found : ℕ) → (status world chunk ≡ Unclaimed → ⊥)
+      → IsOwned (with_writer_view world place (claims (writer world place) chunk found false))
   pub stamps_it : 0 < times chunk (writer world place).claimed → (writer world place).stamped ≡ None
       → IsOwned (moved world place (stamps (writer world place) chunk) chunk (Stamped place (length (writer world place).begun)))
   pub begins_it : (words : List ℕ) → (writer world place).stamped ≡ Some (record { chunk = chunk; id = length (writer world place).begun })
@@ -46,8 +48,10 @@ pub record ServiceStepsKeep (world : World) (place chunk : ℕ) : Type 0 where
   pub takes_it : (content : Content) → status world chunk ≡ Ready place (taken_of world.service place).count content
       → IsOwned (served world (takes_in world.service place chunk) chunk (Reading place (taken_of world.service place).count content))
   pub learns_it : (content : Content) → length (taken_of world.service place).contents < (taken_of world.service place).count
-      → At (writer world place).begun (length (taken_of world.service place).contents) (Completed chunk content) → IsOwned (serviced world (learns world.service place content))
-  pub releases_it : (other id : ℕ) (content : Content) → status world chunk ≡ Reading other id content → IsOwned (served world (lets_go world.service chunk) chunk Unclaimed)
+      → At (writer world place).begun (length (taken_of world.service place).contents) (Completed chunk content)
+      → IsOwned (serviced world (learns world.service place content))
+  pub releases_it : (other id : ℕ) (content : Content) → status world chunk ≡ Reading other id content
+      → IsOwned (served world (lets_go world.service chunk) chunk Unclaimed)
   pub notes_it : (service : ServiceView) → service.looks ≡ world.service.looks → service.taken ≡ world.service.taken
       → service.reading ≡ world.service.reading → IsOwned (serviced world service)
 
@@ -58,9 +62,11 @@ StepsKeep = (world : World) (place chunk : ℕ) → IsOwned world → place < le
 
 -- what a table of one thread keeps is ownership in its eight parts
 abbrev pub KeptIsOwnership : Type 0
-KeptIsOwnership = (setup : Setup) (words : List ℕ) (slots : List Stored) (world : World) → IsKept setup words slots world → Ownership setup words slots world
+KeptIsOwnership = (setup : Setup) (words : List ℕ) (slots : List Stored) (world : World) → IsKept setup words slots world
+    → Ownership setup words slots world
 
--- Bytes that begin with a writer's fragments, each behind its size of four bytes, have these fragments, and the last one ends where they end.
+-- Bytes that begin with a writer's fragments, each behind its size of four bytes, have these fragments, and the last one ends where they
+-- end.
 abbrev pub FramesRead : Type 0
 FramesRead = (byte : ℕ → ℕ) (done : List (List ℕ)) → All (λ (fragment : List ℕ). length fragment < 2 ^ 28) done
     → ((j : ℕ) → j < length (flat_map framed done) → byte j ≡ byte_in (flat_map framed done) j)

@@ -1,4 +1,5 @@
--- How the chunks of producers are laid out: all pages of the first producer, then those of the next, and so on; in each page its chunks in order.
+-- How the chunks of producers are laid out: all pages of the first producer, then those of the next, and so on; in each page its chunks in
+-- order.
 use Rattle.std.specs.Prelude.{ℕ, zero, suc, ◌+◌, ◌*◌, List, [], ◌∷◌, ◌++◌, map}
 use Rattle.trace_base.specs.declared.policy.WriterSpec.{WriterSpec}
 use Rattle.page_geometry.specs.Sizes.{layout_number, payload_size}

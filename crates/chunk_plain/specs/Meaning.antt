@@ -27,7 +27,8 @@ pub record IsWriterStep {T W S : Type 0} (means : Meaning T W S) (old : T) (seat
   pub place_stays : means.place after ≡ means.place seat
   pub writers_stay : (other : W) → means.sits old other → means.place other ≢ means.place seat
       → means.sits new other × (means.view new other ≡ means.view old other)
-  pub service_stays : (other : S) → means.serves old other → means.serves new other × (means.service_view new other ≡ means.service_view old other)
+  pub service_stays : (other : S) → means.serves old other
+      → means.serves new other × (means.service_view new other ≡ means.service_view old other)
   pub reads_stay : (other : S) → means.takes_reads old other → means.takes_reads new other
 
 -- and so does a step of the service's seat, from which reads are taken as before

@@ -1,5 +1,5 @@
--- Ownership in a world: who has each chunk, between any two steps. It is said as facts on one writer and one chunk, on one writer, and on one
--- chunk. Since each status names one writer and one id, that exactly one seat has a chunk is then true by the form.
+-- Ownership in a world: who has each chunk, between any two steps. It is said as facts on one writer and one chunk, on one writer, and on
+-- one chunk. Since each status names one writer and one id, that exactly one seat has a chunk is then true by the form.
 use Rattle.std.specs.Prelude.{◌≡◌, ℕ, ◌+◌, ◌<◌, ◌≤◌, ◌==◌, true, false, Option, Some, None, List, [], ◌∷◌, length, map, slice_index_or, if◌then◌else◌}
 use Rattle.chunk_plain.specs.Setup.{sequence_of}
 use Rattle.chunk_plain.specs.Views.{At, Ask, Draft, Content, BegunChunk, chunk_of, Held, Completed, Stamp, WriterView, newcomer, Taken, Look, Found, taken_of}
@@ -54,13 +54,14 @@ won_chunks (ask ∷ asks) = if ask.won then ask.chunk ∷ won_chunks asks else w
 
 -- One writer: its ids are those that it began, and the service took the first ones of them.
 pub record Counts (taken : Taken) (place : ℕ) (view : WriterView) : Type 0 where
-  -- each claim that it won is of a chunk that it has claimed or whose header it stored, or of one that it began under an id of its own: of each chunk
-  -- there are as many of these as of those
+  -- each claim that it won is of a chunk that it has claimed or whose header it stored, or of one that it began under an id of its own: of
+  -- each chunk there are as many of these as of those
   pub wins : (chunk : ℕ) → times chunk (won_chunks view.asked)
       ≡ times chunk view.claimed + times chunk (stamped_chunks view.stamped) + times chunk (map chunk_of view.begun)
   pub next : (stamp : Stamp) → view.stamped ≡ Some stamp → stamp.id ≡ length view.begun
   -- a completed chunk's image has its id and the writer's sequence
-  pub named : (id chunk : ℕ) (content : Content) → At view.begun id (Completed chunk content) → (content.image.chunk_id ≡ id) × (content.image.sequence ≡ sequence_of place)
+  pub named : (id chunk : ℕ) (content : Content) → At view.begun id (Completed chunk content)
+      → (content.image.chunk_id ≡ id) × (content.image.sequence ≡ sequence_of place)
   -- the bytes of each chunk read as its finished fragments
   pub drafts : (id chunk : ℕ) (draft : Draft) → At view.begun id (Held chunk draft) → IsDraft draft
   pub wholes : (id chunk : ℕ) (content : Content) → At view.begun id (Completed chunk content) → HasFinished content

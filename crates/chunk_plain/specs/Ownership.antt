@@ -81,8 +81,8 @@ pub record IsReadOnce (setup : Setup) (world : World) (chunk header : ℕ) (slot
   pub stored : IsHeader setup header place id (head_of content)
   pub payload : HoldsPayload (spot setup chunk).payload_size slot.words content.image.payload
 
--- A chunk that was found being written, of an id that isn't taken, is being written or complete with the same writer and id. Its count is at least
--- the one that was found, its flag 1 is as it was, and the bytes of the fragments that were finished stand there now.
+-- A chunk that was found being written, of an id that isn't taken, is being written or complete with the same writer and id. Its count is
+-- at least the one that was found, its flag 1 is as it was, and the bytes of the fragments that were finished stand there now.
 pub record IsAsFound (setup : Setup) (world : World) (chunk word header : ℕ) (slot : Stored) (found : Found) : Type 0 where
   pub inside : chunk < length setup.spots
   pub state : HasState word (spot setup chunk).place BeingWritten ⊎ HasState word (spot setup chunk).place Complete
@@ -96,7 +96,8 @@ pub record Ownership (setup : Setup) (words : List ℕ) (slots : List Stored) (w
   pub unclaimed : (chunk : ℕ) → chunk < length setup.spots → bit_at (page_word setup words chunk) (CLAIM_BIT + (spot setup chunk).place) ≡ 0
       → HasState (page_word setup words chunk) (spot setup chunk).place Free × IsNobodys world chunk
   pub claimed : (chunk : ℕ) → chunk < length setup.spots → bit_at (page_word setup words chunk) (CLAIM_BIT + (spot setup chunk).place) ≡ 1
-      → HasState (page_word setup words chunk) (spot setup chunk).place Free → IsClaimedByOne setup world chunk (header_word setup words chunk)
+      → HasState (page_word setup words chunk) (spot setup chunk).place Free
+      → IsClaimedByOne setup world chunk (header_word setup words chunk)
   pub written : (chunk : ℕ) → chunk < length setup.spots → HasState (page_word setup words chunk) (spot setup chunk).place BeingWritten
       → IsHeldByOne setup world chunk (header_word setup words chunk) (stored_at slots chunk)
   -- of each begun id, held or completed, the bytes in its writer's view read as its finished fragments
@@ -110,16 +111,20 @@ pub record Ownership (setup : Setup) (words : List ℕ) (slots : List Stored) (w
   pub read : (chunk : ℕ) → chunk < length setup.spots → HasState (page_word setup words chunk) (spot setup chunk).place BeingRead
       → IsReadOnce setup world chunk (header_word setup words chunk) (stored_at slots chunk)
   pub layout : (chunk : ℕ) → chunk < length setup.spots → ShowsLayout setup world (spot setup chunk) (page_word setup words chunk)
-  pub spare : (chunk : ℕ) → chunk < length setup.spots → (bit : ℕ) → IsSpare (spot setup chunk).chunks bit → bit_at (page_word setup words chunk) bit ≡ 0
-  pub taken : (place id : ℕ) → id < (taken_of world.service place).count → (chunk : ℕ) × (content : Content) × Completes world place chunk id content
+  pub spare : (chunk : ℕ) → chunk < length setup.spots → (bit : ℕ) → IsSpare (spot setup chunk).chunks bit
+      → bit_at (page_word setup words chunk) bit ≡ 0
+  pub taken : (place id : ℕ) → id < (taken_of world.service place).count
+      → (chunk : ℕ) × (content : Content) × Completes world place chunk id content
   -- the contents in the service's view are those of taken ids, and between two calls it has each of these
   pub learnt : (place id : ℕ) (content : Content) → At (taken_of world.service place).contents id content
       → (id < (taken_of world.service place).count) × ((chunk : ℕ) × Completes world place chunk id content)
   pub known : IsServing setup world.service → (place id : ℕ) → id < (taken_of world.service place).count
       → (content : Content) × At (taken_of world.service place).contents id content
-  pub untaken : (place chunk id : ℕ) (content : Content) → Completes world place chunk id content → (taken_of world.service place).count ≤ id
+  pub untaken : (place chunk id : ℕ) (content : Content) → Completes world place chunk id content
+      → (taken_of world.service place).count ≤ id
       → HasState (page_word setup words chunk) (spot setup chunk).place Complete
-  pub won : (chunk : ℕ) → chunk < length setup.spots → bit_at (page_word setup words chunk) (CLAIM_BIT + (spot setup chunk).place) ≡ 1 → Won world chunk
+  pub won : (chunk : ℕ) → chunk < length setup.spots → bit_at (page_word setup words chunk) (CLAIM_BIT + (spot setup chunk).place) ≡ 1
+      → Won world chunk
   -- the claims of all writers stand in one order, and each in vain is behind one that won the same chunk
   pub ordered : AreInOrder world.writers
   -- of each chunk a writer won as many claims as it has it claimed, its header stored or not, and has begun it

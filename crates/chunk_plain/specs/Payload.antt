@@ -1,6 +1,6 @@
--- Payloads as bytes: the words that they stand in, and the fragments that they read as. After the shared memory ABI of the tracing service each
--- fragment has its size in front, a varint of at most four bytes. That byte j of a payload is byte j % 8 of its word j / 8, counted from the low
--- one, is this project's own.
+-- Payloads as bytes: the words that they stand in, and the fragments that they read as. After the shared memory ABI of the tracing service
+-- each fragment has its size in front, a varint of at most four bytes. That byte j of a payload is byte j % 8 of its word j / 8, counted
+-- from the low one, is this project's own.
 use Rattle.std.specs.Prelude.{◌≡◌, ℕ, zero, suc, ◌+◌, ◌-◌, ◌*◌, ◌/◌, ◌%◌, ◌<◌, ◌≤◌, ◌⊎◌, nat_lt, List, [], ◌∷◌, ◌++◌, length, slice_index_or, if◌then◌else◌}
 use Rattle.std.specs.Int.{w64, to_le_bytes}
 
@@ -56,7 +56,8 @@ sealed_to ends = slice_index_or ends (length ends - 1) 0
 
 -- the bytes read as fragments that end at these places
 abbrev pub HasFragments : (ℕ → ℕ) → List ℕ → Type 0
-HasFragments byte ends = (k : ℕ) → k < length ends → IsFragment byte (start_of ends k) (slice_index_or ends k 0) × (slice_index_or ends k 0 ≤ sealed_to ends)
+HasFragments byte ends = (k : ℕ) → k < length ends
+    → IsFragment byte (start_of ends k) (slice_index_or ends k 0) × (slice_index_or ends k 0 ≤ sealed_to ends)
 
 -- the ends of the fragments from this place on, so many
 abbrev pub ends_from : (ℕ → ℕ) → ℕ → ℕ → List ℕ

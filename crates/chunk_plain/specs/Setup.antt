@@ -64,7 +64,8 @@ pub record IsLaid (setup : Setup) : Type 0 where
   pub layout : (chunk : ℕ) → chunk < length setup.spots → (spot setup chunk).layout < 8
   pub apart : (chunk other : ℕ) → chunk < length setup.spots → other < length setup.spots
       → (spot setup chunk).page ≡ (spot setup other).page → (spot setup chunk).place ≡ (spot setup other).place → chunk ≡ other
-  pub alike : (chunk other : ℕ) → chunk < length setup.spots → other < length setup.spots → (spot setup chunk).page ≡ (spot setup other).page
+  pub alike : (chunk other : ℕ) → chunk < length setup.spots → other < length setup.spots
+      → (spot setup chunk).page ≡ (spot setup other).page
       → ((spot setup chunk).chunks ≡ (spot setup other).chunks) × ((spot setup chunk).layout ≡ (spot setup other).layout)
   -- the chunks of each producer are there, at least one, and all have payloads of one size
   pub ranges : (producer : ℕ) → (range_of setup producer).first + (range_of setup producer).count ≤ length setup.spots
@@ -73,8 +74,8 @@ pub record IsLaid (setup : Setup) : Type 0 where
   pub least : (chunk : ℕ) → chunk < length setup.spots → MIN_PAYLOAD_SIZE ≤ (spot setup chunk).payload_size
   pub most : (chunk : ℕ) → chunk < length setup.spots → (spot setup chunk).payload_size < MAX_PAGE_SIZE
 
--- The id of the chunk at this position among those that the writer began. A view names a chunk by its position; a header word, a token and a
--- caller by its id. The two are the same number here, and this is where they would part.
+-- The id of the chunk at this position among those that the writer began. A view names a chunk by its position; a header word, a token and
+-- a caller by its id. The two are the same number here, and this is where they would part.
 abbrev pub id_at : Setup → (place position : ℕ) → ℕ
 id_at setup place position = position
 

@@ -1,5 +1,5 @@
--- What the words of a table show of its world. Of each page there is a word, and behind these of each chunk a header word; beside them each chunk
--- has a slot with its payload words.
+-- What the words of a table show of its world. Of each page there is a word, and behind these of each chunk a header word; beside them each
+-- chunk has a slot with its payload words.
 use Rattle.std.specs.Prelude.{◌≡◌, ℕ, ◌+◌, ◌*◌, ◌^◌, ◌<◌, ◌≤◌, ◌⊎◌, Option, Some, List, length, map, vec_len, slice_index}
 use Rattle.std.specs.Int.{bit_at}
 use Rattle.page_geometry.specs.declared.page_word.TheConstants.{CLAIM_BIT, LAYOUT_BIT}
@@ -132,6 +132,8 @@ pub record IsShown (setup : Setup) (words : List ℕ) (slots : List Stored) (wor
   pub chunk_count : length world.chunks ≡ length setup.spots
   pub word_count : length words ≡ setup.pages + length setup.spots
   pub slot_count : length slots ≡ length setup.spots
-  pub page : (chunk : ℕ) → chunk < length setup.spots → ShowsPage setup world (spot setup chunk) (page_word setup words chunk) (status world chunk)
+  pub page : (chunk : ℕ) → chunk < length setup.spots
+      → ShowsPage setup world (spot setup chunk) (page_word setup words chunk) (status world chunk)
   pub header : (chunk : ℕ) → chunk < length setup.spots → ShowsHeader setup (header_word setup words chunk) (status world chunk)
-  pub slot : (chunk : ℕ) → chunk < length setup.spots → ShowsSlot (spot setup chunk).payload_size (status world chunk) (stored_at slots chunk)
+  pub slot : (chunk : ℕ) → chunk < length setup.spots
+      → ShowsSlot (spot setup chunk).payload_size (status world chunk) (stored_at slots chunk)

@@ -1,5 +1,5 @@
--- What each seat of a table of chunks knows: its view. A view is a history of what the seat did, with what it still holds. No value of it exists
--- when the program runs. Writers are told apart by their place in the list that the table was made with, counted from 0.
+-- What each seat of a table of chunks knows: its view. A view is a history of what the seat did, with what it still holds. No value of it
+-- exists when the program runs. Writers are told apart by their place in the list that the table was made with, counted from 0.
 use Rattle.std.specs.Prelude.{◌≡◌, ℕ, Bool, Option, None, List, [], slice_index_or}
 use mathlib.Core.Option.{some}
 use lib.ListN.{get_elem?}
@@ -31,8 +31,8 @@ pub record Head : Type 0 where
 abbrev pub no_head : Head
 no_head = record { count = 0; flags = 0 }
 
--- What stands in a chunk that is written: its header, its payload words, and the ends of the fragments before the last one counted. Its writer
--- knows a word by what it published; a word that it didn't publish is in its view without its knowing the value.
+-- What stands in a chunk that is written: its header, its payload words, and the ends of the fragments before the last one counted. Its
+-- writer knows a word by what it published; a word that it didn't publish is in its view without its knowing the value.
 pub record Draft : Type 0 where
   pub head : Head
   pub words : List ℕ
@@ -95,8 +95,8 @@ pub record Taken : Type 0 where
 abbrev pub none_taken : Taken
 none_taken = record { count = 0; contents = [] }
 
--- A chunk that was found being written: by which writer and under which id, its header, the ends of the fragments before the last one counted,
--- and the bytes of these fragments as they stood.
+-- A chunk that was found being written: by which writer and under which id, its header, the ends of the fragments before the last one
+-- counted, and the bytes of these fragments as they stood.
 pub record Found : Type 0 where
   pub place : ℕ
   pub id : ℕ

@@ -41,7 +41,8 @@ pub record IsServing (setup : Setup) (view : ServiceView) : Type 0 where
   pub writers : length view.taken ≡ length setup.writers
   pub level : (place : ℕ) → length (taken_of view place).contents ≡ (taken_of view place).count
 
--- Once the content of an id is in the view, what a look found of it are its first fragments, and it has at least as many as were counted then.
+-- Once the content of an id is in the view, what a look found of it are its first fragments, and it has at least as many as were counted
+-- then.
 abbrev pub LearntAsFound : ServiceView → Type 0
 LearntAsFound view = (n : ℕ) (look : Look) (found : Found) (content : Content) → At view.looks n look → look.found ≡ Some found
     → At (taken_of view found.place).contents found.id content
@@ -58,7 +59,8 @@ pub record HasBoth (about : ℕ) (found : Found) (next : ℕ) (other : Found) : 
 
 -- Looks that found a chunk of the same writer and id found what one begun chunk of the writer has.
 abbrev pub LooksAgree : ServiceView → Type 0
-LooksAgree view = (n m : ℕ) (look later : Look) (found other : Found) → At view.looks n look → look.found ≡ Some found → At view.looks m later
+LooksAgree view = (n m : ℕ) (look later : Look) (found other : Found) → At view.looks n look → look.found ≡ Some found
+    → At view.looks m later
     → later.found ≡ Some other → found.place ≡ other.place → found.id ≡ other.id → ∥ HasBoth look.chunk found later.chunk other ∥₁
 
 -- so where equally many fragments were finished, they are the same, and so is flag 1, if there are any
@@ -68,8 +70,8 @@ pub record FoundAlike (one other : Found) : Type 0 where
 
 -- Writers
 
--- The claim bit of the chunk in the page word that a claim found tells whether it won, and the claim joins the view. A claim that won is of a chunk
--- that the writer hasn't claimed yet.
+-- The claim bit of the chunk in the page word that a claim found tells whether it won, and the claim joins the view. A claim that won is of
+-- a chunk that the writer hasn't claimed yet.
 pub record TriesClaim (setup : Setup) (chunk : ℕ) (won : Bool) (old new : WriterView) : Type 0 where
   pub found : ℕ
   pub bit : bit_at found (CLAIM_BIT + (spot setup chunk).place) ≡ (if won then 0 else 1)
@@ -102,8 +104,8 @@ KeepsSealed view id copy =
 abbrev pub IsPublished : WriterView → ℕ → List ℕ → Type 0
 IsPublished view id copy = (j : ℕ) → j < length copy → published view id j ≡ byte_in copy j
 
--- Some bytes of a copy were published: each byte of the range is the copy's now, and each other one is as before or the copy's, since words are
--- stored whole.
+-- Some bytes of a copy were published: each byte of the range is the copy's now, and each other one is as before or the copy's, since words
+-- are stored whole.
 pub record Publishes (copy : List ℕ) (from to : ℕ) (old new : List ℕ) : Type 0 where
   pub count : length new ≡ length old
   pub range : (j : ℕ) → from ≤ j → j < to → byte_at new j ≡ byte_in copy j
@@ -171,8 +173,8 @@ pub record TakesChunk (setup : Setup) (chunk writer id : ℕ) (taken : TakenToke
   pub whole : vec_len taken.body.payload ≡ (spot setup chunk).payload_size
   pub view : new ≡ learns (takes_in (looks_at old chunk word (packed taken.header) None) (writer - 1) chunk) (writer - 1) (taken_content (writer - 1) taken)
 
--- The chunk was found in another state than complete, or with another writer or id in its header, whose count and flags are in their ranges; the
--- view has only the look.
+-- The chunk was found in another state than complete, or with another writer or id in its header, whose count and flags are in their
+-- ranges; the view has only the look.
 pub record FindsOther (setup : Setup) (chunk writer id : ℕ) (found : NotComplete) (old new : ServiceView) : Type 0 where
   pub count_fits : found.header.count ≤ MAX_FRAGMENTS
   pub flags_fit : found.header.flags ≤ MAX_FLAGS

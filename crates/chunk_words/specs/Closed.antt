@@ -23,7 +23,8 @@ pub record IsDone (service : ServiceView) (place : ℕ) (view : WriterView) : Ty
 -- the seats of all writers, in their order, which have nothing left to do
 pub record HasAllSeats (table : HostTable) (service : ServiceView) (seats : List WriterSeat) : Type 0 where
   pub count : length seats ≡ length table.layout.writers
-  pub each : (place : ℕ) (seat : WriterSeat) → At seats place seat → (seat.place ≡ place) × Sits table seat × IsDone service place (view_of seat.seat.me.0)
+  pub each : (place : ℕ) (seat : WriterSeat) → At seats place seat
+      → (seat.place ≡ place) × Sits table seat × IsDone service place (view_of seat.seat.me.0)
 
 -- of each writer so many chunks were taken as it has completed
 abbrev pub AllTaken : ServiceView → List WriterView → Type 0

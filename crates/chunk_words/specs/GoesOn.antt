@@ -13,8 +13,8 @@ abbrev pub IsReadNote : Noted → Type 0
 IsReadNote (Read sequence limit) = Unit {0}
 IsReadNote _ = ⊥
 
--- The events are those of the earlier view, and then others without a read. What the earlier view has of its events, the images, the finds and the
--- commits, stands in the later one at the same places.
+-- The events are those of the earlier view, and then others without a read. What the earlier view has of its events, the images, the finds
+-- and the commits, stands in the later one at the same places.
 pub record GoesOn (before view : ServiceView) : Type 0 where
   pub rest : List Noted
   pub events : view.events ≡ before.events ++ rest

@@ -12,7 +12,8 @@ pub data Watch : Type 0 where
   -- it is being read, of this writer and under this id, with this content
   Lifted : (chunk place id : ℕ) → Content → Watch
 
--- The reading pass of a table: it isn't made, or it is with whoever reads, or the service's seat has it in the midst of a call, with this view.
+-- The reading pass of a table: it isn't made, or it is with whoever reads, or the service's seat has it in the midst of a call, with this
+-- view.
 pub data Stage : Type 0 where
   Unmade : Stage
   Away : Stage
@@ -24,7 +25,8 @@ pub record Tale : Type 0 where
   pub looks : ℕ
   pub begun : List BegunChunk
 
--- What the service's seat has of the other seats: the views of the writers' that it took in again, where the reading pass is, and what writers told it.
+-- What the service's seat has of the other seats: the views of the writers' that it took in again, where the reading pass is, and what
+-- writers told it.
 pub record Desk : Type 0 where
   pub joined : List WriterView
   pub stage : Stage
@@ -34,7 +36,8 @@ pub record Desk : Type 0 where
 abbrev pub first_desk : Desk
 first_desk = record { joined = []; stage = Unmade; told = [] }
 
--- What a seat knows. The hand says whose slot is out with the seat: 0 for none, else the chunk's number and 1. A later kind of seat is one case more.
+-- What a seat knows. The hand says whose slot is out with the seat: 0 for none, else the chunk's number and 1. A later kind of seat is one
+-- case more.
 pub data Knows : Type 0 where
   -- a seat that another one took in
   Spent : Knows

@@ -19,9 +19,11 @@ pub record HasStarts (setup : Setup) (count : ℕ) (starts : List ℕ) : Type 0 
 -- there is a body with room for the payload for each of the first so many chunks
 pub record HasFreeBodies (spots : List Spot) (count : ℕ) (bodies : List (Option CommitBody)) : Type 0 where
   pub count_is : length bodies ≡ count
-  pub each : (chunk : ℕ) → chunk < count → (body : CommitBody) × At bodies chunk (Some body) × IsFreeBody (slice_index_or spots chunk no_spot).payload_size body
+  pub each : (chunk : ℕ) → chunk < count → (body : CommitBody) × At bodies chunk (Some body)
+      × IsFreeBody (slice_index_or spots chunk no_spot).payload_size body
 
 -- the seats of so many writers, in their order, which have done nothing
 pub record HasWriterSeats (table : HostTable) (count : ℕ) (seats : List WriterSeat) : Type 0 where
   pub count_is : length seats ≡ count
-  pub each : (place : ℕ) (seat : WriterSeat) → At seats place seat → (seat.place ≡ place) × Sits table seat × (view_of seat.seat.me.0 ≡ newcomer)
+  pub each : (place : ℕ) (seat : WriterSeat) → At seats place seat
+      → (seat.place ≡ place) × Sits table seat × (view_of seat.seat.me.0 ≡ newcomer)

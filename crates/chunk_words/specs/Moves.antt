@@ -47,13 +47,14 @@ IsSeen view = ∥ ((world : World) × IsOwned world × (world.service ≡ view))
 abbrev pub IsWordOf : List ℕ → ℕ → ℕ → Type 0
 IsWordOf bytes index word = (m : ℕ) → m < 8 → 8 * index + m < length bytes → byte_of word m ≡ byte_in bytes (8 * index + m)
 
--- What a payload word of a chunk tells: of a chunk that was found being written, what it had finished, as long as its id isn't taken; of one that is being
--- read, its content, which the service watches from then on.
+-- What a payload word of a chunk tells: of a chunk that was found being written, what it had finished, as long as its id isn't taken; of
+-- one that is being read, its content, which the service watches from then on.
 pub record Tells (chunk index size word : ℕ) (before after : Watch) (view : ServiceView) : Type 0 where
   pub found : (n : ℕ) (look : Look) (found : Found) → At view.looks n look → look.chunk ≡ chunk → look.found ≡ Some found
       → (taken_of view found.place).count ≤ found.id → (length found.sealed ≤ size) × IsWordOf found.sealed index word
   pub stays : (place id : ℕ) (content : Content) → before ≡ Lifted chunk place id content → after ≡ before
-  pub read : (place id : ℕ) (content : Content) → after ≡ Lifted chunk place id content → (length content.image.payload ≡ size) × IsWordOf content.image.payload index word
+  pub read : (place id : ℕ) (content : Content) → after ≡ Lifted chunk place id content
+      → (length content.image.payload ≡ size) × IsWordOf content.image.payload index word
   pub reading : 0 < times chunk view.reading → ∥ ((place id : ℕ) × (content : Content) × (after ≡ Lifted chunk place id content)
       × (id < (taken_of view place).count) × ((known : Content) → At (taken_of view place).contents id known → known ≡ content)) ∥₁
 
@@ -96,7 +97,8 @@ SetsHeader chunk id head me new =
 
 -- the word keeps each byte of the fragments that are finished
 abbrev pub KeepsWord : Draft → ℕ → ℕ → Type 0
-KeepsWord draft index word = (m : ℕ) → m < 8 → 8 * index + m < sealed_to draft.ends → byte_of word m ≡ byte_of (slice_index_or draft.words index 0) m
+KeepsWord draft index word = (m : ℕ) → m < 8 → 8 * index + m < sealed_to draft.ends
+    → byte_of word m ≡ byte_of (slice_index_or draft.words index 0) m
 
 -- a payload word of a held chunk is stored
 pub record Publishes (chunk id index word : ℕ) (me new : Mine) : Type 0 where
@@ -113,7 +115,8 @@ pub record Stores (chunk id first index : ℕ) (copy : List ℕ) (me new : Mine)
 
 -- payload words without a byte of the range are as they were
 abbrev pub StaysOutside : (from to : ℕ) → (old new : List ℕ) → Type 0
-StaysOutside from to old new = (index : ℕ) → ((j : ℕ) → from ≤ j → j < to → j / 8 ≢ index) → slice_index_or new index 0 ≡ slice_index_or old index 0
+StaysOutside from to old new = (index : ℕ) → ((j : ℕ) → from ≤ j → j < to → j / 8 ≢ index)
+    → slice_index_or new index 0 ≡ slice_index_or old index 0
 
 -- the slot of a held chunk is out with its writer
 pub record Fetches (chunk : ℕ) (me new : Mine) : Type 0 where

@@ -1,5 +1,6 @@
--- Where the words of a table lie that threads share: in front the word of each page, then the header word of each chunk, each on a cache line of its
--- own; behind them the payload words of the first chunk, of the next one, and so on. The words between those in front are never stored.
+-- Where the words of a table lie that threads share: in front the word of each page, then the header word of each chunk, each on a cache
+-- line of its own; behind them the payload words of the first chunk, of the next one, and so on. The words between those in front are never
+-- stored.
 use Rattle.std.specs.Prelude.{ℕ, zero, suc, ◌+◌, ◌*◌, ◌/◌, List, length, slice_index_or}
 use Rattle.chunk_plain.specs.declared.setup.Spot.{Spot}
 use Rattle.chunk_plain.specs.Setup.{Setup, spot, no_spot}
@@ -30,8 +31,8 @@ payload_start setup chunk = front_place (front_count setup) + words_before setup
 abbrev pub payload_words : Setup → ℕ → ℕ
 payload_words setup chunk = words_for (spot setup chunk).payload_size
 
--- The last word is never stored: a seat that notes something loads it. It lies a cache line behind the payload words, so that no other thread's steps
--- are in its way.
+-- The last word is never stored: a seat that notes something loads it. It lies a cache line behind the payload words, so that no other
+-- thread's steps are in its way.
 abbrev pub spare_place : Setup → ℕ
 spare_place setup = payload_start setup (length setup.spots) + LINE_WORDS
 

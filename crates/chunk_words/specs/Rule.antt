@@ -1,5 +1,5 @@
--- What a table keeps that threads share, between any two atomic steps of any seats: its words and slots are those of a table of one thread that keeps
--- its world owned, and each seat's view is its part of that world.
+-- What a table keeps that threads share, between any two atomic steps of any seats: its words and slots are those of a table of one thread
+-- that keeps its world owned, and each seat's view is its part of that world.
 use Rattle.std.specs.Prelude.{◌≡◌, ◌≢◌, ℕ, ◌+◌, ◌<◌, ◌≤◌, Option, List, length, slice_index_or}
 use mathlib.Core.Option.{some}
 use lib.ListN.{get_elem?}
@@ -19,8 +19,8 @@ use Rattle.chunk_words.specs.Told.{StaysCompleted, ShowsTold}
 use Rattle.chunk_words.specs.GoesOn.{GoesOn}
 use Rattle.chunk_words.specs.Places.{front_place, front_count, payload_start, payload_words, word_total}
 
--- The words of the table are the page and header words in front, each at its place, and behind them the payload words of each chunk. Nothing is said
--- of the words between those in front.
+-- The words of the table are the page and header words in front, each at its place, and behind them the payload words of each chunk.
+-- Nothing is said of the words between those in front.
 pub record HoldsWords (setup : Setup) (words front : List ℕ) (slots : List Stored) : Type 0 where
   pub total : length words ≡ word_total setup
   pub front_is : (index : ℕ) → index < front_count setup → slice_index_or words (front_place index) 0 ≡ slice_index_or front index 0
@@ -28,8 +28,8 @@ pub record HoldsWords (setup : Setup) (words front : List ℕ) (slots : List Sto
   pub payload_is : (chunk index : ℕ) → chunk < length setup.spots → index < payload_words setup chunk
       → slice_index_or words (payload_start setup chunk + index) 0 ≡ slice_index_or (stored_at slots chunk).words index 0
 
--- Who sits where: the seat of each writer and of the service, whose slots are out with them, how many writers' seats were made, and how many of these the
--- service took in again; where the reading pass is, its seat, and what it knows.
+-- Who sits where: the seat of each writer and of the service, whose slots are out with them, how many writers' seats were made, and how
+-- many of these the service took in again; where the reading pass is, its seat, and what it knows.
 pub record Roll : Type 0 where
   pub seats : ℕ → ℕ
   pub server : ℕ
@@ -49,7 +49,8 @@ pub record IsIn (roll : Roll) (chunk : ℕ) : Type 0 where
 -- each slot that is with no seat has the body that its chunk keeps
 pub record HoldsBodies (setup : Setup) (homes : List (mathlib.Core.Option.Option (Option CommitBody))) (slots : List Stored) (roll : Roll) : Type 0 where
   pub count : length homes ≡ length setup.spots
-  pub home_is : (chunk : ℕ) → chunk < length setup.spots → IsIn roll chunk → get_elem? homes chunk ≡ some (some (stored_at slots chunk).body)
+  pub home_is : (chunk : ℕ) → chunk < length setup.spots → IsIn roll chunk
+      → get_elem? homes chunk ≡ some (some (stored_at slots chunk).body)
 
 -- the writer may have the slot of a chunk with this status
 abbrev pub IsOf : ℕ → Status → Type 0
@@ -79,7 +80,8 @@ abbrev pub HasHeader : Setup → ℕ → Status → Type 0
 HasHeader setup header (Ready place id content) = IsHeader setup header place id (head_of content)
 HasHeader setup header _ = ⊥
 
--- What a page word said of the chunk at this place is so still: one that was being written is so or is complete, and one that was complete is complete.
+-- What a page word said of the chunk at this place is so still: one that was being written is so or is complete, and one that was complete
+-- is complete.
 pub record StaysFound (word place : ℕ) (is : Status) : Type 0 where
   pub started : HasState word place BeingWritten → IsStarted is
   pub complete : HasState word place Complete → IsCompleteChunk is
@@ -111,7 +113,8 @@ Fits setup world roll seat Spent = Unit {0}
 Fits setup world roll seat (Writer place hand view) =
     (view ≡ writer world place) × (roll.seats place ≡ seat) × (roll.hands place ≡ hand) × (place < roll.made) × (roll.joined ≤ place)
 Fits setup world roll seat (Service hand made desk watch view) =
-    (view ≡ world.service) × (roll.server ≡ seat) × (roll.hand ≡ hand) × (roll.made ≡ made) × HasJoined world roll desk.joined × IsWatched setup world watch
+    (view ≡ world.service) × (roll.server ≡ seat) × (roll.hand ≡ hand) × (roll.made ≡ made) × HasJoined world roll desk.joined
+    × IsWatched setup world watch
     × (roll.stage ≡ desk.stage) × ((i : ℕ) (tale : Tale) → At desk.told i tale → IsTrue setup world tale)
 Fits setup world roll seat (Pass view) = (view ≡ roll.passed) × (roll.keeper ≡ seat) × (roll.stage ≡ Away)
 Fits setup world roll seat (Report place begun) = StaysCompleted begun (writer world place).begun
@@ -122,7 +125,8 @@ pub record IsManned (setup : Setup) (world : World) (roll : Roll) (views : List 
   pub least : roll.joined ≤ roll.made
   -- a writer whose seat isn't made yet has done nothing
   pub fresh : (place : ℕ) → roll.made ≤ place → (writer world place ≡ newcomer) × (roll.hands place ≡ 0)
-  pub seated : (place : ℕ) → roll.joined ≤ place → place < roll.made → At views (roll.seats place) (Writer place (roll.hands place) (writer world place))
+  pub seated : (place : ℕ) → roll.joined ≤ place → place < roll.made
+      → At views (roll.seats place) (Writer place (roll.hands place) (writer world place))
   pub staffed : (desk : Desk) × (watch : Watch) × At views roll.server (Service roll.hand roll.made desk watch world.service)
   pub each : (seat : ℕ) (knows : Knows) → At views seat knows → Fits setup world roll seat knows
   -- a slot that is out is that of a chunk which the seat has

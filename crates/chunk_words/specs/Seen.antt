@@ -14,7 +14,8 @@ use Rattle.chunk_words.specs.Moves.{IsSeen}
 -- what was found of a chunk while it was written is in its content
 pub learnt_as_found : (view : ServiceView) → IsSeen view → LearntAsFound view
 learnt_as_found view seen n look found content at is has =
-    let fact : (world : World) × IsOwned world × (world.service ≡ view) → (chunk : ℕ) × StillHas look.chunk found (Completed chunk content) = λ w.
+    let fact : (world : World) × IsOwned world × (world.service ≡ view)
+    → (chunk : ℕ) × StillHas look.chunk found (Completed chunk content) = λ w.
     let there = (w.1.looks n look found (subst (λ (v : ServiceView). At v.looks n look) (sym w.2) at) is).1 in
     let done = (w.1.counts found.place).learnt found.id content (subst (λ (v : ServiceView). At (taken_of v found.place).contents found.id content) (sym w.2) has) in
     (done.0, subst (StillHas look.chunk found) (some-injective there.entry (Completed done.0 content) (sym there.at ∙ done.1)) there.has) in (

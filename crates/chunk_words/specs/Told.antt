@@ -30,11 +30,12 @@ ShowsAllTold setup view desk = (i : ℕ) (tale : Tale) → At desk.told i tale �
 
 -- The page word shows the chunk complete, where it was told so and its id isn't taken.
 abbrev pub TellsComplete : Setup → (chunk word : ℕ) → ServiceView → Desk → Type 0
-TellsComplete setup chunk word view desk = (i id : ℕ) (tale : Tale) (content : Content) → At desk.told i tale → At tale.begun id (Completed chunk content)
+TellsComplete setup chunk word view desk = (i id : ℕ) (tale : Tale) (content : Content) → At desk.told i tale
+    → At tale.begun id (Completed chunk content)
     → (taken_of view tale.place).count ≤ id → HasState word (spot setup chunk).place Complete
 
--- A look since the tale shows that the chunk isn't the next one to be taken of this writer, of which so many were taken then: it found another state than
--- complete, or another writer or another id in its header.
+-- A look since the tale shows that the chunk isn't the next one to be taken of this writer, of which so many were taken then: it found
+-- another state than complete, or another writer or another id in its header.
 pub record PassesOver (setup : Setup) (view : ServiceView) (tale : Tale) (count chunk : ℕ) : Type 0 where
   pub n : ℕ
   pub look : Look

@@ -172,7 +172,8 @@ impl HostTable {
         requires next { header.chunk_id ≡ (taken_of (service_of seat.old.seat.me.0) writer).count }
         ensures seat { seat.new.seat.table_id ≡ seat.old.seat.table_id }
         ensures size { vec_len result.payload ≡ (spot self.now.layout chunk).payload_size }
-        ensures me { Serves (λ view. learns (takes_in (looks_at view chunk word (packed header) None) writer chunk) writer
+        ensures me { Serves
+            (λ view. learns (takes_in (looks_at view chunk word (packed header) None) writer chunk) writer
             (content_of writer header.chunk_id (record { count = header.count; flags = header.flags }) result)) seat.old.seat.me seat.new.seat.me }
     {
         self.step_take(seat, writer, chunk, word, header);

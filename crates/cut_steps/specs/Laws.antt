@@ -34,7 +34,8 @@ pub record StatesAreCuts : Type 0 where
   -- a packet is written into the held chunk
   pub writing : (size : ℕ) (packet : Packet) (older : List Packet) (pages : List Page) (page : Page) (done : List (List ℕ)) (now : List ℕ)
       (unsent : List Patch) (holes : List Hole) → IsWriting size packet older pages page.continues done now unsent holes []
-      → ContinuesWithByte page.continues done now → IsHeldPage size page (done ++ now ∷ []) holes unsent → CutsInto size (packet ∷ older) (pages ++ page ∷ [])
+      → ContinuesWithByte page.continues done now → IsHeldPage size page (done ++ now ∷ []) holes unsent
+      → CutsInto size (packet ∷ older) (pages ++ page ∷ [])
   -- its writer has no chunk to go on in
   pub stalled : (size : ℕ) (packet later : Packet) (older : List Packet) (pages : List Page) (holes : List Hole) (coming : List ℕ)
       → IsWriting size packet older pages true [] [] [] holes coming → GoesOn packet later coming

@@ -29,7 +29,8 @@ OutcomesAreRight = (depth : ℕ) (text : List ℕ) → Means depth text (outcome
 
 -- The answer on a text is the only one that means what it is to mean.
 abbrev pub NoOtherIsRight : Type 0
-NoOtherIsRight = (depth : ℕ) (text : List ℕ) (answer : Result (List Shown) FieldFault) → Means depth text answer → answer ≡ outcome depth text
+NoOtherIsRight = (depth : ℕ) (text : List ℕ) (answer : Result (List Shown) FieldFault) → Means depth text answer
+    → answer ≡ outcome depth text
 
 -- no two trees have the same nodes
 abbrev pub NodesTellTheTree : Type 0

@@ -24,7 +24,8 @@ pub record HasTaken (packets : List (List ℕ)) (sequence : ℕ) (records : List
 pub record AllTaken (emitted : List (List (List ℕ))) (delivered : List Delivered) (tellers : List Teller) : Type 0 where
   pub many : length tellers ≡ length emitted
   pub known : All (λ d. (2 ≤ d.sequence) × (d.sequence < sequence_of (length emitted))) delivered
-  pub each : (writer : ℕ) (packets : List (List ℕ)) (teller : Teller) → slice_get emitted writer ≡ Some packets → slice_get tellers writer ≡ Some teller
+  pub each : (writer : ℕ) (packets : List (List ℕ)) (teller : Teller) → slice_get emitted writer ≡ Some packets
+      → slice_get tellers writer ≡ Some teller
       → HasTaken packets (sequence_of writer) (records_of (sequence_of writer) delivered) teller
 
 -- each writer has so few packets that their numbers fit

@@ -1,4 +1,5 @@
--- The report's text, after its format (docs/FORMATS.md): a line for each buffer, for each sequence, and for each flush request that was answered.
+-- The report's text, after its format (docs/FORMATS.md): a line for each buffer, for each sequence, and for each flush request that was
+-- answered.
 use Rattle.std.specs.Prelude.{ℕ, suc, List, [], ◌∷◌, ◌++◌, codes}
 use Rattle.trace_base.specs.declared.limits.TheConstants.{FIRST_SEQUENCE}
 use Rattle.trace_base.specs.declared.policy.FullPolicy.{FullPolicy}

@@ -1,5 +1,5 @@
--- A chunk header as one word, after the shared memory ABI: the fields one above another, the chunk id lowest, so that the word's bytes from the
--- lowest on are the header's. The last 16 bits are the count of fragments, 10 bits, and the flags above it.
+-- A chunk header as one word, after the shared memory ABI: the fields one above another, the chunk id lowest, so that the word's bytes from
+-- the lowest on are the header's. The last 16 bits are the count of fragments, 10 bits, and the flags above it.
 use Rattle.std.specs.Prelude.{ℕ, ◌+◌, ◌*◌, ◌/◌, ◌%◌, ◌^◌}
 use Rattle.page_geometry.specs.declared.chunk_header.ChunkHeader.{ChunkHeader}
 

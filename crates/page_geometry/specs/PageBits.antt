@@ -1,5 +1,5 @@
--- Which bits of a page word mean what. After the shared memory ABI its low half has two bits of state for each chunk and three bits of layout;
--- the claim bits in the high half are this project's own.
+-- Which bits of a page word mean what. After the shared memory ABI its low half has two bits of state for each chunk and three bits of
+-- layout; the claim bits in the high half are this project's own.
 use Rattle.std.specs.Prelude.{◌≡◌, ◌≢◌, ℕ, ◌+◌, ◌*◌, ◌<◌, ◌≤◌, ◌⊎◌}
 use Rattle.std.specs.Int.{bit_at}
 use Rattle.page_geometry.specs.declared.chunk_state.ChunkState.{ChunkState}
@@ -47,5 +47,6 @@ pub record Releases (old new chunk : ℕ) : Type 0 where
 
 -- each other chunk of the page keeps its state and its claim bit
 pub record KeepsOthers (old new chunk : ℕ) : Type 0 where
-  pub states : (other : ℕ) (state : ChunkState) → other < MAX_CHUNKS_PER_PAGE → other ≢ chunk → HasState old other state → HasState new other state
+  pub states : (other : ℕ) (state : ChunkState) → other < MAX_CHUNKS_PER_PAGE → other ≢ chunk → HasState old other state
+      → HasState new other state
   pub claims : (other : ℕ) → other < MAX_CHUNKS_PER_PAGE → other ≢ chunk → bit_at new (CLAIM_BIT + other) ≡ bit_at old (CLAIM_BIT + other)

@@ -1,5 +1,5 @@
--- The sizes of a page's parts, in bytes. After the shared memory ABI a page is a header and then its chunks, and a chunk is a header and then
--- its payload; where chunk i begins, and what a record takes in a buffer, is this project's profile.
+-- The sizes of a page's parts, in bytes. After the shared memory ABI a page is a header and then its chunks, and a chunk is a header and
+-- then its payload; where chunk i begins, and what a record takes in a buffer, is this project's profile.
 use Rattle.std.specs.Prelude.{◌≡◌, ℕ, ◌+◌, ◌-◌, ◌*◌, ◌/◌, ◌%◌, ◌<◌, ◌≤◌, ◌==◌, Contains}
 use Rattle.std.specs.List.{position_or_len}
 use Rattle.trace_base.specs.declared.limits.TheConstants.{PAGE_SIZE_UNIT, MAX_PAGE_SIZE}

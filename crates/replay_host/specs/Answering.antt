@@ -19,8 +19,8 @@ use Rattle.replay_host.specs.Lines.{IsGoing, is_open_at}
 use Rattle.replay_host.specs.Playing.{IsHost, HasDone}
 use Rattle.replay_host.specs.Tally.{IsTally}
 
--- what goes on is as before: each writer has noted what lines asked of it, and accepts what it did; the same producers count as open, and the
--- session has as many requests
+-- what goes on is as before: each writer has noted what lines asked of it, and accepts what it did; the same producers count as open, and
+-- the session has as many requests
 pub record KeepsGoing {T W S : Type 0} (means : Meaning T W S) (old new : Host T W S) : Type 0 where
   pub setup_is : means.setup new.table ≡ means.setup old.table
   pub first : first_of (means.setup old.table) new.helper.service ≡ first_of (means.setup old.table) old.helper.service
@@ -71,8 +71,8 @@ pub record HasAnsweredBetween {T W S : Type 0} (means : Meaning T W S) (place : 
       → new.flushes.answered.items ≡ (if is_writing (packets_of (means.view old.table core.seat).calls) then old.flushes.answered.items
       else slice_set old.flushes.answered.items place old.flushes.made)
 
--- Each writer of an open producer was asked to answer, one after another. Behind it such a writer has answered all requests, unless it has a
--- packet begun.
+-- Each writer of an open producer was asked to answer, one after another. Behind it such a writer has answered all requests, unless it has
+-- a packet begun.
 pub record HaveAnswered {T W S : Type 0} (means : Meaning T W S) (scenario : Parts) (before : List NumberedLine)
     (old new : Host T W S) : Type 0 where
   pub later : List FlushNote

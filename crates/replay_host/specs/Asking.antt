@@ -28,8 +28,8 @@ use Rattle.replay_model.specs.Does.{MayNeedChunk, Asks}
 
 -- ---- what it takes
 
--- The calls that are to come are ones that the writer accepts: behind calls that it was asked for, and noted with packets lost. It has ids enough
--- for what all of them take at most.
+-- The calls that are to come are ones that the writer accepts: behind calls that it was asked for, and noted with packets lost. It has ids
+-- enough for what all of them take at most.
 pub record IsReadyFor (size : ℕ) (view : WriterView) (coming : List Call) : Type 0 where
   pub asked : List Call
   pub loses : Loses asked view.calls
@@ -58,8 +58,8 @@ abbrev pub noted_as : Bool → WriterPolicy → Call → List Call
 noted_as stopped policy (Begun kept) = begun_as stopped policy
 noted_as stopped policy call = written_as stopped policy call
 
--- A call of a writer over any helper, after which it goes on: what it did, and that it noted the call, or that the packet was lost. In a call
--- that needs no chunk it asked for none, and for no help.
+-- A call of a writer over any helper, after which it goes on: what it did, and that it noted the call, or that the packet was lost. In a
+-- call that needs no chunk it asked for none, and for no help.
 pub record IsCalled {H T W S : Type 0} (means : Meaning T W S) (needs : H → T → Type 0) (helps : H → T → ℕ → Bool → H → T → Type 0)
     (call : Call) (helper : H) (old : T) (core : WriterCore W) (left : H) (new : T) (after : WriterCore W) : Type 0 where
   pub agrees : CoreAgrees (means.setup old) (means.place core.seat) (means.view new after.seat) after
@@ -89,7 +89,8 @@ pub record IsStalledCall {H T W S : Type 0} (means : Meaning T W S) (needs : H �
       helper old core.seat true left new after.seat
   pub notes : (means.view new after.seat).calls ≡ (means.view old core.seat).calls ++ noted_as true Stalls call
 
--- The service is as before, but that it may have taken chunks for the writer: the same sequences are closed, and its session and set-up stay.
+-- The service is as before, but that it may have taken chunks for the writer: the same sequences are closed, and its session and set-up
+-- stay.
 pub record KeepsService {T W S : Type 0} (means : Meaning T W S) (old : T) (before : ServiceCore S) (new : T) (after : ServiceCore S) : Type 0 where
   pub setup_is : means.setup new ≡ means.setup old
   pub keeps : KeepsRest (means.setup old) before after
@@ -98,4 +99,5 @@ pub record KeepsService {T W S : Type 0} (means : Meaning T W S) (old : T) (befo
 
 -- in the world that is told, the writer at this place did the call that it was asked for
 abbrev pub DoesAsk : {T W S : Type 0} → Meaning T W S → (place : ℕ) → Call → T → T → Type 0
-DoesAsk means place call old new = (was : World) → means.told old ≡ Some was → (is : World) × (means.told new ≡ Some is) × Asks (means.setup old) place call was is
+DoesAsk means place call old new = (was : World) → means.told old ≡ Some was
+    → (is : World) × (means.told new ≡ Some is) × Asks (means.setup old) place call was is

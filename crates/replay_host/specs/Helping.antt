@@ -22,10 +22,11 @@ pub record Collected {T W S : Type 0} (means : Meaning T W S) (producer : ℕ) (
   pub told : (was : World) → means.told old ≡ Some was
       → LeavesNone (means.setup old) producer was (means.told new) (means.service_view new after.seat)
 
--- One help: for the writers that may ask, the taking of their producer's complete chunks, and true exactly where some was taken. Of a help for others
--- it says that the service did no more than a step of its own: no such writer asks.
+-- One help: for the writers that may ask, the taking of their producer's complete chunks, and true exactly where some was taken. Of a help
+-- for others it says that the service did no more than a step of its own: no such writer asks.
 pub record Helps {T W S : Type 0} (means : Meaning T W S) (helper : Collecting S) (table : T) (producer : ℕ) (answer : Bool) (after : Collecting S) (left : T) : Type 0 where
   pub may : MayHelp means helper table
   pub producer_is : after.producer ≡ helper.producer
   pub step : IsServiceStep means table helper.service.seat left after.service.seat
-  pub collected : producer ≡ helper.producer → (taken : ℕ) × (answer ≡ not (taken == 0)) × Collected means producer table helper.service taken left after.service
+  pub collected : producer ≡ helper.producer → (taken : ℕ) × (answer ≡ not (taken == 0))
+      × Collected means producer table helper.service taken left after.service

@@ -49,8 +49,8 @@ last_flush open_then = if open_then then Flushed ∷ [] else []
 abbrev pub coming_at : Parts → (rest : List NumberedLine) → (place : ℕ) → List Call
 coming_at scenario rest place = calls_asked (suc place) rest ++ last_flush (is_open_at scenario scenario.lines place)
 
--- Behind these lines, with these notes on flush requests: the set-up is the scenario's, the producers that count as open are those that no line has
--- closed, and what is kept of flush requests is what the notes say.
+-- Behind these lines, with these notes on flush requests: the set-up is the scenario's, the producers that count as open are those that no
+-- line has closed, and what is kept of flush requests is what the notes say.
 pub record IsKept {T W S : Type 0} (means : Meaning T W S) (scenario : Parts) (before : List NumberedLine) (notes : List FlushNote) (host : Host T W S) : Type 0
   where
     pub is_host : IsHost means host
@@ -61,8 +61,8 @@ pub record IsKept {T W S : Type 0} (means : Meaning T W S) (scenario : Parts) (b
         → slice_index_or host.open_producers.items (producer - 1) false ≡ not (is_closed_by before producer)
     pub tally : IsTally notes (length scenario.writers) host.flushes
 
--- The other lines are still to come: each writer has noted what the lines asked of it, and accepts what is to come, and there is room for the flush
--- requests to come.
+-- The other lines are still to come: each writer has noted what the lines asked of it, and accepts what is to come, and there is room for
+-- the flush requests to come.
 pub record IsGoing {T W S : Type 0} (means : Meaning T W S) (scenario : Parts) (before rest : List NumberedLine) (notes : List FlushNote) (host : Host T W S) : Type 0
   where
     pub kept : IsKept means scenario before notes host

@@ -26,7 +26,8 @@ pub record IsHost {T W S : Type 0} (means : Meaning T W S) (host : Host T W S) :
   pub apart : ProducersAreApart (means.setup host.table)
   pub specs : host.specs.items ≡ (means.setup host.table).writers
   pub producers : length host.open_producers.items ≡ length (means.setup host.table).ranges
-  pub opened : (producer : ℕ) → HasProducer (means.setup host.table) producer → slice_index_or host.open_producers.items (producer - 1) false ≡ true
+  pub opened : (producer : ℕ) → HasProducer (means.setup host.table) producer
+      → slice_index_or host.open_producers.items (producer - 1) false ≡ true
       → IsOpen (means.setup host.table) host.helper.service producer
 
 -- the producer of the writer at this place counts as open
@@ -40,7 +41,8 @@ asked_all place calls coming other = if other == place then calls ++ coming othe
 -- In the worlds that are told, the acts lead from the one table's to the other's, with these notes on flush requests.
 abbrev pub HasPlayed : {T W S : Type 0} → Meaning T W S → List Buffer → List Act → T → T → List FlushNote → Type 0
 HasPlayed means buffers acts old new notes =
-    (was : World) → means.told old ≡ Some was → (is : World) × (means.told new ≡ Some is) × Plays (means.setup old) buffers acts was is notes
+    (was : World) → means.told old ≡ Some was → (is : World) × (means.told new ≡ Some is)
+    × Plays (means.setup old) buffers acts was is notes
 
 -- what is kept of the set-up and of flush requests is as before
 pub record KeepsBooks {T W S : Type 0} (old new : Host T W S) : Type 0 where
@@ -52,14 +54,17 @@ pub record KeepsBooks {T W S : Type 0} (old new : Host T W S) : Type 0 where
 pub record HasAsked {T W S : Type 0} (means : Meaning T W S) (place : ℕ) (calls : List Call) (old new : Host T W S) : Type 0 where
   pub service : KeepsService means old.table old.helper.service new.table new.helper.service
   pub books : KeepsBooks old new
-  pub ready : (coming : ℕ → List Call) → AreReady means old.table old.writers.items (asked_all place calls coming) → AreReady means new.table new.writers.items coming
+  pub ready : (coming : ℕ → List Call) → AreReady means old.table old.writers.items (asked_all place calls coming)
+      → AreReady means new.table new.writers.items coming
   pub plays : (buffers : List Buffer) → HasPlayed means buffers (asks place calls) old.table new.table []
   pub many : length new.writers.items ≡ length old.writers.items
   -- this writer has noted the calls, with packets lost
   pub own : (was is : WriterCore W) → slice_get old.writers.items place ≡ Some was → slice_get new.writers.items place ≡ Some is
-      → (asked : List Call) → Loses asked (means.view old.table was.seat).calls → Loses (asked ++ calls) (means.view new.table is.seat).calls
+      → (asked : List Call) → Loses asked (means.view old.table was.seat).calls
+      → Loses (asked ++ calls) (means.view new.table is.seat).calls
   -- and each other one what it had
-  pub others : (other : ℕ) (was is : WriterCore W) → other ≢ place → slice_get old.writers.items other ≡ Some was → slice_get new.writers.items other ≡ Some is
+  pub others : (other : ℕ) (was is : WriterCore W) → other ≢ place → slice_get old.writers.items other ≡ Some was
+      → slice_get new.writers.items other ≡ Some is
       → (means.view new.table is.seat).calls ≡ (means.view old.table was.seat).calls
 
 -- ---- acts of the service
@@ -68,7 +73,8 @@ pub record HasAsked {T W S : Type 0} (means : Meaning T W S) (place : ℕ) (call
 abbrev pub IsTraceOf : (start : Intake) → List Buffer → ServiceView → Intake → Type 0
 IsTraceOf start buffers view taken = taken ≡ after_told start (trace_of (records_after buffers (history_of view)))
 
--- The acts were done: the worlds that are told say so, with these notes on flush requests, and the sink has taken the trace still, where it had.
+-- The acts were done: the worlds that are told say so, with these notes on flush requests, and the sink has taken the trace still, where it
+-- had.
 pub record HasDone {T W S : Type 0} (means : Meaning T W S) (acts : List Act) (notes : List FlushNote) (old : Host T W S) (taken : Intake) (new : Host T W S) (left : Intake) : Type 0
   where
     pub setup_is : means.setup new.table ≡ means.setup old.table
@@ -82,4 +88,5 @@ pub record LeavesWriters {T W S : Type 0} (means : Meaning T W S) (old new : Hos
   pub writers : new.writers ≡ old.writers
   pub flushes : new.flushes ≡ old.flushes
   pub specs : new.specs ≡ old.specs
-  pub views : (place : ℕ) (core : WriterCore W) → slice_get old.writers.items place ≡ Some core → means.view new.table core.seat ≡ means.view old.table core.seat
+  pub views : (place : ℕ) (core : WriterCore W) → slice_get old.writers.items place ≡ Some core
+      → means.view new.table core.seat ≡ means.view old.table core.seat

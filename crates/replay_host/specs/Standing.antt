@@ -17,7 +17,8 @@ pub record IsSeated {T W S : Type 0} (means : Meaning T W S) (table : T) (place 
 
 -- so has each of these writers
 abbrev pub AreSeated : {T W S : Type 0} → Meaning T W S → T → List (WriterCore W) → Type 0
-AreSeated {T} {W} means table cores = (place : ℕ) (core : WriterCore W) → slice_get cores place ≡ Some core → IsSeated means table place core
+AreSeated {T} {W} means table cores = (place : ℕ) (core : WriterCore W) → slice_get cores place ≡ Some core
+    → IsSeated means table place core
 
 -- the service has its seat, from which reads are taken, and agrees with what the seat knows
 pub record IsServed {T W S : Type 0} (means : Meaning T W S) (table : T) (service : ServiceCore S) : Type 0 where

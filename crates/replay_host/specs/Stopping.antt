@@ -35,8 +35,8 @@ abbrev pub AreOthers : Setup → (producer place : ℕ) → World → Type 0
 AreOthers setup producer place world = (chunk : ℕ) → IsChunkOf setup producer chunk
     → (other id : ℕ) × (draft : Draft) × (status world chunk ≡ Writing other id draft) × (other ≢ place)
 
--- The writer stalls in the call that it was asked for: it has the policy to, and asks for a last help where it is out of chunks. The
--- help takes nothing, and each of its producer's chunks is being written by other writers then. They were before the call already. Each chunk is
+-- The writer stalls in the call that it was asked for: it has the policy to, and asks for a last help where it is out of chunks. The help
+-- takes nothing, and each of its producer's chunks is being written by other writers then. They were before the call already. Each chunk is
 -- owned by exactly one in each of these worlds.
 pub record StallsIn (setup : Setup) (place : ℕ) (call : Call) (old new : World) : Type 0 where
   pub may : MayNeedChunk call
@@ -54,8 +54,8 @@ pub record StallsIn (setup : Setup) (place : ℕ) (call : Call) (old new : World
   pub before : AreOthers setup (producer_of setup place) place old
 
 -- The writer at this place stalled in a call, and the fault says so. It noted the call, or nothing where that was a packet's begin, and the
--- other writers noted nothing. No record was written, the service is as before, but that it may have taken chunks for the writer, and what is
--- kept of the set-up and of flush requests is as before.
+-- other writers noted nothing. No record was written, the service is as before, but that it may have taken chunks for the writer, and what
+-- is kept of the set-up and of flush requests is as before.
 pub record Stalls {T W S : Type 0} (means : Meaning T W S) (place : ℕ) (call : Call) (old new : Host T W S) (fault : HostFault) : Type 0 where
   pub fault_is : fault ≡ Stalled (suc place)
   pub may : MayNeedChunk call
@@ -79,8 +79,8 @@ with_reads setup buffers number limit view =
     noted_more view (flat_map noted_read (reads_in setup (buffers_after buffers (history_of view)) number limit))
 
 -- A write failed in the reading of a buffer. The service noted the reads before the one that failed, then this one with the number that it
--- delivered, and nothing else; in the world that is told its notes are all that changed. The sink took the records of these reads and a front
--- part of the next one: a front part of the trace that is written where the buffer is read whole.
+-- delivered, and nothing else; in the world that is told its notes are all that changed. The sink took the records of these reads and a
+-- front part of the next one: a front part of the trace that is written where the buffer is read whole.
 pub record FailsReading {T W S : Type 0} (means : Meaning T W S) (number limit : ℕ) (old : Host T W S) (taken : Intake) (new : Host T W S)
     (left : Intake) (fault : HostFault) : Type 0 where
   pub fault_is : fault ≡ WriteFault
@@ -96,13 +96,15 @@ pub record FailsReading {T W S : Type 0} (means : Meaning T W S) (number limit :
 
 -- ---- where the acts stop
 
--- the act wasn't done in this world: the writer that it asks stalled, or a write failed in its read; what the sink has taken since the start
+-- the act wasn't done in this world: the writer that it asks stalled, or a write failed in its read; what the sink has taken since the
+-- start
 abbrev pub Halts : Setup → List Buffer → Act → World → HostFault → (start left : Intake) → Type 0
 Halts setup buffers (Ask place call) world (Stalled writer) start left =
     (writer ≡ suc place) × (last : World) × StallsIn setup place call world last
     × (left ≡ after_told start (trace_of (records_after buffers (history_of last.service))))
 Halts setup buffers (ReadAll number limit) world WriteFault start left =
-    (last : World) × Reads setup buffers number limit world last × TakesPart start left (trace_of (records_after buffers (history_of last.service)))
+    (last : World) × Reads setup buffers number limit world last
+    × TakesPart start left (trace_of (records_after buffers (history_of last.service)))
 Halts setup buffers act world fault start left = ⊥
 
 -- the acts before one were played, and it halted

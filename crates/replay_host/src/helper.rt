@@ -31,7 +31,8 @@ impl<W: Words> HelperOn<W> for Collecting<W::Service> {
           served = record {
             serves = stays.0;
             agrees = subst (λ (v : ServiceView). ServiceAgrees (W.means.setup new) v helper.service) (sym stays.1)
-                (subst (λ (s : Setup). ServiceAgrees s (W.means.service_view old helper.service.seat) helper.service) (sym step.setup_stays) may.served.agrees);
+                (subst (λ (s : Setup). ServiceAgrees s (W.means.service_view old helper.service.seat) helper.service)
+                (sym step.setup_stays) may.served.agrees);
             reads = step.reads_stay helper.service.seat may.served.reads;
             own = own_still (W.means.service_view old helper.service.seat) (W.means.service_view new helper.service.seat) stays.1 may.served.own;
           };

@@ -70,7 +70,8 @@ impl<W: Words> Host<W, W::Writer, W::Service> {
         ensures writers { LeavesWriters W.means self.old self.new }
         ensures opened { self.new.open_producers ≡ self.old.open_producers }
         ensures session { self.new.helper.service.session ≡ self.old.helper.service.session }
-        ensures done { OnOk result (HasDone W.means (ReadAll buffer limit ∷ []) [] self.old (O.taken out.old) self.new (O.taken out.new)) }
+        ensures done { OnOk result
+            (HasDone W.means (ReadAll buffer limit ∷ []) [] self.old (O.taken out.old) self.new (O.taken out.new)) }
         ensures fails { IfErr result (λ fault. FailsReading W.means buffer limit self.old (O.taken out.old) self.new (O.taken out.new) fault) }
         ensures count { CountsFaults (O.faults out.old) (O.faults out.new) result }
     {

@@ -2,8 +2,8 @@
 use Rattle.std.specs.Prelude.{ℕ, ◌==◌, List, [], ◌∷◌, ◌++◌, map, if◌then◌else◌}
 use Rattle.trace_model.specs.Calls.{Call}
 
--- An act of a writer, of the service, or of a writer that answers a flush request. Writers have places, counted from 0; producers and buffers
--- count from 1.
+-- An act of a writer, of the service, or of a writer that answers a flush request. Writers have places, counted from 0; producers and
+-- buffers count from 1.
 pub data Act : Type 0 where
   -- the writer is asked for a call
   Ask : (place : ℕ) → Call → Act

@@ -46,7 +46,8 @@ abbrev pub AreOpen : Setup → (producer : ℕ) → ServiceView → Type 0
 AreOpen setup producer service =
     (place : ℕ) → place < length setup.writers → producer_of setup place ≡ producer → is_shut (sequence_of place) service.events ≡ false
 
--- The producer's complete chunks are taken, so many: writer by writer in rising number, each one's in rising id. None is complete behind it.
+-- The producer's complete chunks are taken, so many: writer by writer in rising number, each one's in rising id. None is complete behind
+-- it.
 pub record Collects (setup : Setup) (producer : ℕ) (old new : World) : Type 0 where
   pub opened : AreOpen setup producer old.service
   pub writers : new.writers ≡ old.writers
@@ -103,9 +104,9 @@ MayNeedChunk (Bytes field text times) = Unit {0}
 MayNeedChunk (Nested field) = Unit {0}
 MayNeedChunk other = ⊥
 
--- The writer at this place is out of chunks, in a world in which each chunk is owned by exactly one: no chunk of its producer is free, it holds
--- none, and no claim of it is out; and all that it began are chunks of its producer. So each of these chunks is another writer's, or is one that
--- it completed and that waits.
+-- The writer at this place is out of chunks, in a world in which each chunk is owned by exactly one: no chunk of its producer is free, it
+-- holds none, and no claim of it is out; and all that it began are chunks of its producer. So each of these chunks is another writer's, or
+-- is one that it completed and that waits.
 pub record IsOut (setup : Setup) (place : ℕ) (world : World) : Type 0 where
   pub owned : ∥ IsOwned world ∥₁
   pub none_free : HasNoFreeChunk setup (producer_of setup place) world
@@ -114,8 +115,8 @@ pub record IsOut (setup : Setup) (place : ℕ) (world : World) : Type 0 where
   pub unstamped : (writer world place).stamped ≡ None
   pub own_chunks : AreOwnChunks setup (producer_of setup place) (writer world place).begun
 
--- Steps of the writer and, in a call that may need a chunk, where the writer is one that stalls and is out of chunks, the taking of its producer's
--- complete chunks, which takes some.
+-- Steps of the writer and, in a call that may need a chunk, where the writer is one that stalls and is out of chunks, the taking of its
+-- producer's complete chunks, which takes some.
 pub data Works (setup : Setup) (place : ℕ) (call : Call) : World → World → Type 0 where
   Alone : (old new : World) → LeavesRest place old new → Works setup place call old new
   Helped : (old asking freed new : World) → MayNeedChunk call → policy_of setup place ≡ Stalls → LeavesRest place old asking
@@ -135,8 +136,8 @@ Notes setup place call old new =
     × MayNeedChunk call × (policy_of setup place ≡ Drops) × HasNoFreeChunk setup (producer_of setup place) new)
 
 -- What a writer has written, between two calls: its chunks are a cut of its packets, in which all stands that it was asked to write of the
--- newest one, unless that is lost; it holds its newest chunk exactly where its newest packet isn't lost and no flush came behind it, and what it
--- holds is published but for the last fragment; and its claims are of its producer's chunks.
+-- newest one, unless that is lost; it holds its newest chunk exactly where its newest packet isn't lost and no flush came behind it, and
+-- what it holds is published but for the last fragment; and its claims are of its producer's chunks.
 pub record Wrote (setup : Setup) (place : ℕ) (view : WriterView) : Type 0 where
   pub held : List Image
   pub cut : HasCut (payload_at setup place) place view held

@@ -35,8 +35,8 @@ HasEnough scenario =
     IsEnough (closed_from scenario.lines 1 scenario.producers) (map (λ (line : BufferLine). line.kb * BYTES_PER_KB) scenario.buffers)
     (map room_of scenario.producers) (loads_from scenario.lines 1 scenario.writers)
 
--- What the grammar gives of each scenario: the lines are no more than a count can tell, the set-up is within its limits, and each writer accepts
--- what its lines ask and ends its last packet.
+-- What the grammar gives of each scenario: the lines are no more than a count can tell, the set-up is within its limits, and each writer
+-- accepts what its lines ask and ends its last packet.
 pub record IsPlayable (scenario : Parts) : Type 0 where
   pub few : length scenario.lines ≤ last_count
   pub set_up : IsSetUp scenario.buffers scenario.producers scenario.writers

@@ -1,5 +1,5 @@
--- What a flush promises to who asks for it: once as many chunks of a writer are taken as it had completed when it flushed, the next read of its buffer
--- without limit settles what became of each packet that it had emitted by then.
+-- What a flush promises to who asks for it: once as many chunks of a writer are taken as it had completed when it flushed, the next read of
+-- its buffer without limit settles what became of each packet that it had emitted by then.
 use Rattle.std.specs.Prelude.{◌≡◌, ◌≢◌, ℕ, suc, ◌+◌, ◌<◌, ◌≤◌, false, List, [], ◌∷◌, ◌++◌, length, ⊤}
 use Rattle.trace_model.specs.Buffers.{Buffer}
 use Rattle.trace_model.specs.Calls.{Flushed}
@@ -44,9 +44,9 @@ abbrev pub begun_in : List WriterView → ℕ
 begun_in [] = 0
 begun_in (view ∷ views) = begun_count view.calls + begun_in views
 
--- The writer at this place flushes between two packets, as it does for an answer, for a line and at the end. Before it is asked for anything more, as
--- many chunks of it are taken as it has completed then: so an answer to a flush request is met. Whatever is done then, its buffer is read without
--- limit at last.
+-- The writer at this place flushes between two packets, as it does for an answer, for a line and at the end. Before it is asked for
+-- anything more, as many chunks of it are taken as it has completed then: so an answer to a flush request is met. Whatever is done then,
+-- its buffer is read without limit at last.
 pub record IsFlushRead (setup : Setup) (buffers : List Buffer) (place : ℕ) (asked read : World) : Type 0 where
   pub answered : World
   pub taken : World
@@ -65,9 +65,9 @@ pub record IsFlushRead (setup : Setup) (buffers : List Buffer) (place : ℕ) (as
   pub reads : Reads setup buffers (spec_at setup.writers place).buffer last_count reading read
   pub owned_now : ∥ IsOwned read ∥₁
 
--- In the world behind the read, the outcome is fixed of each packet that the writer had begun when it flushed, and it had finished all of them: the
--- packet is delivered, in a record of that world's history, or absent under one cause. Where a packet stands is said by the pages of the writer's own
--- chunks: the first of them are those into which it had cut these packets.
+-- In the world behind the read, the outcome is fixed of each packet that the writer had begun when it flushed, and it had finished all of
+-- them: the packet is delivered, in a record of that world's history, or absent under one cause. Where a packet stands is said by the pages
+-- of the writer's own chunks: the first of them are those into which it had cut these packets.
 pub record HasSettled (scenario : Parts) (setup : Setup) (place : ℕ) (asked read : World) : Type 0 where
   pub wrote : HasWritten setup place (writer read place)
   pub pages : List Page
@@ -77,17 +77,20 @@ pub record HasSettled (scenario : Parts) (setup : Setup) (place : ℕ) (asked re
 
 -- So it is wherever acts lead, of a scenario's set-up, while no more packets are begun than a count can tell.
 abbrev pub EveryFlushIsSettled : Type 0
-EveryFlushIsSettled = (scenario : Parts) (setup : Setup) → IsSetupOf scenario setup → IsSetUp scenario.buffers scenario.producers scenario.writers
-    → (acts : List Act) (asked read : World) (notes : List FlushNote) → Plays setup (buffers_of scenario setup) acts (first_world setup) asked notes
+EveryFlushIsSettled = (scenario : Parts) (setup : Setup) → IsSetupOf scenario setup
+    → IsSetUp scenario.buffers scenario.producers scenario.writers
+    → (acts : List Act) (asked read : World) (notes : List FlushNote)
+    → Plays setup (buffers_of scenario setup) acts (first_world setup) asked notes
     → (place : ℕ) → place < length setup.writers → IsFlushRead setup (buffers_of scenario setup) place asked read
     → begun_in read.writers ≤ last_count → HasSettled scenario setup place asked read
 
--- A line `q`, and at any later point a line `r` for the writer's buffer without a limit, are such acts: the first makes the request, has each writer
--- flush that may, and then takes what each open producer has complete. Of a writer whose producer is open, and of which the lines before the request
--- leave no packet begun, each packet that it had emitted by then is settled behind the read. All is said by the lines: there are no more than a count
--- can tell, and what those before the request ask of the writer takes no more chunks than it has ids.
+-- A line `q`, and at any later point a line `r` for the writer's buffer without a limit, are such acts: the first makes the request, has
+-- each writer flush that may, and then takes what each open producer has complete. Of a writer whose producer is open, and of which the
+-- lines before the request leave no packet begun, each packet that it had emitted by then is settled behind the read. All is said by the
+-- lines: there are no more than a count can tell, and what those before the request ask of the writer takes no more chunks than it has ids.
 abbrev pub EveryRequestIsSettled : Type 0
-EveryRequestIsSettled = (scenario : Parts) (setup : Setup) → IsSetupOf scenario setup → IsSetUp scenario.buffers scenario.producers scenario.writers
+EveryRequestIsSettled = (scenario : Parts) (setup : Setup) → IsSetupOf scenario setup
+    → IsSetUp scenario.buffers scenario.producers scenario.writers
     → (before between : List NumberedLine) (request last : NumberedLine) (world : World) (notes : List FlushNote)
     → Plays setup (buffers_of scenario setup) (acts_from scenario [] (before ++ (request ∷ (between ++ (last ∷ []))))) (first_world setup) world notes
     → (place : ℕ) → place < length setup.writers → is_closed_by before (producer_of setup place) ≡ false

@@ -25,8 +25,8 @@ first_answer place [] = None
 first_answer place (Requested ∷ notes) = first_answer place notes
 first_answer place (Answered other chunks ∷ notes) = if other == place then Some chunks else first_answer place notes
 
--- The sum over the writers from this place on: of each the number in its first answer or, where it gave none, that of the chunks that were taken of
--- it in all.
+-- The sum over the writers from this place on: of each the number in its first answer or, where it gave none, that of the chunks that were
+-- taken of it in all.
 abbrev pub chunks_answered : List FlushNote → (place : ℕ) → List Taken → ℕ
 chunks_answered notes place [] = 0
 chunks_answered notes place (taken ∷ others) = unwrap_or (first_answer place notes) taken.count + chunks_answered notes (suc place) others

@@ -52,11 +52,13 @@ EveryReportIsBalanced = (scenario : Parts) (setup : Setup) (world : World) (note
 -- Where chunks are enough, no writer drops or gives up a packet.
 abbrev pub EnoughLosesNothing : Type 0
 EnoughLosesNothing = (scenario : Parts) (setup : Setup) (world : World) (notes : List FlushNote) → IsPlayed scenario setup world notes
-    → IsPlayable scenario → HasEnough scenario → (place : ℕ) → place < length setup.writers → lost_count (packets_of (writer world place).calls) ≡ 0
+    → IsPlayable scenario → HasEnough scenario → (place : ℕ) → place < length setup.writers
+    → lost_count (packets_of (writer world place).calls) ≡ 0
 
 -- Where chunks and bytes are enough, no packet that the lines have writers emit is missing.
 abbrev pub EveryEnoughReplayIsComplete : Type 0
-EveryEnoughReplayIsComplete = (scenario : Parts) (setup : Setup) (world : World) (notes : List FlushNote) → IsPlayed scenario setup world notes
+EveryEnoughReplayIsComplete = (scenario : Parts) (setup : Setup) (world : World) (notes : List FlushNote)
+    → IsPlayed scenario setup world notes
     → IsPlayable scenario → HasEnough scenario → IsComplete (emitted_in scenario) (records_in scenario setup world)
 
 -- The report's counts are those of the packets' outcomes.

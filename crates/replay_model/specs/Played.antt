@@ -111,9 +111,9 @@ AreBalanced counts = (place : ℕ) (one : PacketCounts) → slice_get counts pla
 abbrev pub first_buffer : Parts → Setup → (place : ℕ) → Buffer
 first_buffer scenario setup place = buffer_at (buffers_of scenario setup) ((spec_at scenario.writers place).buffer - 1)
 
--- The report's counts of the writer at this place are those of its packets' outcomes: each packet that the lines begin is delivered, or absent under
--- the one cause that the history fixed first. Where a packet stands is said by the pages of the writer's own chunks.
--- As many are counted as delivered as records of its sequence are written.
+-- The report's counts of the writer at this place are those of its packets' outcomes: each packet that the lines begin is delivered, or
+-- absent under the one cause that the history fixed first. Where a packet stands is said by the pages of the writer's own chunks. As many
+-- are counted as delivered as records of its sequence are written.
 pub record CountsPackets (scenario : Parts) (setup : Setup) (world : World) (place : ℕ) (counts : PacketCounts) : Type 0 where
   pub wrote : HasWritten setup place (writer world place)
   pub begun : counts.begun ≡ raised 0 (begun_count (calls_asked (suc place) scenario.lines))
@@ -121,9 +121,9 @@ pub record CountsPackets (scenario : Parts) (setup : Setup) (world : World) (pla
       (packet_outcomes (fixed_after (sequence_of place) (first_buffer scenario setup place) (history_of world.service)) (writer world place).calls wrote.cut.cut.pages) counts
   pub records : counts.delivered ≡ length (records_of (sequence_of place) (records_in scenario setup world))
 
--- The scenario was replayed: there is a world that its lines lead to. The trace has taken that world's records and nothing else, and the text is its
--- report. The records are faithful to what the scenario has its writers emit, and the report counts every packet once, under its cause. Where chunks
--- and bytes are enough, by the lines alone, no packet is missing.
+-- The scenario was replayed: there is a world that its lines lead to. The trace has taken that world's records and nothing else, and the
+-- text is its report. The records are faithful to what the scenario has its writers emit, and the report counts every packet once, under
+-- its cause. Where chunks and bytes are enough, by the lines alone, no packet is missing.
 pub record Replays (scenario : Parts) (old new : Intake) (text : List ℕ) : Type 0 where
   pub setup : Setup
   pub world : World

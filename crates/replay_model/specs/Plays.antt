@@ -8,8 +8,8 @@ use Rattle.replay_model.specs.Acts.{Act}
 use Rattle.replay_model.specs.Does.{Does}
 use Rattle.replay_model.specs.Flushes.{FlushNote, flush_notes}
 
--- The acts lead from one world to another, one behind another, and so much is noted of flush requests. Each chunk is owned by exactly one in
--- each world on the way.
+-- The acts lead from one world to another, one behind another, and so much is noted of flush requests. Each chunk is owned by exactly one
+-- in each world on the way.
 abbrev pub Plays : Setup → (buffers : List Buffer) → List Act → (old new : World) → List FlushNote → Type 0
 Plays setup buffers [] old new notes = (new ≡ old) × (notes ≡ [])
 Plays setup buffers (act ∷ acts) old new notes =

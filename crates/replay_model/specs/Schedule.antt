@@ -76,8 +76,8 @@ abbrev pub reads_from : (number : ℕ) → List BufferLine → List Act
 reads_from number [] = []
 reads_from number (buffer ∷ buffers) = ReadAll number last_count ∷ reads_from (suc number) buffers
 
--- Behind the last line each writer of an open producer flushes, each open producer's complete chunks are taken, all sequences that are open are
--- closed, and each buffer is read without limit.
+-- Behind the last line each writer of an open producer flushes, each open producer's complete chunks are taken, all sequences that are open
+-- are closed, and each buffer is read without limit.
 abbrev pub last_acts : Parts → List Act
 last_acts scenario =
     map (λ place. Ask place Flushed) (open_places scenario.lines 0 scenario.writers)

@@ -35,7 +35,8 @@ chunks_from setup world producer place (spec ∷ specs) =
 pub record HasChunksEnough (setup : Setup) (world : World) : Type 0 where
   pub apart : ProducersAreApart setup
   pub between : (place : ℕ) → place < length setup.writers → is_writing (packets_of (writer world place).calls) ≡ false
-  pub room : (producer : ℕ) → HasProducer setup producer → chunks_from setup world producer 0 setup.writers ≤ (range_of setup producer).count
+  pub room : (producer : ℕ) → HasProducer setup producer
+      → chunks_from setup world producer 0 setup.writers ≤ (range_of setup producer).count
 
 -- No writer has lost a packet then.
 abbrev pub EnoughChunksLoseNothing : Type 0
@@ -64,7 +65,8 @@ pub record IsReadOut (setup : Setup) (buffers : List BufferSpec) (world : World)
 
 -- Then no packet of the writer is missing.
 abbrev pub EnoughMissesNothing : Type 0
-EnoughMissesNothing = (setup : Setup) (buffers : List BufferSpec) (moves : List Move) (world : World) → IsLaid setup → IsSchedule (first_world setup) moves world
+EnoughMissesNothing = (setup : Setup) (buffers : List BufferSpec) (moves : List Move) (world : World) → IsLaid setup
+    → IsSchedule (first_world setup) moves world
     → AreBetweenCalls setup world → AreNotedInOrder setup world.service → HasChunksEnough setup world
     → (place : ℕ) (spec : WriterSpec) → slice_get setup.writers place ≡ Some spec → IsReadOut setup buffers world place spec
     → length (records_of (sequence_of place) (records_after (first_buffers setup 1 buffers) (history_of world.service)))

@@ -21,11 +21,13 @@ use Rattle.schedule_laws.specs.Resting.{IsBetweenCalls, AreBetweenCalls, IsNoted
 -- No moves lead nowhere else; schedules go on one behind another; and each front of a schedule is one, which leads to a world on the way.
 pub record SchedulesJoin : Type 0 where
   pub none : (world : World) → IsSchedule world [] world
-  pub both : (old mid new : World) (moves more : List Move) → IsSchedule old moves mid → IsSchedule mid more new → IsSchedule old (moves ++ more) new
+  pub both : (old mid new : World) (moves more : List Move) → IsSchedule old moves mid → IsSchedule mid more new
+      → IsSchedule old (moves ++ more) new
   pub front : (old new : World) (moves more : List Move) → IsSchedule old (moves ++ more) new
       → (mid : World) × IsSchedule old moves mid × IsSchedule mid more new
 
--- Whatever a schedule leads to from an owned world is owned, with as many writers and chunks. So is each world on the way, since fronts are schedules.
+-- Whatever a schedule leads to from an owned world is owned, with as many writers and chunks. So is each world on the way, since fronts are
+-- schedules.
 abbrev pub SchedulesKeepOwnership : Type 0
 SchedulesKeepOwnership = (old new : World) (moves : List Move) → IsOwned old → IsSchedule old moves new
     → IsOwned new × (length new.writers ≡ length old.writers) × (length new.chunks ≡ length old.chunks)
@@ -35,15 +37,16 @@ abbrev pub SchedulesAreAccounts : Type 0
 SchedulesAreAccounts = (setup : Setup) (moves : List Move) (world : World) → IsLaid setup → IsSchedule (first_world setup) moves world
     → AreBetweenCalls setup world → AreNotedInOrder setup world.service → IsAccount setup world
 
--- So the records that the service's history writes are faithful to the packets that the writers emitted: each is of a writer's sequence, and those of
--- each sequence are emitted packets, exact, whole, once, in order, and marked exactly where one is missing.
+-- So the records that the service's history writes are faithful to the packets that the writers emitted: each is of a writer's sequence,
+-- and those of each sequence are emitted packets, exact, whole, once, in order, and marked exactly where one is missing.
 abbrev pub EveryScheduleIsFaithful : Type 0
 EveryScheduleIsFaithful = (setup : Setup) (buffers : List BufferSpec) (moves : List Move) (world : World) → IsLaid setup
     → IsSchedule (first_world setup) moves world → AreBetweenCalls setup world → AreNotedInOrder setup world.service
     → IsFaithful (map (λ (view : WriterView). emissions_of view.calls) world.writers)
     (records_after (first_buffers setup 1 buffers) (history_of world.service))
 
--- The same of one sequence, whatever the other writers are in the middle of: its own writer is between two calls, and what was noted on it is in order.
+-- The same of one sequence, whatever the other writers are in the middle of: its own writer is between two calls, and what was noted on it
+-- is in order.
 abbrev pub EverySequenceIsTold : Type 0
 EverySequenceIsTold = (setup : Setup) (buffers : List BufferSpec) (moves : List Move) (world : World) → IsLaid setup
     → IsSchedule (first_world setup) moves world → (place : ℕ) → place < length setup.writers
@@ -53,12 +56,15 @@ EverySequenceIsTold = (setup : Setup) (buffers : List BufferSpec) (moves : List 
 
 -- A service that agrees with its view noted in order on each writer's sequence of which nothing came by a commit.
 abbrev pub ServingIsInOrder : Type 0 → Type 0
-ServingIsInOrder S = (setup : Setup) (view : ServiceView) (core : ServiceCore S) → ServiceAgrees setup view core → (place : ℕ) → place < length setup.writers
+ServingIsInOrder S = (setup : Setup) (view : ServiceView) (core : ServiceCore S) → ServiceAgrees setup view core → (place : ℕ)
+    → place < length setup.writers
     → NoneCommitted view (sequence_of place) → IsNotedInOrder view place
 
--- So what is left to ask of the service is that it is between two calls, and of the schedule that no image of a writer's sequence comes by a commit.
+-- So what is left to ask of the service is that it is between two calls, and of the schedule that no image of a writer's sequence comes by
+-- a commit.
 abbrev pub EveryServedScheduleIsFaithful : Type 0 → Type 0
-EveryServedScheduleIsFaithful S = (setup : Setup) (buffers : List BufferSpec) (moves : List Move) (world : World) (core : ServiceCore S) → IsLaid setup
+EveryServedScheduleIsFaithful S = (setup : Setup) (buffers : List BufferSpec) (moves : List Move) (world : World) (core : ServiceCore S)
+    → IsLaid setup
     → IsSchedule (first_world setup) moves world → AreBetweenCalls setup world → ServiceAgrees setup world.service core
     → ((place : ℕ) → place < length setup.writers → CommitsNone (sequence_of place) moves)
     → IsFaithful (map (λ (view : WriterView). emissions_of view.calls) world.writers)

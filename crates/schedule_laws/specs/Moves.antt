@@ -1,5 +1,5 @@
--- The atomic steps that writers and the service make on a table of chunks, as moves of its world. Each is made by one of them and changes that seat's
--- view and one chunk at most. A step that changes no view, as when a page word or a payload word is loaded, is no move.
+-- The atomic steps that writers and the service make on a table of chunks, as moves of its world. Each is made by one of them and changes
+-- that seat's view and one chunk at most. A step that changes no view, as when a page word or a payload word is loaded, is no move.
 use Rattle.std.specs.Prelude.{◌≡◌, ℕ, ◌+◌, ◌*◌, ◌<◌, ◌≤◌, true, false, Option, Some, None, List, length, slice_index_or}
 use Rattle.trace_model.specs.Calls.{Call}
 use Rattle.chunk_plain.specs.Setup.{sequence_of}
@@ -11,8 +11,8 @@ use Rattle.chunk_plain.specs.Owned.{times}
 use Rattle.chunk_plain.specs.Drafts.{MayFollow, IsDraft, IsFound, IsThere, IsHolding, head_of, draft_at, ends_by}
 use Rattle.chunk_plain.specs.Plain.{read_as}
 
--- A writer is named by its place, from 0. The page words and header words that a step found are kept in views; what they say of the chunk is said by
--- the world, so that they are free here.
+-- A writer is named by its place, from 0. The page words and header words that a step found are kept in views; what they say of the chunk
+-- is said by the world, so that they are free here.
 pub data Move : Type 0 where
   -- a writer sets the claim bit of a chunk, and found this page word
   Claims : (place chunk found : ℕ) → Move
@@ -131,7 +131,8 @@ MayMove world (SetsHeader place chunk id head) =
     IsWriter world place × IsChunk world chunk × IsHolding (writer world place) chunk id
     × MaySetHeader (draft_at (writer world place) id) head (ends_by (writer world place) id head.count)
 MayMove world (Publishes place chunk id index word) =
-    IsWriter world place × IsChunk world chunk × IsHolding (writer world place) chunk id × MayPublish (draft_at (writer world place) id) index word
+    IsWriter world place × IsChunk world chunk × IsHolding (writer world place) chunk id
+    × MayPublish (draft_at (writer world place) id) index word
 MayMove world (Completes place chunk id content) =
     IsWriter world place × IsChunk world chunk × IsHolding (writer world place) chunk id
     × MayComplete place id (draft_at (writer world place) id) content

@@ -19,8 +19,8 @@ use Rattle.schedule_laws.specs.Moves.{Move}
 use Rattle.schedule_laws.specs.Schedules.{IsSchedule}
 use Rattle.schedule_laws.specs.Resting.{IsBetweenCalls, IsNotedInOrder}
 
--- The history in a world is an account of the sequence of the writer at this place and of the pages of its own chunks, in each buffer that has this
--- sequence as a new one: so all that is promised of accounts is so of it.
+-- The history in a world is an account of the sequence of the writer at this place and of the pages of its own chunks, in each buffer that
+-- has this sequence as a new one: so all that is promised of accounts is so of it.
 pub record HasAccount (setup : Setup) (world : World) (place : ℕ) : Type 0 where
   pub wrote : HasWritten setup place (writer world place)
   pub account : (sequences : List Sequence) (record_size : ℕ) → is_known sequences (sequence_of place) ≡ true
@@ -43,9 +43,9 @@ counts_at setup world place spec buffer =
     counts_of buffer.policy (writer world place).calls
     (sequence_in (state_after (buffer_named setup spec buffer) (history_of world.service)).sequences (sequence_of place))
 
--- The report counts each packet that the writer began once: it is delivered, or absent under the one cause that the history fixed first. So the sum says.
--- Where a packet stands is said by the pages of the writer's own chunks. As many are counted as delivered as the reads of its sequence
--- deliver.
+-- The report counts each packet that the writer began once: it is delivered, or absent under the one cause that the history fixed first. So
+-- the sum says. Where a packet stands is said by the pages of the writer's own chunks. As many are counted as delivered as the reads of its
+-- sequence deliver.
 pub record CountsOnce (setup : Setup) (world : World) (place : ℕ) (spec : WriterSpec) (buffer : BufferSpec) : Type 0 where
   pub balanced : IsBalanced (counts_at setup world place spec buffer)
   pub wrote : HasWritten setup place (writer world place)

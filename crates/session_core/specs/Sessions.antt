@@ -1,5 +1,5 @@
--- A session, and what its calls leave. After Perfetto's "Life of a tracing session"; that flush requests are numbered, and that a writer's answer names
--- its completed chunks, is this project's profile.
+-- A session, and what its calls leave. After Perfetto's "Life of a tracing session"; that flush requests are numbered, and that a writer's
+-- answer names its completed chunks, is this project's profile.
 use Rattle.std.specs.Prelude.{◌≡◌, ℕ, ◌+◌, ◌<◌, ◌≤◌, Bool, true, false, ◌&&◌, nat_lt, nat_le, List, replicate, slice_set, slice_index_or, Option, Some, None, if◌then◌else◌}
 use Rattle.trace_base.specs.declared.limits.TheConstants.{MAX_WRITERS}
 use Rattle.session_core.specs.declared.answers.Answer.{Answer}

@@ -1,5 +1,5 @@
--- The states of a session: which calls each of them allows, and which state they lead to. After Perfetto's "Life of a tracing session"; the states
--- and the table are this project's profile.
+-- The states of a session: which calls each of them allows, and which state they lead to. After Perfetto's "Life of a tracing session"; the
+-- states and the table are this project's profile.
 use Rattle.std.specs.Prelude.{Option, Some, None, Result, Ok, Err}
 use Rattle.session_core.specs.declared.answers.SessionState.{SessionState}
 use Rattle.session_core.specs.declared.answers.SessionState.TheVariants.{Idle, Configured, Started, Stopped, Freed}

@@ -56,7 +56,8 @@ abbrev held_or : {A : Type 0} → A → Option A → A
 held_or other None = other
 held_or other (Some value) = value
 
-single_prop : {A : Type 0} {P : A → Type 0} → IsSet (Option A) → (o : Option A) → ((a : A) → IsProp (P a)) → IsProp ((a : A) × ((o ≡ Some a) × P a))
+single_prop : {A : Type 0} {P : A → Type 0} → IsSet (Option A) → (o : Option A) → ((a : A) → IsProp (P a))
+    → IsProp ((a : A) × ((o ≡ Some a) × P a))
 single_prop {A} {P} set o prop u v = Σ_prop_path {B = λ (a : A). (o ≡ Some a) × P a} (λ a. ×_prop (set o (Some a)) (prop a)) (ap (held_or u.0) (sym u.1.0 ∙ v.1.0))
 
 named_prop : {A : Type 0} → IsSet (Option A) → (o : Option A) → IsProp ((a : A) × (o ≡ Some a))
@@ -85,7 +86,8 @@ elsewhere_prop view sequence place = Prim.hlevel props
 Patches-set : IsSet (List Patch)
 Patches-set = Coded-set (Prim.hlevel codes)
 
-lead_to_prop : (view : ServiceView) (sequence : ℕ) (stage : Stage) (notes : List Noted) (last : Stage) → IsProp (LeadTo view sequence stage notes last)
+lead_to_prop : (view : ServiceView) (sequence : ℕ) (stage : Stage) (notes : List Noted) (last : Stage)
+    → IsProp (LeadTo view sequence stage notes last)
 lead_to_prop view sequence stage [] last = Stage-set stage last
 lead_to_prop view sequence stage (Arrive other chunk_id ∷ notes) last =
     ×_prop (Patches-set stage.due []) (choice_prop (other == sequence)

@@ -23,8 +23,8 @@ pub record NoneRead (passed before pass view : ServiceView) : Type 0 where
   pub same : pass ≡ passed
   pub goes : GoesOn before view
 
--- Reads were noted: at the first one the service's view had gone on, from the earlier one and from what the pass knew, and the pass knows all that was
--- noted up to the last one.
+-- Reads were noted: at the first one the service's view had gone on, from the earlier one and from what the pass knew, and the pass knows
+-- all that was noted up to the last one.
 pub record SomeRead (passed before pass view : ServiceView) : Type 0 where
   pub first : ServiceView
   pub from_pass : GoesOn passed first
@@ -42,4 +42,5 @@ pub record PassesOn (id : TableId) (passed before : ServiceView) (desk : Desk) (
   pub same_table : identity_of table ≡ id
   pub desk_is : with_stage (desk_by_service seat) Away ≡ with_stage desk Away
   pub knows : KnowsReads before (known_by_service seat)
-  pub since : NoneRead passed before (known_by_pass pass) (known_by_service seat) ⊎ SomeRead passed before (known_by_pass pass) (known_by_service seat)
+  pub since : NoneRead passed before (known_by_pass pass) (known_by_service seat)
+      ⊎ SomeRead passed before (known_by_pass pass) (known_by_service seat)

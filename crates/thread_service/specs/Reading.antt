@@ -25,8 +25,8 @@ pub record GoesUnread (old new : List model.Event) : Type 0 where
   pub goes : new ≡ old ++ others
   pub unread : flat_map noted_read others ≡ []
 
--- The pass knows these reads more, and so their records: the history that it knew went on without a read, and then by them alone. Where there is one
--- of them, the buffers were those that the history before them leads to.
+-- The pass knows these reads more, and so their records: the history that it knew went on without a read, and then by them alone. Where
+-- there is one of them, the buffers were those that the history before them leads to.
 pub record PassReads {S : Type 0} (setup : Setup) (core : ServiceCore S) (events : List model.Event) (old new : ServiceView) : Type 0 where
   pub before : List model.Event
   pub goes : GoesUnread (history_of old) before

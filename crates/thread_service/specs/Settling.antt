@@ -8,8 +8,8 @@ use Rattle.chunk_plain.specs.Views.{At, BegunChunk, chunk_of, Completed, Content
 use Rattle.chunk_words.specs.Knows.{Tale}
 use Rattle.service_core.specs.Taking.{ShowNone, Takes, places_of}
 
--- Looks from this one on show of each chunk of the writer's producer that it isn't the next one to be taken of this writer, of which so many are
--- taken; or the writer has no id left.
+-- Looks from this one on show of each chunk of the writer's producer that it isn't the next one to be taken of this writer, of which so
+-- many are taken; or the writer has no id left.
 pub record IsSeenOut (setup : Setup) (since place : ℕ) (view : ServiceView) : Type 0 where
   pub before : List Look
   pub looks : List Look
@@ -21,11 +21,13 @@ pub record IsSeenOut (setup : Setup) (since place : ℕ) (view : ServiceView) : 
 abbrev pub AreSeenOut : Setup → (since places : ℕ) → ServiceView → Type 0
 AreSeenOut setup since places view = (place : ℕ) → place < places → IsSeenOut setup since place view
 
--- Rounds for the producer's writers, one after another: each took so many complete chunks of them as its number says, and nothing else became known.
+-- Rounds for the producer's writers, one after another: each took so many complete chunks of them as its number says, and nothing else
+-- became known.
 abbrev pub TakesRounds : Setup → (producer : ℕ) → (rounds : List ℕ) → ServiceView → ServiceView → Type 0
 TakesRounds setup producer [] old new = new ≡ old
 TakesRounds setup producer (taken ∷ rounds) old new =
-    (between : ServiceView) × Takes setup (places_of producer 0 setup.writers) taken old between × TakesRounds setup producer rounds between new
+    (between : ServiceView) × Takes setup (places_of producer 0 setup.writers) taken old between
+    × TakesRounds setup producer rounds between new
 
 -- Rounds that took some chunks each, and then one that took none.
 pub record TakesOut (setup : Setup) (producer : ℕ) (old new : ServiceView) : Type 0 where
@@ -36,7 +38,8 @@ pub record TakesOut (setup : Setup) (producer : ℕ) (old new : ServiceView) : T
 -- such rounds for the producer of each of these writers, one writer after another, and nothing else
 abbrev pub TakesAllOut : Setup → List WriterSpec → ServiceView → ServiceView → Type 0
 TakesAllOut setup [] old new = new ≡ old
-TakesAllOut setup (spec ∷ specs) old new = (between : ServiceView) × TakesOut setup spec.producer old between × TakesAllOut setup specs between new
+TakesAllOut setup (spec ∷ specs) old new = (between : ServiceView) × TakesOut setup spec.producer old between
+    × TakesAllOut setup specs between new
 
 -- A tale of all that a writer has begun: each chunk is complete and of its producer, and the service has looked so often since.
 pub record IsWholeTale (setup : Setup) (view : ServiceView) (tale : Tale) : Type 0 where

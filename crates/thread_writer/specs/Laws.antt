@@ -6,7 +6,8 @@ use Rattle.thread_writer.specs.declared.writer.TraceWriter.{TraceWriter}
 use Rattle.thread_writer.specs.Writing.{core_of, view_in, Writes}
 use Rattle.std.specs.Prelude.{◌+◌}
 
--- After any calls a writer has cut its packets into its chunks; where it holds none, the last one runs on exactly where its newest packet goes on.
+-- After any calls a writer has cut its packets into its chunks; where it holds none, the last one runs on exactly where its newest packet
+-- goes on.
 abbrev pub ThreadWriterIsCut : Type 0
 ThreadWriterIsCut = (table : HostTable) (writer : TraceWriter) → Writes table writer
     → let core = core_of writer in let place = core.seat.place in

@@ -1,4 +1,5 @@
--- A step of a writer's own is one on the same table, since a seat of the service would stay there: so a helper may be asked behind it as before.
+-- A step of a writer's own is one on the same table, since a seat of the service would stay there: so a helper may be asked behind it as
+-- before.
 use Rattle.std.proofs.Common.{◌≡◌, [], length, subst, sym, refl}
 use Rattle.atomic_table.specs.Seated.{TableId}
 use Rattle.chunk_plain.specs.Meaning.{IsWriterStep}
@@ -37,7 +38,8 @@ attends_there table seat = record {
 }
 
 -- a step of a writer's own leaves the lent table the same one
-pub step_stays : (old new : Shared) (seat after : WriterSeat) → IsWriterStep shared.means old seat new after → identity_of new.table.now ≡ identity_of old.table.now
+pub step_stays : (old new : Shared) (seat after : WriterSeat) → IsWriterStep shared.means old seat new after
+    → identity_of new.table.now ≡ identity_of old.table.now
 step_stays old new seat after step = sym (step.service_stays (a_service old.table.now seat) (attends_there old.table.now seat)).0.joined
 
 -- and a helper may be asked behind it as before

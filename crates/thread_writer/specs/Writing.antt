@@ -36,8 +36,8 @@ pub record Writes (table : HostTable) (writer : TraceWriter) : Type 0 where
   pub agrees : CoreAgrees (setup_in table) (core_of writer).seat.place (view_in writer) (core_of writer)
   pub policy_is : writer.policy ≡ (route_of (core_of writer)).spec.policy
 
--- A call that may ask the helper, over the lent table: what it leaves where it is refused, its answer where it isn't, and what it then did, as the
--- same call of a writer over any table. A writer that drops leaves its helper as it was.
+-- A call that may ask the helper, over the lent table: what it leaves where it is refused, its answer where it isn't, and what it then did,
+-- as the same call of a writer over any table. A writer that drops leaves its helper as it was.
 pub record IsCall {A H : Type 0} (helps : H → ℕ → Bool → H → Type 0) (of_table : H → TableId → Type 0) (table : Shared) (old new : WriterCore WriterSeat) (help left : Asks H) (steps later : ℕ)
     (answer : Result A CallFault) (reason : Option CallFault) (stopped : Bool) (noted : List Call) : Type 0 where
   -- the table as the call leaves it

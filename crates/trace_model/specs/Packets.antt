@@ -161,7 +161,8 @@ bodies_of calls = map body_of (reverse (kept_of (packets_of calls)))
 abbrev pub finished_encodings : List Packet → List (List ℕ)
 finished_encodings packets = map packet_encoding (filter (λ packet. packet.finished) packets)
 
--- what was emitted of these packets, the newest first: the encodings of the finished ones, dropped ones among them, in the order of their begins
+-- what was emitted of these packets, the newest first: the encodings of the finished ones, dropped ones among them, in the order of their
+-- begins
 abbrev pub emissions_in : List Packet → List (List ℕ)
 emissions_in packets = finished_encodings (reverse packets)
 

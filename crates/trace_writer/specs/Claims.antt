@@ -42,4 +42,5 @@ pub record KeepsClaims (setup : Setup) (place : ℕ) (view : WriterView) : Type 
   pub unstamped : view.stamped ≡ None
   pub own_asks : AreOwnAsks setup (producer_of setup place) view.asked
   pub own_chunks : AreOwnChunks setup (producer_of setup place) view.begun
-  pub vain : 0 < lost_count (packets_of view.calls) → (chunk : ℕ) → IsChunkOf setup (producer_of setup place) chunk → HasAsked view.asked chunk
+  pub vain : 0 < lost_count (packets_of view.calls) → (chunk : ℕ) → IsChunkOf setup (producer_of setup place) chunk
+      → HasAsked view.asked chunk

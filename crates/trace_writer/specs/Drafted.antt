@@ -15,8 +15,8 @@ pub record IsDrafted (draft : Draft) (count : ℕ) (continues : Bool) (done : Li
   pub bytes : (j : ℕ) → j < length (frames done) → byte_at draft.words j ≡ byte_in (frames done) j
   pub sealed : sealed_to draft.ends ≤ length (frames done)
 
--- A held chunk's payload begins with so many fragments, which end at this place or before. What is below `sealed` was published, and no finished
--- fragment ends behind that.
+-- A held chunk's payload begins with so many fragments, which end at this place or before. What is below `sealed` was published, and no
+-- finished fragment ends behind that.
 pub record IsFit (setup : Setup) (view : WriterView) (chunk : HeldChunk) (count to : ℕ) : Type 0 where
   pub holds : IsHolding view chunk.held.chunk chunk.held.id
   pub size : vec_len chunk.held.body.payload ≡ (spot setup chunk.held.chunk).payload_size

@@ -17,7 +17,8 @@ pub record LeavesOthers {T W S : Type 0} (means : Meaning T W S)
   pub setup_stays : means.setup new ≡ means.setup old
   pub seat_stays : means.sits new after
   pub place_stays : means.place after ≡ means.place seat
-  pub writers_stay : (other : W) → means.sits old other → means.place other ≢ means.place seat → means.sits new other × (means.view new other ≡ means.view old other)
+  pub writers_stay : (other : W) → means.sits old other → means.place other ≢ means.place seat
+      → means.sits new other × (means.view new other ≡ means.view old other)
 
 -- What a writer does for a call, with the helps that it asks for: silent steps, and for each further chunk the claims by which it
 -- gets one; only its last steps note calls. A writer that stalls asks for a help where it is out of chunks, and claims again

@@ -36,8 +36,8 @@ NothingIsKeptBack = (setup : Setup) (place : ℕ) (view : WriterView) (writer : 
     (held_images place writer.state))
     × NewestIsWhole (packets_of view.calls) cut.cut.pages
 
--- What is held stands in the table's words: the header has the count and the flags of this image, and the bytes of all its fragments but the last
--- one were published.
+-- What is held stands in the table's words: the header has the count and the flags of this image, and the bytes of all its fragments but
+-- the last one were published.
 pub record IsHeldImage (view : WriterView) (image : Image) : Type 0 where
   pub completed : List BegunChunk
   pub chunk : ℕ

@@ -31,7 +31,8 @@ StopsBehind Stalls old new before after call next_id = (new ≡ record old { sta
 
 -- a packet begins behind the last one, or stops at its begin
 abbrev pub GoesBehind : Writer → Writer → WriterView → WriterView → Call → Flow → Type 0
-GoesBehind old new before after call (flow.Going fragment) = (new ≡ record old { state = Writing fragment }) × (after ≡ notes_call before call)
+GoesBehind old new before after call (flow.Going fragment) = (new ≡ record old { state = Writing fragment })
+    × (after ≡ notes_call before call)
 GoesBehind old new before after call (flow.Stopped next_id) = StopsBehind old.route.spec.policy old new before after call next_id
 
 -- The images of a writer
@@ -80,8 +81,8 @@ abbrev pub newest_bytes : List Chain → List ℕ
 newest_bytes [] = []
 newest_bytes (chain ∷ older) = bytes_of chain.pieces
 
--- Unless the newest packet is lost, all that its writer was asked to write of it stands in the pages, with four bytes for each length that is
--- open.
+-- Unless the newest packet is lost, all that its writer was asked to write of it stands in the pages, with four bytes for each length that
+-- is open.
 abbrev pub NewestIsWhole : List Packet → List Page → Type 0
 NewestIsWhole [] pages = ⊤
 NewestIsWhole (packet ∷ older) pages = is_lost packet ≡ false → newest_bytes (chains_of pages) ≡ body_of packet

@@ -211,7 +211,8 @@ pub(crate) fn begin<W: Words, L: Ledger, H: HelperOn<W>>(
         × (is_stalled_state writer.new.state ≡ true)) }
     ensures done { is_stalled_state writer.old.state ≡ false
         → IsAsked W.means H.needs H.helps
-        writer.old.route help.old table.old seat.old steps.old (stops_with result) (begun_as (stops_with result) writer.old.route.spec.policy)
+        writer.old.route help.old table.old seat.old steps.old (stops_with result)
+        (begun_as (stops_with result) writer.old.route.spec.policy)
         (is_stalled_state writer.new.state) help.new table.new seat.new steps.new }
     ensures asked { BeginsHere writer.old.state → (W.means.view table.new seat.new).asked ≡ (W.means.view table.old seat.old).asked }
     ensures few_steps { writer.old.route.spec.policy ≡ Drops → steps.new ≤ steps.old + writer.old.route.arbiter.chunks + 1 }
@@ -285,7 +286,8 @@ fn begin_elsewhere<W: Words, L: Ledger, H: HelperOn<W>>(
         × (is_stalled_state writer.new.state ≡ true)) }
     ensures done { is_stalled_state writer.old.state ≡ false
         → IsAsked W.means H.needs H.helps
-        writer.old.route help.old table.old seat.old steps.old (stops_with result) (begun_as (stops_with result) writer.old.route.spec.policy)
+        writer.old.route help.old table.old seat.old steps.old (stops_with result)
+        (begun_as (stops_with result) writer.old.route.spec.policy)
         (is_stalled_state writer.new.state) help.new table.new seat.new steps.new }
     ensures asked { BeginsHere writer.old.state → (W.means.view table.new seat.new).asked ≡ (W.means.view table.old seat.old).asked }
     ensures few_steps { writer.old.route.spec.policy ≡ Drops → steps.new ≤ steps.old + writer.old.route.arbiter.chunks + 1 }

@@ -151,7 +151,9 @@ impl HeldChunk {
         requires head { head_at (W.means.view table.old seat.old) self.held.id ≡ held_head self.count self.continues }
         ensures pending { pending.new ≡ record pending.old { unsent = [] } }
         ensures view { W.means.view table.new seat.new ≡ completes (W.means.view table.old seat.old) self.held.chunk self.held.id
-            (completed_chunk (W.means.place seat.old) self.held.id self.count (flags_value self.continues runs_on (runs_on && is_among self.held.id (hole_chunks pending.old.holes))) self.held.body.payload.items (with_lasts (hole_chunks pending.old.holes) pending.old.unsent) buffer) }
+            (completed_chunk (W.means.place seat.old) self.held.id self.count
+            (flags_value self.continues runs_on (runs_on && is_among self.held.id (hole_chunks pending.old.holes)))
+            self.held.body.payload.items (with_lasts (hole_chunks pending.old.holes) pending.old.unsent) buffer) }
         ensures quiet { IsQuiet W.means table.old seat.old table.new seat.new }
     {
         let HeldChunk {

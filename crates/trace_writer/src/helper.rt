@@ -27,7 +27,8 @@ pub trait HelperOn<W: Words> {
         ensures leaves { LeavesWriters W.means table.old table.new };
 
     // a writer's steps leave what it needs
-    ghost needs_stay: { (helper : Self) (old new : W) (seat after : W.Writer) → IsWriterStep W.means old seat new after → needs helper old → needs helper new };
+    ghost needs_stay: { (helper : Self) (old new : W) (seat after : W.Writer) → IsWriterStep W.means old seat new after
+        → needs helper old → needs helper new };
 }
 
 /// Never frees a chunk. A writer that drops asks nobody.

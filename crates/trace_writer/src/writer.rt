@@ -101,7 +101,8 @@ impl<S> WriterCore<S> {
             → MatchResult result (λ _. is_stalled self.new ≡ false) (λ fault. (fault ≡ call_fault.Stalled) × (is_stalled self.new ≡ true)) }
         ensures done { refusal_of self.old None ≡ None →
             IsAsked W.means H.needs H.helps
-            (route_of self.old) help.old table.old self.old.seat steps.old (stops_with result) (begun_as (stops_with result) (route_of self.old).spec.policy)
+            (route_of self.old) help.old table.old self.old.seat steps.old (stops_with result)
+            (begun_as (stops_with result) (route_of self.old).spec.policy)
             (is_stalled self.new) help.new table.new self.new.seat steps.new }
         ensures asked { begins_here self.old → (W.means.view table.new self.new.seat).asked ≡ (W.means.view table.old self.old.seat).asked }
         ensures in_packet { IfOk result (λ _. in_packet (W.means.view table.new self.new.seat) ≡ true) }
@@ -144,7 +145,8 @@ impl<S> WriterCore<S> {
         ensures done { refusal_of self.old (field_fault (W.means.view table.old self.old.seat) field (length (number_field field value)))
             ≡ None → (stopped : Bool) ×
             IsAsked W.means H.needs H.helps
-            (route_of self.old) help.old table.old self.old.seat steps.old stopped (written_as stopped (route_of self.old).spec.policy (call.Number field value))
+            (route_of self.old) help.old table.old self.old.seat steps.old stopped
+            (written_as stopped (route_of self.old).spec.policy (call.Number field value))
             (is_stalled self.new) help.new table.new self.new.seat steps.new }
         ensures asked { FitsHere self.old (length (number_field field value))
             → (W.means.view table.new self.new.seat).asked ≡ (W.means.view table.old self.old.seat).asked }
@@ -199,7 +201,8 @@ impl<S> WriterCore<S> {
         ensures done { refusal_of self.old (field_fault (W.means.view table.old self.old.seat) field (bytes_size field times value.now))
             ≡ None → (stopped : Bool) ×
             IsAsked W.means H.needs H.helps
-            (route_of self.old) help.old table.old self.old.seat steps.old stopped (written_as stopped (route_of self.old).spec.policy (call.Bytes field value.now times))
+            (route_of self.old) help.old table.old self.old.seat steps.old stopped
+            (written_as stopped (route_of self.old).spec.policy (call.Bytes field value.now times))
             (is_stalled self.new) help.new table.new self.new.seat steps.new }
         ensures asked { FitsHere self.old (bytes_size field times value.now)
             → (W.means.view table.new self.new.seat).asked ≡ (W.means.view table.old self.old.seat).asked }
@@ -253,7 +256,8 @@ impl<S> WriterCore<S> {
             → MatchResult result (λ _. is_stalled self.new ≡ false) (λ fault. (fault ≡ call_fault.Stalled) × (is_stalled self.new ≡ true)) }
         ensures done { refusal_of self.old (nested_fault (W.means.view table.old self.old.seat) field) ≡ None → (stopped : Bool) ×
             IsAsked W.means H.needs H.helps
-            (route_of self.old) help.old table.old self.old.seat steps.old stopped (written_as stopped (route_of self.old).spec.policy (call.Nested field))
+            (route_of self.old) help.old table.old self.old.seat steps.old stopped
+            (written_as stopped (route_of self.old).spec.policy (call.Nested field))
             (is_stalled self.new) help.new table.new self.new.seat steps.new }
         ensures asked { FitsHere self.old (length (nested_tag field) + 4)
             → (W.means.view table.new self.new.seat).asked ≡ (W.means.view table.old self.old.seat).asked }

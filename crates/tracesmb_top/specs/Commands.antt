@@ -19,8 +19,9 @@ use Rattle.tracesmb_top.specs.Words.{ReadsInput, LeavesReport}
 abbrev pub IsGiven : Command → Option (List ℕ) → List ℕ → Type 0
 IsGiven command left given = ReadsInput command → IfSome left (λ told. given ≡ told)
 
--- The line says why the command refuses what it was given: `replay`, because of a scenario's first fault; `run`, because of that, or of its first
--- line that isn't for threads; `read`, because of a trace's; `check`, because of its scenario's or its trace's, or since it has no trace.
+-- The line says why the command refuses what it was given: `replay`, because of a scenario's first fault; `run`, because of that, or of its
+-- first line that isn't for threads; `read`, because of a trace's; `check`, because of its scenario's or its trace's, or since it has no
+-- trace.
 abbrev pub Refuses : Command → List ℕ → List ℕ → Type 0
 Refuses Replay given line = refusal_of given ≡ Some line
 Refuses Run given line = run_refusal_of given ≡ Some line

@@ -51,15 +51,15 @@ pub record IsForThreads (text : List ℕ) (parts : Parts) : Type 0 where
 
 -- ---- what a run does
 
--- The text is a scenario for threads, and was run to its end: the trace took the records of the account that its threads led to, and nothing else, and
--- these bytes are its report. The delivery theorem is in `Runs`.
+-- The text is a scenario for threads, and was run to its end: the trace took the records of the account that its threads led to, and
+-- nothing else, and these bytes are its report. The delivery theorem is in `Runs`.
 pub record IsRanBy (text : List ℕ) (old new : Intake) (report : List ℕ) : Type 0 where
   pub parts : Parts
   pub for_threads : IsForThreads text parts
   pub runs : Runs parts old new report
 
--- The trace took a front part of what a run writes that came to its end, or of what one writes up to a write that fails: in both the records are
--- faithful, and in the second a front part of one more record may stand behind them.
+-- The trace took a front part of what a run writes that came to its end, or of what one writes up to a write that fails: in both the
+-- records are faithful, and in the second a front part of one more record may stand behind them.
 pub record TakesSomeRun (scenario : Parts) (old new : Intake) : Type 0 where
   pub bytes : List ℕ
   pub would : ((report : List ℕ) × Runs scenario old (after_told old bytes) report) ⊎ FailsRun scenario old (after_told old bytes)
@@ -73,7 +73,8 @@ pub record IsRanShort (text : List ℕ) (old new : Intake) : Type 0 where
 
 -- ---- a trace that gathers short writes into long ones
 
--- What was run was handed to the trace, but for the bytes that still wait; after a fault of the trace, some of it was. No writer ends stalled.
+-- What was run was handed to the trace, but for the bytes that still wait; after a fault of the trace, some of it was. No writer ends
+-- stalled.
 abbrev pub GathersRun : Parts → Result Done HostFault → (old new : Intake) → (waits : List ℕ) → Type 0
 GathersRun scenario (Ok done) old new waits = HasRun scenario old (after_told new waits) done × IsGrown old new
 GathersRun scenario (Err stops.OutOfMemory) old new waits = new ≡ old

@@ -51,7 +51,8 @@ abbrev pub Gathers : Parts → Result Done HostFault → (old new : Intake) → 
 Gathers scenario (Ok done) old new waits = HasReplayed scenario old (after_told new waits) done × IsGrown old new
 Gathers scenario (Err stops.OutOfMemory) old new waits = new ≡ old
 Gathers scenario (Err stops.WriteFault) old new waits = TakesSome scenario old new
-Gathers scenario (Err (stops.Stalled writer)) old new waits = HasStopped scenario (stops.Stalled writer) old (after_told new waits) × IsGrown old new
+Gathers scenario (Err (stops.Stalled writer)) old new waits = HasStopped scenario (stops.Stalled writer) old (after_told new waits)
+    × IsGrown old new
 
 -- what was handed on of a replay in the end
 abbrev pub HasPlayed : Parts → Result Done HostFault → (old new : Intake) → Type 0
