@@ -1,6 +1,6 @@
 -- Behind a flush whose chunks came and were read, the outcome of each packet before it is fixed, and stays.
 use Rattle.std.proofs.Common.{◌≡◌, ◌∙◌, ℕ, zero, suc, ◌+◌, ◌<◌, ◌≤◌, ◌⊎◌, Bool, true, false, not, ◌&&◌, ◌||◌, List, [], ◌∷◌, ◌++◌, length, map, drop, Option, Some, None, refl, sym, ap, subst, arith, inl, inr, append_assoc, append-nil, length-append}
-use Rattle.std.specs.Prelude.{cond, ◌==◌, slice_get, is_some, MatchBool}
+use Rattle.std.specs.Prelude.{cond, ◌==◌, slice_get, is_some}
 use Rattle.std.proofs.lemmas.Bool.{false≢true, eq-eqb, cases_lt}
 use Rattle.std.proofs.lemmas.List.{length-map}
 use Rattle.std.proofs.lemmas.Option.{slice_get_within, same_Some, none-some}
@@ -18,13 +18,11 @@ use Rattle.trace_model.specs.Row.{Chain, CutOff, Link, Joined, Gap, Stop, Unpatc
 use Rattle.trace_model.specs.RowLaws.{Before}
 use Rattle.trace_model.specs.Written.{settled_fragments, settled_chunk, written_slots, written_row, chains_in, chains_of}
 use Rattle.trace_model.specs.Reads.{Dropped, delivered_by}
-use Rattle.trace_model.specs.History.{Event, event_sequence, Arrives, ArrivesInPart, Patched, Committed, Closed, Read, buffer_after, state_after, delivered_at, delivered_to}
+use Rattle.trace_model.specs.History.{Event, event_sequence, Read, buffer_after, state_after, delivered_at, delivered_to}
 use Rattle.trace_model.specs.Causes.{Outcome, Absent, Fixed, is_same_place, fixed_by, fixed_after, outcome_at}
 use Rattle.trace_model.proofs.CursorLemmas.{Each}
 use Rattle.trace_model.proofs.PageLemmas.{fragments_long, settled_long}
 use Rattle.delivery_laws.specs.Sheets.{Sheet, SheetsAgree, sheet_patches}
-use Rattle.delivery_laws.specs.Histories.{IsPart}
-use Rattle.delivery_laws.specs.Orders.{InOrder}
 use Rattle.delivery_laws.specs.WriterSheets.{sheet_of, sheets_from, sheets_of}
 use Rattle.delivery_laws.specs.DeliveryLaws.{IsAccountOf}
 use Rattle.delivery_laws.specs.FlushLaws.{fates_of, IsFlushed, AreSettled, EveryFlushIsSettled}
@@ -33,6 +31,7 @@ use Rattle.delivery_laws.proofs.RowWalks.{inside_first}
 use Rattle.delivery_laws.proofs.HistoryLemmas.{fresh_known}
 use Rattle.delivery_laws.proofs.WrittenPackets.{AreFull, are_full, sheets_agree, chains_have_heads}
 use Rattle.delivery_laws.proofs.EmissionLemmas.{record_bytes}
+use Rattle.delivery_laws.proofs.LimitLemmas.{read_further}
 use Rattle.delivery_laws.proofs.CompleteLemmas.{lasts_from, IsSheetOf, sheet_at, EachCompletes, each_completes}
 use Rattle.delivery_laws.proofs.OrderLemmas.{every_writer_is_told}
 use Rattle.delivery_laws.proofs.EnoughLemmas.{tells_few, emissions_few, zip_long}
@@ -222,55 +221,6 @@ fixed_parts q b (event ∷ xs) ys =
 
 -- ---- how many a read delivers
 
-module _ (sheets : List Sheet) (q limit : ℕ) (later : List Event) where
-  -- a read may end the history, with whatever limit
-  cut_short : (early : List Event) (come : ℕ) (closed : Bool) (due : List Patch) → InOrder sheets q come closed due (early ++ Read q limit ∷ later)
-      → InOrder sheets q come closed due (early ++ Read q (suc limit) ∷ [])
-  cut_short [] come closed due order = (order.0, refl)
-  cut_short (Arrives other chunk_id chunk ∷ early) come closed due order =
-      (order.0, by_same (other == q) order.1 (λ ps o. cut_short early (suc come) closed ps o) (λ o. cut_short early come closed [] o))
-    where
-      by_same : (x : Bool)
-          → MatchBool x ((closed ≡ false) × (chunk_id ≡ come) × (sheet : Sheet) × (slice_get sheets come ≡ Some sheet) × (chunk ≡ sheet.chunk)
-          × InOrder sheets q (suc come) closed sheet.patches (early ++ Read q limit ∷ later)) (InOrder sheets q come closed [] (early ++ Read q limit ∷ later))
-          → ((ps : List Patch) → InOrder sheets q (suc come) closed ps (early ++ Read q limit ∷ later) → InOrder sheets q (suc come) closed ps (early ++ Read q (suc limit) ∷ []))
-          → (InOrder sheets q come closed [] (early ++ Read q limit ∷ later) → InOrder sheets q come closed [] (early ++ Read q (suc limit) ∷ []))
-          → MatchBool x ((closed ≡ false) × (chunk_id ≡ come) × (sheet : Sheet) × (slice_get sheets come ≡ Some sheet) × (chunk ≡ sheet.chunk)
-          × InOrder sheets q (suc come) closed sheet.patches (early ++ Read q (suc limit) ∷ [])) (InOrder sheets q come closed [] (early ++ Read q (suc limit) ∷ []))
-      by_same true h here rest = (h.0, h.1, h.2, h.3, h.4, here h.2.patches h.5)
-      by_same false h here rest = rest h
-  cut_short (ArrivesInPart other chunk_id chunk ∷ early) come closed due order =
-      (order.0, by_same (other == q) order.1 (λ o. cut_short early come closed [] o))
-    where
-      by_same : (x : Bool)
-          → MatchBool x ((closed ≡ false) × (chunk_id ≡ come) × IsPart sheets come chunk × InOrder sheets q come closed [] (early ++ Read q limit ∷ later))
-          (InOrder sheets q come closed [] (early ++ Read q limit ∷ later))
-          → (InOrder sheets q come closed [] (early ++ Read q limit ∷ later) → InOrder sheets q come closed [] (early ++ Read q (suc limit) ∷ []))
-          → MatchBool x ((closed ≡ false) × (chunk_id ≡ come) × IsPart sheets come chunk × InOrder sheets q come closed [] (early ++ Read q (suc limit) ∷ []))
-          (InOrder sheets q come closed [] (early ++ Read q (suc limit) ∷ []))
-      by_same true h rest = (h.0, h.1, h.2, rest h.3)
-      by_same false h rest = rest h
-  cut_short (Patched other patches ∷ early) come closed due order = by_same (other == q) order (λ o. cut_short early come closed [] o)
-    where
-      by_same : (x : Bool)
-          → MatchBool x ((patches ≡ due) × InOrder sheets q come closed [] (early ++ Read q limit ∷ later)) ((due ≡ []) × InOrder sheets q come closed [] (early ++ Read q limit ∷ later))
-          → (InOrder sheets q come closed [] (early ++ Read q limit ∷ later) → InOrder sheets q come closed [] (early ++ Read q (suc limit) ∷ []))
-          → MatchBool x ((patches ≡ due) × InOrder sheets q come closed [] (early ++ Read q (suc limit) ∷ [])) ((due ≡ []) × InOrder sheets q come closed [] (early ++ Read q (suc limit) ∷ []))
-      by_same true h rest = (h.0, rest h.1)
-      by_same false h rest = (h.0, rest h.1)
-  cut_short (Committed image patches ∷ early) come closed due order = (order.0, order.1, cut_short early come closed [] order.2)
-  cut_short (Closed other ∷ early) come closed due order =
-      (order.0, by_same (other == q) order.1 (λ o. cut_short early come true [] o) (λ o. cut_short early come closed [] o))
-    where
-      by_same : (x : Bool)
-          → MatchBool x ((closed ≡ false) × InOrder sheets q come true [] (early ++ Read q limit ∷ later)) (InOrder sheets q come closed [] (early ++ Read q limit ∷ later))
-          → (InOrder sheets q come true [] (early ++ Read q limit ∷ later) → InOrder sheets q come true [] (early ++ Read q (suc limit) ∷ []))
-          → (InOrder sheets q come closed [] (early ++ Read q limit ∷ later) → InOrder sheets q come closed [] (early ++ Read q (suc limit) ∷ []))
-          → MatchBool x ((closed ≡ false) × InOrder sheets q come true [] (early ++ Read q (suc limit) ∷ [])) (InOrder sheets q come closed [] (early ++ Read q (suc limit) ∷ []))
-      by_same true h here rest = (h.0, here h.1)
-      by_same false h here rest = rest h
-  cut_short (Read other more ∷ early) come closed due order = (order.0, cut_short early come closed [] order.1)
-
 -- what the last read delivers is part of all that was
 last_few : (q n : ℕ) (early : List Event) (b : Buffer) → length (delivered_by (state_after b early) q n) ≤ length (delivered_to q b (early ++ Read q n ∷ []))
 last_few q n [] b =
@@ -425,7 +375,7 @@ every_flush_is_settled size calls pages room policy sequences q record_size earl
           cut = account.cut;
           known = account.known;
           start = account.start;
-          order = cut_short (sheets_of (newest_goes_on (packets_of calls)) pages) q limit later early 0 false [] account.order;
+          order = read_further (sheets_of (newest_goes_on (packets_of calls)) pages) q q limit (suc limit) later early 0 false [] account.order;
         } in
         let told = tells_few (emissions_of calls) q true 0 (map (record_bytes q) (delivered_to q (empty_buffer room policy sequences) (early ++ Read q (suc limit) ∷ [])))
         (every_writer_is_told size calls pages room policy sequences q record_size (early ++ Read q (suc limit) ∷ []) short) (omega arith) in

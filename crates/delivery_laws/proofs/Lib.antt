@@ -15,6 +15,7 @@ pub mod HistoryLemmas
 pub mod IdLemmas
 pub mod KeepLemmas
 pub mod KnownLemmas
+pub mod LimitLemmas
 pub mod LossLemmas
 pub mod OrderLemmas
 pub mod OutcomeLemmas

@@ -222,25 +222,26 @@ module _ (size place : ℕ) (view : WriterView) (held : List Image) (cut : HasCu
   order_events (Commit at ∷ notes) come closed due order =
       committed come closed due (flat_map (happened service) notes) (slice_get service.commits at) order.0 order.1 (order_events notes come closed [] order.2)
 
+  -- the records of whatever history its chunks come in order in tell of what the writer emitted
+  pub told_by : (setup : Setup) (buffers : List BufferSpec) (spec : WriterSpec) → slice_get setup.writers place ≡ Some spec
+      → (events : List Event) → Ordered 0 false [] events
+      → Tells (emissions_of view.calls) q (records_of q (records_after (first_buffers setup 1 buffers) events))
+  told_by setup buffers spec get events order = by_buffer (in_one setup place spec get 1 buffers)
+    where
+      by_buffer : IsOnce q (record_size (size_of setup spec.producer)) (first_buffers setup 1 buffers) ⊎ Without q (first_buffers setup 1 buffers)
+          → Tells (emissions_of view.calls) q (records_of q (records_after (first_buffers setup 1 buffers) events))
+      by_buffer (inl h) =
+          let account : IsAccountOf size view.calls pages h.sequences q (record_size (size_of setup spec.producer)) events =
+          record { possible = cut.possible; cut = cut.cut.cut; known = h.known; start = h.start; order = order } in
+          subst (Tells (emissions_of view.calls) q) (sym (once_writes q events (empty_buffer h.room h.policy h.sequences) (first_buffers setup 1 buffers) h.once))
+          (every_writer_is_told size view.calls pages h.room h.policy h.sequences q (record_size (size_of setup spec.producer)) events account)
+      by_buffer (inr none) = subst (Tells (emissions_of view.calls) q) (sym (without_writes q events (first_buffers setup 1 buffers) none)) tt
+
+  -- that of the service is one
   pub told_of : (setup : Setup) (buffers : List BufferSpec) (spec : WriterSpec) → slice_get setup.writers place ≡ Some spec
       → InOrder (all_images view held) service q 0 false [] service.events
       → Tells (emissions_of view.calls) q (records_of q (records_after (first_buffers setup 1 buffers) (history_of service)))
-  told_of setup buffers spec get order = by_buffer (in_one setup place spec get 1 buffers)
-    where
-      by_buffer : IsOnce q (record_size (size_of setup spec.producer)) (first_buffers setup 1 buffers) ⊎ Without q (first_buffers setup 1 buffers)
-          → Tells (emissions_of view.calls) q (records_of q (records_after (first_buffers setup 1 buffers) (history_of service)))
-      by_buffer (inl h) =
-          let account : IsAccountOf size view.calls pages h.sequences q (record_size (size_of setup spec.producer)) (history_of service) = record {
-            possible = cut.possible;
-            cut = cut.cut.cut;
-            known = h.known;
-            start = h.start;
-            order = order_events service.events 0 false [] order;
-          } in
-          subst (Tells (emissions_of view.calls) q) (sym (once_writes q (history_of service) (empty_buffer h.room h.policy h.sequences) (first_buffers setup 1 buffers) h.once))
-          (every_writer_is_told size view.calls pages h.room h.policy h.sequences q (record_size (size_of setup spec.producer)) (history_of service) account)
-      by_buffer (inr none) =
-          subst (Tells (emissions_of view.calls) q) (sym (without_writes q (history_of service) (first_buffers setup 1 buffers) none)) tt
+  told_of setup buffers spec get order = told_by setup buffers spec get (history_of service) (order_events service.events 0 false [] order)
 
 no_spec : WriterSpec
 no_spec = record { producer = 0; buffer = 0; policy = Drops }

@@ -1,7 +1,8 @@
 -- The first buffers: the sequence of a writer is in one of them, or in none.
-use Rattle.std.proofs.Common.{◌≡◌, ◌∙◌, ℕ, zero, suc, ◌+◌, ◌<◌, ◌≤◌, ◌⊎◌, Bool, true, false, ◌||◌, List, [], ◌∷◌, length, Some, refl, ap, subst, arith, inl, inr}
+use Rattle.std.proofs.Common.{◌≡◌, ◌∙◌, ℕ, zero, suc, ◌+◌, ◌-◌, ◌<◌, ◌≤◌, ◌⊎◌, Bool, true, false, ◌||◌, List, [], ◌∷◌, length, Some, refl, ap, subst, arith, inl, inr}
 use Rattle.std.specs.Prelude.{cond, ◌==◌, slice_get}
-use Rattle.std.proofs.lemmas.Bool.{false≢true, eqb-true, eq-eqb, ne_eqb}
+use Rattle.std.proofs.lemmas.Bool.{false≢true, cases_lt, eqb-true, eq-eqb, ne_eqb}
+use Rattle.trace_base.proofs.Lists.{some_there}
 use Rattle.trace_base.specs.declared.policy.FullPolicy.{FullPolicy}
 use Rattle.trace_base.specs.declared.policy.WriterSpec.{WriterSpec}
 use Rattle.page_geometry.specs.Sizes.{record_size}
@@ -9,7 +10,7 @@ use Rattle.trace_model.specs.Sequences.{Sequence, fresh, sequence_in, is_known}
 use Rattle.trace_model.specs.Buffers.{Buffer, empty_buffer}
 use Rattle.chunk_plain.specs.Setup.{Setup, size_of}
 use Rattle.world_model.specs.FirstBuffers.{BufferSpec, sequences_from, first_buffers}
-use Rattle.world_model.proofs.ProjectLemmas.{Without, Once, Only}
+use Rattle.world_model.proofs.ProjectLemmas.{Without, Once, Only, without_other}
 
 -- the sequence is one of so many writers, of which the first has this place
 abbrev pub IsAmong : (place count q : ℕ) → Type 0
@@ -141,3 +142,29 @@ module _ (setup : Setup) (place : ℕ) (spec : WriterSpec) (get : slice_get setu
 pub only_writers : (setup : Setup) (n : ℕ) (buffers : List BufferSpec) → Only (λ s. (2 ≤ s) × (s < length setup.writers + 2)) (first_buffers setup n buffers)
 only_writers setup n [] = tt
 only_writers setup n (buffer ∷ buffers) = ((λ s known. let range = known_range setup n 0 setup.writers s known in let low = range.0 in let high = range.1 in (omega (arith, low), omega (arith, high))), only_writers setup (suc n) buffers)
+
+-- each sequence is in one buffer, or in none
+pub once_or_none : (setup : Setup) (buffers : List BufferSpec) (q : ℕ)
+    → ((b : Buffer) × Once q b (first_buffers setup 1 buffers)) ⊎ Without q (first_buffers setup 1 buffers)
+once_or_none setup buffers q = by_low (cases_lt q 2)
+  where
+    none_here : (((2 ≤ q) × (q < length setup.writers + 2)) → ⊥) → Without q (first_buffers setup 1 buffers)
+    none_here = without_other (λ s. (2 ≤ s) × (s < length setup.writers + 2)) (first_buffers setup 1 buffers) (only_writers setup 1 buffers) q
+
+    by_place : (place size : ℕ) → place + 2 ≡ q → IsOnce (place + 2) size (first_buffers setup 1 buffers) ⊎ Without (place + 2) (first_buffers setup 1 buffers)
+        → ((b : Buffer) × Once q b (first_buffers setup 1 buffers)) ⊎ Without q (first_buffers setup 1 buffers)
+    by_place place size same (inl one) =
+        let b = empty_buffer one.room one.policy one.sequences in
+        inl (b, subst (λ (n : ℕ). Once n b (first_buffers setup 1 buffers)) same one.once)
+    by_place place size same (inr none) = inr (subst (λ (n : ℕ). Without n (first_buffers setup 1 buffers)) same none)
+
+    by_high : 2 ≤ q → (q < length setup.writers + 2) ⊎ (length setup.writers + 2 ≤ q)
+        → ((b : Buffer) × Once q b (first_buffers setup 1 buffers)) ⊎ Without q (first_buffers setup 1 buffers)
+    by_high least (inl high) =
+        let there = some_there setup.writers (q - 2) (omega (arith, least, high)) in
+        by_place (q - 2) (record_size (size_of setup there.0.producer)) (omega (arith, least)) (in_one setup (q - 2) there.0 there.1 1 buffers)
+    by_high least (inr high) = inr (none_here (λ range. let most = range.1 in omega (arith, most, high)))
+
+    by_low : (q < 2) ⊎ (2 ≤ q) → ((b : Buffer) × Once q b (first_buffers setup 1 buffers)) ⊎ Without q (first_buffers setup 1 buffers)
+    by_low (inl low) = inr (none_here (λ range. let least = range.0 in omega (arith, low, least)))
+    by_low (inr least) = by_high least (cases_lt q (length setup.writers + 2))

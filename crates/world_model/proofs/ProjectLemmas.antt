@@ -1,17 +1,20 @@
 -- What all buffers write of a sequence is what the one that has it delivers.
-use Rattle.std.proofs.Common.{◌≡◌, ◌∙◌, ℕ, ◌⊎◌, Bool, true, false, All, List, [], ◌∷◌, ◌++◌, map, refl, sym, ap, subst, inl, inr}
+use Rattle.std.proofs.Common.{◌≡◌, ◌∙◌, ℕ, suc, ◌+◌, ◌⊎◌, Bool, true, false, All, List, [], ◌∷◌, ◌++◌, length, map, take, refl, sym, ap, subst, arith, inl, inr, append-nil, length-append}
 use Rattle.std.specs.Prelude.{cond, ◌==◌, filter}
 use Rattle.std.specs.List.{flat_map}
-use Rattle.std.proofs.lemmas.Bool.{eqb-true, eq-eqb}
-use Rattle.std.proofs.lemmas.List.{map-append}
+use Rattle.std.proofs.lemmas.Bool.{eqb-true, eq-eqb, false_from_ne_true}
+use Rattle.std.proofs.lemmas.List.{length-map, map-append, take-map}
 use Rattle.std.proofs.lemmas.List.Elements.{filter-append, All-nil, All-cons, All-append}
-use Rattle.trace_model.specs.Sequences.{is_known}
+use Rattle.std.proofs.Math.Seq.{take-append-add}
+use Rattle.trace_model.specs.Sequences.{is_known, sequence_in}
 use Rattle.trace_model.specs.Buffers.{Buffer}
-use Rattle.trace_model.specs.Reads.{Delivery, delivered_by}
+use Rattle.trace_model.specs.Reads.{Delivery, delivered_by, is_marked}
+use Rattle.trace_model.specs.Row.{row_from_cursor}
 use Rattle.trace_model.specs.Record.{record_of}
 use Rattle.trace_model.specs.Delivery.{Delivered, records_of}
-use Rattle.trace_model.specs.History.{Event, Arrives, ArrivesInPart, Patched, Committed, Closed, Read, buffer_after, delivered_at, delivered_to, record_in, records_at, records_after}
+use Rattle.trace_model.specs.History.{Event, Arrives, ArrivesInPart, Patched, Committed, Closed, Read, buffer_after, buffers_after, delivered_at, delivered_to, record_in, records_at, records_after, state_after}
 use Rattle.delivery_laws.proofs.AskLemmas.{known_after}
+use Rattle.delivery_laws.proofs.LimitLemmas.{delivered_within, fewer_delivered}
 
 -- no buffer has the sequence
 abbrev pub Without : ℕ → List Buffer → Type 0
@@ -71,22 +74,20 @@ read_without q limit [] h = refl
 read_without q limit (b ∷ bs) h =
     ap (λ (xs : List Delivered). xs ++ flat_map (written_by q limit) bs) (unknown_writes q limit b h.0) ∙ read_without q limit bs h.1
 
+-- what a read writes is what the one buffer delivers that has the sequence
+written_once : (q limit : ℕ) (b : Buffer) (bs : List Buffer) → Once q b bs → flat_map (written_by q limit) bs ≡ map (record_in q) (delivered_by b q limit)
+written_once q limit b [] h = absurd h
+written_once q limit b (x ∷ xs) (inl h) =
+    ap (λ (y : Buffer). written_by q limit y ++ flat_map (written_by q limit) xs) h.0
+    ∙ ap (λ (ys : List Delivered). written_by q limit b ++ ys) (read_without q limit xs h.2)
+    ∙ append-nil (written_by q limit b)
+    ∙ known_writes q limit b h.1
+written_once q limit b (x ∷ xs) (inr h) =
+    ap (λ (ys : List Delivered). ys ++ flat_map (written_by q limit) xs) (unknown_writes q limit x h.0)
+    ∙ written_once q limit b xs h.1
+
 read_once : (q limit : ℕ) (b : Buffer) (bs : List Buffer) → Once q b bs → records_of q (flat_map (written_by q limit) bs) ≡ told q (delivered_by b q limit)
-read_once q limit b [] h = absurd h
-read_once q limit b (x ∷ xs) (inl h) =
-    ap (λ (y : Buffer). records_of q (written_by q limit y ++ flat_map (written_by q limit) xs)) h.0
-    ∙ ap (λ (ys : List Delivered). records_of q (written_by q limit b ++ ys)) (read_without q limit xs h.2)
-    ∙ records_append q (written_by q limit b) []
-    ∙ append_none (records_of q (written_by q limit b))
-    ∙ ap (records_of q) (known_writes q limit b h.1)
-    ∙ recorded q (delivered_by b q limit)
-  where
-    append_none : (xs : List (List ℕ)) → xs ++ [] ≡ xs
-    append_none [] = refl
-    append_none (y ∷ ys) = ap (λ (zs : List (List ℕ)). y ∷ zs) (append_none ys)
-read_once q limit b (x ∷ xs) (inr h) =
-    ap (λ (ys : List Delivered). records_of q (ys ++ flat_map (written_by q limit) xs)) (unknown_writes q limit x h.0)
-    ∙ read_once q limit b xs h.1
+read_once q limit b bs once = ap (records_of q) (written_once q limit b bs once) ∙ recorded q (delivered_by b q limit)
 
 once_at : (q : ℕ) (b : Buffer) (bs : List Buffer) (event : Event) → Once q b bs → records_of q (records_at bs event) ≡ told q (delivered_at q b event)
 once_at q b bs (Arrives s chunk_id chunk) once = refl
@@ -147,6 +148,12 @@ module _ (Mine : ℕ → Type 0) where
   Only [] = Unit {0}
   Only (b ∷ bs) = ((s : ℕ) → is_known b.sequences s ≡ true → Mine s) × Only bs
 
+  -- so none has one of another kind
+  pub without_other : (bs : List Buffer) → Only bs → (q : ℕ) → (Mine q → ⊥) → Without q bs
+  without_other [] only q other = tt
+  without_other (b ∷ bs) only q other =
+      (false_from_ne_true (is_known b.sequences q) (λ known. other (only.0 q known)), without_other bs only.1 q other)
+
   abbrev IsMine : Delivered → Type 0
   IsMine d = Mine d.sequence
 
@@ -180,3 +187,54 @@ module _ (Mine : ℕ → Type 0) where
   all_mine (event ∷ events) bs only =
       let later : List Buffer = map (λ (b : Buffer). buffer_after b event) bs in
       All-append IsMine (records_at bs event) (records_after later events) (at_mine bs event only) (all_mine events later (only_after bs event only))
+
+-- ---- a read that ended before a record
+
+known_later : (events : List Event) (b : Buffer) (q : ℕ) → is_known (state_after b events).sequences q ≡ is_known b.sequences q
+known_later [] b q = refl
+known_later (event ∷ events) b q = known_later events (buffer_after b event) q ∙ known_after b event q
+
+without_later : (q : ℕ) (events : List Event) (bs : List Buffer) → Without q bs → Without q (buffers_after bs events)
+without_later q events [] none = tt
+without_later q events (b ∷ bs) none = (known_later events b q ∙ none.0, without_later q events bs none.1)
+
+once_later : (q : ℕ) (events : List Event) (b : Buffer) (bs : List Buffer) → Once q b bs → Once q (state_after b events) (buffers_after bs events)
+once_later q events b [] once = absurd once
+once_later q events b (x ∷ xs) (inl h) =
+    inl (ap (λ (y : Buffer). state_after y events) h.0, known_later events b q ∙ h.1, without_later q events xs h.2)
+once_later q events b (x ∷ xs) (inr h) = inr (known_later events x q ∙ h.0, once_later q events b xs h.1)
+
+-- a limit of one more would have written the next record, and nothing else
+next_of_one : (q count left : ℕ) (b : Buffer) (bs : List Buffer) (next : Delivered) (later : List Delivered) → Once q b bs
+    → records_at bs (Read q left) ≡ records_at bs (Read q count) ++ next ∷ later → length (records_at bs (Read q count)) ≡ count
+    → records_at bs (Read q (suc count)) ≡ records_at bs (Read q count) ++ next ∷ []
+next_of_one q count left b bs next later once due many =
+    let marked = is_marked (sequence_in b.sequences q) in
+    let row = row_from_cursor b (sequence_in b.sequences q) in
+    let written = records_at bs (Read q count) in
+    let whole : map (record_in q) (delivered_by b q left) ≡ written ++ next ∷ later = sym (written_once q left b bs once) ∙ due in
+    let long : length (delivered_by b q left) ≡ length (written ++ next ∷ later) =
+    sym (length-map (delivered_by b q left) (record_in q)) ∙ ap (λ (ds : List Delivered). length ds) whole in
+    let both = length-append written (next ∷ later) in
+    let few = delivered_within marked left row in
+    let place : suc count ≡ length written + 1 = omega (arith, many) in
+    written_once q (suc count) b bs once
+    ∙ ap (map (record_in q)) (fewer_delivered row marked (suc count) left (omega (arith, long, both, few, many)))
+    ∙ sym (take-map (record_in q) (suc count) (delivered_by b q left))
+    ∙ ap (take (suc count)) whole
+    ∙ ap (λ (n : ℕ). take n (written ++ next ∷ later)) place
+    ∙ take-append-add written (next ∷ later) 1
+
+-- so a history whose last read ended before a record writes this record next, where that read goes one packet further
+pub next_written : (q count left : ℕ) (early : List Event) (bs : List Buffer) (next : Delivered) (later : List Delivered)
+    → ((b : Buffer) × Once q b bs) ⊎ Without q bs
+    → records_at (buffers_after bs early) (Read q left) ≡ records_at (buffers_after bs early) (Read q count) ++ next ∷ later
+    → length (records_at (buffers_after bs early) (Read q count)) ≡ count
+    → records_at (buffers_after bs early) (Read q (suc count)) ≡ records_at (buffers_after bs early) (Read q count) ++ next ∷ []
+next_written q count left early bs next later (inl one) due many =
+    next_of_one q count left (state_after one.0 early) (buffers_after bs early) next later (once_later q early one.0 bs one.1) due many
+next_written q count left early bs next later (inr none) due many =
+    let written = records_at (buffers_after bs early) (Read q count) in
+    let long = ap (λ (ds : List Delivered). length ds) (sym (read_without q left (buffers_after bs early) (without_later q early bs none)) ∙ due) in
+    let both = length-append written (next ∷ later) in
+    absurd (omega (arith, long, both))
