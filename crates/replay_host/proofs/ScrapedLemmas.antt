@@ -11,7 +11,8 @@ use Rattle.trace_writer.specs.Claims.{AreOwnChunks}
 use Rattle.service_core.specs.declared.service.ServiceCore.{ServiceCore}
 use Rattle.service_core.specs.Agreement.{AreKnownNotes, KeepsRest, ServiceAgrees, first_of}
 use Rattle.service_core.specs.Scraping.{HoldsOwn, ScrapesEach, ScrapesOne, ScrapesWorld, TakesAndScrapes, parts_held}
-use Rattle.service_core.specs.Taking.{Takes, looked, noted_more, places_of}
+use Rattle.service_core.specs.Looking.{looked}
+use Rattle.service_core.specs.Taking.{Takes, noted_more, places_of}
 use Rattle.service_core.proofs.AgreeLemmas.{first_stays}
 use Rattle.service_core.proofs.CloseLemmas.{noted_grows}
 use Rattle.service_core.proofs.TakingLemmas.{looked_grows}

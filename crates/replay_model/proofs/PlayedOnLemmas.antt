@@ -22,7 +22,8 @@ use Rattle.service_core.specs.Order.{Stage, LeadTo}
 use Rattle.service_core.specs.Reading.{noted_read, reads_in}
 use Rattle.service_core.specs.Closing.{closes_of}
 use Rattle.service_core.specs.Scraping.{parts_held}
-use Rattle.service_core.specs.Taking.{Takes, TakesOf, looked, places_of}
+use Rattle.service_core.specs.Looking.{looked}
+use Rattle.service_core.specs.Taking.{Takes, TakesOf, places_of}
 use Rattle.service_core.proofs.CloseLemmas.{noted_grows}
 use Rattle.service_core.proofs.HistoryLemmas.{Grows}
 use Rattle.service_core.proofs.TakingLemmas.{took_grows, looked_grows}

@@ -14,7 +14,8 @@ use Rattle.chunk_plain.specs.Owned.{held_count}
 use Rattle.world_model.proofs.PartLemmas.{looked as as_looked}
 use Rattle.service_core.specs.Agreement.{AreKnownNotes}
 use Rattle.service_core.specs.Order.{IsFoundPart, LeadTo}
-use Rattle.service_core.specs.Taking.{places_of, looked, noted_more}
+use Rattle.service_core.specs.Looking.{looked}
+use Rattle.service_core.specs.Taking.{places_of, noted_more}
 use Rattle.service_core.proofs.HistoryLemmas.{Grows, found_more}
 use Rattle.service_core.proofs.OrderLemmas.{lead_both}
 use Rattle.service_core.specs.Scraping.{part_of_entry, part_held, parts_held}

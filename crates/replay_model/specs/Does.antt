@@ -26,7 +26,8 @@ use Rattle.service_core.specs.Agreement.{spec_at, AreKnownNotes}
 use Rattle.service_core.specs.Closing.{TakesAndCloses}
 use Rattle.service_core.specs.Reading.{reads_in, noted_read}
 use Rattle.service_core.specs.Scraping.{parts_held}
-use Rattle.service_core.specs.Taking.{Takes, places_of, looked, noted_more}
+use Rattle.service_core.specs.Looking.{looked}
+use Rattle.service_core.specs.Taking.{Takes, places_of, noted_more}
 use Rattle.service_core.specs.Told.{NoneLeft}
 use Rattle.replay_model.specs.Acts.{Act, Ask, Request, Answer, Collect, Scrape, CloseProducer, ReadAll}
 

@@ -20,7 +20,8 @@ use Rattle.service_core.specs.declared.service.ServiceCore.{ServiceCore}
 use Rattle.service_core.specs.Routing.{arrivals_of, is_closed_at}
 use Rattle.service_core.specs.Order.{Stage, LeadTo, beginning}
 use Rattle.service_core.specs.Agreement.{IsRouted, AreKnownNotes, NoneCommitted, buffer_of, ServiceAgrees, KeepsFields, KeepsRest, KeepsTaking, is_closed, first_of, spec_value}
-use Rattle.service_core.specs.Taking.{patched_where, takings, looked, taken_more, took}
+use Rattle.service_core.specs.Looking.{looked}
+use Rattle.service_core.specs.Taking.{patched_where, takings, taken_more, took}
 use Rattle.service_core.proofs.HistoryLemmas.{Grows, all_known_grow, known_append, history_stays}
 use Rattle.service_core.proofs.TakingLemmas.{taken_here, taken_other, took_grows, looked_grows, last_content}
 use Rattle.std.proofs.lemmas.Bool.{cases_eq}

@@ -1,87 +1,18 @@
--- Looks and takings one after another.
-use Rattle.std.proofs.Common.{◌≡◌, ◌≢◌, ◌∙◌, ℕ, suc, ◌+◌, ◌<◌, ◌≤◌, ◌⊎◌, Bool, true, false, List, [], ◌∷◌, ◌++◌, length, set, take, refl, sym, ap, subst, arith, append-nil, append_assoc, length-append, length-take-le, inl, inr}
+-- Takings one after another, and behind looks.
+use Rattle.std.proofs.Common.{◌≡◌, ◌≢◌, ◌∙◌, ℕ, suc, ◌+◌, ◌<◌, Bool, true, false, List, [], ◌∷◌, ◌++◌, length, set, take, refl, sym, ap, subst, arith, append-nil, append_assoc, length-append, length-take-le, inl, inr}
 use Rattle.std.specs.Prelude.{cond, ◌==◌}
 use Rattle.std.proofs.lemmas.List.{set-set, set-get_or, take_more}
-use Rattle.std.proofs.lemmas.Bool.{cases_eq, cases_lt, eq-eqb, ne_eqb}
-use Rattle.trace_base.proofs.Lists.{get_more, get_behind}
+use Rattle.std.proofs.lemmas.Bool.{eq-eqb, ne_eqb}
 use Rattle.trace_base.specs.declared.policy.WriterSpec.{WriterSpec}
-use Rattle.chunk_plain.specs.Setup.{Setup, range_of, producer_of, id_at}
+use Rattle.chunk_plain.specs.Setup.{Setup}
 use Rattle.chunk_plain.specs.Views.{Content, Look, Taken, none_taken, Noted, Arrive, ServiceView, taken_of}
 use Rattle.service_core.specs.Agreement.{spec_at, no_writer}
-use Rattle.service_core.specs.Taking.{patched_where, takings, looked, taken_more, took, IsOther, ShowsOther, SeesOther, TakesOf, Takes, places_of, IsRange, TakesNext, SeesNone, SeesNoneOf, TakesSome}
+use Rattle.service_core.specs.Looking.{looked}
+use Rattle.service_core.specs.Taking.{patched_where, takings, taken_more, took, IsOther, ShowsOther, TakesOf, Takes, places_of, TakesNext, SeesNone, SeesNoneOf, TakesSome}
+use Rattle.service_core.proofs.LookLemmas.{shows_right}
 use Rattle.service_core.proofs.TakingLemmas.{taken_here}
 
-pub shows_left : (setup : Setup) (place count chunk : ℕ) (looks more : List Look) → ShowsOther setup place count chunk looks → ShowsOther setup place count chunk (looks ++ more)
-shows_left setup place count chunk looks more s =
-    record { n = s.n; look = s.look; at = get_more looks more s.n s.look s.at; chunk_is = s.chunk_is; since = s.since; shows = s.shows }
-
-shows_right : (setup : Setup) (place count chunk : ℕ) (before looks : List Look) → ShowsOther setup place count chunk looks → ShowsOther setup place count chunk (before ++ looks)
-shows_right setup place count chunk before looks s =
-    record { n = length before + s.n; look = s.look; at = get_behind before looks s.n s.look s.at; chunk_is = s.chunk_is; since = s.since; shows = s.shows }
-
--- Chunk by chunk
-
-pub sees_none_yet : (setup : Setup) (place first : ℕ) (view : ServiceView) → SeesNoneOf setup place first first view view
-sees_none_yet setup place first view = record {
-  looks = [];
-  view = ap (λ (l : List Look). record view { looks = l }) (sym (append-nil view.looks));
-  none = λ chunk least below. absurd (omega arith);
-}
-
-pub sees_more : (setup : Setup) (place first chunk : ℕ) (old mid new : ServiceView) → SeesNoneOf setup place first chunk old mid → SeesOther setup place chunk mid new
-    → SeesNoneOf setup place first (chunk + 1) old new
-sees_more setup place first chunk old mid new seen other =
-    let count_is : (taken_of mid place).count ≡ (taken_of old place).count = ap (λ (v : ServiceView). (taken_of v place).count) seen.view in
-    record {
-      looks = seen.looks ++ other.look ∷ [];
-      view = other.view ∙ ap (λ (v : ServiceView). looked v (other.look ∷ [])) seen.view
-          ∙ ap (λ (l : List Look). record old { looks = l }) (append_assoc old.looks seen.looks (other.look ∷ []));
-      none = λ c least below. by_chunk c least below count_is (cases_eq c chunk);
-    }
-  where
-    by_chunk : (c : ℕ) → first ≤ c → c < chunk + 1 → (taken_of mid place).count ≡ (taken_of old place).count → (c ≡ chunk) ⊎ (c ≡ chunk → ⊥)
-        → ShowsOther setup place (taken_of old place).count c (seen.looks ++ other.look ∷ [])
-    by_chunk c least below count_is (inl same) =
-        shows_right setup place (taken_of old place).count c seen.looks (other.look ∷ []) (record {
-          n = 0;
-          look = other.look;
-          at = refl;
-          chunk_is = other.chunk_is ∙ sym same;
-          since = other.since ∙ count_is;
-          shows = subst (λ (n : ℕ). IsOther setup place (id_at setup place n) other.look) count_is other.shows;
-        })
-    by_chunk c least below count_is (inr differs) =
-        shows_left setup place (taken_of old place).count c seen.looks (other.look ∷ []) (seen.none c least (omega (arith, below, differs)))
-
-pub sees_none : (setup : Setup) (place first count : ℕ) (old new : ServiceView) → IsRange (range_of setup (producer_of setup place)) first count
-    → SeesNoneOf setup place first (first + count) old new → SeesNone setup place old new
-sees_none setup place first count old new range seen =
-    let low = range.first_is in
-    let many = range.count_is in
-    record {
-      looks = seen.looks;
-      view = seen.view;
-      none = λ chunk is. let least = is.least in let below = is.below in seen.none chunk (omega (arith, low, least)) (omega (arith, low, many, below));
-    }
-
--- one stretch of chunks behind another
-pub sees_none_both : (setup : Setup) (place first middle last : ℕ) (old mid new : ServiceView) → SeesNoneOf setup place middle last old mid → SeesNoneOf setup place first middle mid new
-    → SeesNoneOf setup place first last old new
-sees_none_both setup place first middle last old mid new high low =
-    let count_is : (taken_of mid place).count ≡ (taken_of old place).count = ap (λ (v : ServiceView). (taken_of v place).count) high.view in
-    record {
-      looks = high.looks ++ low.looks;
-      view = low.view ∙ ap (λ (v : ServiceView). looked v low.looks) high.view ∙ ap (λ (l : List Look). record old { looks = l }) (append_assoc old.looks high.looks low.looks);
-      none = λ chunk least below. by_place chunk least below count_is (cases_lt chunk middle);
-    }
-  where
-    by_place : (chunk : ℕ) → first ≤ chunk → chunk < last → (taken_of mid place).count ≡ (taken_of old place).count → (chunk < middle) ⊎ (middle ≤ chunk)
-        → ShowsOther setup place (taken_of old place).count chunk (high.looks ++ low.looks)
-    by_place chunk least below count_is (inr behind) =
-        shows_left setup place (taken_of old place).count chunk high.looks low.looks (high.none chunk behind below)
-    by_place chunk least below count_is (inl before) =
-        shows_right setup place (taken_of old place).count chunk high.looks low.looks
-        (subst (λ (n : ℕ). ShowsOther setup place n chunk low.looks) count_is (low.none chunk least before))
+-- Behind looks that found none
 
 pub takes_behind : (setup : Setup) (place first last : ℕ) (old mid new : ServiceView) → SeesNoneOf setup place first last old mid → TakesNext place mid new → TakesNext place old new
 takes_behind setup place first last old mid new seen next = record {
@@ -156,7 +87,7 @@ takes_until setup place taken old mid new some none =
       view = none.view ∙ ap (λ (v : ServiceView). looked v none.looks) some.view
           ∙ ap (λ (l : List Look). record (took old place some.looks some.contents) { looks = l }) (append_assoc old.looks some.looks none.looks);
       leaves = inr (inl (λ chunk is. subst (λ (n : ℕ). ShowsOther setup place n chunk (some.looks ++ none.looks)) count_is
-          (shows_right setup place (taken_of mid place).count chunk some.looks none.looks (none.none chunk is))));
+          (shows_right IsOther setup place (taken_of mid place).count chunk some.looks none.looks (none.each chunk is))));
     }
 
 -- Writer by writer

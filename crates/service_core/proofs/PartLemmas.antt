@@ -1,20 +1,20 @@
 -- Looks for parts of chunks, one after another.
-use Rattle.std.proofs.Common.{◌≡◌, ◌∙◌, ℕ, ◌+◌, ◌%◌, ◌^◌, ◌<◌, ◌≤◌, ◌⊎◌, List, [], ◌∷◌, ◌++◌, length, Some, refl, sym, ap, subst, arith, inl, inr, append_assoc, append-nil}
-use Rattle.std.proofs.lemmas.Bool.{cases_eq}
-use Rattle.trace_base.proofs.Lists.{get_more, get_behind}
+use Rattle.std.proofs.Common.{◌≡◌, ◌∙◌, ℕ, ◌+◌, ◌%◌, ◌^◌, ◌<◌, List, [], ◌∷◌, ◌++◌, length, Some, refl, sym, ap, subst, arith, inl, inr, append_assoc}
+use Rattle.trace_base.proofs.Lists.{get_behind}
 use Rattle.page_geometry.specs.declared.chunk_state.ChunkState.TheVariants.{BeingWritten}
 use Rattle.page_geometry.specs.PageBits.{HasState}
 use Rattle.page_geometry.specs.Header.{packed}
 use Rattle.chunk_plain.specs.declared.tokens.Seen.{Seen}
-use Rattle.chunk_plain.specs.Setup.{Setup, spot, range_of, producer_of, id_at}
+use Rattle.chunk_plain.specs.Setup.{Setup, spot}
 use Rattle.chunk_plain.specs.Views.{At, Head, Look, Noted, Partial, ServiceView, taken_of}
 use Rattle.chunk_plain.specs.Histories.{found_among}
 use Rattle.chunk_plain.specs.Steps.{taken_counts}
 use Rattle.chunk_plain.specs.Words.{LooksAt}
 use Rattle.chunk_plain.proofs.Lists.{at_seam}
 use Rattle.service_core.specs.Order.{IsFoundPart}
-use Rattle.service_core.specs.Taking.{looked, noted_more, IsRange}
-use Rattle.service_core.specs.Scraping.{IsNoPart, SeesNoPart, ShowsNoPart, TakesPart, TakesNoPart, TakesNoPartOf, ScrapesOne, ScrapesEach, IsPart, FitsWord, PartLooked}
+use Rattle.service_core.specs.Looking.{looked}
+use Rattle.service_core.specs.Taking.{noted_more}
+use Rattle.service_core.specs.Scraping.{SeesNoPart, TakesPart, TakesNoPartOf, ScrapesOne, ScrapesEach, IsPart, FitsWord, PartLooked}
 use Rattle.service_core.proofs.TakingLemmas.{counts_at}
 
 -- What one look found
@@ -62,50 +62,7 @@ no_part_seen setup old new place chunk seen at writer id looks at_is writer_is n
   };
 }
 
--- Chunk by chunk
-
-pub no_part_yet : (setup : Setup) (place first : ℕ) (view : ServiceView) → TakesNoPartOf setup place first first view view
-no_part_yet setup place first view = record {
-  looks = [];
-  view = ap (λ (l : List Look). record view { looks = l }) (sym (append-nil view.looks));
-  none = λ chunk least below. absurd (omega arith);
-}
-
-pub no_part_more : (setup : Setup) (place first chunk : ℕ) (old mid new : ServiceView) → TakesNoPartOf setup place first chunk old mid → SeesNoPart setup place chunk mid new
-    → TakesNoPartOf setup place first (chunk + 1) old new
-no_part_more setup place first chunk old mid new seen other =
-    let count_is : (taken_of mid place).count ≡ (taken_of old place).count = ap (λ (v : ServiceView). (taken_of v place).count) seen.view in
-    record {
-      looks = seen.looks ++ other.look ∷ [];
-      view = other.view ∙ ap (λ (v : ServiceView). looked v (other.look ∷ [])) seen.view
-          ∙ ap (λ (l : List Look). record old { looks = l }) (append_assoc old.looks seen.looks (other.look ∷ []));
-      none = λ c least below. by_chunk c least below count_is (cases_eq c chunk);
-    }
-  where
-    by_chunk : (c : ℕ) → first ≤ c → c < chunk + 1 → (taken_of mid place).count ≡ (taken_of old place).count → (c ≡ chunk) ⊎ (c ≡ chunk → ⊥)
-        → ShowsNoPart setup place (taken_of old place).count c (seen.looks ++ other.look ∷ [])
-    by_chunk c least below count_is (inl same) = record {
-      n = length seen.looks + 0;
-      look = other.look;
-      at = get_behind seen.looks (other.look ∷ []) 0 other.look refl;
-      chunk_is = other.chunk_is ∙ sym same;
-      since = other.since ∙ count_is;
-      shows = subst (λ (n : ℕ). IsNoPart setup place (id_at setup place n) other.look) count_is other.shows;
-    }
-    by_chunk c least below count_is (inr differs) =
-        let s = seen.none c least (omega (arith, below, differs)) in
-        record { n = s.n; look = s.look; at = get_more seen.looks (other.look ∷ []) s.n s.look s.at; chunk_is = s.chunk_is; since = s.since; shows = s.shows }
-
-pub no_part : (setup : Setup) (place first count last : ℕ) (old new : ServiceView) → IsRange (range_of setup (producer_of setup place)) first count → first + count ≤ last
-    → TakesNoPartOf setup place first last old new → TakesNoPart setup place old new
-no_part setup place first count last old new range all seen =
-    let low = range.first_is in
-    let many = range.count_is in
-    record {
-      looks = seen.looks;
-      view = seen.view;
-      none = λ chunk is. let least = is.least in let below = is.below in seen.none chunk (omega (arith, low, least)) (omega (arith, low, many, below, all));
-    }
+-- Behind looks that found none
 
 pub part_behind : (setup : Setup) (place first chunk : ℕ) (old mid new : ServiceView) → TakesNoPartOf setup place first chunk old mid → TakesPart setup place mid new
     → TakesPart setup place old new

@@ -31,7 +31,8 @@ use Rattle.service_core.specs.declared.service.ServiceCore.{ServiceCore}
 use Rattle.service_core.specs.Routing.{partial_arrivals_of}
 use Rattle.service_core.specs.Agreement.{ServiceAgrees, KeepsFields, KeepsRest, is_closed}
 use Rattle.service_core.specs.Order.{LeadTo, IsFoundPart}
-use Rattle.service_core.specs.Taking.{looked, noted_more}
+use Rattle.service_core.specs.Looking.{looked}
+use Rattle.service_core.specs.Taking.{noted_more}
 use Rattle.service_core.specs.Scraping.{IsPart, PartLooked, TakesPart}
 use Rattle.service_core.proofs.TakingLemmas.{counts_at}
 use Rattle.service_core.proofs.RouteLemmas.{NoCloses}

@@ -15,7 +15,8 @@ use Rattle.chunk_plain.specs.Words.{taken_content, TakesChunk, FindsOther}
 use Rattle.chunk_plain.specs.Views.{Content, Look, Taken, none_taken, ServiceView, taken_of}
 use Rattle.chunk_plain.specs.Steps.{without, taken_counts, looks_at, takes_in, learns, lets_go}
 use Rattle.chunk_plain.specs.Histories.{content_at}
-use Rattle.service_core.specs.Taking.{takings, looked, noted_more, taken_more, took, SeesOther}
+use Rattle.service_core.specs.Looking.{looked}
+use Rattle.service_core.specs.Taking.{takings, noted_more, taken_more, took, SeesOther}
 use Rattle.service_core.proofs.HistoryLemmas.{Grows, found_more}
 
 -- of this writer, and of each other one

@@ -1,5 +1,6 @@
 pub mod Agreement
 pub mod Closing
+pub mod Looking
 pub mod Making
 pub mod Order
 pub mod OrderLaws

@@ -7,14 +7,15 @@ use Rattle.page_geometry.specs.declared.chunk_state.ChunkState.TheVariants.{Bein
 use Rattle.page_geometry.specs.PageBits.{HasState}
 use Rattle.page_geometry.specs.Header.{packed}
 use Rattle.chunk_plain.specs.declared.tokens.Seen.{Seen}
-use Rattle.chunk_plain.specs.Setup.{Setup, spot, producer_of, IsChunkOf, id_at, sequence_of}
+use Rattle.chunk_plain.specs.Setup.{Setup, spot, producer_of, IsChunkOf, sequence_of}
 use Rattle.chunk_plain.specs.Views.{At, Draft, no_draft, BegunChunk, Held, Completed, Found, Look, Noted, Partial, ServiceView, taken_of}
 use Rattle.chunk_plain.specs.World.{World, Writing, status, writer}
 use Rattle.chunk_plain.specs.Steps.{serviced}
 use Rattle.chunk_plain.specs.Drafts.{IsFound}
 use Rattle.chunk_plain.specs.Histories.{found_among}
 use Rattle.chunk_plain.specs.Words.{FoundAlike}
-use Rattle.service_core.specs.Taking.{looked, noted_more, Takes, places_of}
+use Rattle.service_core.specs.Looking.{looked, IsAmong, SeesFact, SeesEach}
+use Rattle.service_core.specs.Taking.{noted_more, Takes, places_of}
 use Rattle.service_core.specs.Told.{StandsBehind, NoneLeft}
 use Rattle.service_core.specs.Order.{IsFoundPart}
 
@@ -30,21 +31,8 @@ pub record IsNoPart (setup : Setup) (place id : ℕ) (look : Look) : Type 0 wher
       → header.count < 2
 
 -- the chunk was looked at, and nothing of it comes as a part of the next chunk of the writer at this place
-pub record SeesNoPart (setup : Setup) (place chunk : ℕ) (old new : ServiceView) : Type 0 where
-  pub look : Look
-  pub view : new ≡ looked old (look ∷ [])
-  pub chunk_is : look.chunk ≡ chunk
-  pub since : slice_index_or look.taken place 0 ≡ (taken_of old place).count
-  pub shows : IsNoPart setup place (id_at setup place (taken_of old place).count) look
-
--- one of these looks at the chunk shows that no part of the writer's next chunk comes from it, of which so many were taken then
-pub record ShowsNoPart (setup : Setup) (place count chunk : ℕ) (looks : List Look) : Type 0 where
-  pub n : ℕ
-  pub look : Look
-  pub at : slice_get looks n ≡ Some look
-  pub chunk_is : look.chunk ≡ chunk
-  pub since : slice_index_or look.taken place 0 ≡ count
-  pub shows : IsNoPart setup place (id_at setup place count) look
+abbrev pub SeesNoPart : Setup → (place chunk : ℕ) → ServiceView → ServiceView → Type 0
+SeesNoPart setup place chunk old new = SeesFact IsNoPart setup place chunk old new
 
 -- One of these looks, at a chunk of the producer, found so many finished fragments of the next chunk of the writer at this place, of which so
 -- many were taken then.
@@ -72,16 +60,12 @@ pub record TakesPart (setup : Setup) (place : ℕ) (old new : ServiceView) : Typ
   pub same : (first : Found) → found_among place (taken_of old place).count count new.looks ≡ Some first → FoundAlike first shows.found
 
 -- no part of the writer's next chunk came: each chunk of the producer was looked at, and shows why
-pub record TakesNoPart (setup : Setup) (place : ℕ) (old new : ServiceView) : Type 0 where
-  pub looks : List Look
-  pub view : new ≡ looked old looks
-  pub none : (chunk : ℕ) → IsChunkOf setup (producer_of setup place) chunk → ShowsNoPart setup place (taken_of old place).count chunk looks
+abbrev pub TakesNoPart : Setup → (place : ℕ) → ServiceView → ServiceView → Type 0
+TakesNoPart setup place old new = SeesEach IsNoPart setup place (IsChunkOf setup (producer_of setup place)) old new
 
 -- the same of the chunks from one up to another
-pub record TakesNoPartOf (setup : Setup) (place first last : ℕ) (old new : ServiceView) : Type 0 where
-  pub looks : List Look
-  pub view : new ≡ looked old looks
-  pub none : (chunk : ℕ) → first ≤ chunk → chunk < last → ShowsNoPart setup place (taken_of old place).count chunk looks
+abbrev pub TakesNoPartOf : Setup → (place first last : ℕ) → ServiceView → ServiceView → Type 0
+TakesNoPartOf setup place first last old new = SeesEach IsNoPart setup place (IsAmong first last) old new
 
 -- a part of the next chunk of the writer at this place came, or none
 abbrev pub ScrapesOne : Setup → (place : ℕ) → ServiceView → ServiceView → Type 0

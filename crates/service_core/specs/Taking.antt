@@ -1,5 +1,5 @@
 -- What the service's view has more once chunks were taken.
-use Rattle.std.specs.Prelude.{◌≡◌, ℕ, suc, ◌+◌, ◌^◌, ◌<◌, ◌≤◌, ◌⊎◌, ◌==◌, List, [], ◌∷◌, ◌++◌, length, slice_get, slice_set, slice_index_or, Some, if◌then◌else◌}
+use Rattle.std.specs.Prelude.{◌≡◌, ℕ, suc, ◌+◌, ◌^◌, ◌<◌, ◌≤◌, ◌⊎◌, ◌==◌, List, [], ◌∷◌, ◌++◌, length, slice_set, if◌then◌else◌}
 use Rattle.trace_base.specs.declared.policy.WriterSpec.{WriterSpec}
 use Rattle.page_geometry.specs.declared.chunk_header.ChunkHeader.{ChunkHeader}
 use Rattle.page_geometry.specs.declared.chunk_state.ChunkState.TheVariants.{Complete}
@@ -8,8 +8,9 @@ use Rattle.page_geometry.specs.Header.{packed}
 use Rattle.chunk_plain.specs.declared.tokens.TheConstants.{ID_LIMIT}
 use Rattle.trace_model.specs.Images.{Patch}
 use Rattle.chunk_plain.specs.declared.setup.ChunkRange.{ChunkRange}
-use Rattle.chunk_plain.specs.Setup.{Setup, spot, range_of, producer_of, IsChunkOf, id_at, sequence_of}
+use Rattle.chunk_plain.specs.Setup.{Setup, spot, range_of, producer_of, IsChunkOf, sequence_of}
 use Rattle.chunk_plain.specs.Views.{Content, Look, Taken, Noted, Arrive, Patched, ServiceView, taken_of}
+use Rattle.service_core.specs.Looking.{IsAmong, ShowsFact, SeesFact, SeesEach}
 
 -- the patches of a chunk are noted directly behind its arrival, where it brings any
 abbrev pub patched_where : List Patch → (sequence chunk_id : ℕ) → List Noted
@@ -21,10 +22,6 @@ abbrev pub takings : (sequence chunk_id : ℕ) → List Content → List Noted
 takings sequence chunk_id [] = []
 takings sequence chunk_id (content ∷ contents) =
     Arrive sequence chunk_id ∷ (patched_where content.patches sequence chunk_id ++ takings sequence (suc chunk_id) contents)
-
--- so many looks more
-abbrev pub looked : ServiceView → List Look → ServiceView
-looked view looks = record view { looks = view.looks ++ looks }
 
 -- more was taken of a writer
 abbrev pub taken_more : Taken → List Content → Taken
@@ -47,13 +44,8 @@ pub record IsOther (setup : Setup) (place id : ℕ) (look : Look) : Type 0 where
   pub other : HasState look.word (spot setup look.chunk).place Complete → header.writer_id ≡ place + 1 → header.chunk_id ≡ id → ⊥
 
 -- One of these looks at the chunk shows that it isn't the next one to be taken of this writer, of which so many were taken then.
-pub record ShowsOther (setup : Setup) (place count chunk : ℕ) (looks : List Look) : Type 0 where
-  pub n : ℕ
-  pub look : Look
-  pub at : slice_get looks n ≡ Some look
-  pub chunk_is : look.chunk ≡ chunk
-  pub since : slice_index_or look.taken place 0 ≡ count
-  pub shows : IsOther setup place (id_at setup place count) look
+abbrev pub ShowsOther : Setup → (place count chunk : ℕ) → List Look → Type 0
+ShowsOther setup place count chunk looks = ShowsFact IsOther setup place count chunk looks
 
 -- each chunk of the producer was looked at so
 abbrev pub ShowNone : Setup → (producer place count : ℕ) → List Look → Type 0
@@ -98,12 +90,8 @@ pub record TakesOne (place : ℕ) (old new : ServiceView) : Type 0 where
   pub view : new ≡ took old place (look ∷ []) (content ∷ [])
 
 -- the chunk was looked at, and isn't the next one to be taken of this writer
-pub record SeesOther (setup : Setup) (place chunk : ℕ) (old new : ServiceView) : Type 0 where
-  pub look : Look
-  pub view : new ≡ looked old (look ∷ [])
-  pub chunk_is : look.chunk ≡ chunk
-  pub since : slice_index_or look.taken place 0 ≡ (taken_of old place).count
-  pub shows : IsOther setup place (id_at setup place (taken_of old place).count) look
+abbrev pub SeesOther : Setup → (place chunk : ℕ) → ServiceView → ServiceView → Type 0
+SeesOther setup place chunk old new = SeesFact IsOther setup place chunk old new
 
 -- the chunks of a producer, as two numbers
 pub record IsRange (range : ChunkRange) (first count : ℕ) : Type 0 where
@@ -117,16 +105,12 @@ pub record TakesNext (place : ℕ) (old new : ServiceView) : Type 0 where
   pub view : new ≡ took old place looks (content ∷ [])
 
 -- each chunk of the producer was looked at, and none is the next one of the writer at this place
-pub record SeesNone (setup : Setup) (place : ℕ) (old new : ServiceView) : Type 0 where
-  pub looks : List Look
-  pub view : new ≡ looked old looks
-  pub none : ShowNone setup (producer_of setup place) place (taken_of old place).count looks
+abbrev pub SeesNone : Setup → (place : ℕ) → ServiceView → ServiceView → Type 0
+SeesNone setup place old new = SeesEach IsOther setup place (IsChunkOf setup (producer_of setup place)) old new
 
 -- the chunks from this one up to another were looked at, and none is the next one of the writer at this place
-pub record SeesNoneOf (setup : Setup) (place first last : ℕ) (old new : ServiceView) : Type 0 where
-  pub looks : List Look
-  pub view : new ≡ looked old looks
-  pub none : (chunk : ℕ) → first ≤ chunk → chunk < last → ShowsOther setup place (taken_of old place).count chunk looks
+abbrev pub SeesNoneOf : Setup → (place first last : ℕ) → ServiceView → ServiceView → Type 0
+SeesNoneOf setup place first last old new = SeesEach IsOther setup place (IsAmong first last) old new
 
 -- so many chunks of the writer at this place were taken
 pub record TakesSome (place taken : ℕ) (old new : ServiceView) : Type 0 where

@@ -14,9 +14,9 @@ use Rattle.chunk_words.specs.Told.{ShowsAllTold}
 use Rattle.chunk_words.proofs.Telling.{told_taken}
 use Rattle.world_model.proofs.OwnLemmas.{elem_at}
 use Rattle.service_core.specs.Agreement.{spec_at}
-use Rattle.service_core.specs.Taking.{ShowsOther, ShowNone, Leaves, TakesOf, Takes, places_of}
+use Rattle.service_core.specs.Taking.{IsOther, ShowsOther, ShowNone, Leaves, TakesOf, Takes, places_of}
 use Rattle.service_core.proofs.AnswerLemmas.{takes_nothing, takes_own}
-use Rattle.service_core.proofs.ChainLemmas.{shows_left}
+use Rattle.service_core.proofs.LookLemmas.{shows_left}
 use Rattle.service_core.proofs.QuietLemmas.{AllBelow}
 use Rattle.service_core.proofs.TakingLemmas.{taken_other}
 use Rattle.thread_service.specs.Settling.{IsSeenOut, TakesRounds, TakesOut, TakesAllOut}
@@ -173,7 +173,7 @@ seen_more setup since place old new more seen grown same = record {
         → ShowNone setup (producer_of setup place) place (taken_of new place).count (seen.looks ++ more) ⊎ (ID_LIMIT ≤ (taken_of new place).count)
     by_case (inl shown) =
         inl (λ chunk is. subst (λ (n : ℕ). ShowsOther setup place n chunk (seen.looks ++ more)) (sym count_is)
-        (shows_left setup place (taken_of old place).count chunk seen.looks more (shown chunk is)))
+        (shows_left IsOther setup place (taken_of old place).count chunk seen.looks more (shown chunk is)))
     by_case (inr out) = inr (omega (arith, out, count_is))
 
 pub seen_since : (setup : Setup) (earlier since place : ℕ) (view : ServiceView) → earlier ≤ since → IsSeenOut setup since place view → IsSeenOut setup earlier place view

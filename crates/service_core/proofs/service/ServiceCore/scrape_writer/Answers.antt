@@ -3,10 +3,11 @@ use Rattle.chunk_plain.specs.Setup.{Setup}
 use Rattle.chunk_plain.specs.Views.{ServiceView, taken_of}
 use Rattle.chunk_plain.proofs.SeatSteps.{services_follow, serves_on}
 use Rattle.service_core.specs.Agreement.{ServiceAgrees, KeepsRest}
-use Rattle.service_core.specs.Scraping.{SeesNoPart, TakesPart, FindsNoPart, FindsNoPartOf}
+use Rattle.service_core.specs.Scraping.{IsNoPart, SeesNoPart, TakesPart, FindsNoPart, FindsNoPartOf}
 use Rattle.service_core.proofs.AgreeLemmas.{keeps_same, keeps_both}
 use Rattle.service_core.proofs.ToldLemmas.{range_is}
-use Rattle.service_core.proofs.PartLemmas.{no_part_yet, no_part_more, no_part, part_behind}
+use Rattle.service_core.proofs.LookLemmas.{sees_begin, sees_more, sees_all}
+use Rattle.service_core.proofs.PartLemmas.{part_behind}
 use Rattle.service_core.proofs.HeldLemmas.{finds_none_yet, finds_none_more, notes_behind, notes_none}
 use Rattle.service_core.proofs.service.ServiceCore.scrape_writer.Goals as goal
 
@@ -21,7 +22,7 @@ loop-chunk-init g c =
       step = serves_on means c.args.table.now c.args.self.now.seat c.requires.serves;
       told = λ world is. finds_none_yet c.args.place (taken_of old c.args.place).count c.chunks_of-first.result.0 world (means.told c.args.table.now) old is
           (g.met.W.Words.told_service_view c.args.table.now c.args.self.now.seat world is c.requires.serves);
-      seen = no_part_yet setup c.args.place c.chunks_of-first.result.0 old;
+      seen = sees_begin IsNoPart setup c.args.place c.chunks_of-first.result.0 old;
     }
 
 pub loop-chunk-preserved : goal.loop-chunk-preserved
@@ -43,7 +44,7 @@ loop-chunk-preserved g c =
           let count_is : (taken_of mid place).count ≡ (taken_of old place).count = ap (λ (v : ServiceView). (taken_of v place).count) i.seen.view in
           finds_none_more place (taken_of old place).count first c.loop-chunk.chunk world (means.told c.loop-chunk.table) (means.told c.scrape_chunk.new.table) mid new (i.told world is)
           (λ w e. subst (λ (n : ℕ). FindsNoPart place n c.loop-chunk.chunk w (means.told c.scrape_chunk.new.table) new) count_is (c.scrape_chunk.ensures.told_none c.if-scrape_chunk.false w e));
-      seen = no_part_more setup place first c.loop-chunk.chunk old mid new i.seen (subst (λ (s : Setup). SeesNoPart s place c.loop-chunk.chunk mid new) same (c.scrape_chunk.ensures.none c.if-scrape_chunk.false));
+      seen = sees_more IsNoPart setup place first c.loop-chunk.chunk old mid new i.seen (subst (λ (s : Setup). SeesNoPart s place c.loop-chunk.chunk mid new) same (c.scrape_chunk.ensures.none c.if-scrape_chunk.false));
     }
 
 pub returns-then-scrape_chunk-clause-scrapes : goal.returns-then-scrape_chunk-clause-scrapes
@@ -80,7 +81,7 @@ returns-clause-scrapes g c =
     let new = means.service_view c.loop-chunk.table c.loop-chunk.self.seat in
     let range = range_is setup c.args.self.now.layout c.args.self.now.writers.items place c.index.result.now c.chunks_of-first.result
     c.requires.agrees.layout c.requires.agrees.writers c.requires.place c.index.ensures c.chunks_of-first.ensures in
-    inr (no_part setup place c.chunks_of-first.result.0 c.chunks_of-first.result.1 c.loop-chunk.chunk old new range c.loop-chunk-test.false i.seen)
+    inr (sees_all IsNoPart setup place c.chunks_of-first.result.0 c.chunks_of-first.result.1 c.loop-chunk.chunk old new range c.loop-chunk-test.false i.seen)
 
 pub returns-clause-told : goal.returns-clause-told
 returns-clause-told g c world is own =

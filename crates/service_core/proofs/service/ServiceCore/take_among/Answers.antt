@@ -5,10 +5,10 @@ use Rattle.service_core.proofs.ToldLemmas.{frees_none_yet, frees_none_more, free
 use Rattle.chunk_plain.specs.Setup.{Setup, producer_of, IsChunkOf}
 use Rattle.chunk_plain.proofs.SeatSteps.{services_follow, serves_on}
 use Rattle.service_core.specs.Agreement.{ServiceAgrees, KeepsRest}
-use Rattle.service_core.specs.Taking.{SeesOther}
+use Rattle.service_core.specs.Taking.{IsOther, SeesOther}
 use Rattle.service_core.proofs.AgreeLemmas.{keeps_same, keeps_both}
 use Rattle.service_core.proofs.TakingLemmas.{read_count}
-use Rattle.service_core.proofs.ChainLemmas.{sees_none_yet, sees_more}
+use Rattle.service_core.proofs.LookLemmas.{sees_begin, sees_more}
 use Rattle.service_core.proofs.service.ServiceCore.take_among.Goals as goal
 
 pub loop-chunk-preserved : goal.loop-chunk-preserved
@@ -29,7 +29,7 @@ loop-chunk-preserved g c =
           let count_is : (taken_of mid place).count ≡ (taken_of old place).count = ap (λ (v : ServiceView). (taken_of v place).count) i.seen.view in
           frees_none_more place (taken_of old place).count c.args.first c.loop-chunk.chunk world (means.told c.loop-chunk.table) (means.told c.try_take.new.table) mid new (i.told world is)
           (λ w e. subst (λ (n : ℕ). FreesNone place n c.loop-chunk.chunk w (means.told c.try_take.new.table) new) count_is (c.try_take.ensures.told_other c.if-try_take.false w e));
-      seen = sees_more setup place c.args.first c.loop-chunk.chunk (means.service_view c.args.table.now c.args.self.now.seat) mid new i.seen
+      seen = sees_more IsOther setup place c.args.first c.loop-chunk.chunk (means.service_view c.args.table.now c.args.self.now.seat) mid new i.seen
           (subst (λ (s : Setup). SeesOther s place c.loop-chunk.chunk mid new) same (c.try_take.ensures.other c.if-try_take.false));
     }
 
@@ -44,7 +44,7 @@ loop-chunk-init g c =
       step = serves_on means c.args.table.now c.args.self.now.seat c.requires.serves;
       told = λ world is. frees_none_yet c.args.place (taken_of old c.args.place).count c.args.first world (means.told c.args.table.now) old is
           (g.met.W.Words.told_service_view c.args.table.now c.args.self.now.seat world is c.requires.serves);
-      seen = sees_none_yet setup c.args.place c.args.first old;
+      seen = sees_begin IsOther setup c.args.place c.args.first old;
     }
 
 pub returns-then-try_take-clause-told_taken : goal.returns-then-try_take-clause-told_taken

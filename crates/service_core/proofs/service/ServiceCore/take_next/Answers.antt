@@ -1,9 +1,10 @@
-use Rattle.std.proofs.Common.{◌≡◌, ◌+◌, ℕ, subst, ap}
+use Rattle.std.proofs.Common.{◌≡◌, ◌+◌, ℕ, subst, ap, arith}
 use Rattle.chunk_plain.specs.Setup.{Setup}
 use Rattle.chunk_plain.specs.Views.{ServiceView, taken_of}
-use Rattle.service_core.specs.Taking.{SeesNoneOf}
+use Rattle.service_core.specs.Taking.{IsOther, SeesNoneOf}
 use Rattle.service_core.specs.Told.{FreesNext, FreesNoneOf}
-use Rattle.service_core.proofs.ChainLemmas.{sees_none, sees_none_both, takes_behind}
+use Rattle.service_core.proofs.ChainLemmas.{takes_behind}
+use Rattle.service_core.proofs.LookLemmas.{sees_both, sees_all}
 use Rattle.service_core.proofs.ToldLemmas.{frees_none_both, frees_behind}
 use Rattle.service_core.proofs.service.ServiceCore.take_next.Goals as goal
 
@@ -24,8 +25,8 @@ returns-in-None-clause-none g c none =
     let old = means.service_view c.args.table.now c.args.self.now.seat in
     let mid = means.service_view c.take_among.new.table c.take_among.new.self.seat in
     let new = means.service_view c.take_among-in-None.new.table c.take_among-in-None.new.self.seat in
-    sees_none setup place c.args.first c.args.count old new c.requires.range
-    (sees_none_both setup place c.args.first c.args.from (c.args.first + c.args.count) old mid new (c.take_among.ensures.none c.in-None.is)
+    sees_all IsOther setup place c.args.first c.args.count (c.args.first + c.args.count) old new c.requires.range (omega arith)
+    (sees_both IsOther setup place c.args.first c.args.from (c.args.first + c.args.count) old mid new (c.take_among.ensures.none c.in-None.is)
     (subst (λ (s : Setup). SeesNoneOf s place c.args.first c.args.from mid new) c.take_among.ensures.step.setup_stays (c.take_among-in-None.ensures.none none)))
 
 pub returns-in-None-clause-told_taken : goal.returns-in-None-clause-told_taken
