@@ -1,11 +1,11 @@
 -- In a told world a scrape notes what the writers hold.
-use Rattle.std.proofs.Common.{◌≡◌, ◌∙◌, ℕ, zero, suc, ◌+◌, ◌-◌, ◌^◌, ◌<◌, ◌≤◌, ◌⊎◌, nat_lt, Bool, true, false, List, [], ◌∷◌, ◌++◌, length, get_or, Option, Some, refl, sym, ap, subst, arith, inl, inr, append_assoc, append-nil, lt_of_not-le}
+use Rattle.std.proofs.Common.{◌≡◌, ◌∙◌, ℕ, zero, suc, ◌+◌, ◌-◌, ◌^◌, ◌<◌, ◌≤◌, ◌⊎◌, nat_lt, Bool, true, false, List, [], ◌∷◌, ◌++◌, length, get_or, Option, Some, refl, sym, ap, subst, arith, inl, append_assoc, append-nil, lt_of_not-le}
 use Rattle.std.specs.Prelude.{cond}
 use Rattle.std.specs.List.{flat_map}
 use Rattle.std.specs.Coded.{le_prop}
 use Rattle.std.proofs.Math.Logic.{∥∥₁_elim}
 use Rattle.std.proofs.Math.Nat.{ℕ_set}
-use Rattle.std.proofs.lemmas.Bool.{cases_eq, lt-ltb}
+use Rattle.std.proofs.lemmas.Bool.{lt-ltb}
 use Rattle.std.proofs.lemmas.Bool.Decides.{nat_tests}
 use Rattle.std.proofs.lemmas.Grind.{flat_map-append}
 use mathlib.Core.List.{is_set as list_set}
@@ -29,9 +29,11 @@ use Rattle.chunk_plain.specs.Owned.{IsOwned}
 use Rattle.chunk_plain.specs.Shows.{ShowsPage, ShowsHeader, IsHeader}
 use Rattle.chunk_plain.proofs.States.{writing_status}
 use Rattle.chunk_plain.proofs.KeptService.{header_reads}
+use Rattle.service_core.specs.Looking.{IsAmong}
 use Rattle.service_core.specs.Taking.{IsRange, Takes, places_of}
 use Rattle.service_core.specs.Told.{LeavesNone}
-use Rattle.service_core.specs.Scraping.{IsPart, FitsWord, ScrapesOne, ScrapesEach, part_of_entry, part_held, HoldsOwn, IsntPart, FindsNoPart, FindsNoPartOf, NotesPart, ScrapesWorld, ScrapesWorldYet}
+use Rattle.service_core.specs.Scraping.{IsPart, FitsWord, ScrapesOne, ScrapesEach, part_of_entry, part_held, HoldsOwn, IsntPart, FindsNoPartOf, NotesPart, ScrapesWorld, ScrapesWorldYet}
+use Rattle.service_core.proofs.LookLemmas.{among_range}
 use Rattle.service_core.proofs.PartLemmas.{scrapes_add, scrape_takes_none}
 use Rattle.service_core.proofs.ToldLemmas.{behind_serviced, none_stays}
 
@@ -94,7 +96,7 @@ part_is setup world place chunk at writer_id id finished seen owned shown at_is 
 pub isnt_part : (setup : Setup) (world : World) (place chunk at writer_id id : ℕ) (seen : Seen)
     → ∥ (ShowsPage setup world (spot setup chunk) seen.word.0 (status world chunk) × ShowsHeader setup (packed seen.header) (status world chunk)) ∥₁
     → at ≡ (spot setup chunk).place → writer_id ≡ place + 1 → HasRanges seen.header
-    → (HasState seen.word.0 at BeingWritten → seen.header.writer_id ≡ writer_id → seen.header.chunk_id ≡ id → seen.header.count < 2) → IsntPart place id chunk world
+    → (HasState seen.word.0 at BeingWritten → seen.header.writer_id ≡ writer_id → seen.header.chunk_id ≡ id → seen.header.count < 2) → IsntPart place id (status world chunk)
 isnt_part setup world place chunk at writer_id id seen shown at_is writer_is ranges none draft writing =
     ∥∥₁_elim shown (hlevel le_prop) (λ s.
     let page : ShowsPage setup world (spot setup chunk) seen.word.0 (Writing place id draft) = subst (λ (t : Status). ShowsPage setup world (spot setup chunk) seen.word.0 t) writing s.0 in
@@ -107,7 +109,7 @@ isnt_part setup world place chunk at writer_id id seen shown at_is writer_is ran
 -- where no look found a part, the writer holds none
 pub holds_none : (setup : Setup) (world : World) (place first count last : ℕ) → ∥ IsOwned world ∥₁ → HoldsOwn setup place world
     → IsRange (range_of setup (producer_of setup place)) first count → first + count ≤ last
-    → ((chunk : ℕ) → first ≤ chunk → chunk < last → IsntPart place (taken_of world.service place).count chunk world) → part_held world place ≡ []
+    → ((chunk : ℕ) → IsAmong first last chunk → IsntPart place (taken_of world.service place).count (status world chunk)) → part_held world place ≡ []
 holds_none setup world place first count last owned own range all isnt =
     dite (dec_le (length (writer world place).begun) (taken_of world.service place).count)
     (λ past. ap (part_of_entry place (taken_of world.service place).count) (past_get (writer world place).begun (Held 0 no_draft) (taken_of world.service place).count past))
@@ -123,11 +125,7 @@ holds_none setup world place first count last owned own range all isnt =
         absurd (∥∥₁_elim owned (λ a b. absurd a) (λ o.
         let writing = (o.owns place chunk).held_is (taken_of world.service place).count draft at in
         let is = own (taken_of world.service place).count chunk draft at in
-        let least = is.least in
-        let below = is.below in
-        let first_is = range.first_is in
-        let count_is = range.count_is in
-        let few = isnt chunk (omega (arith, least, first_is)) (omega (arith, below, first_is, count_is, all)) draft writing in
+        let few = isnt chunk (among_range setup (producer_of setup place) first count last chunk range all is) draft writing in
         let many = lt_is 1 draft.head.count test in
         omega (arith, few, many)))
 
@@ -148,23 +146,7 @@ parts_same world next (place ∷ places) writers taken =
     ap (λ (l : List Noted). l ++ flat_map (part_held next) places) (part_same world next place writers taken)
     ∙ ap (λ (l : List Noted). part_held world place ++ l) (parts_same world next places writers taken)
 
--- Chunk by chunk
-
-pub finds_none_yet : (place id first : ℕ) (old : World) (told : Option World) (view : ServiceView) → told ≡ Some old → view ≡ old.service → FindsNoPartOf place id first first old told view
-finds_none_yet place id first old told view is same = record {
-  isnt = λ chunk least below. absurd (omega arith);
-  told_is = is ∙ ap (λ (v : ServiceView). Some (serviced old v)) (sym same);
-}
-
-pub finds_none_more : (place id first chunk : ℕ) (old : World) (mid told : Option World) (before view : ServiceView) → FindsNoPartOf place id first chunk old mid before
-    → ((world : World) → mid ≡ Some world → FindsNoPart place id chunk world told view) → FindsNoPartOf place id first (chunk + 1) old told view
-finds_none_more place id first chunk old mid told before view none more =
-    let next = more (serviced old before) none.told_is in
-    record { isnt = λ other least below. step other least below (cases_eq other chunk); told_is = next.told_is }
-  where
-    step : (other : ℕ) → first ≤ other → other < chunk + 1 → (other ≡ chunk) ⊎ (other ≡ chunk → ⊥) → IsntPart place id other old
-    step other least below (inl same) = λ draft writing. (more (serviced old before) none.told_is).isnt draft (ap (status old) (sym same) ∙ writing)
-    step other least below (inr differs) = none.isnt other least (omega (arith, below, differs))
+-- Behind looks
 
 -- a part was noted behind looks that found none
 pub notes_behind : (place id first chunk : ℕ) (old : World) (mid told : Option World) (start before view : ServiceView) → FindsNoPartOf place id first chunk old mid before
@@ -183,7 +165,7 @@ pub notes_none : (setup : Setup) (place first count last : ℕ) (old : World) (t
     → view.events ≡ start.events → NotesPart place old told start view
 notes_none setup place first count last old told start view owned own range all none events = record {
   told_is = none.told_is;
-  events = events ∙ (sym (append-nil start.events) ∙ ap (λ (l : List Noted). start.events ++ l) (sym (holds_none setup old place first count last owned own range all none.isnt)));
+  events = events ∙ (sym (append-nil start.events) ∙ ap (λ (l : List Noted). start.events ++ l) (sym (holds_none setup old place first count last owned own range all none.each)));
 }
 
 -- Writer by writer

@@ -1,8 +1,8 @@
 -- The told world behind the service's steps.
 use Rattle.std.proofs.Common.{◌≡◌, ◌≢◌, ◌∙◌, ℕ, zero, suc, ◌+◌, ◌<◌, ◌≤◌, ◌⊎◌, List, [], ◌∷◌, length, get_or, set, Option, Some, refl, sym, ap, subst, arith, inl, inr}
-use Rattle.std.proofs.Math.Logic.{∥∥₁_elim, ∥∥₁_map}
+use Rattle.std.proofs.Math.Logic.{∥∥₁_elim, ∥∥₁_map, ⊎_swap}
 use Rattle.std.specs.Coded.{le_prop}
-use Rattle.std.proofs.lemmas.Bool.{cases_eq, cases_lt}
+use Rattle.std.proofs.lemmas.Bool.{cases_eq}
 use Rattle.std.proofs.lemmas.List.{get_or-set_other, get_or_read, set-set}
 use Rattle.trace_base.specs.declared.policy.WriterSpec.{WriterSpec}
 use Rattle.chunk_plain.specs.declared.setup.ChunkRange.{ChunkRange}
@@ -15,8 +15,10 @@ use Rattle.chunk_plain.specs.Owned.{IsOwned}
 use Rattle.chunk_plain.specs.Words.{IsAtRest}
 use Rattle.chunk_plain.proofs.Lists.{at_inside, at_some}
 use Rattle.service_core.specs.Agreement.{no_writer}
+use Rattle.service_core.specs.Looking.{IsAmong}
 use Rattle.service_core.specs.Taking.{IsRange}
-use Rattle.service_core.specs.Told.{StandsBehind, NoneNext, NoneLeft, LeavesNone, LeavesNoneYet, LeavesNext, FreesOne, FreesNext, Isnt, FreesNone, FreesNoneOf, free_one, free_in, FreesSome, CompletesInOrder, AreOrderly, NoneReady}
+use Rattle.service_core.specs.Told.{StandsBehind, NoneNext, NoneLeft, LeavesNone, LeavesNoneYet, LeavesNext, FreesOne, FreesNext, FindsState, FindsEach, FreesNone, FreesNoneOf, free_one, free_in, FreesSome, CompletesInOrder, AreOrderly, NoneReady}
+use Rattle.service_core.proofs.LookLemmas.{among_parts}
 
 -- One chunk is free
 
@@ -128,49 +130,61 @@ frees_one place number count id chunk held content old told before view place_is
 pub frees_none : (place number count id chunk : ℕ) (old : World) (told : Option World) (view : ServiceView) → number ≡ place → id ≡ count
     → ((content : Content) → status old chunk ≡ Ready number id content → ⊥) → told ≡ Some (serviced old view) → FreesNone place count chunk old told view
 frees_none place number count id chunk old told view place_is id_is isnt is = record {
-  isnt = λ content ready. isnt content (ready ∙ (ap (λ (p : ℕ). Ready p count content) (sym place_is) ∙ ap (λ (i : ℕ). Ready number i content) (sym id_is)));
+  is = λ content ready. isnt content (ready ∙ (ap (λ (p : ℕ). Ready p count content) (sym place_is) ∙ ap (λ (i : ℕ). Ready number i content) (sym id_is)));
   told_is = is;
 }
 
 -- Chunk by chunk
 
-pub frees_none_yet : (place id first : ℕ) (old : World) (told : Option World) (view : ServiceView) → told ≡ Some old → view ≡ old.service → FreesNoneOf place id first first old told view
-frees_none_yet place id first old told view is same = record {
-  isnt = λ chunk least below. absurd (omega arith);
-  told_is = is ∙ ap (λ (v : ServiceView). Some (serviced old v)) (sym same);
-}
+module _ (IsState : Status → Type 0) where
+  pub finds_begin : (first : ℕ) (old : World) (told : Option World) (view : ServiceView) → told ≡ Some old → view ≡ old.service → FindsEach IsState (IsAmong first first) old told view
+  finds_begin first old told view is same = record {
+    each = λ chunk among. let least = among.least in let below = among.below in absurd (omega (arith, least, below));
+    told_is = is ∙ ap (λ (v : ServiceView). Some (serviced old v)) (sym same);
+  }
 
-pub frees_none_more : (place id first chunk : ℕ) (old : World) (mid told : Option World) (before view : ServiceView) → FreesNoneOf place id first chunk old mid before
-    → ((world : World) → mid ≡ Some world → FreesNone place id chunk world told view) → FreesNoneOf place id first (chunk + 1) old told view
-frees_none_more place id first chunk old mid told before view none more =
-    let next = more (serviced old before) none.told_is in
-    record {
-      isnt = λ other least below. step other least below (cases_eq other chunk);
-      told_is = next.told_is;
-    }
-  where
-    step : (other : ℕ) → first ≤ other → other < chunk + 1 → (other ≡ chunk) ⊎ (other ≡ chunk → ⊥) → Isnt place id other old
-    step other least below (inl same) = λ content is. (more (serviced old before) none.told_is).isnt content (ap (status old) (sym same) ∙ is)
-    step other least below (inr differs) = none.isnt other least (omega (arith, below, differs))
+  -- chunks behind others: the states are still those that were found at first
+  finds_behind : (IsFirst IsSecond IsOne : ℕ → Type 0) (old : World) (mid told : Option World) (before view : ServiceView) → FindsEach IsState IsFirst old mid before
+      → ((world : World) → mid ≡ Some world → FindsEach IsState IsSecond world told view) → ((chunk : ℕ) → IsOne chunk → IsFirst chunk ⊎ IsSecond chunk)
+      → FindsEach IsState IsOne old told view
+  finds_behind IsFirst IsSecond IsOne old mid told before view first more parts =
+      let second = more (serviced old before) first.told_is in
+      record { each = λ chunk is. by_part chunk (parts chunk is); told_is = second.told_is }
+    where
+      by_part : (chunk : ℕ) → IsFirst chunk ⊎ IsSecond chunk → IsState (status old chunk)
+      by_part chunk (inl is) = first.each chunk is
+      by_part chunk (inr is) = (more (serviced old before) first.told_is).each chunk is
 
-pub frees_none_all : (place id first last more : ℕ) (old : World) (told : Option World) (view : ServiceView) → last ≤ more → FreesNoneOf place id first more old told view
-    → FreesNoneOf place id first last old told view
-frees_none_all place id first last more old told view most none =
-    record { isnt = λ chunk least below. none.isnt chunk least (omega (arith, below, most)); told_is = none.told_is }
+  finds_one : (chunk : ℕ) (old : World) (told : Option World) (view : ServiceView) → FindsState IsState chunk old told view → FindsEach IsState (IsAmong chunk (chunk + 1)) old told view
+  finds_one chunk old told view found = record {
+    each = λ other among.
+        let least = among.least in
+        let below = among.below in
+        let same : chunk ≡ other = omega (arith, least, below) in
+        subst (λ (c : ℕ). IsState (status old c)) same found.is;
+    told_is = found.told_is;
+  }
 
--- one stretch of chunks behind another
-pub frees_none_both : (place id first middle last : ℕ) (old : World) (mid told : Option World) (before view : ServiceView) → FreesNoneOf place id middle last old mid before
-    → ((world : World) → mid ≡ Some world → FreesNoneOf place id first middle world told view) → FreesNoneOf place id first last old told view
-frees_none_both place id first middle last old mid told before view high more =
-    let low = more (serviced old before) high.told_is in
-    record {
-      isnt = λ chunk least below. by_place chunk least below (cases_lt chunk middle);
-      told_is = low.told_is;
-    }
-  where
-    by_place : (chunk : ℕ) → first ≤ chunk → chunk < last → (chunk < middle) ⊎ (middle ≤ chunk) → Isnt place id chunk old
-    by_place chunk least below (inr behind) = high.isnt chunk behind below
-    by_place chunk least below (inl under) = (more (serviced old before) high.told_is).isnt chunk least under
+  -- one chunk more
+  pub finds_more : (first chunk : ℕ) (old : World) (mid told : Option World) (before view : ServiceView) → FindsEach IsState (IsAmong first chunk) old mid before
+      → ((world : World) → mid ≡ Some world → FindsState IsState chunk world told view) → FindsEach IsState (IsAmong first (chunk + 1)) old told view
+  finds_more first chunk old mid told before view found more =
+      finds_behind (IsAmong first chunk) (IsAmong chunk (chunk + 1)) (IsAmong first (chunk + 1)) old mid told before view found (λ world is. finds_one chunk world told view (more world is))
+      (among_parts first chunk (chunk + 1))
+
+  -- one stretch of chunks, and then the one in front of it
+  pub finds_both : (first middle last : ℕ) (old : World) (mid told : Option World) (before view : ServiceView) → FindsEach IsState (IsAmong middle last) old mid before
+      → ((world : World) → mid ≡ Some world → FindsEach IsState (IsAmong first middle) world told view) → FindsEach IsState (IsAmong first last) old told view
+  finds_both first middle last old mid told before view high more =
+      finds_behind (IsAmong middle last) (IsAmong first middle) (IsAmong first last) old mid told before view high more (λ chunk is. ⊎_swap (among_parts first middle last chunk is))
+
+  -- fewer chunks
+  pub finds_fewer : (first last more : ℕ) (old : World) (told : Option World) (view : ServiceView) → last ≤ more → FindsEach IsState (IsAmong first more) old told view
+      → FindsEach IsState (IsAmong first last) old told view
+  finds_fewer first last more old told view most found = record {
+    each = λ chunk among. let below = among.below in found.each chunk (record { least = among.least; below = omega (arith, below, most) });
+    told_is = found.told_is;
+  }
 
 pub frees_behind : (setup : Setup) (place id first last : ℕ) (old : World) (mid told : Option World) (before view : ServiceView) → FreesNoneOf place id first last old mid before
     → ((world : World) → mid ≡ Some world → FreesNext setup place id world told view) → FreesNext setup place id old told view
@@ -261,7 +275,7 @@ none_by_looks setup place taken old mid told before view some same more =
       new = serviced some.new view;
       told_is = none.told_is;
       stands = behind_serviced old some.new before view some.stands;
-      none = λ chunk content is left ready. none.isnt chunk is.least is.below content (ready ∙ ap (λ (n : ℕ). Ready place n content) same);
+      none = λ chunk content is left ready. none.each chunk (record { least = is.least; below = is.below }) content (ready ∙ ap (λ (n : ℕ). Ready place n content) same);
     }
 
 -- Writer by writer

@@ -9,14 +9,14 @@ use Rattle.page_geometry.specs.Header.{packed}
 use Rattle.chunk_plain.specs.declared.tokens.Seen.{Seen}
 use Rattle.chunk_plain.specs.Setup.{Setup, spot, producer_of, IsChunkOf, sequence_of}
 use Rattle.chunk_plain.specs.Views.{At, Draft, no_draft, BegunChunk, Held, Completed, Found, Look, Noted, Partial, ServiceView, taken_of}
-use Rattle.chunk_plain.specs.World.{World, Writing, status, writer}
+use Rattle.chunk_plain.specs.World.{World, Status, Writing, writer}
 use Rattle.chunk_plain.specs.Steps.{serviced}
 use Rattle.chunk_plain.specs.Drafts.{IsFound}
 use Rattle.chunk_plain.specs.Histories.{found_among}
 use Rattle.chunk_plain.specs.Words.{FoundAlike}
 use Rattle.service_core.specs.Looking.{looked, IsAmong, SeesFact, SeesEach}
 use Rattle.service_core.specs.Taking.{noted_more, Takes, places_of}
-use Rattle.service_core.specs.Told.{StandsBehind, NoneLeft}
+use Rattle.service_core.specs.Told.{StandsBehind, NoneLeft, FindsState, FindsEach}
 use Rattle.service_core.specs.Order.{IsFoundPart}
 
 -- The look found the chunk in another state than being written, or with another writer, or with another id than this one, or with fewer than two
@@ -139,19 +139,17 @@ parts_held setup producer world = flat_map (part_held world) (places_of producer
 abbrev pub HoldsOwn : Setup → (place : ℕ) → World → Type 0
 HoldsOwn setup place world = (id chunk : ℕ) (draft : Draft) → At (writer world place).begun id (Held chunk draft) → IsChunkOf setup (producer_of setup place) chunk
 
--- the writer at this place holds no chunk of this number under this id with a finished fragment
-abbrev pub IsntPart : (place id chunk : ℕ) → World → Type 0
-IsntPart place id chunk world = (draft : Draft) → status world chunk ≡ Writing place id draft → draft.head.count < 2
+-- a chunk in this state isn't held by the writer at this place under this id with a finished fragment
+abbrev pub IsntPart : (place id : ℕ) → Status → Type 0
+IsntPart place id state = (draft : Draft) → state ≡ Writing place id draft → draft.head.count < 2
 
--- it doesn't, and nothing but the service's view has changed
-pub record FindsNoPart (place id chunk : ℕ) (old : World) (told : Option World) (view : ServiceView) : Type 0 where
-  pub isnt : IsntPart place id chunk old
-  pub told_is : told ≡ Some (serviced old view)
+-- the chunk isn't, and nothing but the service's view has changed
+abbrev pub FindsNoPart : (place id chunk : ℕ) → World → Option World → ServiceView → Type 0
+FindsNoPart place id chunk old told view = FindsState (IsntPart place id) chunk old told view
 
 -- the same of the chunks from one up to another
-pub record FindsNoPartOf (place id first last : ℕ) (old : World) (told : Option World) (view : ServiceView) : Type 0 where
-  pub isnt : (chunk : ℕ) → first ≤ chunk → chunk < last → IsntPart place id chunk old
-  pub told_is : told ≡ Some (serviced old view)
+abbrev pub FindsNoPartOf : (place id first last : ℕ) → World → Option World → ServiceView → Type 0
+FindsNoPartOf place id first last old told view = FindsEach (IsntPart place id) (IsAmong first last) old told view
 
 -- what was noted of the writer at this place is what it holds
 pub record NotesPart (place : ℕ) (old : World) (told : Option World) (before view : ServiceView) : Type 0 where

@@ -6,6 +6,7 @@ use Rattle.chunk_plain.specs.Views.{At, Draft, Content, Held, Completed, WriterV
 use Rattle.chunk_plain.specs.World.{World, Status, Unclaimed, Ready, status, writer}
 use Rattle.chunk_plain.specs.Steps.{served, serviced}
 use Rattle.chunk_plain.specs.Words.{IsAtRest}
+use Rattle.service_core.specs.Looking.{IsAmong}
 
 -- The world behind steps of the service: the writers' views are as they were, the service's is this one, and each chunk is as it was or free.
 pub record StandsBehind (old : World) (view : ServiceView) (new : World) : Type 0 where
@@ -54,19 +55,28 @@ pub record FreesNext (setup : Setup) (place id : ℕ) (old : World) (told : Opti
   pub is : IsChunkOf setup (producer_of setup place) chunk
   pub frees : FreesOne place id chunk old told view
 
--- the chunk waits, with whatever content, as the one with this id of the writer at this place: this isn't so
-abbrev pub Isnt : (place id chunk : ℕ) → World → Type 0
-Isnt place id chunk world = (content : Content) → status world chunk ≡ Ready place id content → ⊥
-
--- it isn't, and nothing but the service's view has changed
-pub record FreesNone (place id chunk : ℕ) (old : World) (told : Option World) (view : ServiceView) : Type 0 where
-  pub isnt : Isnt place id chunk old
+-- the chunk's state is such a one, and nothing but the service's view has changed
+pub record FindsState (IsState : Status → Type 0) (chunk : ℕ) (old : World) (told : Option World) (view : ServiceView) : Type 0 where
+  pub is : IsState (status old chunk)
   pub told_is : told ≡ Some (serviced old view)
+
+-- the same of each chunk of these
+pub record FindsEach (IsState : Status → Type 0) (IsOne : ℕ → Type 0) (old : World) (told : Option World)
+    (view : ServiceView) : Type 0 where
+  pub each : (chunk : ℕ) → IsOne chunk → IsState (status old chunk)
+  pub told_is : told ≡ Some (serviced old view)
+
+-- a chunk in this state doesn't wait, whatever its content, as the one with this id of the writer at this place
+abbrev pub Isnt : (place id : ℕ) → Status → Type 0
+Isnt place id state = (content : Content) → state ≡ Ready place id content → ⊥
+
+-- the chunk doesn't, and nothing but the service's view has changed
+abbrev pub FreesNone : (place id chunk : ℕ) → World → Option World → ServiceView → Type 0
+FreesNone place id chunk old told view = FindsState (Isnt place id) chunk old told view
 
 -- the same of the chunks from one up to another
-pub record FreesNoneOf (place id first last : ℕ) (old : World) (told : Option World) (view : ServiceView) : Type 0 where
-  pub isnt : (chunk : ℕ) → first ≤ chunk → chunk < last → Isnt place id chunk old
-  pub told_is : told ≡ Some (serviced old view)
+abbrev pub FreesNoneOf : (place id first last : ℕ) → World → Option World → ServiceView → Type 0
+FreesNoneOf place id first last old told view = FindsEach (Isnt place id) (IsAmong first last) old told view
 
 -- one where the chunk is free
 abbrev pub free_one : Status → ℕ

@@ -4,6 +4,7 @@ use Rattle.chunk_plain.specs.declared.setup.Spot.{Spot}
 use Rattle.chunk_plain.specs.Setup.{Setup, spot}
 use Rattle.chunk_plain.specs.Steps.{taken_counts}
 use Rattle.chunk_plain.specs.Views.{Look, Noted, Partial, ServiceView, taken_of}
+use Rattle.chunk_plain.specs.World.{status}
 use Rattle.chunk_plain.proofs.SeatSteps.{services_follow}
 use Rattle.service_core.specs.Agreement.{ServiceAgrees, KeepsRest}
 use Rattle.service_core.specs.Scraping.{PartLooked, IsntPart}
@@ -137,7 +138,7 @@ returns-in-None-clause-told_none g c _ world is =
     let most_flags = c.look-seen.ensures.flags_fit in
     let ranges : HasRanges seen.header = record { word = c.part_in.ensures.fits; count = omega (arith, most); flags = omega (arith, most_flags) } in
     record {
-      isnt = subst (λ (n : ℕ). IsntPart place n c.args.chunk world) count
+      is = subst (λ (n : ℕ). IsntPart place n (status world c.args.chunk)) count
           (isnt_part setup world place c.args.chunk c.spot-at.result.place (place + 1) c.index.result.now seen (c.look-seen.ensures.shown world is) here refl ranges c.in-None.ensures.none);
       told_is = c.look-seen.ensures.told world is;
     }

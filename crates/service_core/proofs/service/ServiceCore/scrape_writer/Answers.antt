@@ -3,12 +3,12 @@ use Rattle.chunk_plain.specs.Setup.{Setup}
 use Rattle.chunk_plain.specs.Views.{ServiceView, taken_of}
 use Rattle.chunk_plain.proofs.SeatSteps.{services_follow, serves_on}
 use Rattle.service_core.specs.Agreement.{ServiceAgrees, KeepsRest}
-use Rattle.service_core.specs.Scraping.{IsNoPart, SeesNoPart, TakesPart, FindsNoPart, FindsNoPartOf}
+use Rattle.service_core.specs.Scraping.{IsNoPart, SeesNoPart, TakesPart, IsntPart, FindsNoPart, FindsNoPartOf}
 use Rattle.service_core.proofs.AgreeLemmas.{keeps_same, keeps_both}
-use Rattle.service_core.proofs.ToldLemmas.{range_is}
+use Rattle.service_core.proofs.ToldLemmas.{finds_begin, finds_more, range_is}
 use Rattle.service_core.proofs.LookLemmas.{sees_begin, sees_more, sees_all}
 use Rattle.service_core.proofs.PartLemmas.{part_behind}
-use Rattle.service_core.proofs.HeldLemmas.{finds_none_yet, finds_none_more, notes_behind, notes_none}
+use Rattle.service_core.proofs.HeldLemmas.{notes_behind, notes_none}
 use Rattle.service_core.proofs.service.ServiceCore.scrape_writer.Goals as goal
 
 pub loop-chunk-init : goal.loop-chunk-init
@@ -20,7 +20,7 @@ loop-chunk-init g c =
       agrees = c.requires.agrees;
       keeps = keeps_same setup c.args.self.now;
       step = serves_on means c.args.table.now c.args.self.now.seat c.requires.serves;
-      told = λ world is. finds_none_yet c.args.place (taken_of old c.args.place).count c.chunks_of-first.result.0 world (means.told c.args.table.now) old is
+      told = λ world is. finds_begin (IsntPart c.args.place (taken_of old c.args.place).count) c.chunks_of-first.result.0 world (means.told c.args.table.now) old is
           (g.met.W.Words.told_service_view c.args.table.now c.args.self.now.seat world is c.requires.serves);
       seen = sees_begin IsNoPart setup c.args.place c.chunks_of-first.result.0 old;
     }
@@ -42,7 +42,7 @@ loop-chunk-preserved g c =
       step = services_follow means c.args.table.now c.args.self.now.seat c.loop-chunk.table c.loop-chunk.self.seat c.scrape_chunk.new.table c.scrape_chunk.new.self.seat i.step c.scrape_chunk.ensures.step;
       told = λ world is.
           let count_is : (taken_of mid place).count ≡ (taken_of old place).count = ap (λ (v : ServiceView). (taken_of v place).count) i.seen.view in
-          finds_none_more place (taken_of old place).count first c.loop-chunk.chunk world (means.told c.loop-chunk.table) (means.told c.scrape_chunk.new.table) mid new (i.told world is)
+          finds_more (IsntPart place (taken_of old place).count) first c.loop-chunk.chunk world (means.told c.loop-chunk.table) (means.told c.scrape_chunk.new.table) mid new (i.told world is)
           (λ w e. subst (λ (n : ℕ). FindsNoPart place n c.loop-chunk.chunk w (means.told c.scrape_chunk.new.table) new) count_is (c.scrape_chunk.ensures.told_none c.if-scrape_chunk.false w e));
       seen = sees_more IsNoPart setup place first c.loop-chunk.chunk old mid new i.seen (subst (λ (s : Setup). SeesNoPart s place c.loop-chunk.chunk mid new) same (c.scrape_chunk.ensures.none c.if-scrape_chunk.false));
     }

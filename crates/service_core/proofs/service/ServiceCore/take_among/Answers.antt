@@ -1,7 +1,7 @@
 use Rattle.std.proofs.Common.{◌≡◌, ℕ, ◌<◌, ◌∙◌, length, sym, subst, ap, arith}
 use Rattle.chunk_plain.specs.Views.{ServiceView, taken_of}
-use Rattle.service_core.specs.Told.{FreesOne, FreesNone}
-use Rattle.service_core.proofs.ToldLemmas.{frees_none_yet, frees_none_more, frees_none_all, frees_next}
+use Rattle.service_core.specs.Told.{FreesOne, Isnt, FreesNone}
+use Rattle.service_core.proofs.ToldLemmas.{finds_begin, finds_more, finds_fewer, frees_next}
 use Rattle.chunk_plain.specs.Setup.{Setup, producer_of, IsChunkOf}
 use Rattle.chunk_plain.proofs.SeatSteps.{services_follow, serves_on}
 use Rattle.service_core.specs.Agreement.{ServiceAgrees, KeepsRest}
@@ -27,7 +27,7 @@ loop-chunk-preserved g c =
       step = services_follow means c.args.table.now c.args.self.now.seat c.loop-chunk.table c.loop-chunk.self.seat c.try_take.new.table c.try_take.new.self.seat i.step c.try_take.ensures.step;
       told = λ world is.
           let count_is : (taken_of mid place).count ≡ (taken_of old place).count = ap (λ (v : ServiceView). (taken_of v place).count) i.seen.view in
-          frees_none_more place (taken_of old place).count c.args.first c.loop-chunk.chunk world (means.told c.loop-chunk.table) (means.told c.try_take.new.table) mid new (i.told world is)
+          finds_more (Isnt place (taken_of old place).count) c.args.first c.loop-chunk.chunk world (means.told c.loop-chunk.table) (means.told c.try_take.new.table) mid new (i.told world is)
           (λ w e. subst (λ (n : ℕ). FreesNone place n c.loop-chunk.chunk w (means.told c.try_take.new.table) new) count_is (c.try_take.ensures.told_other c.if-try_take.false w e));
       seen = sees_more IsOther setup place c.args.first c.loop-chunk.chunk (means.service_view c.args.table.now c.args.self.now.seat) mid new i.seen
           (subst (λ (s : Setup). SeesOther s place c.loop-chunk.chunk mid new) same (c.try_take.ensures.other c.if-try_take.false));
@@ -42,7 +42,7 @@ loop-chunk-init g c =
       agrees = c.requires.agrees;
       keeps = keeps_same setup c.args.self.now;
       step = serves_on means c.args.table.now c.args.self.now.seat c.requires.serves;
-      told = λ world is. frees_none_yet c.args.place (taken_of old c.args.place).count c.args.first world (means.told c.args.table.now) old is
+      told = λ world is. finds_begin (Isnt c.args.place (taken_of old c.args.place).count) c.args.first world (means.told c.args.table.now) old is
           (g.met.W.Words.told_service_view c.args.table.now c.args.self.now.seat world is c.requires.serves);
       seen = sees_begin IsOther setup c.args.place c.args.first old;
     }
@@ -65,7 +65,7 @@ pub returns-clause-told_none : goal.returns-clause-told_none
 returns-clause-told_none g c _ world is =
     let means = g.W.Words.means in
     let old = means.service_view c.args.table.now c.args.self.now.seat in
-    frees_none_all c.args.place (taken_of old c.args.place).count c.args.first c.args.last c.loop-chunk.chunk world (means.told c.loop-chunk.table)
+    finds_fewer (Isnt c.args.place (taken_of old c.args.place).count) c.args.first c.args.last c.loop-chunk.chunk world (means.told c.loop-chunk.table)
     (means.service_view c.loop-chunk.table c.loop-chunk.self.seat) c.loop-chunk-test.false (c.loop-chunk.invariant.told world is)
 
 pub try_take-requires-clause-chunk : goal.try_take-requires-clause-chunk

@@ -2,10 +2,10 @@ use Rattle.std.proofs.Common.{◌≡◌, ◌+◌, ℕ, subst, ap, arith}
 use Rattle.chunk_plain.specs.Setup.{Setup}
 use Rattle.chunk_plain.specs.Views.{ServiceView, taken_of}
 use Rattle.service_core.specs.Taking.{IsOther, SeesNoneOf}
-use Rattle.service_core.specs.Told.{FreesNext, FreesNoneOf}
+use Rattle.service_core.specs.Told.{FreesNext, Isnt, FreesNoneOf}
 use Rattle.service_core.proofs.ChainLemmas.{takes_behind}
 use Rattle.service_core.proofs.LookLemmas.{sees_both, sees_all}
-use Rattle.service_core.proofs.ToldLemmas.{frees_none_both, frees_behind}
+use Rattle.service_core.proofs.ToldLemmas.{finds_both, frees_behind}
 use Rattle.service_core.proofs.service.ServiceCore.take_next.Goals as goal
 
 pub returns-in-None-clause-taken : goal.returns-in-None-clause-taken
@@ -55,6 +55,6 @@ returns-in-None-clause-told_none g c empty world is =
     let none = c.take_among.ensures.none c.in-None.is in
     let count_is : (taken_of mid place).count ≡ (taken_of old place).count = ap (λ (v : ServiceView). (taken_of v place).count) none.view in
     let told = means.told c.take_among-in-None.new.table in
-    frees_none_both place (taken_of old place).count c.args.first c.args.from (c.args.first + c.args.count) world (means.told c.take_among.new.table) told mid new
+    finds_both (Isnt place (taken_of old place).count) c.args.first c.args.from (c.args.first + c.args.count) world (means.told c.take_among.new.table) told mid new
     (c.take_among.ensures.told_none c.in-None.is world is)
     (λ w e. subst (λ (n : ℕ). FreesNoneOf place n c.args.first c.args.from w told new) count_is (c.take_among-in-None.ensures.told_none empty w e))
