@@ -1,6 +1,5 @@
 -- What views keep that are those of some owned world: the notes on each sequence are in order, as an account asks it.
-use Rattle.std.proofs.Common.{◌≡◌, ◌∙◌, ℕ, ◌+◌, ◌-◌, ◌<◌, Bool, true, false, ◌&&◌, cond, List, [], ◌∷◌, length, Option, Some, None, refl, subst, arith}
-use Rattle.std.specs.Prelude.{◌==◌}
+use Rattle.std.proofs.Common.{◌≡◌, ◌∙◌, ℕ, ◌+◌, ◌-◌, ◌<◌, false, List, [], length, Some, refl, subst, arith}
 use Rattle.std.proofs.Math.Logic.{∥∥₁_elim, ∥∥₁_map}
 use Rattle.std.proofs.Math.Nat.{ℕ_set}
 use Rattle.std.proofs.Math.Bool.{Bool-set}
@@ -8,13 +7,11 @@ use mathlib.Core.Sum.{⊎_set}
 use mathlib.Core.List.{is_set as list_set}
 use Rattle.std.proofs.Math.Option.{is_set as option_set}
 use Rattle.std.specs.Coded.{le_prop}
-use Rattle.std.proofs.lemmas.Bool.{false≢true, eqb-true, and_parts}
 use Rattle.trace_model.specs.Images.{Image}
 use Rattle.chunk_plain.specs.Setup.{sequence_of}
 use Rattle.chunk_plain.specs.Drafts.{IsDraft, IsFound, IsThere, StillHas}
 use Rattle.chunk_plain.specs.Views.{At, BegunChunk, Held, Completed, Content, Found, Look, ServiceView, WriterView, taken_of}
 use Rattle.chunk_plain.specs.World.{World, Status, writer}
-use Rattle.chunk_plain.specs.Histories.{is_scraped, found_among}
 use Rattle.chunk_plain.specs.Owned.{IsOwned}
 use Rattle.chunk_plain.proofs.Lists.{at_inside, at_one, at_some}
 use Rattle.world_model.specs.Accounts.{IsScraped, InOrder}
@@ -50,25 +47,6 @@ by_owned world P owned one_proof follows = ∥∥₁_elim owned one_proof (λ h.
 -- an owned world is such a one itself
 pub owned_itself : (world : World) → ∥ IsOwned world ∥₁ → HasOwned world
 owned_itself world owned = ∥∥₁_map owned (λ (is : IsOwned world). (world, is, refl, refl))
-
--- ---- what a look found
-
-scraped_as : (place id count : ℕ) (looks : List Look) (found : Found) → found_among place id count looks ≡ Some found → (found.place ≡ place) × (found.id ≡ id)
-scraped_as place id count [] found e = absurd (cc)
-scraped_as place id count (look ∷ looks) found e = step (is_scraped place id count look.found) refl e (scraped_as place id count looks found)
-  where
-    names : (one : Option Found) → is_scraped place id count one ≡ true → one ≡ Some found → (found.place ≡ place) × (found.id ≡ id)
-    names None s f = absurd (false≢true s)
-    names (Some one) s f =
-        let same : one ≡ found = cc in
-        let first = and_parts ((one.place == place) && (one.id == id)) (length one.ends == count) s in
-        let both = and_parts (one.place == place) (one.id == id) first.0 in
-        subst (λ (x : Found). (x.place ≡ place) × (x.id ≡ id)) same (eqb-true one.place place both.0, eqb-true one.id id both.1)
-
-    step : (b : Bool) → is_scraped place id count look.found ≡ b → cond b look.found (found_among place id count looks) ≡ Some found
-        → (found_among place id count looks ≡ Some found → (found.place ≡ place) × (found.id ≡ id)) → (found.place ≡ place) × (found.id ≡ id)
-    step true s f rest = names look.found s f
-    step false s f rest = rest f
 
 -- ---- one writer
 
@@ -120,14 +98,11 @@ module _ (world : World) (owned : HasOwned world) (place : ℕ) where
     scraped : (id count : ℕ) → IsFoundPart world.service (sequence_of place) id count → IsScraped images world.service (sequence_of place) id count
     scraped id count part = by_entry some.0 some.1
       where
-        looked_at : IsLooked world.service.looks count part.found
+        looked_at : IsLooked (place + 2 - 2) id count world.service.looks part.found
         looked_at = looked (place + 2 - 2) id count world.service.looks part.found part.looked
 
         named_so : (part.found.place ≡ place) × (part.found.id ≡ id)
-        named_so =
-            let both = scraped_as (place + 2 - 2) id count world.service.looks part.found part.looked in
-            let back : place + 2 - 2 ≡ place = omega arith in
-            (both.0 ∙ back, both.1)
+        named_so = let back : place + 2 - 2 ≡ place = omega arith in (looked_at.place_is ∙ back, looked_at.id_is)
 
         inside : id < length begun
         inside = by_owned world (id < length begun) owned (hlevel le_prop) (λ chunks is.

@@ -1,46 +1,18 @@
 -- Notes that lead from the beginning to a stage are in order, as an account asks it.
-use Rattle.std.proofs.Common.{◌≡◌, ◌∙◌, ℕ, suc, ◌+◌, ◌-◌, Bool, true, false, ◌&&◌, List, [], ◌∷◌, length, Option, Some, None, refl, ap, subst, arith}
-use Rattle.std.specs.Prelude.{◌==◌, cond}
-use Rattle.std.proofs.lemmas.Bool.{eqb-true, and_parts, false≢true}
+use Rattle.std.proofs.Common.{◌≡◌, ◌∙◌, ℕ, suc, ◌+◌, ◌-◌, Bool, true, false, List, [], ◌∷◌, Some, ap, subst, arith}
+use Rattle.std.specs.Prelude.{◌==◌}
 use Rattle.trace_base.proofs.Choices.{match_map}
 use Rattle.trace_model.specs.Images.{Image, Patch}
-use Rattle.chunk_plain.specs.Views.{At, BegunChunk, Held, Completed, Found, Look, Noted, Arrive, Partial, Patched, Closed, Read, Commit, ServiceView}
+use Rattle.chunk_plain.specs.Views.{At, BegunChunk, Held, Completed, Noted, Arrive, Partial, Patched, Closed, Read, Commit, ServiceView}
 use Rattle.chunk_plain.specs.World.{World, writer}
 use Rattle.chunk_plain.specs.Owned.{IsOwned}
 use Rattle.chunk_plain.specs.Drafts.{IsFound, StillHas}
-use Rattle.chunk_plain.specs.Histories.{is_scraped, found_among, content_at}
+use Rattle.chunk_plain.specs.Histories.{content_at}
 use Rattle.world_model.specs.Accounts.{IsScraped, InOrder}
 use Rattle.world_model.proofs.FrontLemmas.{finds_are_fronts}
+use Rattle.world_model.proofs.PartLemmas.{looked}
 use Rattle.service_core.specs.Order.{Stage, IsFoundPart, LeadTo}
 use Rattle.service_core.specs.OrderLaws.{HasImages, LeadsAreInOrder}
-
--- the look behind what was found first
-record IsLooked (place id count : ℕ) (looks : List Look) (found : Found) : Type 0 where
-  number : ℕ
-  look : Look
-  at : At looks number look
-  found_is : look.found ≡ Some found
-  place_is : found.place ≡ place
-  id_is : found.id ≡ id
-
-looked : (place id count : ℕ) (looks : List Look) (found : Found) → found_among place id count looks ≡ Some found → IsLooked place id count looks found
-looked place id count [] found e = absurd (cc)
-looked place id count (look ∷ looks) found e = step (is_scraped place id count look.found) refl e (looked place id count looks found)
-  where
-    here : (o : Option Found) → is_scraped place id count o ≡ true → o ≡ Some found → (found.place ≡ place) × (found.id ≡ id)
-    here None s f = absurd (false≢true s)
-    here (Some one) s f =
-        let same : one ≡ found = cc in
-        let two = and_parts ((one.place == place) && (one.id == id)) (length one.ends == count) s in
-        let both = and_parts (one.place == place) (one.id == id) two.0 in
-        subst (λ (x : Found). (x.place ≡ place) × (x.id ≡ id)) same (eqb-true one.place place both.0, eqb-true one.id id both.1)
-
-    step : (b : Bool) → is_scraped place id count look.found ≡ b → cond b look.found (found_among place id count looks) ≡ Some found
-        → (found_among place id count looks ≡ Some found → IsLooked place id count looks found) → IsLooked place id count (look ∷ looks) found
-    step true s f rest = let is = here look.found s f in record { number = 0; look = look; at = refl; found_is = f; place_is = is.0; id_is = is.1 }
-    step false s f rest =
-        let h = rest f in
-        record { number = suc h.number; look = h.look; at = h.at; found_is = h.found_is; place_is = h.place_is; id_is = h.id_is }
 
 -- a part that was found is a front of its chunk's image
 scraped : (world : World) (place q id count : ℕ) (images : List Image) → q - 2 ≡ place → IsOwned world → HasImages (writer world place) images

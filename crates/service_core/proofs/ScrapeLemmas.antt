@@ -2,7 +2,7 @@
 use Rattle.std.proofs.Common.{◌≡◌, ◌∙◌, ℕ, zero, suc, ◌+◌, ◌-◌, ◌%◌, ◌<◌, ◌≤◌, ◌⊎◌, Bool, true, false, ◌&&◌, List, [], ◌∷◌, length, Option, Some, None, refl, sym, ap, subst, arith, inl, inr, append-nil}
 use Rattle.std.specs.Prelude.{cond, ◌==◌}
 use Rattle.std.specs.List.{flat_map}
-use Rattle.std.proofs.lemmas.Bool.{cases_eq, eqb-true, eq-eqb, and_parts, false≢true}
+use Rattle.std.proofs.lemmas.Bool.{cases_eq, eq-eqb, false≢true}
 use Rattle.std.proofs.lemmas.Option.{same_Some}
 use mathlib.Core.Option.{some-injective}
 use Rattle.trace_base.proofs.Lists.{begins}
@@ -27,6 +27,7 @@ use Rattle.chunk_plain.specs.Steps.{taken_counts}
 use Rattle.chunk_plain.specs.Words.{LooksAt, LooksAgree, FoundAlike, ShowsFound}
 use Rattle.chunk_plain.proofs.Lists.{at_seam}
 use Rattle.chunk_plain.proofs.Agreeing.{found_alike}
+use Rattle.world_model.proofs.PartLemmas.{IsLooked, looked as as_looked}
 use Rattle.service_core.specs.declared.service.ServiceCore.{ServiceCore}
 use Rattle.service_core.specs.Routing.{partial_arrivals_of}
 use Rattle.service_core.specs.Agreement.{ServiceAgrees, KeepsFields, KeepsRest, is_closed}
@@ -43,22 +44,11 @@ use Rattle.service_core.proofs.FrontReading.{front_reads}
 
 -- The first look that found so much
 
--- the first look among these that found so many fragments
-pub record FirstFound (place id count : ℕ) (looks : List Look) : Type 0 where
-  pub found : Found
-  pub looked : found_among place id count looks ≡ Some found
-  pub number : ℕ
-  pub look : Look
-  pub at : At looks number look
-  pub found_is : look.found ≡ Some found
-  pub place_is : found.place ≡ place
-  pub id_is : found.id ≡ id
-  pub count_is : length found.ends ≡ count
-
-pub first_found : (place id count : ℕ) (looks : List Look) (n : ℕ) (look : Look) (found : Found) → At looks n look → look.found ≡ Some found
-    → found.place ≡ place → found.id ≡ id → length found.ends ≡ count → FirstFound place id count looks
-first_found place id count [] n look found at is place_is id_is count_is = absurd (cc)
-first_found place id count (first ∷ looks) zero look found at is place_is id_is count_is =
+-- where a look among these found so many fragments, there is a first one that did
+first_there : (place id count : ℕ) (looks : List Look) (n : ℕ) (look : Look) (found : Found) → At looks n look → look.found ≡ Some found
+    → found.place ≡ place → found.id ≡ id → length found.ends ≡ count → (first : Found) × (found_among place id count looks ≡ Some first)
+first_there place id count [] n look found at is place_is id_is count_is = absurd (cc)
+first_there place id count (first ∷ looks) zero look found at is place_is id_is count_is =
     let same : first ≡ look = some-injective first look at in
     let here : first.found ≡ Some found = ap (λ (l : Look). l.found) same ∙ is in
     let test : is_scraped place id count first.found ≡ true =
@@ -66,48 +56,26 @@ first_found place id count (first ∷ looks) zero look found at is place_is id_i
     ∙ (ap (λ (a : Bool). (a && (found.id == id)) && (length found.ends == count)) (eq-eqb found.place place place_is)
     ∙ (ap (λ (b : Bool). (true && b) && (length found.ends == count)) (eq-eqb found.id id id_is)
     ∙ ap (λ (c : Bool). (true && true) && c) (eq-eqb (length found.ends) count count_is))) in
-    record {
-      found = found;
-      looked = ap (λ (b : Bool). cond b first.found (found_among place id count looks)) test ∙ here;
-      number = 0;
-      look = first;
-      at = refl;
-      found_is = here;
-      place_is = place_is;
-      id_is = id_is;
-      count_is = count_is;
-    }
-first_found place id count (first ∷ looks) (suc n) look found at is place_is id_is count_is =
-    step (is_scraped place id count first.found) refl first.found refl (first_found place id count looks n look found at is place_is id_is count_is)
+    (found, ap (λ (b : Bool). cond b first.found (found_among place id count looks)) test ∙ here)
+first_there place id count (first ∷ looks) (suc n) look found at is place_is id_is count_is =
+    step (is_scraped place id count first.found) refl first.found refl (first_there place id count looks n look found at is place_is id_is count_is)
   where
-    step : (b : Bool) → is_scraped place id count first.found ≡ b → (o : Option Found) → first.found ≡ o → FirstFound place id count looks → FirstFound place id count (first ∷ looks)
-    step false test o here rest = record {
-      found = rest.found;
-      looked = ap (λ (b : Bool). cond b first.found (found_among place id count looks)) test ∙ rest.looked;
-      number = suc rest.number;
-      look = rest.look;
-      at = rest.at;
-      found_is = rest.found_is;
-      place_is = rest.place_is;
-      id_is = rest.id_is;
-      count_is = rest.count_is;
-    }
+    step : (b : Bool) → is_scraped place id count first.found ≡ b → (o : Option Found) → first.found ≡ o → (later : Found) × (found_among place id count looks ≡ Some later)
+        → (one : Found) × (found_among place id count (first ∷ looks) ≡ Some one)
+    step false test o here rest = (rest.0, ap (λ (b : Bool). cond b first.found (found_among place id count looks)) test ∙ rest.1)
     step true test None here rest = absurd (false≢true (sym (ap (is_scraped place id count) here) ∙ test))
-    step true test (Some one) here rest =
-        let holds : ((one.place == place) && (one.id == id)) && (length one.ends == count) ≡ true = sym (ap (is_scraped place id count) here) ∙ test in
-        let two = and_parts ((one.place == place) && (one.id == id)) (length one.ends == count) holds in
-        let both = and_parts (one.place == place) (one.id == id) two.0 in
-        record {
-          found = one;
-          looked = ap (λ (b : Bool). cond b first.found (found_among place id count looks)) test ∙ here;
-          number = 0;
-          look = first;
-          at = refl;
-          found_is = here;
-          place_is = eqb-true one.place place both.0;
-          id_is = eqb-true one.id id both.1;
-          count_is = eqb-true (length one.ends) count two.1;
-        }
+    step true test (Some one) here rest = (one, ap (λ (b : Bool). cond b first.found (found_among place id count looks)) test ∙ here)
+
+pub record FirstFound (place id count : ℕ) (looks : List Look) : Type 0 where
+  pub found : Found
+  pub looked : found_among place id count looks ≡ Some found
+  pub is : IsLooked place id count looks found
+
+pub first_found : (place id count : ℕ) (looks : List Look) (n : ℕ) (look : Look) (found : Found) → At looks n look → look.found ≡ Some found
+    → found.place ≡ place → found.id ≡ id → length found.ends ≡ count → FirstFound place id count looks
+first_found place id count looks n look found at is place_is id_is count_is =
+    let one = first_there place id count looks n look found at is place_is id_is count_is in
+    record { found = one.0; looked = one.1; is = as_looked place id count looks one.0 one.1 }
 
 -- it found what this one did
 part_same : (view : ServiceView) (place id count n : ℕ) (look : Look) (found first : Found) → LooksAgree view → At view.looks n look → look.found ≡ Some found
@@ -115,7 +83,7 @@ part_same : (view : ServiceView) (place id count n : ℕ) (look : Look) (found f
 part_same view place id count n look found first alike at is place_is id_is count_is among =
     let one = first_found place id count view.looks n look found at is place_is id_is count_is in
     subst (λ (f : Found). FoundAlike f found) (same_Some one.found first (sym one.looked ∙ among))
-    (found_alike view alike one.number n one.look look one.found found one.at one.found_is at is (one.place_is ∙ sym place_is) (one.id_is ∙ sym id_is) (one.count_is ∙ sym count_is))
+    (found_alike view alike one.is.number n one.is.look look one.found found one.is.at one.is.found_is at is (one.is.place_is ∙ sym place_is) (one.is.id_is ∙ sym id_is) (one.is.count_is ∙ sym count_is))
 
 -- A part that was noted stands on the look before it.
 pub part_shown : (setup : Setup) (old mid new : ServiceView) (place chunk : ℕ) (seen : Seen) (at writer id finished : ℕ) → LooksAt setup chunk seen.word.0 seen.header old mid
@@ -203,11 +171,11 @@ module _ {S : Type 0} (setup : Setup) (old : ServiceView) (core done : ServiceCo
   first = first_found (place + 2 - 2) id count old.looks looked.number looked.look looked.found looked.at looked.found_is (looked.place_is ∙ (let back : place ≡ place + 2 - 2 = omega arith in back)) looked.id_is looked.count_is
 
   same : FoundAlike first.found looked.found
-  same = found_alike old alike first.number looked.number first.look looked.look first.found looked.found first.at first.found_is looked.at looked.found_is
-      (first.place_is ∙ (let back : place + 2 - 2 ≡ place = omega arith in back) ∙ sym looked.place_is) (first.id_is ∙ sym looked.id_is) (first.count_is ∙ sym looked.count_is)
+  same = found_alike old alike first.is.number looked.number first.is.look looked.look first.found looked.found first.is.at first.is.found_is looked.at looked.found_is
+      (first.is.place_is ∙ (let back : place + 2 - 2 ≡ place = omega arith in back) ∙ sym looked.place_is) (first.is.id_is ∙ sym looked.id_is) (first.is.count_is ∙ sym looked.count_is)
 
   pub part_found : 0 < count → IsFoundPart (noted_more old (Partial (place + 2) id count ∷ [])) (place + 2) id count
-  part_found some = record { found = first.found; looked = first.looked; some = let many = first.count_is in omega (arith, many, some) }
+  part_found some = record { found = first.found; looked = first.looked; some = let many = first.is.count_is in omega (arith, many, some) }
 
   module _ (keeps : KeepsFields core done) (open_here : is_closed setup core place ≡ false) (next : id ≡ (taken_of old place).count) (some : 0 < count)
       (front_is : front % 2 ≡ flags % 2) (shows : ShowsFound old chunk payload) (small : length payload < drop_size)
@@ -225,7 +193,7 @@ module _ {S : Type 0} (setup : Setup) (old : ServiceView) (core done : ServiceCo
         let is = looked.id_is in omega (arith, counts, is, next) in
         let loaded = shows looked.number looked.look found looked.at looked.chunk_is looked.found_is untaken in
         let reads = loaded_reads found count payload looked.is looked.count_is loaded.0 loaded.1 small in
-        let flag_is : front % 2 ≡ first.found.head.flags % 2 = front_is ∙ sym looked.front ∙ sym (same.front (let many = first.count_is in omega (arith, many, some))) in
+        let flag_is : front % 2 ≡ first.found.head.flags % 2 = front_is ∙ sym looked.front ∙ sym (same.front (let many = first.is.count_is in omega (arith, many, some))) in
         ap (λ (r : Reading). buffers_after bs (once_read (λ chunk. model.ArrivesInPart (place + 2) id chunk) front r)) (reads ∙ ap (reading_of count) (sym same.sealed))
         ∙ same_parts bs (place + 2) id front first.found.head.flags (reading_of count first.found.sealed) flag_is
         ∙ ap (λ (o : Option Found). buffers_after bs (part_of (place + 2) id count o)) (sym first.looked)

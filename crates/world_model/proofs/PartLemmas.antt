@@ -1,5 +1,5 @@
 -- What a scrape found of a chunk reads as the first fragments of the page that the chunk is.
-use Rattle.std.proofs.Common.{◌≡◌, ◌∙◌, ℕ, zero, suc, ◌+◌, ◌^◌, ◌<◌, ◌≤◌, Bool, true, false, ◌&&◌, List, [], ◌∷◌, ◌++◌, length, take, Option, Some, None, refl, sym, ap, subst, arith, length-append, length-take}
+use Rattle.std.proofs.Common.{◌≡◌, ◌∙◌, ℕ, zero, suc, ◌+◌, ◌^◌, ◌<◌, ◌≤◌, Bool, true, false, ◌&&◌, List, [], ◌∷◌, ◌++◌, length, take, Some, refl, sym, ap, arith, length-append, length-take}
 use Rattle.std.specs.Prelude.{cond, All, ◌==◌}
 use Rattle.std.specs.List.{flat_map}
 use Rattle.std.proofs.lemmas.Bool.{false≢true, eqb-true, and_parts}
@@ -23,30 +23,38 @@ use Rattle.world_model.proofs.OwnLemmas.{page_reads}
 
 -- The look
 
-pub record IsLooked (looks : List Look) (count : ℕ) (found : Found) : Type 0 where
+-- the look among these that found it: so many fragments of the writer's chunk with this id
+pub record IsLooked (place id count : ℕ) (looks : List Look) (found : Found) : Type 0 where
   pub number : ℕ
   pub look : Look
   pub at : At looks number look
   pub found_is : look.found ≡ Some found
+  pub place_is : found.place ≡ place
+  pub id_is : found.id ≡ id
   pub count_is : length found.ends ≡ count
 
-pub looked : (place id count : ℕ) (looks : List Look) (found : Found) → found_among place id count looks ≡ Some found → IsLooked looks count found
+pub looked : (place id count : ℕ) (looks : List Look) (found : Found) → found_among place id count looks ≡ Some found → IsLooked place id count looks found
 looked place id count [] found e = absurd (cc)
 looked place id count (look ∷ looks) found e = step (is_scraped place id count look.found) refl e (looked place id count looks found)
   where
-    counts : (o : Option Found) → is_scraped place id count o ≡ true → o ≡ Some found → length found.ends ≡ count
-    counts None s f = absurd (false≢true s)
-    counts (Some one) s f =
-        let same : one ≡ found = cc in
-        subst (λ (x : Found). length x.ends ≡ count) same
-        (eqb-true (length one.ends) count (and_parts ((one.place == place) && (one.id == id)) (length one.ends == count) s).1)
-
     step : (b : Bool) → is_scraped place id count look.found ≡ b → cond b look.found (found_among place id count looks) ≡ Some found
-        → (found_among place id count looks ≡ Some found → IsLooked looks count found) → IsLooked (look ∷ looks) count found
-    step true s f rest = record { number = 0; look = look; at = refl; found_is = f; count_is = counts look.found s f }
+        → (found_among place id count looks ≡ Some found → IsLooked place id count looks found) → IsLooked place id count (look ∷ looks) found
+    step true s f rest =
+        let holds : ((found.place == place) && (found.id == id)) && (length found.ends == count) ≡ true = sym (ap (is_scraped place id count) f) ∙ s in
+        let two = and_parts ((found.place == place) && (found.id == id)) (length found.ends == count) holds in
+        let both = and_parts (found.place == place) (found.id == id) two.0 in
+        record {
+          number = 0;
+          look = look;
+          at = refl;
+          found_is = f;
+          place_is = eqb-true found.place place both.0;
+          id_is = eqb-true found.id id both.1;
+          count_is = eqb-true (length found.ends) count two.1;
+        }
     step false s f rest =
         let h = rest f in
-        record { number = suc h.number; look = h.look; at = h.at; found_is = h.found_is; count_is = h.count_is }
+        record { number = suc h.number; look = h.look; at = h.at; found_is = h.found_is; place_is = h.place_is; id_is = h.id_is; count_is = h.count_is }
 
 -- The bytes
 
