@@ -9,7 +9,7 @@ use Rattle.trace_base.specs.declared.policy.FullPolicy.TheVariants.{Ring, Discar
 use Rattle.trace_base.specs.declared.policy.WriterSpec.{WriterSpec}
 use Rattle.page_geometry.specs.Sizes.{record_size}
 use Rattle.trace_model.specs.Calls.{Call, Begun, Number, Bytes, Nested, Ended, GivenUp, Finished, Flushed}
-use Rattle.trace_model.specs.Counts.{last_count}
+use Rattle.trace_model.specs.Counts.{last_count, one_if}
 use Rattle.trace_model.specs.Encoding.{number_field, bytes_field}
 use Rattle.trace_model.specs.Packets.{Packet, Account, noted, begun_count, begun_packet, with_more, with_nested, with_nested_ended, given_up_packet, finished_packet}
 use Rattle.trace_model.specs.Balance.{PacketCounts, IsBalanced, counts_of}
@@ -36,6 +36,7 @@ use Rattle.service_core.specs.Routing.{buffer_at}
 use Rattle.replay_model.specs.Played.{buffer_specs, buffers_of, buffers_in, counts_from, packet_counts, AreBalanced}
 use Rattle.replay_model.specs.Laws.{EveryReportIsBalanced}
 use Rattle.replay_model.proofs.DoneLemmas.{IsDone, played_done, there, within, account_of}
+use Rattle.replay_model.proofs.PigeonLemmas.{hit_few}
 
 -- ---- how many packets the lines begin
 
@@ -90,34 +91,51 @@ nodes_begin_none ((node.Bytes field times, text) ∷ nodes) = nodes_begin_none n
 nodes_begin_none ((node.Begin field, text) ∷ nodes) = nodes_begin_none nodes
 nodes_begin_none ((node.End, text) ∷ nodes) = nodes_begin_none nodes
 
-one_of : (b : Bool) (calls : List Call) → begins calls ≤ 1 → begins (cond b calls []) ≤ 1
-one_of true calls few = few
-one_of false calls few = omega arith
+-- the writer that a line asks something of, or 0
+abbrev pub writer_number : LineKind → ℕ
+writer_number (line.Packet writer fields) = writer
+writer_number (line.Begin writer) = writer
+writer_number (line.Add writer fields) = writer
+writer_number (line.Nest writer field) = writer
+writer_number (line.Unnest writer) = writer
+writer_number (line.End writer) = writer
+writer_number (line.Flush writer) = writer
+writer_number (line.Collect producer) = 0
+writer_number (line.Scrape producer) = 0
+writer_number (line.Close producer) = 0
+writer_number (line.Read buffer limit) = 0
+writer_number line.Request = 0
 
-line_begins : (number : ℕ) (kind : LineKind) → begins (line_calls number kind) ≤ 1
+own_begins : (b : Bool) (calls : List Call) → begins calls ≤ 1 → begins (cond b calls []) ≤ one_if b
+own_begins true calls few = few
+own_begins false calls few = omega arith
+
+-- a line begins at most one packet, and that of its own writer
+pub line_own : (number : ℕ) (kind : LineKind) → begins (line_calls number kind) ≤ one_if (number == writer_number kind)
 unfolding line_calls
-line_begins number (line.Packet writer fields) =
-    one_of (number == writer) (Begun true ∷ map node_call fields ++ Finished ∷ [])
+line_own number (line.Packet writer fields) =
+    own_begins (number == writer) (Begun true ∷ map node_call fields ++ Finished ∷ [])
     (let both = begins_append (map node_call fields) (Finished ∷ []) in let none = nodes_begin_none fields in omega (arith, both, none))
-line_begins number (line.Begin writer) = one_of (number == writer) (Begun true ∷ []) (omega arith)
-line_begins number (line.Add writer fields) = one_of (number == writer) (map node_call fields) (let none = nodes_begin_none fields in omega (arith, none))
-line_begins number (line.Nest writer field) = one_of (number == writer) (Nested field ∷ []) (omega arith)
-line_begins number (line.Unnest writer) = one_of (number == writer) (Ended ∷ []) (omega arith)
-line_begins number (line.End writer) = one_of (number == writer) (Finished ∷ []) (omega arith)
-line_begins number (line.Flush writer) = one_of (number == writer) (Flushed ∷ []) (omega arith)
-line_begins number (line.Collect producer) = omega arith
-line_begins number (line.Scrape producer) = omega arith
-line_begins number (line.Close producer) = omega arith
-line_begins number (line.Read buffer limit) = omega arith
-line_begins number line.Request = omega arith
+line_own number (line.Begin writer) = own_begins (number == writer) (Begun true ∷ []) (omega arith)
+line_own number (line.Add writer fields) = own_begins (number == writer) (map node_call fields) (let none = nodes_begin_none fields in omega (arith, none))
+line_own number (line.Nest writer field) = own_begins (number == writer) (Nested field ∷ []) (omega arith)
+line_own number (line.Unnest writer) = own_begins (number == writer) (Ended ∷ []) (omega arith)
+line_own number (line.End writer) = own_begins (number == writer) (Finished ∷ []) (omega arith)
+line_own number (line.Flush writer) = own_begins (number == writer) (Flushed ∷ []) (omega arith)
+line_own number (line.Collect producer) = omega arith
+line_own number (line.Scrape producer) = omega arith
+line_own number (line.Close producer) = omega arith
+line_own number (line.Read buffer limit) = omega arith
+line_own number line.Request = omega arith
 
 lines_begin : (number : ℕ) (lines : List NumberedLine) → begins (calls_asked number lines) ≤ length lines
 lines_begin number [] = omega arith
 lines_begin number (line ∷ lines) =
     let both = begins_append (line_calls number line.what) (calls_asked number lines) in
-    let one = line_begins number line.what in
+    let own = line_own number line.what in
+    let one = hit_few (number == writer_number line.what) in
     let rest = lines_begin number lines in
-    omega (arith, both, one, rest)
+    omega (arith, both, own, one, rest)
 
 pub asked_few : (number : ℕ) (lines : List NumberedLine) → begun_count (calls_asked number lines) ≤ length lines
 asked_few number lines =

@@ -50,7 +50,7 @@ hit_none : (b : Bool) (x y : ℕ) → x ≢ y → one_if (b && (x == y)) ≡ 0
 hit_none true x y differs = ap (λ (e : Bool). one_if e) (ne_eqb x y differs)
 hit_none false x y differs = refl
 
-hit_few : (b : Bool) → one_if b ≤ 1
+pub hit_few : (b : Bool) → one_if b ≤ 1
 hit_few true = omega arith
 hit_few false = omega arith
 

@@ -1,10 +1,9 @@
 -- A read of a buffer without limit has enough left for each of its sequences.
-use Rattle.std.proofs.Common.{◌≡◌, ◌∙◌, ℕ, zero, suc, ◌+◌, ◌-◌, ◌<◌, ◌≤◌, ◌⊎◌, Bool, true, false, List, [], ◌∷◌, ◌++◌, length, map, refl, sym, ap, subst, arith, inl, inr, cond, append_assoc, length-append}
+use Rattle.std.proofs.Common.{◌≡◌, ◌∙◌, ℕ, zero, suc, ◌+◌, ◌-◌, ◌<◌, ◌≤◌, ◌⊎◌, Bool, true, false, List, [], ◌∷◌, ◌++◌, length, refl, sym, ap, subst, arith, inl, inr, cond, append_assoc, length-append}
 use Rattle.std.specs.Prelude.{◌==◌}
 use Rattle.std.proofs.lemmas.Bool.{cases_eq, eq-eqb, ne_eqb, eqb-true, false≢true}
 use Rattle.trace_base.specs.declared.policy.WriterSpec.{WriterSpec}
 use Rattle.trace_model.specs.Buffers.{Buffer}
-use Rattle.trace_model.specs.Calls.{Call, Begun, Finished, Flushed, Nested, Ended}
 use Rattle.trace_model.specs.Counts.{one_if}
 use Rattle.trace_model.specs.Packets.{begun_count}
 use Rattle.trace_model.specs.Reads.{delivered_by, with_read}
@@ -15,14 +14,13 @@ use Rattle.trace_model.specs.Tells.{Tells}
 use Rattle.delivery_laws.proofs.AskLemmas.{known_after}
 use Rattle.delivery_laws.proofs.EnoughLemmas.{tells_few}
 use Rattle.scenario_text.specs.declared.scenario.NumberedLine.{NumberedLine}
-use Rattle.scenario_text.specs.declared.scenario.LineKind.{LineKind}
-use Rattle.scenario_text.specs.declared.scenario.LineKind.TheVariants as line
-use Rattle.scenario_text.specs.Accepted.{line_calls, calls_asked, node_call}
+use Rattle.scenario_text.specs.Accepted.{line_calls, calls_asked}
 use Rattle.service_core.specs.Agreement.{spec_at}
 use Rattle.service_core.specs.Reading.{sequences_to}
 use Rattle.service_core.proofs.RouteLemmas.{state_append}
-use Rattle.replay_model.proofs.BalanceLemmas.{begins, begins_append, many_begun, nodes_begin_none}
+use Rattle.replay_model.proofs.BalanceLemmas.{begins, begins_append, many_begun, writer_number, line_own}
 use Rattle.replay_model.proofs.FinishLemmas.{HasRead}
+use Rattle.replay_model.proofs.PigeonLemmas.{hit_few}
 
 -- ---- no more is delivered than was emitted
 
@@ -43,42 +41,6 @@ delivered_part q limit (event ∷ before) later buffer =
 
 -- ---- the lines begin no more packets than there are
 
--- the writer that a line asks something of, or 0
-abbrev writer_number : LineKind → ℕ
-writer_number (line.Packet writer fields) = writer
-writer_number (line.Begin writer) = writer
-writer_number (line.Add writer fields) = writer
-writer_number (line.Nest writer field) = writer
-writer_number (line.Unnest writer) = writer
-writer_number (line.End writer) = writer
-writer_number (line.Flush writer) = writer
-writer_number (line.Collect producer) = 0
-writer_number (line.Scrape producer) = 0
-writer_number (line.Close producer) = 0
-writer_number (line.Read buffer limit) = 0
-writer_number line.Request = 0
-
-own_begins : (b : Bool) (calls : List Call) → begins calls ≤ 1 → begins (cond b calls []) ≤ one_if b
-own_begins true calls few = few
-own_begins false calls few = omega arith
-
-line_own : (number : ℕ) (kind : LineKind) → begins (line_calls number kind) ≤ one_if (number == writer_number kind)
-unfolding line_calls
-line_own number (line.Packet writer fields) =
-    own_begins (number == writer) (Begun true ∷ map node_call fields ++ Finished ∷ [])
-    (let both = begins_append (map node_call fields) (Finished ∷ []) in let none = nodes_begin_none fields in omega (arith, both, none))
-line_own number (line.Begin writer) = own_begins (number == writer) (Begun true ∷ []) (omega arith)
-line_own number (line.Add writer fields) = own_begins (number == writer) (map node_call fields) (let none = nodes_begin_none fields in omega (arith, none))
-line_own number (line.Nest writer field) = own_begins (number == writer) (Nested field ∷ []) (omega arith)
-line_own number (line.Unnest writer) = own_begins (number == writer) (Ended ∷ []) (omega arith)
-line_own number (line.End writer) = own_begins (number == writer) (Finished ∷ []) (omega arith)
-line_own number (line.Flush writer) = own_begins (number == writer) (Flushed ∷ []) (omega arith)
-line_own number (line.Collect producer) = omega arith
-line_own number (line.Scrape producer) = omega arith
-line_own number (line.Close producer) = omega arith
-line_own number (line.Read buffer limit) = omega arith
-line_own number line.Request = omega arith
-
 -- the sum of what each writer comes to, from this place on
 abbrev pub sum_all : (ℕ → ℕ) → (place : ℕ) → List WriterSpec → ℕ
 sum_all each place [] = 0
@@ -98,10 +60,6 @@ sum_both one other place (spec ∷ specs) = let rest = sum_both one other (suc p
 pub sum_less : (one other : ℕ → ℕ) (place : ℕ) (specs : List WriterSpec) → ((p : ℕ) → one p ≤ other p) → sum_all one place specs ≤ sum_all other place specs
 sum_less one other place [] less = omega arith
 sum_less one other place (spec ∷ specs) less = let rest = sum_less one other (suc place) specs less in let here = less place in omega (arith, rest, here)
-
-hit_few : (b : Bool) → one_if b ≤ 1
-hit_few true = omega arith
-hit_few false = omega arith
 
 hits_few : (number place : ℕ) (specs : List WriterSpec) → sum_all (λ p. one_if (suc p == number)) place specs ≤ 1
 hits_few number place [] = omega arith
