@@ -12,6 +12,7 @@ use Rattle.trace_model.specs.History as model
 use Rattle.trace_model.specs.History.{buffers_after}
 use Rattle.chunk_plain.specs.Setup.{Setup}
 use Rattle.chunk_plain.specs.Views.{Content, Look, Taken, Noted, Arrive, ServiceView, taken_of}
+use Rattle.chunk_plain.specs.Steps.{taken_counts}
 use Rattle.chunk_plain.specs.Histories.{content_at, once_read, arrival_of, patches_of, happened, history_of}
 use Rattle.trace_buffer.specs.declared.answers.BufferSpec.{BufferSpec}
 use Rattle.world_model.specs.FirstBuffers as first
@@ -70,7 +71,7 @@ one_known view q id content there = ((content, there), known_append view (patche
     by_patches (patch ∷ patches) = ((content, there), tt)
 
 -- the buffers were made from the same
-pub first_stays : {S : Type 0} → (setup : Setup) (core done : ServiceCore S) → KeepsFields core done → first_of setup done ≡ first_of setup core
+first_stays : {S : Type 0} → (setup : Setup) (core done : ServiceCore S) → KeepsFields core done → first_of setup done ≡ first_of setup core
 first_stays setup core done keeps = ap (λ (specs : List BufferSpec). first.first_buffers setup 1 (map spec_value specs)) keeps.specs
 
 -- the order goes on with the notes of a chunk of this writer
@@ -104,6 +105,35 @@ order_there old new place notes was is grows known events_are counted closed mor
     (subst (λ (n : ℕ). LeadTo new q beginning new.events (record { come = n; closed = was; due = [] })) counted
     (subst (λ (es : List Noted). LeadTo new q beginning es stage) (sym events_are) both))
 
+-- The view grew by notes of what the buffers did.
+pub agrees_grown : {S : Type 0} → (setup : Setup) (old new : ServiceView) (core done : ServiceCore S) (notes : List Noted)
+    → ServiceAgrees setup old core → KeepsFields core done → Grows old new → new.events ≡ old.events ++ notes → new.reading ≡ old.reading
+    → length new.taken ≡ length old.taken → done.taken.items ≡ taken_counts new
+    → done.buffers.items ≡ buffers_after core.buffers.items (flat_map (happened new) notes) → AreKnownNotes new notes
+    → ((place : ℕ) → place < length setup.writers → NoneCommitted new (place + 2)
+    → LeadTo new (place + 2) beginning new.events (record { come = (taken_of new place).count; closed = is_closed setup done place; due = [] }))
+    → ServiceAgrees setup new done
+agrees_grown setup old new core done notes agrees keeps grows events_are reading_is many taken_is buffers_are known order =
+    let first : List Buffer = first_of setup core in
+    record {
+      layout = keeps.layout ∙ agrees.layout;
+      writers = keeps.writers ∙ agrees.writers;
+      routed = subst (λ (specs : List BufferSpec). IsRouted setup (length specs)) (sym keeps.specs) agrees.routed;
+      many = many ∙ agrees.many;
+      taken = taken_is;
+      buffers = buffers_are
+          ∙ ap (λ (bs : List Buffer). buffers_after bs (flat_map (happened new) notes)) agrees.buffers
+          ∙ ap (λ (es : List model.Event). buffers_after (buffers_after first es) (flat_map (happened new) notes)) (sym (history_stays old new old.events grows agrees.known))
+          ∙ sym (buffers_append first (flat_map (happened new) old.events) (flat_map (happened new) notes))
+          ∙ ap (buffers_after first) (sym (flat_map-append (happened new) old.events notes))
+          ∙ ap (λ (ns : List Noted). buffers_after first (flat_map (happened new) ns)) (sym events_are)
+          ∙ ap (λ (bs : List Buffer). buffers_after bs (history_of new)) (sym (first_stays setup core done keeps));
+      session = ap (λ (s : SessionValue). s.writers) keeps.session ∙ agrees.session;
+      none_read = reading_is ∙ agrees.none_read;
+      known = subst (AreKnownNotes new) (sym events_are) (known_append new old.events notes (all_known_grow old new old.events grows agrees.known) known);
+      order = order;
+    }
+
 pub agrees_took : {S : Type 0} → (setup : Setup) (old : ServiceView) (core done : ServiceCore S) (place : ℕ) (looks : List Look) (content : Content)
     → ServiceAgrees setup old core → KeepsFields core done → place < length old.taken → is_closed setup core place ≡ false
     → length (taken_of old place).contents ≡ (taken_of old place).count
@@ -113,30 +143,15 @@ pub agrees_took : {S : Type 0} → (setup : Setup) (old : ServiceView) (core don
     → ServiceAgrees setup (took old place looks (content ∷ [])) done
 agrees_took setup old core done place looks content agrees keeps inside open_here level sequence_is id_is buffers_are taken_is =
     let new : ServiceView = took old place looks (content ∷ []) in
-    let grows = took_grows old place looks (content ∷ []) inside in
     let id : ℕ = (taken_of old place).count in
     let there = last_content old place looks content inside level in
-    let first : List Buffer = first_of setup core in
-    let notes : List Noted = takings (place + 2) id (content ∷ []) in
-    record {
-      layout = keeps.layout ∙ agrees.layout;
-      writers = keeps.writers ∙ agrees.writers;
-      routed = subst (λ (specs : List BufferSpec). IsRouted setup (length specs)) (sym keeps.specs) agrees.routed;
-      many = length-set old.taken place (taken_more (taken_of old place) (content ∷ [])) ∙ agrees.many;
-      taken = taken_is ∙ ap (λ (counts : List ℕ). set counts place (id + 1)) agrees.taken
-          ∙ sym (map-set (λ (t : Taken). t.count) old.taken place (taken_more (taken_of old place) (content ∷ [])));
-      buffers = buffers_are
-          ∙ ap (λ (bs : List Buffer). buffers_after (buffers_after bs (arrivals_of content.image)) (model.Patched (place + 2) content.patches ∷ [])) agrees.buffers
-          ∙ sym (one_taken new (place + 2) id content (buffers_after first (history_of old)) there sequence_is id_is)
-          ∙ ap (λ (es : List model.Event). buffers_after (buffers_after first es) (flat_map (happened new) notes)) (sym (history_stays old new old.events grows agrees.known))
-          ∙ sym (buffers_append first (flat_map (happened new) old.events) (flat_map (happened new) notes))
-          ∙ ap (buffers_after first) (sym (flat_map-append (happened new) old.events notes))
-          ∙ ap (λ (bs : List Buffer). buffers_after bs (history_of new)) (sym (first_stays setup core done keeps));
-      session = ap (λ (s : SessionValue). s.writers) keeps.session ∙ agrees.session;
-      none_read = agrees.none_read;
-      known = known_append new old.events notes (all_known_grow old new old.events grows agrees.known) (one_known new (place + 2) id content there);
-      order = λ p inside_p none. by_place p inside_p none (cases_eq p place);
-    }
+    agrees_grown setup old new core done (takings (place + 2) id (content ∷ [])) agrees keeps (took_grows old place looks (content ∷ []) inside) refl refl
+    (length-set old.taken place (taken_more (taken_of old place) (content ∷ [])))
+    (taken_is ∙ ap (λ (counts : List ℕ). set counts place (id + 1)) agrees.taken
+    ∙ sym (map-set (λ (t : Taken). t.count) old.taken place (taken_more (taken_of old place) (content ∷ []))))
+    (buffers_are ∙ sym (one_taken new (place + 2) id content core.buffers.items there sequence_is id_is))
+    (one_known new (place + 2) id content there)
+    (λ p inside_p none. by_place p inside_p none (cases_eq p place))
   where
     stays : (p : ℕ) → p < length setup.writers → is_closed setup done p ≡ is_closed setup core p
     stays p inside_p = closed_stays setup old core done p content.image (place + 2) content.patches agrees buffers_are inside_p
@@ -164,22 +179,10 @@ pub agrees_looked : {S : Type 0} → (setup : Setup) (old : ServiceView) (core d
 agrees_looked setup old core done looks agrees keeps buffers_are taken_is =
     let new : ServiceView = looked old looks in
     let grows = looked_grows old looks in
-    record {
-      layout = keeps.layout ∙ agrees.layout;
-      writers = keeps.writers ∙ agrees.writers;
-      routed = subst (λ (specs : List BufferSpec). IsRouted setup (length specs)) (sym keeps.specs) agrees.routed;
-      many = agrees.many;
-      taken = taken_is ∙ agrees.taken;
-      buffers = buffers_are ∙ agrees.buffers
-          ∙ ap (buffers_after (first_of setup core)) (sym (history_stays old new old.events grows agrees.known))
-          ∙ ap (λ (bs : List Buffer). buffers_after bs (history_of new)) (sym (first_stays setup core done keeps));
-      session = ap (λ (s : SessionValue). s.writers) keeps.session ∙ agrees.session;
-      none_read = agrees.none_read;
-      known = all_known_grow old new old.events grows agrees.known;
-      order = λ p inside_p none.
-          order_there old new p [] (is_closed setup core p) (is_closed setup done p) grows agrees.known (sym (append-nil old.events)) refl
-          (sym (ap (λ (bs : List Buffer). is_closed_at bs (buffer_of setup p - 1) (p + 2)) buffers_are)) refl (agrees.order p inside_p none);
-    }
+    agrees_grown setup old new core done [] agrees keeps grows (sym (append-nil old.events)) refl refl (taken_is ∙ agrees.taken) (buffers_are ∙ sym (buffers_none core.buffers.items)) tt
+    (λ p inside_p none.
+    order_there old new p [] (is_closed setup core p) (is_closed setup done p) grows agrees.known (sym (append-nil old.events)) refl
+    (sym (ap (λ (bs : List Buffer). is_closed_at bs (buffer_of setup p - 1) (p + 2)) buffers_are)) refl (agrees.order p inside_p none))
 
 pub keeps_same : {S : Type 0} → (setup : Setup) (core : ServiceCore S) → KeepsRest setup core core
 keeps_same setup core = record { fields = record { layout = refl; specs = refl; writers = refl; session = refl }; closed = λ place inside. refl }

@@ -2,7 +2,6 @@
 use Rattle.std.proofs.Common.{◌≡◌, ◌≢◌, ◌∙◌, ℕ, ◌+◌, ◌-◌, ◌<◌, ◌⊎◌, Bool, true, false, List, [], ◌∷◌, ◌++◌, length, refl, sym, ap, subst, arith, inl, inr, append_assoc}
 use Rattle.std.specs.Prelude.{cond}
 use Rattle.std.specs.List.{flat_map}
-use Rattle.std.proofs.lemmas.Grind.{flat_map-append}
 use Rattle.std.proofs.lemmas.Bool.{cases_eq}
 use Rattle.std.proofs.lemmas.List.{map-append}
 use Rattle.trace_base.proofs.Lists.{get_more, get_seam}
@@ -15,19 +14,17 @@ use Rattle.trace_model.proofs.SequenceLemmas.{changed_here, changed_other}
 use Rattle.chunk_plain.specs.Setup.{Setup, producer_of}
 use Rattle.chunk_plain.specs.Views.{Noted, Closed, Commit, Committed, ServiceView, taken_of}
 use Rattle.chunk_plain.specs.Steps.{notes_commit}
-use Rattle.chunk_plain.specs.Histories.{commit_of, happened, history_of}
-use Rattle.trace_buffer.specs.declared.answers.BufferSpec.{BufferSpec}
-use Rattle.session_core.specs.Sessions.{SessionValue}
+use Rattle.chunk_plain.specs.Histories.{commit_of, happened}
 use Rattle.service_core.specs.declared.service.ServiceCore.{ServiceCore}
 use Rattle.service_core.specs.Routing.{buffer_at, is_closed_at}
-use Rattle.service_core.specs.Agreement.{IsRouted, AreKnownNotes, NoneCommitted, ServiceAgrees, KeepsFields, first_of, buffer_of, is_closed}
+use Rattle.service_core.specs.Agreement.{AreKnownNotes, NoneCommitted, ServiceAgrees, KeepsFields, buffer_of, is_closed}
 use Rattle.service_core.specs.Order.{LeadTo, beginning}
 use Rattle.service_core.specs.Taking.{noted_more}
 use Rattle.service_core.specs.Closing.{ClosesOne, ClosesSome, closes_of}
-use Rattle.service_core.proofs.HistoryLemmas.{Grows, all_known_grow, known_append, history_stays}
-use Rattle.service_core.proofs.RouteLemmas.{at_after, buffers_append}
+use Rattle.service_core.proofs.HistoryLemmas.{Grows}
+use Rattle.service_core.proofs.RouteLemmas.{at_after}
 use Rattle.service_core.proofs.RoutedLemmas.{stands, closed_by_none}
-use Rattle.service_core.proofs.AgreeLemmas.{first_stays, order_there}
+use Rattle.service_core.proofs.AgreeLemmas.{agrees_grown, order_there}
 use Rattle.service_core.proofs.OrderLemmas.{lead_both, lead_grows, lead_closed, lead_closed_other}
 
 pub noted_grows : (view : ServiceView) (notes : List Noted) → Grows view (noted_more view notes)
@@ -44,28 +41,12 @@ pub agrees_noted : {S : Type 0} → (setup : Setup) (old : ServiceView) (core do
 agrees_noted setup old core done notes agrees keeps buffers_are taken_is known leads =
     let new : ServiceView = noted_more old notes in
     let grows = noted_grows old notes in
-    let first : List Buffer = first_of setup core in
-    record {
-      layout = keeps.layout ∙ agrees.layout;
-      writers = keeps.writers ∙ agrees.writers;
-      routed = subst (λ (specs : List BufferSpec). IsRouted setup (length specs)) (sym keeps.specs) agrees.routed;
-      many = agrees.many;
-      taken = taken_is ∙ agrees.taken;
-      buffers = buffers_are
-          ∙ ap (λ (bs : List Buffer). buffers_after bs (flat_map (happened new) notes)) agrees.buffers
-          ∙ ap (λ (es : List model.Event). buffers_after (buffers_after first es) (flat_map (happened new) notes)) (sym (history_stays old new old.events grows agrees.known))
-          ∙ sym (buffers_append first (flat_map (happened new) old.events) (flat_map (happened new) notes))
-          ∙ ap (buffers_after first) (sym (flat_map-append (happened new) old.events notes))
-          ∙ ap (λ (bs : List Buffer). buffers_after bs (history_of new)) (sym (first_stays setup core done keeps));
-      session = ap (λ (s : SessionValue). s.writers) keeps.session ∙ agrees.session;
-      none_read = agrees.none_read;
-      known = known_append new old.events notes (all_known_grow old new old.events grows agrees.known) known;
-      order = λ place inside none.
-          lead_both new (place + 2) beginning (record { come = (taken_of old place).count; closed = is_closed setup core place; due = [] })
-          (record { come = (taken_of old place).count; closed = is_closed setup done place; due = [] }) old.events notes
-          (lead_grows old new (place + 2) beginning (record { come = (taken_of old place).count; closed = is_closed setup core place; due = [] }) old.events grows agrees.known (agrees.order place inside none))
-          (leads place inside none);
-    }
+    agrees_grown setup old new core done notes agrees keeps grows refl refl refl (taken_is ∙ agrees.taken) buffers_are known
+    (λ place inside none.
+    lead_both new (place + 2) beginning (record { come = (taken_of old place).count; closed = is_closed setup core place; due = [] })
+    (record { come = (taken_of old place).count; closed = is_closed setup done place; due = [] }) old.events notes
+    (lead_grows old new (place + 2) beginning (record { come = (taken_of old place).count; closed = is_closed setup core place; due = [] }) old.events grows agrees.known (agrees.order place inside none))
+    (leads place inside none))
 
 -- the sequence itself is closed, and each other one is as it was
 closed_here : (b : Buffer) (q : ℕ) → is_known b.sequences q ≡ true → (sequence_in (buffer_after b (model.Closed q)).sequences q).closed ≡ true
@@ -160,30 +141,14 @@ pub agrees_committed : {S : Type 0} → (setup : Setup) (old : ServiceView) (cor
 agrees_committed setup old core done committed agrees keeps buffers_are taken_is =
     let new : ServiceView = notes_commit old committed in
     let grows = committed_grows old committed in
-    let first : List Buffer = first_of setup core in
     let notes : List Noted = Commit (length old.commits) ∷ [] in
     let event : flat_map (happened new) notes ≡ model.Committed committed.image committed.patches ∷ [] = ap (λ o. commit_of o ++ []) (get_seam old.commits [] committed) in
-    record {
-      layout = keeps.layout ∙ agrees.layout;
-      writers = keeps.writers ∙ agrees.writers;
-      routed = subst (λ (specs : List BufferSpec). IsRouted setup (length specs)) (sym keeps.specs) agrees.routed;
-      many = agrees.many;
-      taken = taken_is ∙ agrees.taken;
-      buffers = buffers_are
-          ∙ ap (λ (es : List model.Event). buffers_after core.buffers.items es) (sym event)
-          ∙ ap (λ (bs : List Buffer). buffers_after bs (flat_map (happened new) notes)) agrees.buffers
-          ∙ ap (λ (es : List model.Event). buffers_after (buffers_after first es) (flat_map (happened new) notes)) (sym (history_stays old new old.events grows agrees.known))
-          ∙ sym (buffers_append first (flat_map (happened new) old.events) (flat_map (happened new) notes))
-          ∙ ap (buffers_after first) (sym (flat_map-append (happened new) old.events notes))
-          ∙ ap (λ (bs : List Buffer). buffers_after bs (history_of new)) (sym (first_stays setup core done keeps));
-      session = ap (λ (s : SessionValue). s.writers) keeps.session ∙ agrees.session;
-      none_read = agrees.none_read;
-      known = known_append new old.events notes (all_known_grow old new old.events grows agrees.known) ((committed, get_seam old.commits [] committed), tt);
-      order = λ place inside none.
-          order_there old new place notes (is_closed setup core place) (is_closed setup done place) grows agrees.known refl refl
-          (sym (closed_by_none setup old core done place (model.Committed committed.image committed.patches ∷ []) agrees buffers_are (refl, tt) inside))
-          (refl, none (length old.commits), refl) (agrees.order place inside (λ k one is. none k one (grows.commits k one is)));
-    }
+    agrees_grown setup old new core done notes agrees keeps grows refl refl refl (taken_is ∙ agrees.taken)
+    (buffers_are ∙ ap (λ (es : List model.Event). buffers_after core.buffers.items es) (sym event)) ((committed, get_seam old.commits [] committed), tt)
+    (λ place inside none.
+    order_there old new place notes (is_closed setup core place) (is_closed setup done place) grows agrees.known refl refl
+    (sym (closed_by_none setup old core done place (model.Committed committed.image committed.patches ∷ []) agrees buffers_are (refl, tt) inside))
+    (refl, none (length old.commits), refl) (agrees.order place inside (λ k one is. none k one (grows.commits k one is))))
 
 -- the order goes on with the close of a writer's sequence
 pub order_closed : {S : Type 0} → (setup : Setup) (view : ServiceView) (core done : ServiceCore S) (place : ℕ) → ServiceAgrees setup view core
