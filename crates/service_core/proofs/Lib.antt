@@ -7,6 +7,7 @@ pub mod CloseLemmas
 pub mod FrontReading
 pub mod HeldLemmas
 pub mod HistoryLemmas
+pub mod KeptLemmas
 pub mod LookLemmas
 pub mod MakeLemmas
 pub mod OrderLemmas

@@ -4,8 +4,6 @@ use Rattle.std.specs.Prelude.{cond}
 use Rattle.std.proofs.lemmas.List.{length-map, map-append, get_or_read}
 use Rattle.std.proofs.lemmas.Bool.{eq-eqb, ne_eqb, cases_eq}
 use Rattle.trace_base.specs.declared.policy.FullPolicy.TheVariants.{Ring}
-use Rattle.trace_base.specs.declared.policy.WriterSpec.{WriterSpec}
-use Rattle.page_geometry.specs.Sizes.{record_size}
 use Rattle.byte_io.specs.Bytes.{Intake, after_told, TakesPart}
 use Rattle.trace_model.specs.Counts.{one_if}
 use Rattle.trace_model.specs.Sequences.{sequence_in, is_known}
@@ -15,18 +13,18 @@ use Rattle.trace_model.specs.Record.{record_of}
 use Rattle.trace_model.specs.Row.{Link, row_from_cursor}
 use Rattle.trace_model.specs.Reads.{Delivery, link_bytes, turn_of, delivers, ends, passed_by, delivered_of, is_marked, delivered_by, with_read}
 use Rattle.trace_model.specs.History as model
-use Rattle.trace_model.specs.History.{Event, buffer_after, buffers_after, record_in, records_at, records_after}
+use Rattle.trace_model.specs.History.{Event, buffers_after, record_in, records_at, records_after}
 use Rattle.sequence_reader.specs.Ends.{record_bytes, EndsInRecordAt}
-use Rattle.chunk_plain.specs.Setup.{Setup, size_of, producer_of}
+use Rattle.chunk_plain.specs.Setup.{Setup}
 use Rattle.chunk_plain.specs.Views.{Read, ServiceView, taken_of}
 use Rattle.service_core.specs.declared.service.ServiceCore.{ServiceCore}
 use Rattle.service_core.specs.Routing.{buffer_at, IsAt}
-use Rattle.service_core.specs.Agreement.{ServiceAgrees, KeepsFields, KeepsRest, spec_at, no_writer}
+use Rattle.service_core.specs.Agreement.{ServiceAgrees, KeepsFields, KeepsRest}
 use Rattle.service_core.specs.Order.{Stage}
 use Rattle.service_core.specs.Reading.{FailsIn}
 use Rattle.service_core.specs.Taking.{noted_more}
 use Rattle.service_core.proofs.RouteLemmas.{buffers_append, buffers_none, event_at}
-use Rattle.service_core.proofs.RoutedLemmas.{stands, closed_by_none}
+use Rattle.service_core.proofs.RoutedLemmas.{closed_by_none}
 use Rattle.service_core.proofs.CloseLemmas.{agrees_noted}
 
 -- Records, one behind another
@@ -98,16 +96,7 @@ records_here (b ∷ bs) (suc index) q size n at =
       others = λ other differs. at.others (suc other) (λ e. differs (let same : other ≡ index = omega (arith, e) in same));
     })
 
--- where the service finds the buffer of the writer at this place
-pub found_at : {S : Type 0} → (setup : Setup) (view : ServiceView) (core : ServiceCore S) (place : ℕ) (spec : WriterSpec) (number : ℕ) → ServiceAgrees setup view core
-    → place < length setup.writers → spec ≡ get_or core.writers.items place spec → number ≡ spec.buffer
-    → IsAt core.buffers.items (number - 1) (place + 2) (record_size (size_of setup (producer_of setup place)))
-found_at setup view core place spec number agrees inside found named =
-    let low : place < length core.writers.items = subst (λ (ws : List WriterSpec). place < length ws) (sym agrees.writers) inside in
-    let read = get_or_read core.writers.items place spec low found no_writer ∙ ap (λ (ws : List WriterSpec). spec_at ws place) agrees.writers in
-    subst (λ (n : ℕ). IsAt core.buffers.items (n - 1) (place + 2) (record_size (size_of setup (producer_of setup place))))
-    (sym (named ∙ ap (λ (w : WriterSpec). w.buffer) read)) (stands setup view core place agrees inside)
-
+-- the buffer that was met
 pub met_at : (bs : List Buffer) (index : ℕ) (b : Buffer) → index < length bs → b ≡ get_or bs index b → b ≡ buffer_at bs index
 met_at bs index b below found = get_or_read bs index b below found (empty_buffer 0 Ring [])
 

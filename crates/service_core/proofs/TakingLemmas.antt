@@ -2,7 +2,7 @@
 use Rattle.std.proofs.Common.{◌≡◌, ◌≢◌, ◌∙◌, ℕ, ◌+◌, ◌-◌, ◌<◌, ◌⊎◌, Bool, List, [], ◌∷◌, ◌++◌, length, Some, get_or, set, refl, sym, ap, subst, arith, length-append, inl, inr}
 use Rattle.std.specs.Prelude.{slice_get, cond, None, ◌^◌}
 use Rattle.std.proofs.Math.ListN.{get_or-map}
-use Rattle.std.proofs.lemmas.List.{get_or-set_same, get_or-set_other, set-set, get_or_read, length-map}
+use Rattle.std.proofs.lemmas.List.{get_or-set_same, get_or-set_other, set-set}
 use Rattle.std.proofs.Math.Seq.{get_or-append_seam}
 use Rattle.std.proofs.lemmas.Option.{slice_get-get_or}
 use Rattle.std.proofs.lemmas.Bool.{cases_eq, eq-eqb}
@@ -115,11 +115,3 @@ other_of setup old new place chunk id found is id_fits writer_fits finds = recor
   since = counts_at old place;
   shows = record { header = found.header; header_is = refl; id_fits = id_fits; writer_fits = writer_fits; other = λ complete writer id_is. finds.other complete writer (id_is ∙ sym is) };
 }
-
--- what the service keeps of a writer is how many chunks were taken of it
-pub read_count : (view : ServiceView) (counts : List ℕ) (place n : ℕ) → counts ≡ taken_counts view → place < length view.taken → n ≡ get_or counts place n
-    → n ≡ (taken_of view place).count
-read_count view counts place n is inside read =
-    let long = length-map view.taken (λ (t : Taken). t.count) in
-    let low : place < length counts = subst (λ (xs : List ℕ). place < length xs) (sym is) (omega (arith, long, inside)) in
-    get_or_read counts place n low read 0 ∙ ap (λ (xs : List ℕ). get_or xs place 0) is ∙ counts_at view place

@@ -3,9 +3,7 @@ use Rattle.std.proofs.Common.{◌≡◌, ◌≢◌, ◌∙◌, ℕ, zero, suc, �
 use Rattle.std.proofs.Math.Logic.{∥∥₁_elim, ∥∥₁_map, ⊎_swap}
 use Rattle.std.specs.Coded.{le_prop}
 use Rattle.std.proofs.lemmas.Bool.{cases_eq}
-use Rattle.std.proofs.lemmas.List.{get_or-set_other, get_or_read, set-set}
-use Rattle.trace_base.specs.declared.policy.WriterSpec.{WriterSpec}
-use Rattle.chunk_plain.specs.declared.setup.ChunkRange.{ChunkRange}
+use Rattle.std.proofs.lemmas.List.{get_or-set_other, set-set}
 use Rattle.chunk_plain.specs.declared.tokens.TheConstants.{ID_LIMIT}
 use Rattle.chunk_plain.specs.Setup.{Setup, range_of, producer_of, IsChunkOf}
 use Rattle.chunk_plain.specs.Views.{At, BegunChunk, Held, Completed, Content, ServiceView, Taken, none_taken, taken_of}
@@ -14,9 +12,7 @@ use Rattle.chunk_plain.specs.Steps.{served, serviced}
 use Rattle.chunk_plain.specs.Owned.{IsOwned}
 use Rattle.chunk_plain.specs.Words.{IsAtRest}
 use Rattle.chunk_plain.proofs.Lists.{at_inside, at_some}
-use Rattle.service_core.specs.Agreement.{no_writer}
 use Rattle.service_core.specs.Looking.{IsAmong}
-use Rattle.service_core.specs.Taking.{IsRange}
 use Rattle.service_core.specs.Told.{StandsBehind, NoneNext, NoneLeft, LeavesNone, LeavesNoneYet, LeavesNext, FreesOne, FreesNext, FindsState, FindsEach, FreesNone, FreesNoneOf, free_one, free_in, FreesSome, CompletesInOrder, AreOrderly, NoneReady}
 use Rattle.service_core.proofs.LookLemmas.{among_parts}
 
@@ -200,20 +196,6 @@ frees_next setup place id first chunk old mid told before view none is more =
     record { chunk = chunk; is = is; frees = record { ready = next.ready; told_is = next.told_is } }
 
 -- Chunks of one writer
-
--- the range of its producer's chunks, as it was read
-pub range_is : (setup layout : Setup) (writers : List WriterSpec) (place : ℕ) (spec : WriterSpec) (read : ℕ × ℕ) → layout ≡ setup → writers ≡ setup.writers → place < length setup.writers
-    → spec ≡ get_or writers place spec → read ≡ ((range_of layout spec.producer).first, (range_of layout spec.producer).count)
-    → IsRange (range_of setup (producer_of setup place)) read.0 read.1
-range_is setup layout writers place spec read layout_is writers_are inside spec_is read_is =
-    let low : place < length writers = subst (λ (ws : List WriterSpec). place < length ws) (sym writers_are) inside in
-    let same : spec.producer ≡ producer_of setup place =
-    ap (λ (w : WriterSpec). w.producer) (get_or_read writers place spec low spec_is no_writer ∙ ap (λ (ws : List WriterSpec). get_or ws place no_writer) writers_are) in
-    let ranges : range_of layout spec.producer ≡ range_of setup (producer_of setup place) = ap (λ (s : Setup). range_of s spec.producer) layout_is ∙ ap (range_of setup) same in
-    record {
-      first_is = ap (λ (r : ℕ × ℕ). r.0) read_is ∙ ap (λ (r : ChunkRange). r.first) ranges;
-      count_is = ap (λ (r : ℕ × ℕ). r.1) read_is ∙ ap (λ (r : ChunkRange). r.count) ranges;
-    }
 
 pub frees_some_yet : (setup : Setup) (place : ℕ) (old : World) (told : Option World) (view : ServiceView) → told ≡ Some old → view ≡ old.service → FreesSome setup place 0 old told view
 frees_some_yet setup place old told view is same = record { new = old; told_is = is; stands = behind_none old view same; freed = omega arith }

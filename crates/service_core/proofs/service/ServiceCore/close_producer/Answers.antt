@@ -1,15 +1,15 @@
 use Rattle.std.proofs.Common.{◌≡◌, ◌∙◌, ◌<◌, ℕ, List, length, take, subst, sym, ap, arith}
-use Rattle.std.proofs.lemmas.List.{get_or_read}
 use Rattle.trace_base.specs.declared.policy.WriterSpec.{WriterSpec}
 use Rattle.chunk_plain.specs.Setup.{Setup, producer_of}
 use Rattle.chunk_plain.proofs.SeatSteps.{services_follow}
-use Rattle.service_core.specs.Agreement.{ServiceAgrees, spec_at, no_writer}
+use Rattle.service_core.specs.Agreement.{ServiceAgrees}
 use Rattle.service_core.specs.Taking.{places_of, noted_more}
 use Rattle.service_core.specs.Closing.{ClosesOne, closes_of}
 use Rattle.service_core.proofs.ChainLemmas.{places_add, places_skip}
 use Rattle.service_core.proofs.CloseLemmas.{closes_skip, closes_add, noted_close}
 use Rattle.chunk_plain.specs.Views.{ServiceView}
 use Rattle.service_core.proofs.ToldLemmas.{leaves_noted}
+use Rattle.service_core.proofs.KeptLemmas.{read_spec}
 use Rattle.service_core.proofs.service.ServiceCore.close_producer.Goals as goal
 
 pub loop-place-preserved-then-index-producer : goal.loop-place-preserved-then-index-producer
@@ -22,8 +22,7 @@ loop-place-preserved-then-index-producer g c =
     let joined = c.collect-count.new.self.writers.ok.0 in
     let test = c.loop-place-test.true in
     let low : place < length setup.writers = subst (λ (ws : List WriterSpec). place < length ws) c.collect-count.ensures.agrees.writers (omega (arith, end, joined, test)) in
-    let low_items = subst (λ (ws : List WriterSpec). place < length ws) (sym i.agrees.writers) low in
-    let read = get_or_read c.loop-place.self.writers.items place c.index.result.now low_items c.index.ensures no_writer ∙ ap (λ (ws : List WriterSpec). spec_at ws place) i.agrees.writers in
+    let read = read_spec setup (means.service_view c.loop-place.table c.loop-place.self.seat) c.loop-place.self place i.agrees low c.index.result.now c.index.ensures in
     let differs = λ (same : producer_of setup place ≡ c.args.producer). c.if-index-producer.true (ap (λ (w : WriterSpec). w.producer) read ∙ same) in
     let places = places_skip c.args.producer setup.writers place low differs in
     record {
@@ -46,8 +45,7 @@ loop-place-preserved g c =
     let joined = c.collect-count.new.self.writers.ok.0 in
     let test = c.loop-place-test.true in
     let low : place < length setup.writers = subst (λ (ws : List WriterSpec). place < length ws) c.collect-count.ensures.agrees.writers (omega (arith, end, joined, test)) in
-    let low_items = subst (λ (ws : List WriterSpec). place < length ws) (sym i.agrees.writers) low in
-    let read = get_or_read c.loop-place.self.writers.items place c.index.result.now low_items c.index.ensures no_writer ∙ ap (λ (ws : List WriterSpec). spec_at ws place) i.agrees.writers in
+    let read = read_spec setup (means.service_view c.loop-place.table c.loop-place.self.seat) c.loop-place.self place i.agrees low c.index.result.now c.index.ensures in
     let same = sym (ap (λ (w : WriterSpec). w.producer) read) ∙ c.if-index-producer.false in
     let places = places_add c.args.producer setup.writers place low same in
     let stays = i.step.setup_stays in

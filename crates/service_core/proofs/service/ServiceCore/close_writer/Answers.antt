@@ -1,12 +1,9 @@
-use Rattle.std.proofs.Common.{◌+◌, ◌-◌, ◌∙◌, ◌<◌, ℕ, List, [], ◌∷◌, length, subst, sym, refl, ap}
-use Rattle.std.proofs.lemmas.List.{get_or_read}
-use Rattle.trace_base.specs.declared.policy.WriterSpec.{WriterSpec}
+use Rattle.std.proofs.Common.{◌+◌, ◌-◌, ℕ, [], ◌∷◌, subst, sym, refl}
 use Rattle.page_geometry.specs.Sizes.{record_size}
 use Rattle.chunk_plain.specs.Setup.{size_of, producer_of}
 use Rattle.chunk_plain.specs.Views.{Closed, ServiceView}
-use Rattle.service_core.specs.Routing.{IsAt}
-use Rattle.service_core.specs.Agreement.{ServiceAgrees, spec_at, no_writer}
-use Rattle.service_core.proofs.RoutedLemmas.{stands}
+use Rattle.service_core.specs.Agreement.{ServiceAgrees}
+use Rattle.service_core.proofs.KeptLemmas.{found_at}
 use Rattle.service_core.proofs.CloseLemmas.{agrees_noted, closes_here, closes_there, order_closed}
 use Rattle.service_core.proofs.service.ServiceCore.close_writer.Goals as goal
 
@@ -17,10 +14,7 @@ close_in-requires-clause-at g c =
     let core = c.args.self.now in
     let place = c.args.place in
     let size : ℕ = record_size (size_of setup (producer_of setup place)) in
-    let inside = subst (λ (ws : List WriterSpec). place < length ws) (sym c.requires.agrees.writers) c.requires.place in
-    let read = get_or_read core.writers.items place c.index.result.now inside c.index.ensures no_writer ∙ ap (λ (ws : List WriterSpec). spec_at ws place) c.requires.agrees.writers in
-    let number = c.from-index.ensures ∙ ap (λ (w : WriterSpec). w.buffer) read in
-    (size, subst (λ (n : ℕ). IsAt core.buffers.items (n - 1) (place + 2) size) (sym number) (stands setup view core place c.requires.agrees c.requires.place))
+    (size, found_at setup view core place c.requires.agrees c.requires.place c.index.result.now c.from-index.result c.index.ensures c.from-index.ensures)
 
 pub returns-clause-agrees : goal.returns-clause-agrees
 returns-clause-agrees g c =

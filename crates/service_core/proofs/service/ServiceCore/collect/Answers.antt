@@ -3,9 +3,7 @@ use Rattle.chunk_plain.specs.Setup.{Setup}
 use Rattle.chunk_plain.proofs.SeatSteps.{services_follow, serves_on}
 use Rattle.service_core.specs.Agreement.{ServiceAgrees, KeepsRest}
 use Rattle.std.proofs.Common.{take}
-use Rattle.std.proofs.lemmas.List.{get_or_read}
 use Rattle.trace_base.specs.declared.policy.WriterSpec.{WriterSpec}
-use Rattle.service_core.specs.Agreement.{spec_at, no_writer}
 use Rattle.service_core.specs.Taking.{TakesOf, Takes, places_of}
 use Rattle.service_core.proofs.AgreeLemmas.{keeps_same, keeps_both}
 use Rattle.service_core.proofs.ChainLemmas.{takes_writer, places_add, places_skip}
@@ -13,6 +11,7 @@ use Rattle.chunk_plain.specs.Views.{Taken, ServiceView, taken_of}
 use Rattle.service_core.specs.Told.{LeavesNext}
 use Rattle.service_core.proofs.TakingLemmas.{taken_other}
 use Rattle.service_core.proofs.ToldLemmas.{leaves_yet, leaves_skip, leaves_add, leaves_all}
+use Rattle.service_core.proofs.KeptLemmas.{read_spec}
 use Rattle.service_core.proofs.service.ServiceCore.collect.Goals as goal
 
 pub loop-place-preserved-then-index-producer : goal.loop-place-preserved-then-index-producer
@@ -24,8 +23,7 @@ loop-place-preserved-then-index-producer g c =
     let end = c.len-place-end.ensures in
     let joined = c.args.self.now.writers.ok.0 in
     let low : place < length setup.writers = subst (λ (ws : List WriterSpec). place < length ws) c.requires.agrees.writers (omega (arith, end, joined)) in
-    let low_items = subst (λ (ws : List WriterSpec). place < length ws) (sym i.agrees.writers) low in
-    let read = get_or_read c.loop-place.self.writers.items place c.index.result.now low_items c.index.ensures no_writer ∙ ap (λ (ws : List WriterSpec). spec_at ws place) i.agrees.writers in
+    let read = read_spec setup (means.service_view c.loop-place.table c.loop-place.self.seat) c.loop-place.self place i.agrees low c.index.result.now c.index.ensures in
     let places = places_skip c.args.producer setup.writers place low (λ same. c.if-index-producer.true (ap (λ (w : WriterSpec). w.producer) read ∙ same)) in
     let small = i.small in
     record {
@@ -50,8 +48,7 @@ loop-place-preserved g c =
     let end = c.len-place-end.ensures in
     let joined = c.args.self.now.writers.ok.0 in
     let low : place < length setup.writers = subst (λ (ws : List WriterSpec). place < length ws) c.requires.agrees.writers (omega (arith, end, joined)) in
-    let low_items = subst (λ (ws : List WriterSpec). place < length ws) (sym i.agrees.writers) low in
-    let read = get_or_read c.loop-place.self.writers.items place c.index.result.now low_items c.index.ensures no_writer ∙ ap (λ (ws : List WriterSpec). spec_at ws place) i.agrees.writers in
+    let read = read_spec setup (means.service_view c.loop-place.table c.loop-place.self.seat) c.loop-place.self place i.agrees low c.index.result.now c.index.ensures in
     let same = sym (ap (λ (w : WriterSpec). w.producer) read) ∙ c.if-index-producer.false in
     let places = places_add c.args.producer setup.writers place low same in
     let stays = i.step.setup_stays in

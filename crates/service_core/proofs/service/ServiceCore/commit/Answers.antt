@@ -1,6 +1,4 @@
-use Rattle.std.proofs.Common.{◌≡◌, ◌+◌, ◌-◌, ◌∙◌, ◌<◌, ℕ, List, [], ◌∷◌, length, map, subst, sym, refl, ap, arith}
-use Rattle.std.proofs.lemmas.List.{get_or_read}
-use Rattle.trace_base.specs.declared.policy.WriterSpec.{WriterSpec}
+use Rattle.std.proofs.Common.{◌≡◌, ◌+◌, ◌-◌, ◌∙◌, ◌<◌, ℕ, [], ◌∷◌, length, map, subst, sym, refl, ap, arith}
 use Rattle.page_geometry.specs.Sizes.{record_size}
 use Rattle.trace_model.specs.History as model
 use Rattle.chunk_image.specs.Values.{image_value}
@@ -8,8 +6,9 @@ use Rattle.commit_body.specs.Patches.{patch_value}
 use Rattle.chunk_plain.specs.Steps.{notes_commit}
 use Rattle.chunk_plain.specs.Views.{Committed, ServiceView}
 use Rattle.service_core.specs.Routing.{IsAt}
-use Rattle.service_core.specs.Agreement.{ServiceAgrees, spec_at, no_writer}
-use Rattle.service_core.proofs.RoutedLemmas.{stands, closed_by_none}
+use Rattle.service_core.specs.Agreement.{ServiceAgrees}
+use Rattle.service_core.proofs.KeptLemmas.{found_at}
+use Rattle.service_core.proofs.RoutedLemmas.{closed_by_none}
 use Rattle.service_core.proofs.CloseLemmas.{agrees_committed}
 use Rattle.service_core.proofs.service.ServiceCore.commit.Goals as goal
 
@@ -23,14 +22,10 @@ commit_in-arrived-requires-clause-at g c =
     let least = c.requires.least in
     let most = c.requires.most in
     let inside : place < length setup.writers = omega (arith, least, most) in
-    let inside_items = subst (λ (ws : List WriterSpec). place < length ws) (sym c.requires.agrees.writers) inside in
-    let read = get_or_read core.writers.items place c.index.result.now inside_items c.index.ensures no_writer ∙ ap (λ (ws : List WriterSpec). spec_at ws place) c.requires.agrees.writers in
-    let number : (spec_at setup.writers place).buffer ≡ c.from.result = sym (ap (λ (w : WriterSpec). w.buffer) read) ∙ c.if-buffer-target.false ∙ sym c.from.ensures in
     let back : place + 2 ≡ sequence = omega (arith, least) in
-    let stood = stands setup view core place c.requires.agrees inside in
-    let sized = subst (λ (n : ℕ). IsAt core.buffers.items ((spec_at setup.writers place).buffer - 1) (place + 2) (record_size n)) (sym c.requires.size) stood in
-    let named = subst (λ (q : ℕ). IsAt core.buffers.items ((spec_at setup.writers place).buffer - 1) q (record_size (length c.args.image.now.payload.now))) back sized in
-    subst (λ (n : ℕ). IsAt core.buffers.items (n - 1) sequence (record_size (length c.args.image.now.payload.now))) number named
+    let at = found_at setup view core place c.requires.agrees inside c.index.result.now c.from.result c.index.ensures (c.from.ensures ∙ sym c.if-buffer-target.false) in
+    let sized = subst (λ (n : ℕ). IsAt core.buffers.items (c.from.result - 1) (place + 2) (record_size n)) (sym c.requires.size) at in
+    subst (λ (q : ℕ). IsAt core.buffers.items (c.from.result - 1) q (record_size (length c.args.image.now.payload.now))) back sized
 
 pub returns-clause-agrees : goal.returns-clause-agrees
 returns-clause-agrees g c =

@@ -1,8 +1,6 @@
 use Rattle.std.proofs.Common.{◌≡◌, ◌∙◌, ◌+◌, ◌-◌, ◌%◌, ◌<◌, ℕ, List, [], ◌∷◌, length, subst, sym, refl, ap, arith}
 use Rattle.std.specs.Prelude.{bit_and}
-use Rattle.std.proofs.lemmas.List.{get_or_read}
 use Rattle.std.proofs.lemmas.Nat.{and_mask}
-use Rattle.trace_base.specs.declared.policy.WriterSpec.{WriterSpec}
 use Rattle.page_geometry.specs.Sizes.{record_size}
 use Rattle.trace_model.specs.Fragments.{drop_size}
 use Rattle.chunk_plain.specs.declared.setup.Spot.{Spot}
@@ -11,9 +9,9 @@ use Rattle.chunk_plain.specs.Words.{ShowsFound}
 use Rattle.chunk_plain.specs.Views.{Partial, ServiceView}
 use Rattle.service_core.specs.Routing.{IsAt}
 use Rattle.service_core.specs.Order.{IsFoundPart}
-use Rattle.service_core.specs.Agreement.{ServiceAgrees, spec_at, no_writer}
+use Rattle.service_core.specs.Agreement.{ServiceAgrees}
 use Rattle.service_core.specs.Taking.{noted_more}
-use Rattle.service_core.proofs.RoutedLemmas.{stands}
+use Rattle.service_core.proofs.KeptLemmas.{found_at}
 use Rattle.service_core.proofs.ScrapeLemmas.{part_found, agrees_part, keeps_part}
 use Rattle.service_core.proofs.service.ServiceCore.put_part.Goals as goal
 
@@ -24,14 +22,10 @@ arrive_part_in-requires-clause-at g c =
     let core = c.args.self.now in
     let place = c.args.place in
     let laid = g.met.W.Words.laid c.args.table.now in
-    let inside = subst (λ (ws : List WriterSpec). place < length ws) (sym c.requires.agrees.writers) c.requires.place in
-    let read = get_or_read core.writers.items place c.index.result.now inside c.index.ensures no_writer ∙ ap (λ (ws : List WriterSpec). spec_at ws place) c.requires.agrees.writers in
-    let number = c.from-index.ensures ∙ ap (λ (w : WriterSpec). w.buffer) read in
     let here = c.spot-size.ensures.spot ∙ ap (λ (s : Setup). spot s c.args.chunk) c.requires.agrees.layout in
     let size_is = c.front.ensures.long ∙ ap (λ (s : Spot). s.payload_size) here ∙ laid.sizes (producer_of setup place) c.args.chunk c.requires.chunk in
-    subst (λ (n : ℕ). IsAt core.buffers.items (n - 1) (place + 2) (record_size (length c.front.result.now))) (sym number)
-    (subst (λ (n : ℕ). IsAt core.buffers.items ((spec_at setup.writers place).buffer - 1) (place + 2) (record_size n)) (sym size_is)
-    (stands setup view core place c.requires.agrees c.requires.place))
+    subst (λ (n : ℕ). IsAt core.buffers.items (c.from-index.result - 1) (place + 2) (record_size n)) (sym size_is)
+    (found_at setup view core place c.requires.agrees c.requires.place c.index.result.now c.from-index.result c.index.ensures c.from-index.ensures)
 
 pub returns-clause-agrees : goal.returns-clause-agrees
 returns-clause-agrees g c =

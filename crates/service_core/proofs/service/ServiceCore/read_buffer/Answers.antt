@@ -1,5 +1,4 @@
 use Rattle.std.proofs.Common.{◌+◌, ◌-◌, ◌∙◌, ◌<◌, ◌≤◌, ℕ, List, Some, length, subst, sym, ap, refl, arith}
-use Rattle.std.proofs.lemmas.List.{get_or_read}
 use Rattle.trace_base.specs.declared.policy.WriterSpec.{WriterSpec}
 use Rattle.page_geometry.specs.Sizes.{record_size}
 use Rattle.chunk_plain.specs.Setup.{Setup, size_of, producer_of}
@@ -7,12 +6,13 @@ use Rattle.chunk_plain.specs.Views.{ServiceView}
 use Rattle.chunk_plain.specs.Steps.{serviced}
 use Rattle.chunk_plain.proofs.SeatSteps.{serves_on, services_follow}
 use Rattle.service_core.specs.Routing.{IsAt}
-use Rattle.service_core.specs.Agreement.{ServiceAgrees, KeepsRest, spec_at, no_writer}
+use Rattle.service_core.specs.Agreement.{ServiceAgrees, KeepsRest}
 use Rattle.service_core.specs.Reading.{FailsAmong}
 use Rattle.sequence_reader.proofs.PutLemmas.{on_err}
 use Rattle.service_core.proofs.AgreeLemmas.{keeps_same, keeps_both}
 use Rattle.service_core.proofs.RoutedLemmas.{stands}
 use Rattle.service_core.proofs.BufferLemmas.{reads_begin, reads_skip, reads_add, reads_fail, reads_end}
+use Rattle.service_core.proofs.KeptLemmas.{read_spec}
 use Rattle.service_core.proofs.service.ServiceCore.read_buffer.Goals as goal
 
 pub loop-place-init : goal.loop-place-init
@@ -39,8 +39,7 @@ loop-place-preserved-then-index-buffer g c =
     let joined = c.args.self.now.writers.ok.0 in
     let test = c.loop-place-test.true in
     let low : place < length setup.writers = subst (λ (ws : List WriterSpec). place < length ws) c.requires.agrees.writers (omega (arith, end, joined, test)) in
-    let low_items = subst (λ (ws : List WriterSpec). place < length ws) (sym i.agrees.writers) low in
-    let read = get_or_read c.loop-place.self.writers.items place c.index.result.now low_items c.index.ensures no_writer ∙ ap (λ (ws : List WriterSpec). spec_at ws place) i.agrees.writers in
+    let read = read_spec setup (means.service_view c.loop-place.table c.loop-place.self.seat) c.loop-place.self place i.agrees low c.index.result.now c.index.ensures in
     let old = means.service_view c.args.table.now c.args.self.now.seat in
     let between = means.service_view c.loop-place.table c.loop-place.self.seat in
     record {
@@ -65,8 +64,7 @@ loop-place-preserved g c =
     let joined = c.args.self.now.writers.ok.0 in
     let test = c.loop-place-test.true in
     let low : place < length setup.writers = subst (λ (ws : List WriterSpec). place < length ws) c.requires.agrees.writers (omega (arith, end, joined, test)) in
-    let low_items = subst (λ (ws : List WriterSpec). place < length ws) (sym i.agrees.writers) low in
-    let read = get_or_read mid.writers.items place c.index.result.now low_items c.index.ensures no_writer ∙ ap (λ (ws : List WriterSpec). spec_at ws place) i.agrees.writers in
+    let read = read_spec setup (means.service_view c.loop-place.table mid.seat) mid place i.agrees low c.index.result.now c.index.ensures in
     let same = sym (ap (λ (w : WriterSpec). w.buffer) read) ∙ c.if-index-buffer.false in
     let size : ℕ = record_size (size_of setup (producer_of setup place)) in
     let old = means.service_view c.args.table.now c.args.self.now.seat in
@@ -95,8 +93,7 @@ returns-in_err-left-clause-fails g c =
     let joined = c.args.self.now.writers.ok.0 in
     let test = c.loop-place-test.true in
     let low : place < length setup.writers = subst (λ (ws : List WriterSpec). place < length ws) c.requires.agrees.writers (omega (arith, end, joined, test)) in
-    let low_items = subst (λ (ws : List WriterSpec). place < length ws) (sym i.agrees.writers) low in
-    let read = get_or_read mid.writers.items place c.index.result.now low_items c.index.ensures no_writer ∙ ap (λ (ws : List WriterSpec). spec_at ws place) i.agrees.writers in
+    let read = read_spec setup (means.service_view c.loop-place.table mid.seat) mid place i.agrees low c.index.result.now c.index.ensures in
     let same = sym (ap (λ (w : WriterSpec). w.buffer) read) ∙ c.if-index-buffer.false in
     let size : ℕ = record_size (size_of setup (producer_of setup place)) in
     let old = means.service_view c.args.table.now c.args.self.now.seat in

@@ -7,7 +7,8 @@ use Rattle.trace_model.specs.Sequences.{is_known}
 use Rattle.trace_model.specs.Reads.{delivered_by, with_read}
 use Rattle.sequence_reader.specs.Ends.{record_bytes, EndsInRecordAt}
 use Rattle.chunk_plain.specs.Setup.{size_of, producer_of}
-use Rattle.service_core.proofs.ReadingLemmas.{found_at, met_at, read_buffers, read_taken, read_many, read_fails, delivered_most, agrees_read, keeps_read}
+use Rattle.service_core.proofs.KeptLemmas.{found_at}
+use Rattle.service_core.proofs.ReadingLemmas.{met_at, read_buffers, read_taken, read_many, read_fails, delivered_most, agrees_read, keeps_read}
 use Rattle.service_core.proofs.service.ServiceCore.read_writer.Goals as goal
 
 pub index_mut-buffer-requires : goal.index_mut-buffer-requires
@@ -16,7 +17,7 @@ index_mut-buffer-requires g c =
     let view = g.W.Words.means.service_view c.args.table.now c.args.self.now.seat in
     let core = c.args.self.now in
     let q = c.args.place + 2 in
-    let at = found_at setup view core c.args.place c.index.result.now c.from-index.result c.requires.agrees c.requires.place c.index.ensures c.from-index.ensures in
+    let at = found_at setup view core c.args.place c.requires.agrees c.requires.place c.index.result.now c.from-index.result c.index.ensures c.from-index.ensures in
     let inside = at.inside in
     let joined = core.buffers.ok.0 in
     omega (arith, inside, joined)
@@ -27,7 +28,7 @@ read_counted-delivered-requires g c =
     let view = g.W.Words.means.service_view c.args.table.now c.args.self.now.seat in
     let core = c.args.self.now in
     let q = c.args.place + 2 in
-    let at = found_at setup view core c.args.place c.index.result.now c.from-index.result c.requires.agrees c.requires.place c.index.ensures c.from-index.ensures in
+    let at = found_at setup view core c.args.place c.requires.agrees c.requires.place c.index.result.now c.from-index.result c.index.ensures c.from-index.ensures in
     ap (λ (b : Buffer). is_known b.sequences q)
     (met_at core.buffers.items (c.from-index.result - 1) c.index_mut-buffer.result.now at.inside c.index_mut-buffer.ensures.value)
     ∙ at.known
@@ -38,7 +39,7 @@ returns-in-Ok-clause-agrees g c =
     let view = g.W.Words.means.service_view c.args.table.now c.args.self.now.seat in
     let core = c.args.self.now in
     let q = c.args.place + 2 in
-    let at = found_at setup view core c.args.place c.index.result.now c.from-index.result c.requires.agrees c.requires.place c.index.ensures c.from-index.ensures in
+    let at = found_at setup view core c.args.place c.requires.agrees c.requires.place c.index.result.now c.from-index.result c.index.ensures c.from-index.ensures in
     let bs = core.buffers.items in
     let index = c.from-index.result - 1 in
     let size : ℕ = record_size (size_of setup (producer_of setup c.args.place)) in
@@ -57,7 +58,7 @@ returns-in-Ok-clause-keeps g c =
     let view = g.W.Words.means.service_view c.args.table.now c.args.self.now.seat in
     let core = c.args.self.now in
     let q = c.args.place + 2 in
-    let at = found_at setup view core c.args.place c.index.result.now c.from-index.result c.requires.agrees c.requires.place c.index.ensures c.from-index.ensures in
+    let at = found_at setup view core c.args.place c.requires.agrees c.requires.place c.index.result.now c.from-index.result c.index.ensures c.from-index.ensures in
     let bs = core.buffers.items in
     let index = c.from-index.result - 1 in
     let size : ℕ = record_size (size_of setup (producer_of setup c.args.place)) in
@@ -75,7 +76,7 @@ returns-in-Ok-clause-reads g c =
     let view = g.W.Words.means.service_view c.args.table.now c.args.self.now.seat in
     let core = c.args.self.now in
     let q = c.args.place + 2 in
-    let at = found_at setup view core c.args.place c.index.result.now c.from-index.result c.requires.agrees c.requires.place c.index.ensures c.from-index.ensures in
+    let at = found_at setup view core c.args.place c.requires.agrees c.requires.place c.index.result.now c.from-index.result c.index.ensures c.from-index.ensures in
     let bs = core.buffers.items in
     let index = c.from-index.result - 1 in
     let size : ℕ = record_size (size_of setup (producer_of setup c.args.place)) in
@@ -104,7 +105,7 @@ returns-in-Err-clause-agrees g c =
     let view = g.W.Words.means.service_view c.args.table.now c.args.self.now.seat in
     let core = c.args.self.now in
     let q = c.args.place + 2 in
-    let at = found_at setup view core c.args.place c.index.result.now c.from-index.result c.requires.agrees c.requires.place c.index.ensures c.from-index.ensures in
+    let at = found_at setup view core c.args.place c.requires.agrees c.requires.place c.index.result.now c.from-index.result c.index.ensures c.from-index.ensures in
     let bs = core.buffers.items in
     let index = c.from-index.result - 1 in
     let size : ℕ = record_size (size_of setup (producer_of setup c.args.place)) in
@@ -126,7 +127,7 @@ returns-in-Err-clause-keeps g c =
     let view = g.W.Words.means.service_view c.args.table.now c.args.self.now.seat in
     let core = c.args.self.now in
     let q = c.args.place + 2 in
-    let at = found_at setup view core c.args.place c.index.result.now c.from-index.result c.requires.agrees c.requires.place c.index.ensures c.from-index.ensures in
+    let at = found_at setup view core c.args.place c.requires.agrees c.requires.place c.index.result.now c.from-index.result c.index.ensures c.from-index.ensures in
     let bs = core.buffers.items in
     let index = c.from-index.result - 1 in
     let size : ℕ = record_size (size_of setup (producer_of setup c.args.place)) in
@@ -147,7 +148,7 @@ returns-in-Err-clause-fails g c =
     let view = g.W.Words.means.service_view c.args.table.now c.args.self.now.seat in
     let core = c.args.self.now in
     let q = c.args.place + 2 in
-    let at = found_at setup view core c.args.place c.index.result.now c.from-index.result c.requires.agrees c.requires.place c.index.ensures c.from-index.ensures in
+    let at = found_at setup view core c.args.place c.requires.agrees c.requires.place c.index.result.now c.from-index.result c.index.ensures c.from-index.ensures in
     let bs = core.buffers.items in
     let index = c.from-index.result - 1 in
     let size : ℕ = record_size (size_of setup (producer_of setup c.args.place)) in

@@ -1,15 +1,16 @@
 use Rattle.std.proofs.Common.{◌≡◌, ◌∙◌, ◌+◌, ◌<◌, ℕ, List, length, take, subst, sym, refl, ap, arith}
-use Rattle.std.proofs.lemmas.List.{get_or_read, take_all}
+use Rattle.std.proofs.lemmas.List.{take_all}
 use Rattle.trace_base.specs.declared.policy.WriterSpec.{WriterSpec}
 use Rattle.chunk_plain.specs.Setup.{Setup, producer_of}
 use Rattle.chunk_plain.proofs.SeatSteps.{services_follow}
-use Rattle.service_core.specs.Agreement.{ServiceAgrees, KeepsRest, spec_at, no_writer}
+use Rattle.service_core.specs.Agreement.{ServiceAgrees, KeepsRest}
 use Rattle.service_core.specs.Taking.{places_of}
 use Rattle.service_core.specs.Scraping.{ScrapesOne, ScrapesEach, HoldsOwn}
 use Rattle.service_core.proofs.AgreeLemmas.{keeps_both}
 use Rattle.service_core.proofs.ChainLemmas.{places_add, places_skip}
 use Rattle.service_core.proofs.PartLemmas.{scrapes_add}
 use Rattle.service_core.proofs.HeldLemmas.{world_yet, world_skip, world_add, world_all}
+use Rattle.service_core.proofs.KeptLemmas.{read_spec}
 use Rattle.service_core.proofs.service.ServiceCore.scrape.Goals as goal
 
 pub loop-place-preserved-then-index-producer : goal.loop-place-preserved-then-index-producer
@@ -24,8 +25,7 @@ loop-place-preserved-then-index-producer g c =
     let joined = c.collect-count.new.self.writers.ok.0 in
     let test = c.loop-place-test.true in
     let low : place < length setup.writers = subst (λ (ws : List WriterSpec). place < length ws) c.collect-count.ensures.agrees.writers (omega (arith, end, joined, test)) in
-    let low_items = subst (λ (ws : List WriterSpec). place < length ws) (sym i.agrees.writers) low in
-    let read = get_or_read c.loop-place.self.writers.items place c.index.result.now low_items c.index.ensures no_writer ∙ ap (λ (ws : List WriterSpec). spec_at ws place) i.agrees.writers in
+    let read = read_spec setup (means.service_view c.loop-place.table c.loop-place.self.seat) c.loop-place.self place i.agrees low c.index.result.now c.index.ensures in
     let differs = λ (same : producer_of setup place ≡ c.args.producer). c.if-index-producer.true (ap (λ (w : WriterSpec). w.producer) read ∙ same) in
     let places = places_skip c.args.producer setup.writers place low differs in
     record {
@@ -54,8 +54,7 @@ loop-place-preserved g c =
     let joined = c.collect-count.new.self.writers.ok.0 in
     let test = c.loop-place-test.true in
     let low : place < length setup.writers = subst (λ (ws : List WriterSpec). place < length ws) c.collect-count.ensures.agrees.writers (omega (arith, end, joined, test)) in
-    let low_items = subst (λ (ws : List WriterSpec). place < length ws) (sym i.agrees.writers) low in
-    let read = get_or_read c.loop-place.self.writers.items place c.index.result.now low_items c.index.ensures no_writer ∙ ap (λ (ws : List WriterSpec). spec_at ws place) i.agrees.writers in
+    let read = read_spec setup (means.service_view c.loop-place.table c.loop-place.self.seat) c.loop-place.self place i.agrees low c.index.result.now c.index.ensures in
     let same = sym (ap (λ (w : WriterSpec). w.producer) read) ∙ c.if-index-producer.false in
     let places = places_add c.args.producer setup.writers place low same in
     let stays = i.step.setup_stays in

@@ -1,4 +1,4 @@
-use Rattle.std.proofs.Common.{◌≡◌, ◌∙◌, ◌+◌, ◌<◌, ◌++◌, ℕ, List, [], ◌∷◌, length, subst, sym, refl, ap, arith}
+use Rattle.std.proofs.Common.{◌≡◌, ◌∙◌, ◌+◌, ◌++◌, ℕ, List, [], ◌∷◌, subst, sym, refl, ap, arith}
 use Rattle.page_geometry.specs.Header.{packed}
 use Rattle.chunk_plain.specs.declared.setup.Spot.{Spot}
 use Rattle.chunk_plain.specs.Setup.{Setup, spot}
@@ -8,7 +8,7 @@ use Rattle.chunk_plain.specs.World.{status}
 use Rattle.chunk_plain.proofs.SeatSteps.{services_follow}
 use Rattle.service_core.specs.Agreement.{ServiceAgrees, KeepsRest}
 use Rattle.service_core.specs.Scraping.{PartLooked, IsntPart}
-use Rattle.service_core.proofs.TakingLemmas.{read_count}
+use Rattle.service_core.proofs.KeptLemmas.{read_count}
 use Rattle.service_core.proofs.AgreeLemmas.{agrees_looked}
 use Rattle.service_core.proofs.PartLemmas.{part_looked, no_part_seen}
 use Rattle.service_core.proofs.ScrapeLemmas.{part_shown}
@@ -57,11 +57,7 @@ returns-in-Some-clause-part g c _ =
     let mid = g.W.Words.means.service_view c.look-seen.new.self c.look-seen.new.seat in
     let new = g.W.Words.means.service_view c.put_part.new.table c.put_part.new.self.seat in
     let place = c.args.place in
-    let serving = g.met.W.Words.serving c.args.table.now c.args.self.now.seat c.requires.serves in
-    let many = serving.writers in
-    let below = c.requires.place in
-    let inside : place < length old.taken = omega (arith, many, below) in
-    let count = read_count old c.args.self.now.taken.items place c.index.result.now c.requires.agrees.taken inside c.index.ensures in
+    let count = read_count setup old c.args.self.now place c.requires.agrees c.requires.place c.index.result.now c.index.ensures in
     let here = ap (λ (s : Spot). s.place) (c.spot-at.ensures.spot ∙ ap (λ (s : Setup). spot s c.args.chunk) c.requires.agrees.layout) in
     part_shown setup old mid new place c.args.chunk c.look-seen.result c.spot-at.result.place (place + 1) c.index.result.now c.in-Some.finished c.look-seen.ensures.view
     (g.met.W.Words.looks_agree c.look-seen.new.self c.look-seen.new.seat c.look-seen.ensures.step.seat_stays) here refl count c.in-Some.ensures.some c.requires.chunk c.put_part.ensures.view c.put_part.ensures.part
@@ -73,11 +69,7 @@ returns-in-Some-clause-told_part g c _ world is =
     let mid = g.W.Words.means.service_view c.look-seen.new.self c.look-seen.new.seat in
     let new = g.W.Words.means.service_view c.put_part.new.table c.put_part.new.self.seat in
     let place = c.args.place in
-    let serving = g.met.W.Words.serving c.args.table.now c.args.self.now.seat c.requires.serves in
-    let many = serving.writers in
-    let below = c.requires.place in
-    let inside : place < length old.taken = omega (arith, many, below) in
-    let count = read_count old c.args.self.now.taken.items place c.index.result.now c.requires.agrees.taken inside c.index.ensures in
+    let count = read_count setup old c.args.self.now place c.requires.agrees c.requires.place c.index.result.now c.index.ensures in
     let here = ap (λ (s : Spot). s.place) (c.spot-at.ensures.spot ∙ ap (λ (s : Setup). spot s c.args.chunk) c.requires.agrees.layout) in
     let seen = c.look-seen.result in
     let most = c.look-seen.ensures.count_fits in
@@ -112,11 +104,7 @@ returns-in-None-clause-none g c _ =
     let old = g.W.Words.means.service_view c.args.table.now c.args.self.now.seat in
     let new = g.W.Words.means.service_view c.look-seen.new.self c.look-seen.new.seat in
     let place = c.args.place in
-    let serving = g.met.W.Words.serving c.args.table.now c.args.self.now.seat c.requires.serves in
-    let many = serving.writers in
-    let below = c.requires.place in
-    let inside : place < length old.taken = omega (arith, many, below) in
-    let count = read_count old c.args.self.now.taken.items place c.index.result.now c.requires.agrees.taken inside c.index.ensures in
+    let count = read_count setup old c.args.self.now place c.requires.agrees c.requires.place c.index.result.now c.index.ensures in
     let here = ap (λ (s : Spot). s.place) (c.spot-at.ensures.spot ∙ ap (λ (s : Setup). spot s c.args.chunk) c.requires.agrees.layout) in
     let most = c.look-seen.ensures.count_fits in
     no_part_seen setup old new place c.args.chunk c.look-seen.result c.spot-at.result.place (place + 1) c.index.result.now c.look-seen.ensures.view here refl count c.part_in.ensures.fits (omega (arith, most))
@@ -127,11 +115,7 @@ returns-in-None-clause-told_none g c _ world is =
     let setup = g.W.Words.means.setup c.args.table.now in
     let old = g.W.Words.means.service_view c.args.table.now c.args.self.now.seat in
     let place = c.args.place in
-    let serving = g.met.W.Words.serving c.args.table.now c.args.self.now.seat c.requires.serves in
-    let many = serving.writers in
-    let below = c.requires.place in
-    let inside : place < length old.taken = omega (arith, many, below) in
-    let count = read_count old c.args.self.now.taken.items place c.index.result.now c.requires.agrees.taken inside c.index.ensures in
+    let count = read_count setup old c.args.self.now place c.requires.agrees c.requires.place c.index.result.now c.index.ensures in
     let here = ap (λ (s : Spot). s.place) (c.spot-at.ensures.spot ∙ ap (λ (s : Setup). spot s c.args.chunk) c.requires.agrees.layout) in
     let seen = c.look-seen.result in
     let most = c.look-seen.ensures.count_fits in

@@ -5,7 +5,8 @@ use Rattle.chunk_plain.proofs.SeatSteps.{services_follow, serves_on}
 use Rattle.service_core.specs.Agreement.{ServiceAgrees, KeepsRest}
 use Rattle.service_core.specs.Scraping.{IsNoPart, SeesNoPart, TakesPart, IsntPart, FindsNoPart, FindsNoPartOf}
 use Rattle.service_core.proofs.AgreeLemmas.{keeps_same, keeps_both}
-use Rattle.service_core.proofs.ToldLemmas.{finds_begin, finds_more, range_is}
+use Rattle.service_core.proofs.ToldLemmas.{finds_begin, finds_more}
+use Rattle.service_core.proofs.KeptLemmas.{range_is}
 use Rattle.service_core.proofs.LookLemmas.{sees_begin, sees_more, sees_all}
 use Rattle.service_core.proofs.PartLemmas.{part_behind}
 use Rattle.service_core.proofs.HeldLemmas.{notes_behind, notes_none}
@@ -79,8 +80,7 @@ returns-clause-scrapes g c =
     let place = c.args.place in
     let old = means.service_view c.args.table.now c.args.self.now.seat in
     let new = means.service_view c.loop-chunk.table c.loop-chunk.self.seat in
-    let range = range_is setup c.args.self.now.layout c.args.self.now.writers.items place c.index.result.now c.chunks_of-first.result
-    c.requires.agrees.layout c.requires.agrees.writers c.requires.place c.index.ensures c.chunks_of-first.ensures in
+    let range = range_is setup old c.args.self.now place c.requires.agrees c.requires.place c.index.result.now c.chunks_of-first.result c.index.ensures c.chunks_of-first.ensures in
     inr (sees_all IsNoPart setup place c.chunks_of-first.result.0 c.chunks_of-first.result.1 c.loop-chunk.chunk old new range c.loop-chunk-test.false i.seen)
 
 pub returns-clause-told : goal.returns-clause-told
@@ -91,8 +91,7 @@ returns-clause-told g c world is own =
     let place = c.args.place in
     let old = means.service_view c.args.table.now c.args.self.now.seat in
     let new = means.service_view c.loop-chunk.table c.loop-chunk.self.seat in
-    let range = range_is setup c.args.self.now.layout c.args.self.now.writers.items place c.index.result.now c.chunks_of-first.result
-    c.requires.agrees.layout c.requires.agrees.writers c.requires.place c.index.ensures c.chunks_of-first.ensures in
+    let range = range_is setup old c.args.self.now place c.requires.agrees c.requires.place c.index.result.now c.chunks_of-first.result c.index.ensures c.chunks_of-first.ensures in
     let view_is = g.met.W.Words.told_service_view c.args.table.now c.args.self.now.seat world is c.requires.serves in
     notes_none setup place c.chunks_of-first.result.0 c.chunks_of-first.result.1 c.loop-chunk.chunk world (means.told c.loop-chunk.table) old new
     (g.met.W.Words.told_owned c.args.table.now world is) own range c.loop-chunk-test.false

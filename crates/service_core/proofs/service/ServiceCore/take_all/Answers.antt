@@ -1,4 +1,4 @@
-use Rattle.std.proofs.Common.{◌≡◌, ◌+◌, ◌<◌, ℕ, length, ap, subst, arith, rules}
+use Rattle.std.proofs.Common.{◌≡◌, ◌+◌, ℕ, ap, subst, arith, rules}
 use Rattle.chunk_plain.specs.Setup.{Setup}
 use Rattle.chunk_plain.proofs.SeatSteps.{services_follow, serves_on}
 use Rattle.service_core.specs.Agreement.{ServiceAgrees, KeepsRest}
@@ -9,8 +9,8 @@ use Rattle.chunk_plain.specs.Views.{ServiceView, taken_of}
 use Rattle.chunk_plain.specs.Setup.{range_of, producer_of}
 use Rattle.service_core.specs.Taking.{IsRange}
 use Rattle.service_core.specs.Told.{FreesNext, FreesNoneOf, FreesSome}
-use Rattle.service_core.proofs.ToldLemmas.{frees_some_yet, frees_some_more, none_by_count, none_by_ids, none_by_looks, range_is}
-use Rattle.service_core.proofs.TakingLemmas.{read_count}
+use Rattle.service_core.proofs.ToldLemmas.{frees_some_yet, frees_some_more, none_by_count, none_by_ids, none_by_looks}
+use Rattle.service_core.proofs.KeptLemmas.{has_place, read_count, range_is}
 use Rattle.service_core.proofs.service.ServiceCore.take_all.Goals as goal
 
 pub loop-taken-init : goal.loop-taken-init
@@ -36,9 +36,7 @@ loop-taken-preserved g c =
     let mid = means.service_view c.loop-taken.table c.loop-taken.self.seat in
     let new = means.service_view c.take_next.new.table c.take_next.new.self.seat in
     let same = i.step.setup_stays in
-    let many = (g.met.W.Words.serving c.args.table.now c.args.self.now.seat c.requires.serves).writers in
-    let below = c.requires.place in
-    let inside : place < length old.taken = omega (arith, many, below) in
+    let inside = has_place setup old c.args.self.now place c.requires.agrees c.requires.place in
     let took = c.take_next.ensures.taken (search rules) in
     record {
       agrees = subst (λ (s : Setup). ServiceAgrees s new c.take_next.new.self) same c.take_next.ensures.agrees;
@@ -73,8 +71,7 @@ returns-in-None-clause-told g c world is =
     let new = means.service_view c.take_next.new.table c.take_next.new.self.seat in
     let none = c.take_next.ensures.none (search rules) in
     let range : IsRange (range_of setup (producer_of setup place)) c.chunks_of-first.result.0 c.chunks_of-first.result.1 =
-    range_is setup c.args.self.now.layout c.args.self.now.writers.items place c.index.result.now c.chunks_of-first.result
-    c.requires.agrees.layout c.requires.agrees.writers c.requires.place c.index.ensures c.chunks_of-first.ensures in
+    range_is setup old c.args.self.now place c.requires.agrees c.requires.place c.index.result.now c.chunks_of-first.result c.index.ensures c.chunks_of-first.ensures in
     none_by_looks setup place c.loop-taken.taken world (means.told c.loop-taken.table) (means.told c.take_next.new.table) mid new (i.told world is)
     (ap (λ (v : ServiceView). (taken_of v place).count) none.view)
     (λ w e. subst (λ (n : ℕ). FreesNoneOf place (taken_of mid place).count n (n + (range_of setup (producer_of setup place)).count) w (means.told c.take_next.new.table) new) range.first_is
@@ -88,11 +85,8 @@ returns-then-index-clause-told g c world is =
     let setup = means.setup c.args.table.now in
     let place = c.args.place in
     none_by_ids setup place c.loop-taken.taken world (means.told c.loop-taken.table) (means.service_view c.loop-taken.table c.loop-taken.self.seat) (i.told world is)
-    (let many = i.agrees.many in
-    let below = c.requires.place in
-    let view = means.service_view c.loop-taken.table c.loop-taken.self.seat in
-    let inside : place < length view.taken = omega (arith, many, below) in
-    let count = read_count view c.loop-taken.self.taken.items place c.index-in-loop-taken.result.now i.agrees.taken inside c.index-in-loop-taken.ensures in
+    (let view = means.service_view c.loop-taken.table c.loop-taken.self.seat in
+    let count = read_count setup view c.loop-taken.self place i.agrees c.requires.place c.index-in-loop-taken.result.now c.index-in-loop-taken.ensures in
     let last = c.if-index.true in
     omega (arith, count, last))
 
@@ -102,9 +96,9 @@ returns-clause-told g c world is =
     let i = c.loop-taken.invariant in
     let setup = means.setup c.args.table.now in
     let place = c.args.place in
+    let old = means.service_view c.args.table.now c.args.self.now.seat in
     let view = means.service_view c.loop-taken.table c.loop-taken.self.seat in
-    let range = range_is setup c.args.self.now.layout c.args.self.now.writers.items place c.index.result.now c.chunks_of-first.result
-    c.requires.agrees.layout c.requires.agrees.writers c.requires.place c.index.ensures c.chunks_of-first.ensures in
+    let range = range_is setup old c.args.self.now place c.requires.agrees c.requires.place c.index.result.now c.chunks_of-first.result c.index.ensures c.chunks_of-first.ensures in
     let all = c.loop-taken-test.false in
     let most = c.loop-taken.auto.taken-end in
     let done : c.loop-taken.taken ≡ c.chunks_of-first.result.1 = omega (arith, all, most) in

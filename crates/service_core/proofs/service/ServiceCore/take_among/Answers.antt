@@ -1,4 +1,4 @@
-use Rattle.std.proofs.Common.{◌≡◌, ℕ, ◌<◌, ◌∙◌, length, sym, subst, ap, arith}
+use Rattle.std.proofs.Common.{◌≡◌, ℕ, ◌∙◌, sym, subst, ap, arith}
 use Rattle.chunk_plain.specs.Views.{ServiceView, taken_of}
 use Rattle.service_core.specs.Told.{FreesOne, Isnt, FreesNone}
 use Rattle.service_core.proofs.ToldLemmas.{finds_begin, finds_more, finds_fewer, frees_next}
@@ -7,7 +7,7 @@ use Rattle.chunk_plain.proofs.SeatSteps.{services_follow, serves_on}
 use Rattle.service_core.specs.Agreement.{ServiceAgrees, KeepsRest}
 use Rattle.service_core.specs.Taking.{IsOther, SeesOther}
 use Rattle.service_core.proofs.AgreeLemmas.{keeps_same, keeps_both}
-use Rattle.service_core.proofs.TakingLemmas.{read_count}
+use Rattle.service_core.proofs.KeptLemmas.{read_count}
 use Rattle.service_core.proofs.LookLemmas.{sees_begin, sees_more}
 use Rattle.service_core.proofs.service.ServiceCore.take_among.Goals as goal
 
@@ -79,10 +79,7 @@ try_take-requires-clause-next g c =
     let means = g.W.Words.means in
     let place = c.args.place in
     let old = means.service_view c.args.table.now c.args.self.now.seat in
-    let many = (g.met.W.Words.serving c.args.table.now c.args.self.now.seat c.requires.serves).writers in
-    let below = c.requires.place in
-    let inside : place < length old.taken = omega (arith, many, below) in
-    read_count old c.args.self.now.taken.items place c.index-id.result.now c.requires.agrees.taken inside c.index-id.ensures
+    read_count (means.setup c.args.table.now) old c.args.self.now place c.requires.agrees c.requires.place c.index-id.result.now c.index-id.ensures
     ∙ sym (ap (λ (v : ServiceView). (taken_of v place).count) c.loop-chunk.invariant.seen.view)
 
 pub try_take-requires-clause-id : goal.try_take-requires-clause-id
@@ -90,9 +87,6 @@ try_take-requires-clause-id g c =
     let means = g.W.Words.means in
     let place = c.args.place in
     let old = means.service_view c.args.table.now c.args.self.now.seat in
-    let many = (g.met.W.Words.serving c.args.table.now c.args.self.now.seat c.requires.serves).writers in
-    let below = c.requires.place in
-    let inside : place < length old.taken = omega (arith, many, below) in
-    let is = read_count old c.args.self.now.taken.items place c.index-id.result.now c.requires.agrees.taken inside c.index-id.ensures in
+    let is = read_count (means.setup c.args.table.now) old c.args.self.now place c.requires.agrees c.requires.place c.index-id.result.now c.index-id.ensures in
     let few = c.requires.id in
     omega (arith, is, few)

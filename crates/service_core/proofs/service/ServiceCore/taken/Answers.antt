@@ -1,7 +1,7 @@
 use Rattle.std.proofs.Common.{◌≡◌, ◌-◌, ℕ, List, length, get_or, subst, ap, arith}
 use Rattle.trace_base.specs.declared.policy.WriterSpec.{WriterSpec}
 use Rattle.service_core.proofs.RoutedLemmas.{taken_long}
-use Rattle.service_core.proofs.TakingLemmas.{read_count}
+use Rattle.service_core.proofs.KeptLemmas.{read_count}
 use Rattle.service_core.proofs.service.ServiceCore.taken.Goals as goal
 
 pub index-requires : goal.index-requires
@@ -21,6 +21,5 @@ returns g c setup view agrees =
     let most = c.requires.most in
     let is = c.from.ensures in
     let writers = ap (λ (ws : List WriterSpec). length ws) agrees.writers in
-    let many = agrees.many in
-    read_count view core.taken.items (c.args.writer - 1) c.index.result.now agrees.taken (omega (arith, least, most, writers, many))
+    read_count setup view core (c.args.writer - 1) agrees (omega (arith, least, most, writers)) c.index.result.now
     (subst (λ (n : ℕ). c.index.result.now ≡ get_or core.taken.items (n - 1) c.index.result.now) is c.index.ensures)

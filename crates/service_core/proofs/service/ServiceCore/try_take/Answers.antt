@@ -1,4 +1,4 @@
-use Rattle.std.proofs.Common.{◌+◌, ◌-◌, ◌∙◌, ◌<◌, ℕ, List, [], ◌∷◌, length, set, subst, sym, refl, ap, vec_len, arith}
+use Rattle.std.proofs.Common.{◌+◌, ◌-◌, ◌∙◌, ℕ, List, [], ◌∷◌, set, subst, sym, refl, ap, vec_len, arith}
 use Rattle.trace_base.specs.declared.policy.WriterSpec.{WriterSpec}
 use Rattle.page_geometry.specs.Sizes.{record_size}
 use Rattle.chunk_plain.specs.Setup.{producer_of}
@@ -10,6 +10,7 @@ use Rattle.chunk_plain.specs.Words.{taken_content}
 use Rattle.chunk_plain.proofs.SeatSteps.{services_follow}
 use Rattle.service_core.specs.Routing.{IsAt}
 use Rattle.service_core.specs.Agreement.{ServiceAgrees, spec_at}
+use Rattle.service_core.proofs.KeptLemmas.{has_place}
 use Rattle.service_core.proofs.TakingLemmas.{one_of, other_of}
 use Rattle.service_core.proofs.AgreeLemmas.{agrees_took, agrees_looked}
 use Rattle.service_core.proofs.RoutedLemmas.{stands, closed_stays}
@@ -34,10 +35,7 @@ returns-in-Ok-clause-agrees g c =
     let mid = g.W.Words.means.service_view c.take.new.self c.take.new.seat in
     let new = g.W.Words.means.service_view c.take_in.new.table c.take_in.new.self.seat in
     let place = c.args.place in
-    let serving = g.met.W.Words.serving c.args.table.now c.args.self.now.seat c.requires.serves in
-    let many = serving.writers in
-    let below = c.requires.place in
-    let inside : place < length old.taken = omega (arith, many, below) in
+    let inside = has_place setup old c.args.self.now place c.requires.agrees c.requires.place in
     let count = c.requires.next in
     let takes = c.in-Ok.ensures.taken in
     let one = one_of setup old mid new place c.args.chunk c.args.id c.in-Ok.taken c.requires.agrees.none_read inside count takes c.take_in.ensures.view in
@@ -45,7 +43,7 @@ returns-in-Ok-clause-agrees g c =
     subst (λ (v : ServiceView). ServiceAgrees setup v c.take_in.new.self) (sym one.1)
     (agrees_took setup old c.args.self.now c.take_in.new.self place (one.0 ∷ []) (taken_content place c.in-Ok.taken) c.requires.agrees
     (record { layout = c.take_in.ensures.fields.layout; specs = c.take_in.ensures.fields.specs; writers = c.take_in.ensures.fields.writers; session = c.take_in.ensures.fields.session })
-    inside c.requires.open (serving.level place) refl id_is c.take_in.ensures.buffers (c.take_in.ensures.taken ∙ ap (λ (n : ℕ). set c.args.self.now.taken.items place (n + 1)) id_is))
+    inside c.requires.open ((g.met.W.Words.serving c.args.table.now c.args.self.now.seat c.requires.serves).level place) refl id_is c.take_in.ensures.buffers (c.take_in.ensures.taken ∙ ap (λ (n : ℕ). set c.args.self.now.taken.items place (n + 1)) id_is))
 
 pub returns-in-Ok-clause-keeps : goal.returns-in-Ok-clause-keeps
 returns-in-Ok-clause-keeps g c =
@@ -68,10 +66,7 @@ returns-in-Ok-clause-taken g c _ =
     let mid = g.W.Words.means.service_view c.take.new.self c.take.new.seat in
     let new = g.W.Words.means.service_view c.take_in.new.table c.take_in.new.self.seat in
     let place = c.args.place in
-    let serving = g.met.W.Words.serving c.args.table.now c.args.self.now.seat c.requires.serves in
-    let many = serving.writers in
-    let below = c.requires.place in
-    let inside : place < length old.taken = omega (arith, many, below) in
+    let inside = has_place setup old c.args.self.now place c.requires.agrees c.requires.place in
     let count = c.requires.next in
     let one = one_of setup old mid new place c.args.chunk c.args.id c.in-Ok.taken c.requires.agrees.none_read inside count c.in-Ok.ensures.taken c.take_in.ensures.view in
     record { look = one.0; content = taken_content place c.in-Ok.taken; view = one.1 }
@@ -93,10 +88,6 @@ returns-in-Err-clause-other g c _ =
     let old = g.W.Words.means.service_view c.args.table.now c.args.self.now.seat in
     let new = g.W.Words.means.service_view c.take.new.self c.take.new.seat in
     let place = c.args.place in
-    let serving = g.met.W.Words.serving c.args.table.now c.args.self.now.seat c.requires.serves in
-    let many = serving.writers in
-    let below = c.requires.place in
-    let inside : place < length old.taken = omega (arith, many, below) in
     let count = c.requires.next in
     other_of setup old new place c.args.chunk c.args.id c.in-Err.found count c.header_fits.ensures.id c.header_fits.ensures.writer c.in-Err.ensures.other
 
@@ -106,10 +97,6 @@ returns-in-Ok-clause-told_taken g c _ world is =
     let mid = g.W.Words.means.service_view c.take.new.self c.take.new.seat in
     let new = g.W.Words.means.service_view c.take_in.new.table c.take_in.new.self.seat in
     let place = c.args.place in
-    let serving = g.met.W.Words.serving c.args.table.now c.args.self.now.seat c.requires.serves in
-    let many = serving.writers in
-    let below = c.requires.place in
-    let inside : place < length old.taken = omega (arith, many, below) in
     let count = c.requires.next in
     let told = c.in-Ok.ensures.told_taken world is in
     frees_one place (place + 1 - 1) (taken_of old place).count c.args.id c.args.chunk c.in-Ok.taken.chunk (taken_content (place + 1 - 1) c.in-Ok.taken) world
@@ -120,10 +107,6 @@ returns-in-Err-clause-told_other g c _ world is =
     let old = g.W.Words.means.service_view c.args.table.now c.args.self.now.seat in
     let new = g.W.Words.means.service_view c.take.new.self c.take.new.seat in
     let place = c.args.place in
-    let serving = g.met.W.Words.serving c.args.table.now c.args.self.now.seat c.requires.serves in
-    let many = serving.writers in
-    let below = c.requires.place in
-    let inside : place < length old.taken = omega (arith, many, below) in
     let count = c.requires.next in
     let told = c.in-Err.ensures.told_other world is in
     frees_none place (place + 1 - 1) (taken_of old place).count c.args.id c.args.chunk world (g.W.Words.means.told c.take.new.self) new (omega arith) count told.0 told.1

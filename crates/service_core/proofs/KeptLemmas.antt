@@ -1,0 +1,50 @@
+-- What the service reads of what it keeps is what its view and the set-up have.
+use Rattle.std.proofs.Common.{◌≡◌, ◌∙◌, ℕ, ◌+◌, ◌-◌, ◌<◌, List, length, get_or, sym, ap, subst, arith}
+use Rattle.std.proofs.lemmas.List.{get_or_read, length-map}
+use Rattle.trace_base.specs.declared.policy.WriterSpec.{WriterSpec}
+use Rattle.page_geometry.specs.Sizes.{record_size}
+use Rattle.chunk_plain.specs.declared.setup.ChunkRange.{ChunkRange}
+use Rattle.chunk_plain.specs.Setup.{Setup, range_of, size_of, producer_of}
+use Rattle.chunk_plain.specs.Views.{Taken, ServiceView, taken_of}
+use Rattle.service_core.specs.declared.service.ServiceCore.{ServiceCore}
+use Rattle.service_core.specs.Routing.{IsAt}
+use Rattle.service_core.specs.Agreement.{ServiceAgrees, spec_at, no_writer}
+use Rattle.service_core.specs.Taking.{IsRange}
+use Rattle.service_core.proofs.TakingLemmas.{counts_at}
+use Rattle.service_core.proofs.RoutedLemmas.{stands}
+
+module _ {S : Type 0} (setup : Setup) (view : ServiceView) (core : ServiceCore S) (place : ℕ) (agrees : ServiceAgrees setup view core) (below : place < length setup.writers) where
+  pub has_place : place < length view.taken
+  has_place = let many = agrees.many in omega (arith, many, below)
+
+  -- how many chunks were taken of a writer
+  pub read_count : (n : ℕ) → n ≡ get_or core.taken.items place n → n ≡ (taken_of view place).count
+  read_count n read =
+      let long = length-map view.taken (λ (t : Taken). t.count) in
+      let inside = has_place in
+      let low : place < length core.taken.items = subst (λ (ns : List ℕ). place < length ns) (sym agrees.taken) (omega (arith, long, inside)) in
+      get_or_read core.taken.items place n low read 0 ∙ ap (λ (ns : List ℕ). get_or ns place 0) agrees.taken ∙ counts_at view place
+
+  -- a writer's specification
+  pub read_spec : (spec : WriterSpec) → spec ≡ get_or core.writers.items place spec → spec ≡ spec_at setup.writers place
+  read_spec spec read =
+      let low : place < length core.writers.items = subst (λ (ws : List WriterSpec). place < length ws) (sym agrees.writers) below in
+      get_or_read core.writers.items place spec low read no_writer ∙ ap (λ (ws : List WriterSpec). spec_at ws place) agrees.writers
+
+  -- the range of its producer's chunks
+  pub range_is : (spec : WriterSpec) (read : ℕ × ℕ) → spec ≡ get_or core.writers.items place spec
+      → read ≡ ((range_of core.layout spec.producer).first, (range_of core.layout spec.producer).count) → IsRange (range_of setup (producer_of setup place)) read.0 read.1
+  range_is spec read spec_is read_is =
+      let same : spec.producer ≡ producer_of setup place = ap (λ (w : WriterSpec). w.producer) (read_spec spec spec_is) in
+      let ranges : range_of core.layout spec.producer ≡ range_of setup (producer_of setup place) = ap (λ (s : Setup). range_of s spec.producer) agrees.layout ∙ ap (range_of setup) same in
+      record {
+        first_is = ap (λ (r : ℕ × ℕ). r.0) read_is ∙ ap (λ (r : ChunkRange). r.first) ranges;
+        count_is = ap (λ (r : ℕ × ℕ). r.1) read_is ∙ ap (λ (r : ChunkRange). r.count) ranges;
+      }
+
+  -- its buffer
+  pub found_at : (spec : WriterSpec) (number : ℕ) → spec ≡ get_or core.writers.items place spec → number ≡ spec.buffer
+      → IsAt core.buffers.items (number - 1) (place + 2) (record_size (size_of setup (producer_of setup place)))
+  found_at spec number read named =
+      subst (λ (n : ℕ). IsAt core.buffers.items (n - 1) (place + 2) (record_size (size_of setup (producer_of setup place))))
+      (sym (named ∙ ap (λ (w : WriterSpec). w.buffer) (read_spec spec read))) (stands setup view core place agrees below)
