@@ -19,7 +19,7 @@ use Rattle.chunk_plain.specs.Setup.{Setup}
 use Rattle.chunk_plain.specs.Views.{Read, ServiceView, taken_of}
 use Rattle.service_core.specs.declared.service.ServiceCore.{ServiceCore}
 use Rattle.service_core.specs.Routing.{buffer_at, IsAt}
-use Rattle.service_core.specs.Agreement.{ServiceAgrees, KeepsFields, KeepsRest}
+use Rattle.service_core.specs.Agreement.{ServiceAgrees, KeepsFields}
 use Rattle.service_core.specs.Order.{Stage}
 use Rattle.service_core.specs.Reading.{FailsIn}
 use Rattle.service_core.specs.Taking.{noted_more}
@@ -142,8 +142,3 @@ agrees_read setup old new core done q n agrees keeps buffers_are taken_is noted 
   where
     stage_of : ℕ → Bool → Stage
     stage_of place b = record { come = (taken_of old place).count; closed = b; due = [] }
-
-pub keeps_read : {S : Type 0} → (setup : Setup) (old : ServiceView) (core done : ServiceCore S) (q n : ℕ) → ServiceAgrees setup old core → KeepsFields core done
-    → done.buffers.items ≡ buffers_after core.buffers.items (model.Read q n ∷ []) → KeepsRest setup core done
-keeps_read setup old core done q n agrees keeps buffers_are =
-    record { fields = keeps; closed = λ place inside. closed_by_none setup old core done place (model.Read q n ∷ []) agrees buffers_are (refl, tt) inside }

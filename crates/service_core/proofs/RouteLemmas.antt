@@ -4,7 +4,7 @@ use Rattle.std.specs.Prelude.{cond}
 use Rattle.std.proofs.lemmas.Bool.{cases_lt}
 use Rattle.std.proofs.lemmas.List.{set-get_or}
 use Rattle.trace_base.specs.declared.policy.FullPolicy.TheVariants.{Ring}
-use Rattle.trace_model.specs.Images.{Image, whole_chunk}
+use Rattle.trace_model.specs.Images.{Image, Chunk, whole_chunk}
 use Rattle.trace_model.specs.Reading.{Reading, Fragments, Unreadable, reading_of}
 use Rattle.trace_model.specs.Sequences.{sequence_in, is_known}
 use Rattle.trace_model.specs.Buffers.{Buffer, empty_buffer}
@@ -61,6 +61,11 @@ size_state b (e ∷ es) q = size_state (buffer_after b e) es q ∙ size_after b 
 abbrev pub NoCloses : List Event → Type 0
 NoCloses [] = Unit {0}
 NoCloses (e ∷ es) = (is_close e ≡ false) × NoCloses es
+
+-- nor is what an image is read as
+pub closes_none : (event : Chunk → Event) → ((chunk : Chunk) → is_close (event chunk) ≡ false) → (flags : ℕ) (reading : Reading) → NoCloses (histories.once_read event flags reading)
+closes_none event none flags (Fragments fragments) = (none (whole_chunk flags fragments), tt)
+closes_none event none flags (Unreadable number) = tt
 
 closed_state : (b : Buffer) (events : List Event) (q : ℕ) → NoCloses events → (sequence_in (state_after b events).sequences q).closed ≡ (sequence_in b.sequences q).closed
 closed_state b [] q none = refl

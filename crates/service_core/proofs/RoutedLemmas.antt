@@ -6,21 +6,21 @@ use Rattle.std.proofs.lemmas.Option.{slice_get-get_or}
 use Rattle.trace_base.specs.declared.policy.WriterSpec.{WriterSpec}
 use Rattle.page_geometry.specs.Sizes.{record_size}
 use Rattle.trace_model.specs.Images.{Image, Patch}
-use Rattle.trace_model.specs.Reading.{Reading, Fragments, Unreadable, reading_of}
+use Rattle.trace_model.specs.Reading.{reading_of}
 use Rattle.trace_model.specs.Sequences.{Sequence, sequence_in, is_known}
 use Rattle.trace_model.specs.Buffers.{Buffer}
 use Rattle.trace_model.specs.History as model
 use Rattle.trace_model.specs.History.{buffers_after}
 use Rattle.chunk_plain.specs.Setup.{Setup, size_of, producer_of}
 use Rattle.chunk_plain.specs.Views.{Taken, ServiceView}
-use Rattle.chunk_plain.specs.Histories.{once_read, history_of}
+use Rattle.chunk_plain.specs.Histories.{history_of}
 use Rattle.world_model.specs.FirstBuffers as first
 use Rattle.world_model.specs.FirstBuffers.{sequences_from, first_buffers}
 use Rattle.world_model.proofs.MakingLemmas.{set_at}
 use Rattle.service_core.specs.declared.service.ServiceCore.{ServiceCore}
 use Rattle.service_core.specs.Routing.{buffer_at, IsAt, is_closed_at, arrivals_of}
-use Rattle.service_core.specs.Agreement.{ServiceAgrees, spec_value, first_of, spec_at, no_writer, buffer_of, is_closed, IsAgreeing}
-use Rattle.service_core.proofs.RouteLemmas.{length_after, is_at_after, open_after, none_at, NoCloses}
+use Rattle.service_core.specs.Agreement.{ServiceAgrees, KeepsFields, KeepsRest, spec_value, first_of, spec_at, no_writer, buffer_of, is_closed, IsAgreeing}
+use Rattle.service_core.proofs.RouteLemmas.{length_after, is_at_after, open_after, none_at, NoCloses, closes_none}
 
 first_long : (setup : Setup) (n : ℕ) (specs : List first.BufferSpec) → length (first_buffers setup n specs) ≡ length specs
 first_long setup n [] = refl
@@ -87,11 +87,7 @@ stands setup view core place agrees inside =
     (at_first setup specs place inside (agrees.routed.least place inside) (omega (arith, most, long))))
 
 no_closes : (image : Image) → NoCloses (arrivals_of image)
-no_closes image = by_reading (reading_of image.count image.payload)
-  where
-    by_reading : (reading : Reading) → NoCloses (once_read (λ chunk. model.Arrives image.sequence image.chunk_id chunk) image.flags reading)
-    by_reading (Fragments fragments) = (refl, tt)
-    by_reading (Unreadable number) = tt
+no_closes image = closes_none (λ chunk. model.Arrives image.sequence image.chunk_id chunk) (λ chunk. refl) image.flags (reading_of image.count image.payload)
 
 -- a chunk that arrives, with its patches, closes nothing
 pub closed_stays : {S : Type 0} → (setup : Setup) (view : ServiceView) (core done : ServiceCore S) (place : ℕ) (image : Image) (q : ℕ) (patches : List Patch)
@@ -128,6 +124,12 @@ closed_by_none setup view core done place events agrees buffers_are none inside 
     let index : ℕ = buffer_of setup place - 1 in
     let at = stands setup view core place agrees inside in
     ap (λ (xs : List Buffer). is_closed_at xs index (place + 2)) buffers_are ∙ open_after core.buffers.items index (place + 2) events at.inside none
+
+-- so they leave all but what the buffers have
+pub keeps_open : {S : Type 0} → (setup : Setup) (view : ServiceView) (core done : ServiceCore S) (events : List model.Event) → ServiceAgrees setup view core → KeepsFields core done
+    → done.buffers.items ≡ buffers_after core.buffers.items events → NoCloses events → KeepsRest setup core done
+keeps_open setup view core done events agrees keeps buffers_are none =
+    record { fields = keeps; closed = λ place inside. closed_by_none setup view core done place events agrees buffers_are none inside }
 
 -- there are as many buffers as were asked for
 pub buffers_long : {S : Type 0} → (setup : Setup) (view : ServiceView) (core : ServiceCore S) → ServiceAgrees setup view core → length core.buffers.items ≡ length core.specs.items

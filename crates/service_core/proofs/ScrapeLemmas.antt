@@ -30,13 +30,13 @@ use Rattle.chunk_plain.proofs.Agreeing.{found_alike}
 use Rattle.world_model.proofs.PartLemmas.{IsLooked, looked as as_looked}
 use Rattle.service_core.specs.declared.service.ServiceCore.{ServiceCore}
 use Rattle.service_core.specs.Routing.{partial_arrivals_of}
-use Rattle.service_core.specs.Agreement.{ServiceAgrees, KeepsFields, KeepsRest, is_closed}
+use Rattle.service_core.specs.Agreement.{ServiceAgrees, KeepsFields, is_closed}
 use Rattle.service_core.specs.Order.{LeadTo, IsFoundPart}
 use Rattle.service_core.specs.Looking.{looked}
 use Rattle.service_core.specs.Taking.{noted_more}
 use Rattle.service_core.specs.Scraping.{IsPart, PartLooked, TakesPart}
 use Rattle.service_core.proofs.TakingLemmas.{counts_at}
-use Rattle.service_core.proofs.RouteLemmas.{NoCloses}
+use Rattle.service_core.proofs.RouteLemmas.{NoCloses, closes_none}
 use Rattle.service_core.proofs.RoutedLemmas.{closed_by_none}
 use Rattle.service_core.proofs.OrderLemmas.{lead_part, lead_part_other}
 use Rattle.service_core.proofs.CloseLemmas.{agrees_noted}
@@ -157,12 +157,8 @@ loaded_reads found count payload is count_is long same small =
     ∙ front_reads found.sealed front.0 found.ends is.sealed.reads (omega (arith, whole)) (omega (arith, long, small))
     ∙ ap (λ (n : ℕ). reading_of n found.sealed) count_is
 
-no_closes : (image : Image) → NoCloses (partial_arrivals_of image)
-no_closes image = by_reading (reading_of image.count image.payload)
-  where
-    by_reading : (reading : Reading) → NoCloses (once_read (λ chunk. model.ArrivesInPart image.sequence image.chunk_id chunk) image.flags reading)
-    by_reading (Fragments fragments) = (refl, tt)
-    by_reading (Unreadable number) = tt
+pub no_closes : (image : Image) → NoCloses (partial_arrivals_of image)
+no_closes image = closes_none (λ chunk. model.ArrivesInPart image.sequence image.chunk_id chunk) (λ chunk. refl) image.flags (reading_of image.count image.payload)
 
 -- Finished fragments of a chunk arrived, of which a look found so many, and are noted.
 module _ {S : Type 0} (setup : Setup) (old : ServiceView) (core done : ServiceCore S) (place chunk id count flags front : ℕ) (payload : List ℕ)
@@ -228,6 +224,3 @@ module _ {S : Type 0} (setup : Setup) (old : ServiceView) (core done : ServiceCo
     agrees_part =
         agrees_noted setup old core done (Partial (place + 2) id count ∷ []) agrees keeps (buffers_are ∙ part_happened) taken_is ((first.found, first.looked), tt)
         (λ other inside none. leads other inside (cases_eq other place))
-
-    pub keeps_part : KeepsRest setup core done
-    keeps_part = record { fields = keeps; closed = stays }

@@ -8,7 +8,7 @@ use Rattle.chunk_plain.specs.Views.{Committed, ServiceView}
 use Rattle.service_core.specs.Routing.{IsAt}
 use Rattle.service_core.specs.Agreement.{ServiceAgrees}
 use Rattle.service_core.proofs.KeptLemmas.{found_at}
-use Rattle.service_core.proofs.RoutedLemmas.{closed_by_none}
+use Rattle.service_core.proofs.RoutedLemmas.{keeps_open}
 use Rattle.service_core.proofs.CloseLemmas.{agrees_committed}
 use Rattle.service_core.proofs.service.ServiceCore.commit.Goals as goal
 
@@ -49,7 +49,4 @@ returns-clause-keeps g c =
     let core = c.args.self.now in
     let done = record core { seat = c.note_commit.new.seat; buffers = c.commit_in-arrived.new.buffers } in
     let event = model.Committed (image_value c.args.image.now) (map patch_value c.args.patches.now) in
-    record {
-      fields = record { layout = refl; specs = refl; writers = refl; session = refl };
-      closed = λ place inside. closed_by_none setup view core done place (event ∷ []) c.requires.agrees c.commit_in-arrived.ensures.after (refl, tt) inside;
-    }
+    keeps_open setup view core done (event ∷ []) c.requires.agrees (record { layout = refl; specs = refl; writers = refl; session = refl }) c.commit_in-arrived.ensures.after (refl, tt)

@@ -3,16 +3,18 @@ use Rattle.std.specs.Prelude.{bit_and}
 use Rattle.std.proofs.lemmas.Nat.{and_mask}
 use Rattle.page_geometry.specs.Sizes.{record_size}
 use Rattle.trace_model.specs.Fragments.{drop_size}
+use Rattle.trace_model.specs.Images.{Image}
 use Rattle.chunk_plain.specs.declared.setup.Spot.{Spot}
 use Rattle.chunk_plain.specs.Setup.{Setup, spot, producer_of}
 use Rattle.chunk_plain.specs.Words.{ShowsFound}
 use Rattle.chunk_plain.specs.Views.{Partial, ServiceView}
-use Rattle.service_core.specs.Routing.{IsAt}
+use Rattle.service_core.specs.Routing.{IsAt, partial_arrivals_of}
 use Rattle.service_core.specs.Order.{IsFoundPart}
 use Rattle.service_core.specs.Agreement.{ServiceAgrees}
 use Rattle.service_core.specs.Taking.{noted_more}
 use Rattle.service_core.proofs.KeptLemmas.{found_at}
-use Rattle.service_core.proofs.ScrapeLemmas.{part_found, agrees_part, keeps_part}
+use Rattle.service_core.proofs.RoutedLemmas.{keeps_open}
+use Rattle.service_core.proofs.ScrapeLemmas.{no_closes, part_found, agrees_part}
 use Rattle.service_core.proofs.service.ServiceCore.put_part.Goals as goal
 
 pub arrive_part_in-requires-clause-at : goal.arrive_part_in-requires-clause-at
@@ -58,22 +60,14 @@ returns-clause-keeps g c =
     let old = g.W.Words.means.service_view c.args.table.now c.args.self.now.seat in
     let core = c.args.self.now in
     let done = record core { seat = c.note.new.seat; buffers = c.arrive_part_in.new.buffers; room = c.load.new.self } in
-    let place = c.args.place in
-    let laid = g.met.W.Words.laid c.args.table.now in
-    let range = laid.ranges (producer_of setup place) in
-    let own = c.requires.chunk in
-    let least = own.least in
-    let below = own.below in
-    let here = c.spot-size.ensures.spot ∙ ap (λ (s : Setup). spot s c.args.chunk) c.requires.agrees.layout in
-    let most = laid.most c.args.chunk (omega (arith, range, below)) in
-    let long = c.front.ensures.long ∙ ap (λ (s : Spot). s.payload_size) here in
-    let small : length c.front.result.now < drop_size = omega (arith, long, most) in
-    let shows = subst (λ (bytes : List ℕ). ShowsFound old c.args.chunk bytes) (sym c.front.ensures.bytes) c.load.ensures.found in
-    let mask : bit_and c.args.header.flags 1 ≡ c.args.header.flags % 2 = and_mask c.args.header.flags 1 in
-    let front : bit_and c.args.header.flags 1 % 2 ≡ c.args.header.flags % 2 = omega (arith, mask) in
-    keeps_part setup old core done place c.args.chunk c.args.header.chunk_id c.args.finished c.args.header.flags (bit_and c.args.header.flags 1) c.front.result.now
-    c.requires.agrees (g.met.W.Words.looks_agree c.args.table.now core.seat c.requires.serves) c.requires.looked
-    (record { layout = refl; specs = refl; writers = refl; session = refl }) c.requires.open c.requires.id c.requires.some front shows small c.arrive_part_in.ensures.after refl
+    let image : Image = record {
+      sequence = c.args.place + 2;
+      chunk_id = c.args.header.chunk_id;
+      count = c.args.finished;
+      flags = bit_and c.args.header.flags 1;
+      payload = c.front.result.now;
+    } in
+    keeps_open setup old core done (partial_arrivals_of image) c.requires.agrees (record { layout = refl; specs = refl; writers = refl; session = refl }) c.arrive_part_in.ensures.after (no_closes image)
 
 pub returns-clause-part : goal.returns-clause-part
 returns-clause-part g c =

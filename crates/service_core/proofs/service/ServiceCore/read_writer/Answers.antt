@@ -1,14 +1,16 @@
-use Rattle.std.proofs.Common.{◌≡◌, ◌+◌, ◌-◌, ℕ, length, OnOk, OnErr, arith, refl, subst, ap, ◌∙◌}
+use Rattle.std.proofs.Common.{◌≡◌, ◌+◌, ◌-◌, ℕ, [], ◌∷◌, length, OnOk, OnErr, arith, refl, subst, ap, ◌∙◌}
 use Rattle.std.specs.Vec.{with_item}
 use Rattle.page_geometry.specs.Sizes.{record_size}
 use Rattle.byte_io.specs.Bytes.{after_told}
 use Rattle.trace_model.specs.Buffers.{Buffer}
 use Rattle.trace_model.specs.Sequences.{is_known}
 use Rattle.trace_model.specs.Reads.{delivered_by, with_read}
+use Rattle.trace_model.specs.History as model
 use Rattle.sequence_reader.specs.Ends.{record_bytes, EndsInRecordAt}
 use Rattle.chunk_plain.specs.Setup.{size_of, producer_of}
 use Rattle.service_core.proofs.KeptLemmas.{found_at}
-use Rattle.service_core.proofs.ReadingLemmas.{met_at, read_buffers, read_taken, read_many, read_fails, delivered_most, agrees_read, keeps_read}
+use Rattle.service_core.proofs.ReadingLemmas.{met_at, read_buffers, read_taken, read_many, read_fails, delivered_most, agrees_read}
+use Rattle.service_core.proofs.RoutedLemmas.{keeps_open}
 use Rattle.service_core.proofs.service.ServiceCore.read_writer.Goals as goal
 
 pub index_mut-buffer-requires : goal.index_mut-buffer-requires
@@ -68,7 +70,7 @@ returns-in-Ok-clause-keeps g c =
     let after = subst (λ r. OnOk r (new ≡ with_read met q c.args.limit)) c.in-Ok.is c.read_counted-delivered.ensures.after in
     let buffers = read_buffers bs index q size at met is c.args.limit new after in
     let done = record core { seat = c.note.new.seat; buffers = with_item core.buffers index new } in
-    keeps_read setup view core done q c.args.limit c.requires.agrees (record { layout = refl; specs = refl; writers = refl; session = refl }) buffers
+    keeps_open setup view core done (model.Read q c.args.limit ∷ []) c.requires.agrees (record { layout = refl; specs = refl; writers = refl; session = refl }) buffers (refl, tt)
 
 pub returns-in-Ok-clause-reads : goal.returns-in-Ok-clause-reads
 returns-in-Ok-clause-reads g c =
@@ -140,7 +142,7 @@ returns-in-Err-clause-keeps g c =
     let part = subst (λ r. OnErr r (EndsInRecordAt met new before taken q c.args.limit count)) c.in-Err.is c.read_counted-delivered.ensures.part in
     let buffers = read_buffers bs index q size at met is count new part.buffer in
     let done = record core { seat = c.note-in-Err.new.seat; buffers = with_item core.buffers index new } in
-    keeps_read setup view core done q count c.requires.agrees (record { layout = refl; specs = refl; writers = refl; session = refl }) buffers
+    keeps_open setup view core done (model.Read q count ∷ []) c.requires.agrees (record { layout = refl; specs = refl; writers = refl; session = refl }) buffers (refl, tt)
 
 pub returns-in-Err-clause-fails : goal.returns-in-Err-clause-fails
 returns-in-Err-clause-fails g c =
