@@ -10,9 +10,14 @@ use Rattle.trace_model.specs.Sequences.{is_known}
 use Rattle.trace_model.specs.Buffers.{Buffer}
 use Rattle.trace_model.specs.History as model
 use Rattle.trace_model.specs.History.{buffers_after}
+use Rattle.page_geometry.specs.declared.chunk_header.ChunkHeader.{ChunkHeader}
+use Rattle.page_geometry.specs.Header.{packed}
 use Rattle.chunk_plain.specs.Setup.{Setup}
 use Rattle.chunk_plain.specs.Views.{Content, Look, Taken, Noted, Arrive, ServiceView, taken_of}
 use Rattle.chunk_plain.specs.Steps.{taken_counts}
+use Rattle.chunk_plain.specs.Words.{LooksAt}
+use Rattle.chunk_plain.specs.Meaning.{Meaning, IsServiceStep}
+use Rattle.chunk_plain.proofs.SeatSteps.{services_follow}
 use Rattle.chunk_plain.specs.Histories.{content_at, once_read, arrival_of, patches_of, happened, history_of}
 use Rattle.trace_buffer.specs.declared.answers.BufferSpec.{BufferSpec}
 use Rattle.world_model.specs.FirstBuffers as first
@@ -172,17 +177,18 @@ agrees_took setup old core done place looks content agrees keeps inside open_her
         (lead_other new (p + 2) (place + 2) (taken_of old place).count (taken_of old p).count (is_closed setup core p) content (λ e. differs (let is : p ≡ place = omega (arith, e) in is)))
         (agrees.order p inside_p none)
 
--- looks alone change nothing
-pub agrees_looked : {S : Type 0} → (setup : Setup) (old : ServiceView) (core done : ServiceCore S) (looks : List Look)
-    → ServiceAgrees setup old core → KeepsFields core done → done.buffers.items ≡ core.buffers.items → done.taken.items ≡ core.taken.items
-    → ServiceAgrees setup (looked old looks) done
-agrees_looked setup old core done looks agrees keeps buffers_are taken_is =
-    let new : ServiceView = looked old looks in
-    let grows = looked_grows old looks in
-    agrees_grown setup old new core done [] agrees keeps grows (sym (append-nil old.events)) refl refl (taken_is ∙ agrees.taken) (buffers_are ∙ sym (buffers_none core.buffers.items)) tt
+-- a look alone changes nothing
+pub agrees_seen : {S : Type 0} → (setup : Setup) (old new : ServiceView) (core : ServiceCore S) (seat : S) (chunk word : ℕ) (header : ChunkHeader)
+    → LooksAt setup chunk word header old new → ServiceAgrees setup old core → ServiceAgrees setup new (record core { seat = seat })
+agrees_seen setup old new core seat chunk word header looks agrees =
+    let looks_more : List Look = record { chunk = chunk; word = word; header = packed header; found = looks.found; taken = taken_counts old } ∷ [] in
+    let seen : ServiceView = looked old looks_more in
+    let grows = looked_grows old looks_more in
+    subst (λ (v : ServiceView). ServiceAgrees setup v (record core { seat = seat })) (sym looks.view)
+    (agrees_grown setup old seen core (record core { seat = seat }) [] agrees (record { layout = refl; specs = refl; writers = refl; session = refl }) grows
+    (sym (append-nil old.events)) refl refl agrees.taken (sym (buffers_none core.buffers.items)) tt
     (λ p inside_p none.
-    order_there old new p [] (is_closed setup core p) (is_closed setup done p) grows agrees.known (sym (append-nil old.events)) refl
-    (sym (ap (λ (bs : List Buffer). is_closed_at bs (buffer_of setup p - 1) (p + 2)) buffers_are)) refl (agrees.order p inside_p none))
+    order_there old seen p [] (is_closed setup core p) (is_closed setup core p) grows agrees.known (sym (append-nil old.events)) refl refl refl (agrees.order p inside_p none)))
 
 pub keeps_same : {S : Type 0} → (setup : Setup) (core : ServiceCore S) → KeepsRest setup core core
 keeps_same setup core = record { fields = record { layout = refl; specs = refl; writers = refl; session = refl }; closed = λ place inside. refl }
@@ -196,6 +202,22 @@ keeps_both setup old mid new one two = record {
     session = two.fields.session ∙ one.fields.session;
   };
   closed = λ place inside. two.closed place inside ∙ one.closed place inside;
+}
+
+-- Calls one after another: what each leaves, all do.
+pub record GoesOn {S T W : Type 0} (means : Meaning T W S) (old_table : T) (old : ServiceCore S) (new_table : T) (new : ServiceCore S) : Type 0 where
+  pub agrees : ServiceAgrees (means.setup old_table) (means.service_view new_table new.seat) new
+  pub keeps : KeepsRest (means.setup old_table) old new
+  pub step : IsServiceStep means old_table old.seat new_table new.seat
+
+pub goes_on : {S T W : Type 0} → (means : Meaning T W S) (first middle last : T) (old mid new : ServiceCore S)
+    → KeepsRest (means.setup first) old mid → IsServiceStep means first old.seat middle mid.seat
+    → ServiceAgrees (means.setup middle) (means.service_view last new.seat) new → KeepsRest (means.setup middle) mid new → IsServiceStep means middle mid.seat last new.seat
+    → GoesOn means first old last new
+goes_on means first middle last old mid new kept step agrees keeps next = record {
+  agrees = subst (λ (s : Setup). ServiceAgrees s (means.service_view last new.seat) new) step.setup_stays agrees;
+  keeps = keeps_both (means.setup first) old mid new kept (subst (λ (s : Setup). KeepsRest s mid new) step.setup_stays keeps);
+  step = services_follow means first old.seat middle mid.seat last new.seat step next;
 }
 
 -- the session's own calls leave the agreement

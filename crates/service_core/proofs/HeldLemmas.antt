@@ -14,7 +14,9 @@ use mathlib.Core.Option.{some-injective, some-ne-none}
 use native.Mathlib.Decide.{dec_le}
 use mathlib.Core.Logic.{dite}
 use Rattle.chunk_plain.proofs.Lists.{at_some}
+use Rattle.trace_base.specs.declared.limits.TheConstants.{MAX_FRAGMENTS}
 use Rattle.trace_base.specs.declared.policy.WriterSpec.{WriterSpec}
+use Rattle.page_geometry.specs.declared.chunk_header.TheConstants.{MAX_FLAGS}
 use Rattle.page_geometry.specs.declared.chunk_header.ChunkHeader.{ChunkHeader}
 use Rattle.page_geometry.specs.declared.chunk_state.ChunkState.TheVariants.{BeingWritten}
 use Rattle.page_geometry.specs.PageBits.{HasState}
@@ -45,6 +47,10 @@ pub record HasRanges (header : ChunkHeader) : Type 0 where
   pub word : FitsWord header
   pub count : header.count < 2 ^ 10
   pub flags : header.flags < 2 ^ 6
+
+-- as each look finds one
+pub has_ranges : (header : ChunkHeader) → FitsWord header → header.count ≤ MAX_FRAGMENTS → header.flags ≤ MAX_FLAGS → HasRanges header
+has_ranges header word count flags = record { word = word; count = omega (arith, count); flags = omega (arith, flags) }
 
 -- an element by its place
 at_get : {A : Type 0} (xs : List A) (x d : A) (i : ℕ) → At xs i x → get_or xs i d ≡ x

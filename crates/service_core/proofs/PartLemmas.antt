@@ -1,12 +1,13 @@
 -- Looks for parts of chunks, one after another.
-use Rattle.std.proofs.Common.{◌≡◌, ◌∙◌, ℕ, ◌+◌, ◌%◌, ◌^◌, ◌<◌, List, [], ◌∷◌, ◌++◌, length, Some, refl, sym, ap, subst, arith, inl, inr, append_assoc}
+use Rattle.std.proofs.Common.{◌≡◌, ◌∙◌, ℕ, ◌+◌, ◌%◌, ◌^◌, ◌<◌, List, [], ◌∷◌, ◌++◌, length, Option, Some, refl, sym, ap, subst, arith, inl, inr, append_assoc}
 use Rattle.trace_base.proofs.Lists.{get_behind}
 use Rattle.page_geometry.specs.declared.chunk_state.ChunkState.TheVariants.{BeingWritten}
 use Rattle.page_geometry.specs.PageBits.{HasState}
 use Rattle.page_geometry.specs.Header.{packed}
 use Rattle.chunk_plain.specs.declared.tokens.Seen.{Seen}
 use Rattle.chunk_plain.specs.Setup.{Setup, spot}
-use Rattle.chunk_plain.specs.Views.{At, Head, Look, Noted, Partial, ServiceView, taken_of}
+use Rattle.chunk_plain.specs.Views.{At, Found, Head, Look, Noted, Partial, ServiceView, taken_of}
+use Rattle.chunk_plain.specs.Drafts.{IsFound}
 use Rattle.chunk_plain.specs.Histories.{found_among}
 use Rattle.chunk_plain.specs.Steps.{taken_counts}
 use Rattle.chunk_plain.specs.Words.{LooksAt}
@@ -19,11 +20,20 @@ use Rattle.service_core.proofs.TakingLemmas.{counts_at}
 
 -- What one look found
 
-pub part_looked : (setup : Setup) (old new : ServiceView) (place chunk : ℕ) (seen : Seen) (at writer id finished : ℕ) → LooksAt setup chunk seen.word.0 seen.header old new
-    → at ≡ (spot setup chunk).place → writer ≡ place + 1 → IsPart seen at writer id finished → PartLooked new chunk place id finished seen.header.flags
-part_looked setup old new place chunk seen at writer id finished looks at_is writer_is part =
+-- it found so many finished fragments of a chunk that the writer at this place writes under this id, with this flag 1
+pub record IsSeenPart (seen : Option Found) (place id count flags : ℕ) : Type 0 where
+  pub found : Found
+  pub found_is : seen ≡ Some found
+  pub place_is : found.place ≡ place
+  pub id_is : found.id ≡ id
+  pub count_is : length found.ends ≡ count
+  pub front : found.head.flags % 2 ≡ flags % 2
+  pub is : IsFound found
+
+pub seen_part : (setup : Setup) (old new : ServiceView) (place chunk : ℕ) (seen : Seen) (at writer id finished : ℕ) (looks : LooksAt setup chunk seen.word.0 seen.header old new)
+    → at ≡ (spot setup chunk).place → writer ≡ place + 1 → IsPart seen at writer id finished → IsSeenPart looks.found place id finished seen.header.flags
+seen_part setup old new place chunk seen at writer id finished looks at_is writer_is part =
     let one = looks.finds.some (subst (λ (p : ℕ). HasState seen.word.0 p BeingWritten) at_is part.written) in
-    let look : Look = record { chunk = chunk; word = seen.word.0; header = packed seen.header; found = looks.found; taken = taken_counts old } in
     let of = one.2 in
     let count = ap (λ (h : Head). h.count) of.head_is in
     let ends = of.finished.sealed.count in
@@ -32,16 +42,31 @@ part_looked setup old new place chunk seen at writer id finished looks at_is wri
     let place_is = of.place_is in
     record {
       found = one.0;
-      number = length old.looks;
-      look = look;
-      at = subst (λ (v : ServiceView). At v.looks (length old.looks) look) (sym looks.view) (at_seam old.looks [] look);
-      chunk_is = refl;
       found_is = one.1;
       place_is = omega (arith, place_is, named, writer_is);
       id_is = of.id_is ∙ part.id_is;
       count_is = omega (arith, ends, count, counted);
       front = ap (λ (h : Head). h.flags % 2) of.head_is;
       is = of.finished;
+    }
+
+pub part_looked : (setup : Setup) (old new : ServiceView) (place chunk : ℕ) (seen : Seen) (at writer id finished : ℕ) → LooksAt setup chunk seen.word.0 seen.header old new
+    → at ≡ (spot setup chunk).place → writer ≡ place + 1 → IsPart seen at writer id finished → PartLooked new chunk place id finished seen.header.flags
+part_looked setup old new place chunk seen at writer id finished looks at_is writer_is part =
+    let one = seen_part setup old new place chunk seen at writer id finished looks at_is writer_is part in
+    let look : Look = record { chunk = chunk; word = seen.word.0; header = packed seen.header; found = looks.found; taken = taken_counts old } in
+    record {
+      found = one.found;
+      number = length old.looks;
+      look = look;
+      at = subst (λ (v : ServiceView). At v.looks (length old.looks) look) (sym looks.view) (at_seam old.looks [] look);
+      chunk_is = refl;
+      found_is = one.found_is;
+      place_is = one.place_is;
+      id_is = one.id_is;
+      count_is = one.count_is;
+      front = one.front;
+      is = one.is;
     }
 
 pub no_part_seen : (setup : Setup) (old new : ServiceView) (place chunk : ℕ) (seen : Seen) (at writer id : ℕ) → LooksAt setup chunk seen.word.0 seen.header old new

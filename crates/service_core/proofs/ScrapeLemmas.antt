@@ -6,8 +6,6 @@ use Rattle.std.proofs.lemmas.Bool.{cases_eq, eq-eqb, false≢true}
 use Rattle.std.proofs.lemmas.Option.{same_Some}
 use mathlib.Core.Option.{some-injective}
 use Rattle.trace_base.proofs.Lists.{begins}
-use Rattle.page_geometry.specs.declared.chunk_state.ChunkState.TheVariants.{BeingWritten}
-use Rattle.page_geometry.specs.PageBits.{HasState}
 use Rattle.page_geometry.specs.Header.{packed}
 use Rattle.trace_model.specs.Fragments.{drop_size}
 use Rattle.trace_model.specs.Images.{Image, Fragment, whole_chunk}
@@ -20,7 +18,7 @@ use Rattle.trace_model.specs.History.{buffer_after, buffers_after}
 use Rattle.chunk_plain.specs.declared.tokens.Seen.{Seen}
 use Rattle.chunk_plain.specs.Setup.{Setup, spot, producer_of, IsChunkOf}
 use Rattle.chunk_plain.specs.Payload.{byte_in}
-use Rattle.chunk_plain.specs.Views.{At, Found, Head, Look, Noted, Partial, ServiceView, taken_of}
+use Rattle.chunk_plain.specs.Views.{At, Found, Look, Noted, Partial, ServiceView, taken_of}
 use Rattle.chunk_plain.specs.Drafts.{IsFound}
 use Rattle.chunk_plain.specs.Histories.{is_scraped, found_among, once_read, part_of, happened}
 use Rattle.chunk_plain.specs.Steps.{taken_counts}
@@ -35,6 +33,7 @@ use Rattle.service_core.specs.Order.{LeadTo, IsFoundPart}
 use Rattle.service_core.specs.Looking.{looked}
 use Rattle.service_core.specs.Taking.{noted_more}
 use Rattle.service_core.specs.Scraping.{IsPart, PartLooked, TakesPart}
+use Rattle.service_core.proofs.PartLemmas.{seen_part}
 use Rattle.service_core.proofs.TakingLemmas.{counts_at}
 use Rattle.service_core.proofs.RouteLemmas.{NoCloses, closes_none}
 use Rattle.service_core.proofs.RoutedLemmas.{closed_by_none}
@@ -91,18 +90,10 @@ pub part_shown : (setup : Setup) (old mid new : ServiceView) (place chunk : ℕ)
     → IsChunkOf setup (producer_of setup place) chunk → new ≡ noted_more mid (Partial (place + 2) seen.header.chunk_id finished ∷ [])
     → IsFoundPart new (place + 2) seen.header.chunk_id finished → TakesPart setup place old new
 part_shown setup old mid new place chunk seen at writer id finished looks alike at_is writer_is next part own view found =
-    let one = looks.finds.some (subst (λ (p : ℕ). HasState seen.word.0 p BeingWritten) at_is part.written) in
+    let one = seen_part setup old mid place chunk seen at writer id finished looks at_is writer_is part in
     let look : Look = record { chunk = chunk; word = seen.word.0; header = packed seen.header; found = looks.found; taken = taken_counts old } in
-    let of = one.2 in
-    let count = ap (λ (h : Head). h.count) of.head_is in
-    let ends = of.finished.sealed.count in
-    let named = part.writer_is in
-    let counted = part.count in
-    let written = of.place_is in
-    let place_is : one.0.place ≡ place = omega (arith, written, named, writer_is) in
-    let count_is : length one.0.ends ≡ finished = omega (arith, ends, count, counted) in
     let next_is : seen.header.chunk_id ≡ (taken_of old place).count = part.id_is ∙ next in
-    let id_is : one.0.id ≡ (taken_of old place).count = of.id_is ∙ next_is in
+    let id_is : one.found.id ≡ (taken_of old place).count = one.id_is ∙ next in
     let seam : At mid.looks (length old.looks) look = subst (λ (v : ServiceView). At v.looks (length old.looks) look) (sym looks.view) (at_seam old.looks [] look) in
     let stays : new.looks ≡ mid.looks = ap (λ (v : ServiceView). v.looks) view in
     record {
@@ -115,17 +106,17 @@ part_shown setup old mid new place chunk seen at writer id finished looks alike 
         at = refl;
         own = own;
         since = counts_at old place;
-        found = one.0;
-        found_is = one.1;
-        place_is = place_is;
+        found = one.found;
+        found_is = one.found_is;
+        place_is = one.place_is;
         id_is = id_is;
-        count_is = count_is;
+        count_is = one.count_is;
       };
       view = view ∙ ap (λ (v : ServiceView). noted_more v (Partial (place + 2) seen.header.chunk_id finished ∷ [])) looks.view
           ∙ ap (λ (i : ℕ). noted_more (looked old (look ∷ [])) (Partial (place + 2) i finished ∷ [])) next_is;
       found = subst (λ (i : ℕ). IsFoundPart new (place + 2) i finished) next_is found;
       same = λ first is.
-          part_same mid place (taken_of old place).count finished (length old.looks) look one.0 first alike seam one.1 place_is id_is count_is
+          part_same mid place (taken_of old place).count finished (length old.looks) look one.found first alike seam one.found_is one.place_is id_is one.count_is
           (subst (λ (ls : List Look). found_among place (taken_of old place).count finished ls ≡ Some first) stays is);
     }
 

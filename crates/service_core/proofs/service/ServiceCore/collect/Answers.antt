@@ -1,11 +1,10 @@
 use Rattle.std.proofs.Common.{◌+◌, ◌∙◌, ◌<◌, ℕ, List, length, subst, sym, refl, ap, arith}
 use Rattle.chunk_plain.specs.Setup.{Setup}
-use Rattle.chunk_plain.proofs.SeatSteps.{services_follow, serves_on}
-use Rattle.service_core.specs.Agreement.{ServiceAgrees, KeepsRest}
+use Rattle.chunk_plain.proofs.SeatSteps.{serves_on}
 use Rattle.std.proofs.Common.{take}
 use Rattle.trace_base.specs.declared.policy.WriterSpec.{WriterSpec}
 use Rattle.service_core.specs.Taking.{TakesOf, Takes, places_of}
-use Rattle.service_core.proofs.AgreeLemmas.{keeps_same, keeps_both}
+use Rattle.service_core.proofs.AgreeLemmas.{keeps_same, goes_on}
 use Rattle.service_core.proofs.ChainLemmas.{takes_writer, places_add, places_skip}
 use Rattle.chunk_plain.specs.Views.{Taken, ServiceView, taken_of}
 use Rattle.service_core.specs.Told.{LeavesNext}
@@ -57,10 +56,12 @@ loop-place-preserved g c =
     let more = c.from-count.ensures in
     let small = i.small in
     let fits = c.take_all.type_inv in
+    let goes = goes_on means c.args.table.now c.loop-place.table c.take_all.new.table c.args.self.now c.loop-place.self c.take_all.new.self i.keeps i.step
+    c.take_all.ensures.agrees c.take_all.ensures.keeps c.take_all.ensures.step in
     record {
-      agrees = subst (λ (s : Setup). ServiceAgrees s new c.take_all.new.self) stays c.take_all.ensures.agrees;
-      keeps = keeps_both setup c.args.self.now c.loop-place.self c.take_all.new.self i.keeps (subst (λ (s : Setup). KeepsRest s c.loop-place.self c.take_all.new.self) stays c.take_all.ensures.keeps);
-      step = services_follow means c.args.table.now c.args.self.now.seat c.loop-place.table c.loop-place.self.seat c.take_all.new.table c.take_all.new.self.seat i.step c.take_all.ensures.step;
+      agrees = goes.agrees;
+      keeps = goes.keeps;
+      step = goes.step;
       told = λ world is. leaves_add setup c.args.producer place world (means.told c.loop-place.table) (means.told c.take_all.new.table) mid new (i.told world is)
           (λ other differs. ap (λ (v : ServiceView). (taken_of v other).count) took.view ∙ ap (λ (t : Taken). t.count) (taken_other mid place other took.looks took.contents differs))
           (λ w e. subst (λ (s : Setup). LeavesNext s place w (means.told c.take_all.new.table) new) stays (c.take_all.ensures.told w e));

@@ -1,15 +1,14 @@
 use Rattle.std.proofs.Common.{◌+◌, ◌-◌, ◌∙◌, ◌<◌, ◌≤◌, ℕ, List, Some, length, subst, sym, ap, refl, arith}
 use Rattle.trace_base.specs.declared.policy.WriterSpec.{WriterSpec}
 use Rattle.page_geometry.specs.Sizes.{record_size}
-use Rattle.chunk_plain.specs.Setup.{Setup, size_of, producer_of}
+use Rattle.chunk_plain.specs.Setup.{size_of, producer_of}
 use Rattle.chunk_plain.specs.Views.{ServiceView}
 use Rattle.chunk_plain.specs.Steps.{serviced}
-use Rattle.chunk_plain.proofs.SeatSteps.{serves_on, services_follow}
+use Rattle.chunk_plain.proofs.SeatSteps.{serves_on}
 use Rattle.service_core.specs.Routing.{IsAt}
-use Rattle.service_core.specs.Agreement.{ServiceAgrees, KeepsRest}
 use Rattle.service_core.specs.Reading.{FailsAmong}
 use Rattle.sequence_reader.proofs.PutLemmas.{on_err}
-use Rattle.service_core.proofs.AgreeLemmas.{keeps_same, keeps_both}
+use Rattle.service_core.proofs.AgreeLemmas.{keeps_same, goes_on}
 use Rattle.service_core.proofs.RoutedLemmas.{stands}
 use Rattle.service_core.proofs.BufferLemmas.{reads_begin, reads_skip, reads_add, reads_fail, reads_end}
 use Rattle.service_core.proofs.KeptLemmas.{read_spec}
@@ -70,11 +69,12 @@ loop-place-preserved g c =
     let old = means.service_view c.args.table.now c.args.self.now.seat in
     let between = means.service_view c.loop-place.table mid.seat in
     let at = subst (λ (n : ℕ). IsAt mid.buffers.items (n - 1) (place + 2) size) same (stands setup between mid place i.agrees low) in
-    let stays = i.step.setup_stays in
+    let goes = goes_on means c.args.table.now c.loop-place.table c.read_writer.new.table c.args.self.now mid c.read_writer.new.self i.keeps i.step
+    c.in_ok-left.ensures.agrees c.in_ok-left.ensures.keeps c.in_ok-left.ensures.step in
     record {
-      agrees = subst (λ (s : Setup). ServiceAgrees s new c.read_writer.new.self) stays c.in_ok-left.ensures.agrees;
-      keeps = keeps_both setup c.args.self.now mid c.read_writer.new.self i.keeps (subst (λ (s : Setup). KeepsRest s mid c.read_writer.new.self) stays c.in_ok-left.ensures.keeps);
-      step = services_follow means c.args.table.now c.args.self.now.seat c.loop-place.table mid.seat c.read_writer.new.table c.read_writer.new.self.seat i.step c.in_ok-left.ensures.step;
+      agrees = goes.agrees;
+      keeps = goes.keeps;
+      step = goes.step;
       reads = reads_add setup c.args.self.now c.args.buffer c.args.limit old (g.O.Sink.taken c.args.out.now) mid place c.loop-place.left size between (g.O.Sink.taken c.loop-place.out)
           i.reads low same at i.agrees.known c.read_writer.new.self new (g.O.Sink.taken c.read_writer.new.out) c.in_ok-left.field-0 c.in_ok-left.ensures.reads;
       told = λ world is. c.in_ok-left.ensures.told (serviced world between) (i.told world is);

@@ -2,11 +2,9 @@ use Rattle.std.proofs.Common.{◌≡◌, ◌∙◌, ◌+◌, ◌<◌, ℕ, List,
 use Rattle.std.proofs.lemmas.List.{take_all}
 use Rattle.trace_base.specs.declared.policy.WriterSpec.{WriterSpec}
 use Rattle.chunk_plain.specs.Setup.{Setup, producer_of}
-use Rattle.chunk_plain.proofs.SeatSteps.{services_follow}
-use Rattle.service_core.specs.Agreement.{ServiceAgrees, KeepsRest}
 use Rattle.service_core.specs.Taking.{places_of}
 use Rattle.service_core.specs.Scraping.{ScrapesOne, ScrapesEach, HoldsOwn}
-use Rattle.service_core.proofs.AgreeLemmas.{keeps_both}
+use Rattle.service_core.proofs.AgreeLemmas.{goes_on}
 use Rattle.service_core.proofs.ChainLemmas.{places_add, places_skip}
 use Rattle.service_core.proofs.PartLemmas.{scrapes_add}
 use Rattle.service_core.proofs.HeldLemmas.{world_yet, world_skip, world_add, world_all}
@@ -60,10 +58,12 @@ loop-place-preserved g c =
     let stays = i.step.setup_stays in
     let before = places_of c.args.producer 0 (take place setup.writers) in
     let one = subst (λ (s : Setup). ScrapesOne s place mid new) stays c.scrape_writer.ensures.scrapes in
+    let goes = goes_on means c.args.table.now c.loop-place.table c.scrape_writer.new.table c.args.self.now c.loop-place.self c.scrape_writer.new.self i.keeps i.step
+    c.scrape_writer.ensures.agrees c.scrape_writer.ensures.keeps c.scrape_writer.ensures.step in
     record {
-      agrees = subst (λ (s : Setup). ServiceAgrees s new c.scrape_writer.new.self) stays c.scrape_writer.ensures.agrees;
-      keeps = keeps_both setup c.args.self.now c.loop-place.self c.scrape_writer.new.self i.keeps (subst (λ (s : Setup). KeepsRest s c.loop-place.self c.scrape_writer.new.self) stays c.scrape_writer.ensures.keeps);
-      step = services_follow means c.args.table.now c.args.self.now.seat c.loop-place.table c.loop-place.self.seat c.scrape_writer.new.table c.scrape_writer.new.self.seat i.step c.scrape_writer.ensures.step;
+      agrees = goes.agrees;
+      keeps = goes.keeps;
+      step = goes.step;
       scrapes = record {
         between = i.scrapes.between;
         takes = i.scrapes.takes;

@@ -1,18 +1,16 @@
 use Rattle.std.proofs.Common.{◌≡◌, ◌∙◌, ◌+◌, ◌++◌, ℕ, List, [], ◌∷◌, subst, sym, refl, ap, arith}
-use Rattle.page_geometry.specs.Header.{packed}
 use Rattle.chunk_plain.specs.declared.setup.Spot.{Spot}
 use Rattle.chunk_plain.specs.Setup.{Setup, spot}
-use Rattle.chunk_plain.specs.Steps.{taken_counts}
-use Rattle.chunk_plain.specs.Views.{Look, Noted, Partial, ServiceView, taken_of}
+use Rattle.chunk_plain.specs.Views.{Noted, Partial, ServiceView, taken_of}
 use Rattle.chunk_plain.specs.World.{status}
 use Rattle.chunk_plain.proofs.SeatSteps.{services_follow}
 use Rattle.service_core.specs.Agreement.{ServiceAgrees, KeepsRest}
 use Rattle.service_core.specs.Scraping.{PartLooked, IsntPart}
 use Rattle.service_core.proofs.KeptLemmas.{read_count}
-use Rattle.service_core.proofs.AgreeLemmas.{agrees_looked}
+use Rattle.service_core.proofs.AgreeLemmas.{agrees_seen}
 use Rattle.service_core.proofs.PartLemmas.{part_looked, no_part_seen}
 use Rattle.service_core.proofs.ScrapeLemmas.{part_shown}
-use Rattle.service_core.proofs.HeldLemmas.{HasRanges, part_is, isnt_part}
+use Rattle.service_core.proofs.HeldLemmas.{has_ranges, part_is, isnt_part}
 use Rattle.service_core.proofs.service.ServiceCore.scrape_chunk.Goals as goal
 
 pub put_part-requires-clause-agrees : goal.put_part-requires-clause-agrees
@@ -20,12 +18,9 @@ put_part-requires-clause-agrees g c =
     let setup = g.W.Words.means.setup c.args.table.now in
     let old = g.W.Words.means.service_view c.args.table.now c.args.self.now.seat in
     let core = c.args.self.now in
-    let looks = c.look-seen.ensures.view in
-    let look : Look = record { chunk = c.args.chunk; word = c.look-seen.result.word.0; header = packed c.look-seen.result.header; found = looks.found; taken = taken_counts old } in
-    subst (λ (s : Setup). ServiceAgrees s (g.W.Words.means.service_view c.look-seen.new.self c.look-seen.new.seat) (record core { seat = c.look-seen.new.seat })) (sym c.look-seen.ensures.step.setup_stays)
-    (subst (λ (v : ServiceView). ServiceAgrees setup v (record core { seat = c.look-seen.new.seat })) (sym looks.view)
-    (agrees_looked setup old core (record core { seat = c.look-seen.new.seat }) (look ∷ []) c.requires.agrees
-    (record { layout = refl; specs = refl; writers = refl; session = refl }) refl refl))
+    let new = g.W.Words.means.service_view c.look-seen.new.self c.look-seen.new.seat in
+    subst (λ (s : Setup). ServiceAgrees s new (record core { seat = c.look-seen.new.seat })) (sym c.look-seen.ensures.step.setup_stays)
+    (agrees_seen setup old new core c.look-seen.new.seat c.args.chunk c.look-seen.result.word.0 c.look-seen.result.header c.look-seen.ensures.view c.requires.agrees)
 
 pub put_part-requires-clause-looked : goal.put_part-requires-clause-looked
 put_part-requires-clause-looked g c =
@@ -67,14 +62,11 @@ returns-in-Some-clause-told_part g c _ world is =
     let setup = g.W.Words.means.setup c.args.table.now in
     let old = g.W.Words.means.service_view c.args.table.now c.args.self.now.seat in
     let mid = g.W.Words.means.service_view c.look-seen.new.self c.look-seen.new.seat in
-    let new = g.W.Words.means.service_view c.put_part.new.table c.put_part.new.self.seat in
     let place = c.args.place in
     let count = read_count setup old c.args.self.now place c.requires.agrees c.requires.place c.index.result.now c.index.ensures in
     let here = ap (λ (s : Spot). s.place) (c.spot-at.ensures.spot ∙ ap (λ (s : Setup). spot s c.args.chunk) c.requires.agrees.layout) in
     let seen = c.look-seen.result in
-    let most = c.look-seen.ensures.count_fits in
-    let most_flags = c.look-seen.ensures.flags_fit in
-    let ranges : HasRanges seen.header = record { word = c.part_in.ensures.fits; count = omega (arith, most); flags = omega (arith, most_flags) } in
+    let ranges = has_ranges seen.header c.part_in.ensures.fits c.look-seen.ensures.count_fits c.look-seen.ensures.flags_fit in
     let view_is = g.met.W.Words.told_service_view c.args.table.now c.args.self.now.seat world is c.requires.serves in
     let next : c.index.result.now ≡ (taken_of world.service place).count = count ∙ ap (λ (v : ServiceView). (taken_of v place).count) view_is in
     let held = part_is setup world place c.args.chunk c.spot-at.result.place (place + 1) c.index.result.now c.in-Some.finished seen (g.met.W.Words.told_owned c.args.table.now world is)
@@ -91,12 +83,8 @@ pub returns-in-None-clause-agrees : goal.returns-in-None-clause-agrees
 returns-in-None-clause-agrees g c =
     let setup = g.W.Words.means.setup c.args.table.now in
     let old = g.W.Words.means.service_view c.args.table.now c.args.self.now.seat in
-    let core = c.args.self.now in
-    let looks = c.look-seen.ensures.view in
-    let look : Look = record { chunk = c.args.chunk; word = c.look-seen.result.word.0; header = packed c.look-seen.result.header; found = looks.found; taken = taken_counts old } in
-    subst (λ (v : ServiceView). ServiceAgrees setup v (record core { seat = c.look-seen.new.seat })) (sym looks.view)
-    (agrees_looked setup old core (record core { seat = c.look-seen.new.seat }) (look ∷ []) c.requires.agrees
-    (record { layout = refl; specs = refl; writers = refl; session = refl }) refl refl)
+    let new = g.W.Words.means.service_view c.look-seen.new.self c.look-seen.new.seat in
+    agrees_seen setup old new c.args.self.now c.look-seen.new.seat c.args.chunk c.look-seen.result.word.0 c.look-seen.result.header c.look-seen.ensures.view c.requires.agrees
 
 pub returns-in-None-clause-none : goal.returns-in-None-clause-none
 returns-in-None-clause-none g c _ =
@@ -118,9 +106,7 @@ returns-in-None-clause-told_none g c _ world is =
     let count = read_count setup old c.args.self.now place c.requires.agrees c.requires.place c.index.result.now c.index.ensures in
     let here = ap (λ (s : Spot). s.place) (c.spot-at.ensures.spot ∙ ap (λ (s : Setup). spot s c.args.chunk) c.requires.agrees.layout) in
     let seen = c.look-seen.result in
-    let most = c.look-seen.ensures.count_fits in
-    let most_flags = c.look-seen.ensures.flags_fit in
-    let ranges : HasRanges seen.header = record { word = c.part_in.ensures.fits; count = omega (arith, most); flags = omega (arith, most_flags) } in
+    let ranges = has_ranges seen.header c.part_in.ensures.fits c.look-seen.ensures.count_fits c.look-seen.ensures.flags_fit in
     record {
       is = subst (λ (n : ℕ). IsntPart place n (status world c.args.chunk)) count
           (isnt_part setup world place c.args.chunk c.spot-at.result.place (place + 1) c.index.result.now seen (c.look-seen.ensures.shown world is) here refl ranges c.in-None.ensures.none);

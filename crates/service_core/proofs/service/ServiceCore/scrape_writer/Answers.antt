@@ -1,10 +1,9 @@
 use Rattle.std.proofs.Common.{◌≡◌, ◌∙◌, ℕ, subst, ap, inl, inr}
 use Rattle.chunk_plain.specs.Setup.{Setup}
 use Rattle.chunk_plain.specs.Views.{ServiceView, taken_of}
-use Rattle.chunk_plain.proofs.SeatSteps.{services_follow, serves_on}
-use Rattle.service_core.specs.Agreement.{ServiceAgrees, KeepsRest}
+use Rattle.chunk_plain.proofs.SeatSteps.{serves_on}
 use Rattle.service_core.specs.Scraping.{IsNoPart, SeesNoPart, TakesPart, IsntPart, FindsNoPart, FindsNoPartOf}
-use Rattle.service_core.proofs.AgreeLemmas.{keeps_same, keeps_both}
+use Rattle.service_core.proofs.AgreeLemmas.{keeps_same, goes_on}
 use Rattle.service_core.proofs.ToldLemmas.{finds_begin, finds_more}
 use Rattle.service_core.proofs.KeptLemmas.{range_is}
 use Rattle.service_core.proofs.LookLemmas.{sees_begin, sees_more, sees_all}
@@ -37,10 +36,12 @@ loop-chunk-preserved g c =
     let mid = means.service_view c.loop-chunk.table c.loop-chunk.self.seat in
     let new = means.service_view c.scrape_chunk.new.table c.scrape_chunk.new.self.seat in
     let same = i.step.setup_stays in
+    let goes = goes_on means c.args.table.now c.loop-chunk.table c.scrape_chunk.new.table c.args.self.now c.loop-chunk.self c.scrape_chunk.new.self i.keeps i.step
+    c.scrape_chunk.ensures.agrees c.scrape_chunk.ensures.keeps c.scrape_chunk.ensures.step in
     record {
-      agrees = subst (λ (s : Setup). ServiceAgrees s new c.scrape_chunk.new.self) same c.scrape_chunk.ensures.agrees;
-      keeps = keeps_both setup c.args.self.now c.loop-chunk.self c.scrape_chunk.new.self i.keeps (subst (λ (s : Setup). KeepsRest s c.loop-chunk.self c.scrape_chunk.new.self) same c.scrape_chunk.ensures.keeps);
-      step = services_follow means c.args.table.now c.args.self.now.seat c.loop-chunk.table c.loop-chunk.self.seat c.scrape_chunk.new.table c.scrape_chunk.new.self.seat i.step c.scrape_chunk.ensures.step;
+      agrees = goes.agrees;
+      keeps = goes.keeps;
+      step = goes.step;
       told = λ world is.
           let count_is : (taken_of mid place).count ≡ (taken_of old place).count = ap (λ (v : ServiceView). (taken_of v place).count) i.seen.view in
           finds_more (IsntPart place (taken_of old place).count) first c.loop-chunk.chunk world (means.told c.loop-chunk.table) (means.told c.scrape_chunk.new.table) mid new (i.told world is)

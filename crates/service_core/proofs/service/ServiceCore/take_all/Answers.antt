@@ -1,9 +1,8 @@
 use Rattle.std.proofs.Common.{◌≡◌, ◌+◌, ℕ, ap, subst, arith, rules}
 use Rattle.chunk_plain.specs.Setup.{Setup}
-use Rattle.chunk_plain.proofs.SeatSteps.{services_follow, serves_on}
-use Rattle.service_core.specs.Agreement.{ServiceAgrees, KeepsRest}
+use Rattle.chunk_plain.proofs.SeatSteps.{serves_on}
 use Rattle.service_core.specs.Taking.{SeesNone}
-use Rattle.service_core.proofs.AgreeLemmas.{keeps_same, keeps_both}
+use Rattle.service_core.proofs.AgreeLemmas.{keeps_same, goes_on}
 use Rattle.service_core.proofs.ChainLemmas.{takes_none_yet, takes_more, takes_until}
 use Rattle.chunk_plain.specs.Views.{ServiceView, taken_of}
 use Rattle.chunk_plain.specs.Setup.{range_of, producer_of}
@@ -38,10 +37,12 @@ loop-taken-preserved g c =
     let same = i.step.setup_stays in
     let inside = has_place setup old c.args.self.now place c.requires.agrees c.requires.place in
     let took = c.take_next.ensures.taken (search rules) in
+    let goes = goes_on means c.args.table.now c.loop-taken.table c.take_next.new.table c.args.self.now c.loop-taken.self c.take_next.new.self i.keeps i.step
+    c.take_next.ensures.agrees c.take_next.ensures.keeps c.take_next.ensures.step in
     record {
-      agrees = subst (λ (s : Setup). ServiceAgrees s new c.take_next.new.self) same c.take_next.ensures.agrees;
-      keeps = keeps_both setup c.args.self.now c.loop-taken.self c.take_next.new.self i.keeps (subst (λ (s : Setup). KeepsRest s c.loop-taken.self c.take_next.new.self) same c.take_next.ensures.keeps);
-      step = services_follow means c.args.table.now c.args.self.now.seat c.loop-taken.table c.loop-taken.self.seat c.take_next.new.table c.take_next.new.self.seat i.step c.take_next.ensures.step;
+      agrees = goes.agrees;
+      keeps = goes.keeps;
+      step = goes.step;
       told = λ world is. frees_some_more setup place c.loop-taken.taken (taken_of mid place).count world (means.told c.loop-taken.table) (means.told c.take_next.new.table) mid new (i.told world is)
           (λ w e. subst (λ (s : Setup). FreesNext s place (taken_of mid place).count w (means.told c.take_next.new.table) new) same (c.take_next.ensures.told_taken (search rules) w e));
       from = search rules;

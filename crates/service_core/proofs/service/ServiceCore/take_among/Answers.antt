@@ -3,10 +3,9 @@ use Rattle.chunk_plain.specs.Views.{ServiceView, taken_of}
 use Rattle.service_core.specs.Told.{FreesOne, Isnt, FreesNone}
 use Rattle.service_core.proofs.ToldLemmas.{finds_begin, finds_more, finds_fewer, frees_next}
 use Rattle.chunk_plain.specs.Setup.{Setup, producer_of, IsChunkOf}
-use Rattle.chunk_plain.proofs.SeatSteps.{services_follow, serves_on}
-use Rattle.service_core.specs.Agreement.{ServiceAgrees, KeepsRest}
+use Rattle.chunk_plain.proofs.SeatSteps.{serves_on}
 use Rattle.service_core.specs.Taking.{IsOther, SeesOther}
-use Rattle.service_core.proofs.AgreeLemmas.{keeps_same, keeps_both}
+use Rattle.service_core.proofs.AgreeLemmas.{keeps_same, goes_on}
 use Rattle.service_core.proofs.KeptLemmas.{read_count}
 use Rattle.service_core.proofs.LookLemmas.{sees_begin, sees_more}
 use Rattle.service_core.proofs.service.ServiceCore.take_among.Goals as goal
@@ -21,10 +20,12 @@ loop-chunk-preserved g c =
     let mid = means.service_view c.loop-chunk.table c.loop-chunk.self.seat in
     let new = means.service_view c.try_take.new.table c.try_take.new.self.seat in
     let same = i.step.setup_stays in
+    let goes = goes_on means c.args.table.now c.loop-chunk.table c.try_take.new.table c.args.self.now c.loop-chunk.self c.try_take.new.self i.keeps i.step
+    c.try_take.ensures.agrees c.try_take.ensures.keeps c.try_take.ensures.step in
     record {
-      agrees = subst (λ (s : Setup). ServiceAgrees s new c.try_take.new.self) same c.try_take.ensures.agrees;
-      keeps = keeps_both setup c.args.self.now c.loop-chunk.self c.try_take.new.self i.keeps (subst (λ (s : Setup). KeepsRest s c.loop-chunk.self c.try_take.new.self) same c.try_take.ensures.keeps);
-      step = services_follow means c.args.table.now c.args.self.now.seat c.loop-chunk.table c.loop-chunk.self.seat c.try_take.new.table c.try_take.new.self.seat i.step c.try_take.ensures.step;
+      agrees = goes.agrees;
+      keeps = goes.keeps;
+      step = goes.step;
       told = λ world is.
           let count_is : (taken_of mid place).count ≡ (taken_of old place).count = ap (λ (v : ServiceView). (taken_of v place).count) i.seen.view in
           finds_more (Isnt place (taken_of old place).count) c.args.first c.loop-chunk.chunk world (means.told c.loop-chunk.table) (means.told c.try_take.new.table) mid new (i.told world is)
@@ -70,7 +71,6 @@ returns-clause-told_none g c _ world is =
 
 pub try_take-requires-clause-chunk : goal.try_take-requires-clause-chunk
 try_take-requires-clause-chunk g c =
-    let means = g.W.Words.means in
     subst (λ (s : Setup). IsChunkOf s (producer_of s c.args.place) c.loop-chunk.chunk) (sym c.loop-chunk.invariant.step.setup_stays)
     (c.requires.range c.loop-chunk.chunk c.loop-chunk.auto.chunk c.loop-chunk-test.true)
 

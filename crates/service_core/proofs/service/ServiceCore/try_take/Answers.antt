@@ -2,9 +2,7 @@ use Rattle.std.proofs.Common.{◌+◌, ◌-◌, ◌∙◌, ℕ, List, [], ◌∷
 use Rattle.trace_base.specs.declared.policy.WriterSpec.{WriterSpec}
 use Rattle.page_geometry.specs.Sizes.{record_size}
 use Rattle.chunk_plain.specs.Setup.{producer_of}
-use Rattle.page_geometry.specs.Header.{packed}
-use Rattle.chunk_plain.specs.Steps.{taken_counts}
-use Rattle.chunk_plain.specs.Views.{Look, ServiceView, taken_of}
+use Rattle.chunk_plain.specs.Views.{ServiceView, taken_of}
 use Rattle.service_core.proofs.ToldLemmas.{frees_one, frees_none}
 use Rattle.chunk_plain.specs.Words.{taken_content}
 use Rattle.chunk_plain.proofs.SeatSteps.{services_follow}
@@ -12,7 +10,7 @@ use Rattle.service_core.specs.Routing.{IsAt}
 use Rattle.service_core.specs.Agreement.{ServiceAgrees, spec_at}
 use Rattle.service_core.proofs.KeptLemmas.{has_place}
 use Rattle.service_core.proofs.TakingLemmas.{one_of, other_of}
-use Rattle.service_core.proofs.AgreeLemmas.{agrees_took, agrees_looked}
+use Rattle.service_core.proofs.AgreeLemmas.{agrees_took, agrees_seen}
 use Rattle.service_core.proofs.RoutedLemmas.{stands, closed_stays}
 use Rattle.service_core.proofs.service.ServiceCore.try_take.Goals as goal
 
@@ -75,12 +73,8 @@ pub returns-in-Err-clause-agrees : goal.returns-in-Err-clause-agrees
 returns-in-Err-clause-agrees g c =
     let setup = g.W.Words.means.setup c.args.table.now in
     let old = g.W.Words.means.service_view c.args.table.now c.args.self.now.seat in
-    let core = c.args.self.now in
-    let looks = c.in-Err.ensures.other.look in
-    let look : Look = record { chunk = c.args.chunk; word = c.in-Err.found.word.0; header = packed c.in-Err.found.header; found = looks.found; taken = taken_counts old } in
-    subst (λ (v : ServiceView). ServiceAgrees setup v (record core { seat = c.take.new.seat })) (sym looks.view)
-    (agrees_looked setup old core (record core { seat = c.take.new.seat }) (look ∷ []) c.requires.agrees
-    (record { layout = refl; specs = refl; writers = refl; session = refl }) refl refl)
+    let new = g.W.Words.means.service_view c.take.new.self c.take.new.seat in
+    agrees_seen setup old new c.args.self.now c.take.new.seat c.args.chunk c.in-Err.found.word.0 c.in-Err.found.header c.in-Err.ensures.other.look c.requires.agrees
 
 pub returns-in-Err-clause-other : goal.returns-in-Err-clause-other
 returns-in-Err-clause-other g c _ =
