@@ -4,6 +4,8 @@ use Rattle.std.specs.Prelude.{cond}
 use Rattle.std.proofs.lemmas.List.{length-map, map-append, get_or_read}
 use Rattle.std.proofs.lemmas.Bool.{eq-eqb, ne_eqb, cases_eq}
 use Rattle.trace_base.specs.declared.policy.FullPolicy.TheVariants.{Ring}
+use Rattle.trace_base.specs.declared.policy.WriterSpec.{WriterSpec}
+use Rattle.page_geometry.specs.Sizes.{record_size}
 use Rattle.byte_io.specs.Bytes.{Intake, after_told, TakesPart}
 use Rattle.trace_model.specs.Counts.{one_if}
 use Rattle.trace_model.specs.Sequences.{sequence_in, is_known}
@@ -15,7 +17,7 @@ use Rattle.trace_model.specs.Reads.{Delivery, link_bytes, turn_of, delivers, end
 use Rattle.trace_model.specs.History as model
 use Rattle.trace_model.specs.History.{Event, buffers_after, record_in, records_at, records_after}
 use Rattle.sequence_reader.specs.Ends.{record_bytes, EndsInRecordAt}
-use Rattle.chunk_plain.specs.Setup.{Setup}
+use Rattle.chunk_plain.specs.Setup.{Setup, size_of, producer_of}
 use Rattle.chunk_plain.specs.Views.{Read, ServiceView, taken_of}
 use Rattle.service_core.specs.declared.service.ServiceCore.{ServiceCore}
 use Rattle.service_core.specs.Routing.{buffer_at, IsAt}
@@ -23,6 +25,7 @@ use Rattle.service_core.specs.Agreement.{ServiceAgrees, KeepsFields}
 use Rattle.service_core.specs.Order.{Stage}
 use Rattle.service_core.specs.Reading.{FailsIn}
 use Rattle.service_core.specs.Taking.{noted_more}
+use Rattle.service_core.proofs.KeptLemmas.{found_at}
 use Rattle.service_core.proofs.RouteLemmas.{buffers_append, buffers_none, event_at}
 use Rattle.service_core.proofs.RoutedLemmas.{closed_by_none}
 use Rattle.service_core.proofs.CloseLemmas.{agrees_noted}
@@ -96,17 +99,27 @@ records_here (b ∷ bs) (suc index) q size n at =
       others = λ other differs. at.others (suc other) (λ e. differs (let same : other ≡ index = omega (arith, e) in same));
     })
 
--- the buffer that was met
-pub met_at : (bs : List Buffer) (index : ℕ) (b : Buffer) → index < length bs → b ≡ get_or bs index b → b ≡ buffer_at bs index
-met_at bs index b below found = get_or_read bs index b below found (empty_buffer 0 Ring [])
+-- it is the buffer at this place, which has the sequence
+pub record MeetsBuffer (bs : List Buffer) (index q : ℕ) (b : Buffer) : Type 0 where
+  pub size : ℕ
+  pub at : IsAt bs index q size
+  pub is : b ≡ buffer_at bs index
+
+-- the buffer of the writer at this place, where the service finds it
+pub meets_buffer : {S : Type 0} → (setup : Setup) (view : ServiceView) (core : ServiceCore S) (place : ℕ) → ServiceAgrees setup view core → place < length setup.writers
+    → (spec : WriterSpec) (number : ℕ) (b : Buffer) → spec ≡ get_or core.writers.items place spec → number ≡ spec.buffer → b ≡ get_or core.buffers.items (number - 1) b
+    → MeetsBuffer core.buffers.items (number - 1) (place + 2) b
+meets_buffer setup view core place agrees inside spec number b read named found =
+    let at = found_at setup view core place agrees inside spec number read named in
+    record { size = record_size (size_of setup (producer_of setup place)); at = at; is = get_or_read core.buffers.items (number - 1) b at.inside found (empty_buffer 0 Ring []) }
 
 -- One read, in the buffer that has its sequence
-module _ (bs : List Buffer) (index q size : ℕ) (at : IsAt bs index q size) (b : Buffer) (is : b ≡ buffer_at bs index) where
+module _ (bs : List Buffer) (index q : ℕ) (b : Buffer) (meets : MeetsBuffer bs index q b) where
   written : (n : ℕ) → records_at bs (model.Read q n) ≡ map (record_in q) (delivered_by b q n)
-  written n = records_here bs index q size n at ∙ ap (λ (x : Buffer). map (record_in q) (delivered_by x q n)) (sym is)
+  written n = records_here bs index q meets.size n meets.at ∙ ap (λ (x : Buffer). map (record_in q) (delivered_by x q n)) (sym meets.is)
 
   pub read_buffers : (n : ℕ) (new : Buffer) → new ≡ with_read b q n → set bs index new ≡ buffers_after bs (model.Read q n ∷ [])
-  read_buffers n new e = ap (λ (x : Buffer). set bs index x) (e ∙ ap (λ (x : Buffer). with_read x q n) is) ∙ event_at bs index size (model.Read q n) at
+  read_buffers n new e = ap (λ (x : Buffer). set bs index x) (e ∙ ap (λ (x : Buffer). with_read x q n) meets.is) ∙ event_at bs index meets.size (model.Read q n) meets.at
 
   pub read_taken : (n : ℕ) (before after : Intake) → after ≡ after_told before (record_bytes q (delivered_by b q n))
       → after ≡ after_told before (trace_of (records_at bs (model.Read q n)))

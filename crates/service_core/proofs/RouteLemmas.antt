@@ -8,7 +8,7 @@ use Rattle.trace_model.specs.Images.{Image, Chunk, whole_chunk}
 use Rattle.trace_model.specs.Reading.{Reading, Fragments, Unreadable, reading_of}
 use Rattle.trace_model.specs.Sequences.{sequence_in, is_known}
 use Rattle.trace_model.specs.Buffers.{Buffer, empty_buffer}
-use Rattle.trace_model.specs.Arrivals.{with_arrival, with_partial_arrival, with_image, with_partial_image, once_read}
+use Rattle.trace_model.specs.Arrivals.{with_image, with_partial_image, once_read}
 use Rattle.trace_model.specs.History.{Event, Arrives, ArrivesInPart, Committed, event_sequence, after, buffer_after, state_after, buffers_after}
 use Rattle.trace_model.proofs.ShapeLemmas.{is_close, size_after, closed_after}
 use Rattle.chunk_plain.specs.Histories as histories
@@ -115,27 +115,23 @@ event_at (b ∷ bs) (suc index) size event at =
       others = λ other differs. at.others (suc other) (λ e. differs (let same : other ≡ index = omega (arith, e) in same));
     }))
 
+-- what an image is read as changes it by that event, and where its fragments don't read nothing changes
+once_at : (bs : List Buffer) (index size : ℕ) (event : Chunk → Event) (flags : ℕ) (reading : Reading) → ((chunk : Chunk) → IsAt bs index (event_sequence (event chunk)) size)
+    → set bs index (once_read (buffer_at bs index) (λ chunk. after (buffer_at bs index) (event chunk)) flags reading) ≡ buffers_after bs (histories.once_read event flags reading)
+once_at bs index size event flags (Fragments fragments) at = event_at bs index size (event (whole_chunk flags fragments)) (at (whole_chunk flags fragments))
+once_at bs index size event flags (Unreadable number) at = set-get_or bs index no_buffer ∙ sym (buffers_none bs)
+
 -- a complete image arrives
 pub image_at : (bs : List Buffer) (index size : ℕ) (image : Image) → IsAt bs index image.sequence size
     → set bs index (with_image (buffer_at bs index) image) ≡ buffers_after bs (arrivals_of image)
-image_at bs index size image at = by_reading (reading_of image.count image.payload)
-  where
-    by_reading : (reading : Reading)
-        → set bs index (once_read (buffer_at bs index) (with_arrival (buffer_at bs index) image.sequence image.chunk_id) image.flags reading)
-        ≡ buffers_after bs (histories.once_read (λ chunk. Arrives image.sequence image.chunk_id chunk) image.flags reading)
-    by_reading (Fragments fragments) = event_at bs index size (Arrives image.sequence image.chunk_id (whole_chunk image.flags fragments)) at
-    by_reading (Unreadable number) = set-get_or bs index no_buffer ∙ sym (buffers_none bs)
+image_at bs index size image at =
+    once_at bs index size (λ chunk. Arrives image.sequence image.chunk_id chunk) image.flags (reading_of image.count image.payload) (λ chunk. at)
 
 -- the first fragments of a chunk arrive
 pub part_at : (bs : List Buffer) (index size : ℕ) (image : Image) → IsAt bs index image.sequence size
     → set bs index (with_partial_image (buffer_at bs index) image) ≡ buffers_after bs (partial_arrivals_of image)
-part_at bs index size image at = by_reading (reading_of image.count image.payload)
-  where
-    by_reading : (reading : Reading)
-        → set bs index (once_read (buffer_at bs index) (with_partial_arrival (buffer_at bs index) image.sequence image.chunk_id) image.flags reading)
-        ≡ buffers_after bs (histories.once_read (λ chunk. ArrivesInPart image.sequence image.chunk_id chunk) image.flags reading)
-    by_reading (Fragments fragments) = event_at bs index size (ArrivesInPart image.sequence image.chunk_id (whole_chunk image.flags fragments)) at
-    by_reading (Unreadable number) = set-get_or bs index no_buffer ∙ sym (buffers_none bs)
+part_at bs index size image at =
+    once_at bs index size (λ chunk. ArrivesInPart image.sequence image.chunk_id chunk) image.flags (reading_of image.count image.payload) (λ chunk. at)
 
 -- an image leaves which sequences the buffer has
 pub known_image : (b : Buffer) (image : Image) (q : ℕ) → is_known b.sequences image.sequence ≡ true → is_known (with_image b image).sequences q ≡ is_known b.sequences q

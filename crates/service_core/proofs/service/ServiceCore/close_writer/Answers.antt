@@ -1,4 +1,4 @@
-use Rattle.std.proofs.Common.{◌+◌, ◌-◌, ℕ, [], ◌∷◌, subst, sym, refl}
+use Rattle.std.proofs.Common.{◌+◌, ℕ, [], ◌∷◌, subst, sym, refl}
 use Rattle.page_geometry.specs.Sizes.{record_size}
 use Rattle.chunk_plain.specs.Setup.{size_of, producer_of}
 use Rattle.chunk_plain.specs.Views.{Closed, ServiceView}

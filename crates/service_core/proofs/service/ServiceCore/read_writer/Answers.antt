@@ -1,15 +1,13 @@
-use Rattle.std.proofs.Common.{◌≡◌, ◌+◌, ◌-◌, ℕ, [], ◌∷◌, length, OnOk, OnErr, arith, refl, subst, ap, ◌∙◌}
+use Rattle.std.proofs.Common.{◌≡◌, ◌+◌, ◌-◌, [], ◌∷◌, length, OnOk, OnErr, arith, refl, subst, ap, ◌∙◌}
 use Rattle.std.specs.Vec.{with_item}
-use Rattle.page_geometry.specs.Sizes.{record_size}
 use Rattle.byte_io.specs.Bytes.{after_told}
 use Rattle.trace_model.specs.Buffers.{Buffer}
 use Rattle.trace_model.specs.Sequences.{is_known}
 use Rattle.trace_model.specs.Reads.{delivered_by, with_read}
 use Rattle.trace_model.specs.History as model
 use Rattle.sequence_reader.specs.Ends.{record_bytes, EndsInRecordAt}
-use Rattle.chunk_plain.specs.Setup.{size_of, producer_of}
 use Rattle.service_core.proofs.KeptLemmas.{found_at}
-use Rattle.service_core.proofs.ReadingLemmas.{met_at, read_buffers, read_taken, read_many, read_fails, delivered_most, agrees_read}
+use Rattle.service_core.proofs.ReadingLemmas.{meets_buffer, read_buffers, read_taken, read_many, read_fails, delivered_most, agrees_read}
 use Rattle.service_core.proofs.RoutedLemmas.{keeps_open}
 use Rattle.service_core.proofs.service.ServiceCore.read_writer.Goals as goal
 
@@ -18,7 +16,6 @@ index_mut-buffer-requires g c =
     let setup = g.W.Words.means.setup c.args.table.now in
     let view = g.W.Words.means.service_view c.args.table.now c.args.self.now.seat in
     let core = c.args.self.now in
-    let q = c.args.place + 2 in
     let at = found_at setup view core c.args.place c.requires.agrees c.requires.place c.index.result.now c.from-index.result c.index.ensures c.from-index.ensures in
     let inside = at.inside in
     let joined = core.buffers.ok.0 in
@@ -30,10 +27,10 @@ read_counted-delivered-requires g c =
     let view = g.W.Words.means.service_view c.args.table.now c.args.self.now.seat in
     let core = c.args.self.now in
     let q = c.args.place + 2 in
-    let at = found_at setup view core c.args.place c.requires.agrees c.requires.place c.index.result.now c.from-index.result c.index.ensures c.from-index.ensures in
-    ap (λ (b : Buffer). is_known b.sequences q)
-    (met_at core.buffers.items (c.from-index.result - 1) c.index_mut-buffer.result.now at.inside c.index_mut-buffer.ensures.value)
-    ∙ at.known
+    let met = c.index_mut-buffer.result.now in
+    let meets = meets_buffer setup view core c.args.place c.requires.agrees c.requires.place c.index.result.now c.from-index.result met c.index.ensures c.from-index.ensures
+    c.index_mut-buffer.ensures.value in
+    ap (λ (b : Buffer). is_known b.sequences q) meets.is ∙ meets.at.known
 
 pub returns-in-Ok-clause-agrees : goal.returns-in-Ok-clause-agrees
 returns-in-Ok-clause-agrees g c =
@@ -41,15 +38,14 @@ returns-in-Ok-clause-agrees g c =
     let view = g.W.Words.means.service_view c.args.table.now c.args.self.now.seat in
     let core = c.args.self.now in
     let q = c.args.place + 2 in
-    let at = found_at setup view core c.args.place c.requires.agrees c.requires.place c.index.result.now c.from-index.result c.index.ensures c.from-index.ensures in
     let bs = core.buffers.items in
     let index = c.from-index.result - 1 in
-    let size : ℕ = record_size (size_of setup (producer_of setup c.args.place)) in
     let met = c.index_mut-buffer.result.now in
-    let is = met_at bs index met at.inside c.index_mut-buffer.ensures.value in
+    let meets = meets_buffer setup view core c.args.place c.requires.agrees c.requires.place c.index.result.now c.from-index.result met c.index.ensures c.from-index.ensures
+    c.index_mut-buffer.ensures.value in
     let new = c.read_counted-delivered.new.buffer in
     let after = subst (λ r. OnOk r (new ≡ with_read met q c.args.limit)) c.in-Ok.is c.read_counted-delivered.ensures.after in
-    let buffers = read_buffers bs index q size at met is c.args.limit new after in
+    let buffers = read_buffers bs index q met meets c.args.limit new after in
     let done = record core { seat = c.note.new.seat; buffers = with_item core.buffers index new } in
     agrees_read setup view (g.W.Words.means.service_view c.note.new.self c.note.new.seat) core done q c.args.limit c.requires.agrees
     (record { layout = refl; specs = refl; writers = refl; session = refl }) buffers refl c.note.ensures.view
@@ -60,15 +56,14 @@ returns-in-Ok-clause-keeps g c =
     let view = g.W.Words.means.service_view c.args.table.now c.args.self.now.seat in
     let core = c.args.self.now in
     let q = c.args.place + 2 in
-    let at = found_at setup view core c.args.place c.requires.agrees c.requires.place c.index.result.now c.from-index.result c.index.ensures c.from-index.ensures in
     let bs = core.buffers.items in
     let index = c.from-index.result - 1 in
-    let size : ℕ = record_size (size_of setup (producer_of setup c.args.place)) in
     let met = c.index_mut-buffer.result.now in
-    let is = met_at bs index met at.inside c.index_mut-buffer.ensures.value in
+    let meets = meets_buffer setup view core c.args.place c.requires.agrees c.requires.place c.index.result.now c.from-index.result met c.index.ensures c.from-index.ensures
+    c.index_mut-buffer.ensures.value in
     let new = c.read_counted-delivered.new.buffer in
     let after = subst (λ r. OnOk r (new ≡ with_read met q c.args.limit)) c.in-Ok.is c.read_counted-delivered.ensures.after in
-    let buffers = read_buffers bs index q size at met is c.args.limit new after in
+    let buffers = read_buffers bs index q met meets c.args.limit new after in
     let done = record core { seat = c.note.new.seat; buffers = with_item core.buffers index new } in
     keeps_open setup view core done (model.Read q c.args.limit ∷ []) c.requires.agrees (record { layout = refl; specs = refl; writers = refl; session = refl }) buffers (refl, tt)
 
@@ -78,16 +73,14 @@ returns-in-Ok-clause-reads g c =
     let view = g.W.Words.means.service_view c.args.table.now c.args.self.now.seat in
     let core = c.args.self.now in
     let q = c.args.place + 2 in
-    let at = found_at setup view core c.args.place c.requires.agrees c.requires.place c.index.result.now c.from-index.result c.index.ensures c.from-index.ensures in
     let bs = core.buffers.items in
     let index = c.from-index.result - 1 in
-    let size : ℕ = record_size (size_of setup (producer_of setup c.args.place)) in
     let met = c.index_mut-buffer.result.now in
-    let is = met_at bs index met at.inside c.index_mut-buffer.ensures.value in
+    let meets = meets_buffer setup view core c.args.place c.requires.agrees c.requires.place c.index.result.now c.from-index.result met c.index.ensures c.from-index.ensures
+    c.index_mut-buffer.ensures.value in
     let new = c.read_counted-delivered.new.buffer in
     let after = subst (λ r. OnOk r (new ≡ with_read met q c.args.limit)) c.in-Ok.is c.read_counted-delivered.ensures.after in
-    let buffers = read_buffers bs index q size at met is c.args.limit new after in
-    let done = record core { seat = c.note.new.seat; buffers = with_item core.buffers index new } in
+    let buffers = read_buffers bs index q met meets c.args.limit new after in
     let before = g.O.Sink.taken c.args.out.now in
     let taken = g.O.Sink.taken c.read_counted-delivered.new.out in
     let records = subst (λ r. OnOk r (taken ≡ after_told before (record_bytes q (delivered_by met q c.args.limit)))) c.in-Ok.is c.read_counted-delivered.ensures.records in
@@ -96,8 +89,8 @@ returns-in-Ok-clause-reads g c =
     record {
       view = c.note.ensures.view;
       buffers = buffers;
-      taken = read_taken bs index q size at met is c.args.limit before taken records;
-      many = read_many bs index q size at met is c.args.limit c.read_counted-delivered.result.delivered whole;
+      taken = read_taken bs index q met meets c.args.limit before taken records;
+      many = read_many bs index q met meets c.args.limit c.read_counted-delivered.result.delivered whole;
       most = omega (arith, most, whole);
     }
 
@@ -107,18 +100,17 @@ returns-in-Err-clause-agrees g c =
     let view = g.W.Words.means.service_view c.args.table.now c.args.self.now.seat in
     let core = c.args.self.now in
     let q = c.args.place + 2 in
-    let at = found_at setup view core c.args.place c.requires.agrees c.requires.place c.index.result.now c.from-index.result c.index.ensures c.from-index.ensures in
     let bs = core.buffers.items in
     let index = c.from-index.result - 1 in
-    let size : ℕ = record_size (size_of setup (producer_of setup c.args.place)) in
     let met = c.index_mut-buffer.result.now in
-    let is = met_at bs index met at.inside c.index_mut-buffer.ensures.value in
+    let meets = meets_buffer setup view core c.args.place c.requires.agrees c.requires.place c.index.result.now c.from-index.result met c.index.ensures c.from-index.ensures
+    c.index_mut-buffer.ensures.value in
     let new = c.read_counted-delivered.new.buffer in
     let count = c.read_counted-delivered.result.delivered in
     let before = g.O.Sink.taken c.args.out.now in
     let taken = g.O.Sink.taken c.read_counted-delivered.new.out in
     let part = subst (λ r. OnErr r (EndsInRecordAt met new before taken q c.args.limit count)) c.in-Err.is c.read_counted-delivered.ensures.part in
-    let buffers = read_buffers bs index q size at met is count new part.buffer in
+    let buffers = read_buffers bs index q met meets count new part.buffer in
     let done = record core { seat = c.note-in-Err.new.seat; buffers = with_item core.buffers index new } in
     agrees_read setup view (g.W.Words.means.service_view c.note-in-Err.new.self c.note-in-Err.new.seat) core done q count c.requires.agrees
     (record { layout = refl; specs = refl; writers = refl; session = refl }) buffers refl c.note-in-Err.ensures.view
@@ -129,18 +121,17 @@ returns-in-Err-clause-keeps g c =
     let view = g.W.Words.means.service_view c.args.table.now c.args.self.now.seat in
     let core = c.args.self.now in
     let q = c.args.place + 2 in
-    let at = found_at setup view core c.args.place c.requires.agrees c.requires.place c.index.result.now c.from-index.result c.index.ensures c.from-index.ensures in
     let bs = core.buffers.items in
     let index = c.from-index.result - 1 in
-    let size : ℕ = record_size (size_of setup (producer_of setup c.args.place)) in
     let met = c.index_mut-buffer.result.now in
-    let is = met_at bs index met at.inside c.index_mut-buffer.ensures.value in
+    let meets = meets_buffer setup view core c.args.place c.requires.agrees c.requires.place c.index.result.now c.from-index.result met c.index.ensures c.from-index.ensures
+    c.index_mut-buffer.ensures.value in
     let new = c.read_counted-delivered.new.buffer in
     let count = c.read_counted-delivered.result.delivered in
     let before = g.O.Sink.taken c.args.out.now in
     let taken = g.O.Sink.taken c.read_counted-delivered.new.out in
     let part = subst (λ r. OnErr r (EndsInRecordAt met new before taken q c.args.limit count)) c.in-Err.is c.read_counted-delivered.ensures.part in
-    let buffers = read_buffers bs index q size at met is count new part.buffer in
+    let buffers = read_buffers bs index q met meets count new part.buffer in
     let done = record core { seat = c.note-in-Err.new.seat; buffers = with_item core.buffers index new } in
     keeps_open setup view core done (model.Read q count ∷ []) c.requires.agrees (record { layout = refl; specs = refl; writers = refl; session = refl }) buffers (refl, tt)
 
@@ -150,21 +141,18 @@ returns-in-Err-clause-fails g c =
     let view = g.W.Words.means.service_view c.args.table.now c.args.self.now.seat in
     let core = c.args.self.now in
     let q = c.args.place + 2 in
-    let at = found_at setup view core c.args.place c.requires.agrees c.requires.place c.index.result.now c.from-index.result c.index.ensures c.from-index.ensures in
     let bs = core.buffers.items in
     let index = c.from-index.result - 1 in
-    let size : ℕ = record_size (size_of setup (producer_of setup c.args.place)) in
     let met = c.index_mut-buffer.result.now in
-    let is = met_at bs index met at.inside c.index_mut-buffer.ensures.value in
+    let meets = meets_buffer setup view core c.args.place c.requires.agrees c.requires.place c.index.result.now c.from-index.result met c.index.ensures c.from-index.ensures
+    c.index_mut-buffer.ensures.value in
     let new = c.read_counted-delivered.new.buffer in
     let count = c.read_counted-delivered.result.delivered in
     let before = g.O.Sink.taken c.args.out.now in
     let taken = g.O.Sink.taken c.read_counted-delivered.new.out in
     let part = subst (λ r. OnErr r (EndsInRecordAt met new before taken q c.args.limit count)) c.in-Err.is c.read_counted-delivered.ensures.part in
-    let buffers = read_buffers bs index q size at met is count new part.buffer in
-    let done = record core { seat = c.note-in-Err.new.seat; buffers = with_item core.buffers index new } in
     record {
       count = count;
       view = c.note-in-Err.ensures.view;
-      fails = read_fails bs index q size at met is c.args.limit count new before taken part;
+      fails = read_fails bs index q met meets c.args.limit count new before taken part;
     }
