@@ -76,7 +76,7 @@ one_known view q id content there = ((content, there), known_append view (patche
     by_patches (patch ∷ patches) = ((content, there), tt)
 
 -- the buffers were made from the same
-first_stays : {S : Type 0} → (setup : Setup) (core done : ServiceCore S) → KeepsFields core done → first_of setup done ≡ first_of setup core
+pub first_stays : {S : Type 0} → (setup : Setup) (core done : ServiceCore S) → KeepsFields core done → first_of setup done ≡ first_of setup core
 first_stays setup core done keeps = ap (λ (specs : List BufferSpec). first.first_buffers setup 1 (map spec_value specs)) keeps.specs
 
 -- the order goes on with the notes of a chunk of this writer

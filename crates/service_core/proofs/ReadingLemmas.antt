@@ -1,21 +1,20 @@
 -- One read of a sequence: what it writes, and that the service agrees behind it.
-use Rattle.std.proofs.Common.{◌≡◌, ◌∙◌, ℕ, zero, suc, ◌+◌, ◌-◌, ◌<◌, ◌≤◌, ◌==◌, ◌&&◌, ◌||◌, Bool, true, false, List, [], ◌∷◌, ◌++◌, length, map, set, refl, sym, ap, subst, arith, append-nil, append_assoc, get_or, ◌⊎◌, inl, inr}
+use Rattle.std.proofs.Common.{◌≡◌, ◌∙◌, ℕ, zero, suc, ◌+◌, ◌-◌, ◌<◌, ◌≤◌, Bool, false, List, [], ◌∷◌, ◌++◌, length, map, set, refl, sym, ap, subst, arith, append-nil, append_assoc, get_or}
 use Rattle.std.specs.Prelude.{cond}
 use Rattle.std.proofs.lemmas.List.{length-map, map-append, get_or_read}
-use Rattle.std.proofs.lemmas.Bool.{eq-eqb, ne_eqb, cases_eq}
 use Rattle.trace_base.specs.declared.policy.FullPolicy.TheVariants.{Ring}
 use Rattle.trace_base.specs.declared.policy.WriterSpec.{WriterSpec}
 use Rattle.page_geometry.specs.Sizes.{record_size}
 use Rattle.byte_io.specs.Bytes.{Intake, after_told, TakesPart}
-use Rattle.trace_model.specs.Counts.{one_if}
 use Rattle.trace_model.specs.Sequences.{sequence_in, is_known}
 use Rattle.trace_model.specs.Buffers.{Buffer, empty_buffer}
 use Rattle.trace_model.specs.Delivery.{Delivered, trace_of}
 use Rattle.trace_model.specs.Record.{record_of}
-use Rattle.trace_model.specs.Row.{Link, row_from_cursor}
-use Rattle.trace_model.specs.Reads.{Delivery, link_bytes, turn_of, delivers, ends, passed_by, delivered_of, is_marked, delivered_by, with_read}
+use Rattle.trace_model.specs.Row.{row_from_cursor}
+use Rattle.trace_model.specs.Reads.{Delivery, is_marked, delivered_by, with_read}
 use Rattle.trace_model.specs.History as model
 use Rattle.trace_model.specs.History.{Event, buffers_after, record_in, records_at, records_after}
+use Rattle.delivery_laws.proofs.LimitLemmas.{delivered_within}
 use Rattle.sequence_reader.specs.Ends.{record_bytes, EndsInRecordAt}
 use Rattle.chunk_plain.specs.Setup.{Setup, size_of, producer_of}
 use Rattle.chunk_plain.specs.Views.{Read, ServiceView, taken_of}
@@ -43,34 +42,6 @@ records_append bs (x ∷ xs) ys =
     ap (λ (ds : List Delivered). records_at bs x ++ ds) (records_append later xs ys)
     ∙ sym (append_assoc (records_at bs x) (records_after later xs) (records_after (buffers_after later xs) ys))
     ∙ ap (λ (cs : List Buffer). (records_at bs x ++ records_after later xs) ++ records_after cs ys) (sym (buffers_append bs (x ∷ []) xs))
-
--- what is delivered of these links, of which the first one is or isn't
-abbrev given : Bool → Link → List Link → Bool → ℕ → List Delivery
-given marked link links d n =
-    cond d (record { body = link_bytes link; marked = marked } ∷ delivered_of false (passed_by n links)) (delivered_of true (passed_by n links))
-
--- A read delivers at most its limit.
-delivered_within : (marked : Bool) (limit : ℕ) (links : List Link) → length (delivered_of marked (passed_by limit links)) ≤ limit
-delivered_within marked limit [] = omega arith
-delivered_within marked limit (link ∷ links) =
-    of (delivers (turn_of link)) (ends (turn_of link)) limit refl (λ n. delivered_within true n links) (λ n. delivered_within false n links)
-  where
-    of : (d e : Bool) (n : ℕ) → delivers (turn_of link) ≡ d → ((m : ℕ) → length (delivered_of true (passed_by m links)) ≤ m)
-        → ((m : ℕ) → length (delivered_of false (passed_by m links)) ≤ m)
-        → length (delivered_of marked (cond (e || (d && (n == 0))) [] (link ∷ passed_by (n - one_if d) links))) ≤ n
-    of d true n is one two = omega arith
-    of true false n is one two = by_limit (cases_eq n 0)
-      where
-        by_limit : (n ≡ 0) ⊎ (n ≡ 0 → ⊥) → length (delivered_of marked (cond (n == 0) [] (link ∷ passed_by (n - one_if true) links))) ≤ n
-        by_limit (inl none) =
-            subst (λ (z : Bool). length (delivered_of marked (cond z [] (link ∷ passed_by (n - one_if true) links))) ≤ n) (sym (eq-eqb n 0 none)) (omega arith)
-        by_limit (inr some) =
-            let later = two (n - one_if true) in
-            subst (λ (z : Bool). length (delivered_of marked (cond z [] (link ∷ passed_by (n - one_if true) links))) ≤ n) (sym (ne_eqb n 0 some))
-            (subst (λ (d : Bool). length (given marked link links d (n - one_if true)) ≤ n) (sym is) (omega (arith, later, some)))
-    of false false n is one two =
-        let later = one (n - one_if false) in
-        subst (λ (d : Bool). length (given marked link links d (n - one_if false)) ≤ n) (sym is) (omega (arith, later))
 
 pub delivered_most : (b : Buffer) (q limit : ℕ) → length (delivered_by b q limit) ≤ limit
 delivered_most b q limit =
