@@ -182,24 +182,6 @@ pub on_err : {A E P : Type 0} (result : Result A E) → P → OnErr result P
 on_err (Ok value) holds = tt
 on_err (Err fault) holds = holds
 
-unread_records : (buffers : List Buffer) (events : List model.Event) → flat_map noted_read events ≡ [] → records_after buffers events ≡ []
-unread_records buffers [] none = refl
-unread_records buffers (model.Arrives q id chunk ∷ events) none = unread_records (buffers_after buffers (model.Arrives q id chunk ∷ [])) events none
-unread_records buffers (model.ArrivesInPart q id chunk ∷ events) none = unread_records (buffers_after buffers (model.ArrivesInPart q id chunk ∷ [])) events none
-unread_records buffers (model.Patched q patches ∷ events) none = unread_records (buffers_after buffers (model.Patched q patches ∷ [])) events none
-unread_records buffers (model.Committed image patches ∷ events) none = unread_records (buffers_after buffers (model.Committed image patches ∷ [])) events none
-unread_records buffers (model.Closed q ∷ events) none = unread_records (buffers_after buffers (model.Closed q ∷ [])) events none
-unread_records buffers (model.Read q limit ∷ events) none =
-    let long = ap (λ (notes : List Noted). length notes) none in absurd (omega (arith, long))
-
--- a history that goes on without a read writes no further record
-pub same_records : (first : List Buffer) (old new : List model.Event) → GoesUnread old new → records_after first new ≡ records_after first old
-same_records first old new goes =
-    ap (records_after first) goes.goes
-    ∙ records_append first old goes.others
-    ∙ ap (λ (ds : List Delivered). records_after first old ++ ds) (unread_records (buffers_after first old) goes.others goes.unread)
-    ∙ append-nil (records_after first old)
-
 some_read : (firsts : List model.Event) (event : model.Event) → firsts ++ event ∷ [] ≡ [] → ⊥
 some_read firsts event none =
     let long = ap (λ (es : List model.Event). length es) none in

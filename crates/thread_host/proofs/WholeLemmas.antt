@@ -17,6 +17,7 @@ use Rattle.scenario_text.specs.Scenario.{IsScenario, Parts, parts_of}
 use Rattle.service_core.proofs.ReadingLemmas.{trace_append}
 use Rattle.replay_model.specs.Played.{buffers_of, records_in}
 use Rattle.replay_host.proofs.ReplayingLemmas.{is_playable}
+use Rattle.thread_service.proofs.GoingOn.{same_records}
 use Rattle.run_model.specs.Laws.{EveryRunIsFaithful, EveryStoppedRunIsFaithful, EveryRunIsBalanced, EveryRunCountsPackets, EveryEnoughRunIsComplete}
 use Rattle.run_model.specs.Reads.{GoesByReads, GoesUpTo}
 use Rattle.run_model.specs.Runs.{FailsRun}
@@ -25,7 +26,6 @@ use Rattle.run_model.specs.Stopped.{StopsInEnd, StopsInLines}
 use Rattle.thread_host.specs.Finishing.{HasFailed, HasFinished, HasLetGo, HasRun}
 use Rattle.thread_host.specs.Jobs.{FailsLines, TellsLines}
 use Rattle.thread_host.specs.declared.settled.Settled.{Settled}
-use Rattle.thread_host.proofs.Telling.{same_records}
 
 module _ (faithful : EveryRunIsFaithful) (balanced : EveryRunIsBalanced) (counted : EveryRunCountsPackets) (complete : EveryEnoughRunIsComplete) where
   pub has_run : (scenario : Scenario) (settled : Settled) (first : ServiceView) (before between after : Intake) (done : Done) → IsScenario scenario

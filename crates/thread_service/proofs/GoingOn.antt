@@ -1,12 +1,15 @@
 -- A view that goes on from an earlier one, without a read: it knows what that one knew, and no read and no record is more.
-use Rattle.std.proofs.Common.{◌≡◌, ◌∙◌, ℕ, ◌-◌, Option, Some, None, Result, Ok, Err, IfOk, IfErr, List, [], ◌∷◌, ◌++◌, refl, sym, ap, subst, append_assoc, append-nil}
+use Rattle.std.proofs.Common.{◌≡◌, ◌∙◌, ℕ, ◌-◌, Option, Some, None, Result, Ok, Err, IfOk, IfErr, List, [], ◌∷◌, ◌++◌, length, arith, refl, sym, ap, subst, append_assoc, append-nil}
 use Rattle.std.specs.Prelude.{slice_get}
 use Rattle.std.specs.List.{All, flat_map}
 use Rattle.std.proofs.lemmas.List.{append_cancel_left}
 use Rattle.std.proofs.lemmas.List.Concat.{flat_map-append}
 use Rattle.std.proofs.lemmas.List.Elements.{All-nil, All-cons, All-head, All-tail}
 use Rattle.trace_base.proofs.Lists.{get_more}
+use Rattle.trace_model.specs.Buffers.{Buffer}
+use Rattle.trace_model.specs.Delivery.{Delivered}
 use Rattle.trace_model.specs.History as model
+use Rattle.trace_model.specs.History.{buffers_after, records_after}
 use Rattle.trace_model.specs.Reading.{Reading, Fragments, Unreadable, reading_of}
 use Rattle.page_geometry.specs.declared.chunk_header.ChunkHeader.{ChunkHeader}
 use Rattle.page_geometry.specs.Header.{packed}
@@ -24,6 +27,7 @@ use Rattle.chunk_words.proofs.Passing.{goes_same, goes_further, goes_look, goes_
 use Rattle.service_core.specs.Agreement.{AreKnownNotes}
 use Rattle.service_core.specs.Reading.{noted_read}
 use Rattle.service_core.proofs.CloseLemmas.{noted_grows}
+use Rattle.service_core.proofs.ReadingLemmas.{records_append}
 use Rattle.service_core.proofs.HistoryLemmas.{Grows, all_known_grow, history_stays, known_append, found_more}
 use Rattle.service_core.proofs.QuietLemmas.{AreSilent, Adds}
 use Rattle.thread_service.specs.Passing.{KnowsReads}
@@ -122,6 +126,25 @@ goes_same_history old new known goes none =
     goes_events old new known goes
     ∙ ap (λ (ns : List Noted). history_of old ++ flat_map (happened new) ns) none
     ∙ append-nil (history_of old)
+
+-- events without a read write no record
+unread_records : (buffers : List Buffer) (events : List model.Event) → flat_map noted_read events ≡ [] → records_after buffers events ≡ []
+unread_records buffers [] none = refl
+unread_records buffers (model.Arrives q id chunk ∷ events) none = unread_records (buffers_after buffers (model.Arrives q id chunk ∷ [])) events none
+unread_records buffers (model.ArrivesInPart q id chunk ∷ events) none = unread_records (buffers_after buffers (model.ArrivesInPart q id chunk ∷ [])) events none
+unread_records buffers (model.Patched q patches ∷ events) none = unread_records (buffers_after buffers (model.Patched q patches ∷ [])) events none
+unread_records buffers (model.Committed image patches ∷ events) none = unread_records (buffers_after buffers (model.Committed image patches ∷ [])) events none
+unread_records buffers (model.Closed q ∷ events) none = unread_records (buffers_after buffers (model.Closed q ∷ [])) events none
+unread_records buffers (model.Read q limit ∷ events) none =
+    let long = ap (λ (notes : List Noted). length notes) none in absurd (omega (arith, long))
+
+-- a history that goes on without a read writes no further record
+pub same_records : (first : List Buffer) (old new : List model.Event) → GoesUnread old new → records_after first new ≡ records_after first old
+same_records first old new goes =
+    ap (records_after first) goes.goes
+    ∙ records_append first old goes.others
+    ∙ ap (λ (ds : List Delivered). records_after first old ++ ds) (unread_records (buffers_after first old) goes.others goes.unread)
+    ∙ append-nil (records_after first old)
 
 -- ---- a view goes on by each call on the table
 
