@@ -1,5 +1,5 @@
 -- What a writer's lines ask of it, one by one.
-use Rattle.std.proofs.Common.{◌≡◌, ℕ, ◌==◌, Bool, true, false, List, [], ◌∷◌, ◌++◌, refl, sym, ap, subst, append-nil, append_assoc, ◌∙◌}
+use Rattle.std.proofs.Common.{◌≡◌, ℕ, Bool, true, false, List, [], ◌∷◌, ◌++◌, refl, sym, ap, subst, append-nil, append_assoc, ◌∙◌}
 use Rattle.std.proofs.lemmas.Grind.{flat_map-append}
 use Rattle.std.specs.Prelude.{cond, if◌then◌else◌}
 use Rattle.std.specs.List.{flat_map}
@@ -22,64 +22,37 @@ pub line_asked : {H : Type 0} (helps : H → ℕ → Bool → H → Type 0) (of_
 line_asked helps of_table table help writer left after kind known is asked =
     subst (λ (k : LineKind). WasAsked helps of_table table (named_calls k) help writer left after) (sym is) asked
 
--- what a choice is
-chosen : (b : Bool) (calls : List Call) → b ≡ true → (if b then calls else []) ≡ calls
-chosen b calls is = ap (λ (c : Bool). if c then calls else []) is
-
-passed : (b : Bool) (calls : List Call) → b ≡ false → (if b then calls else []) ≡ []
-passed b calls is = ap (λ (c : Bool). if c then calls else []) is
-
--- a line of the writer with this number asks it for its calls
-pub own_calls : (number : ℕ) (kind : LineKind) → is_of number kind ≡ true → line_calls number kind ≡ named_calls kind
+-- a line asks the writer with this number for its calls, if it is one of that writer, and else for none
+calls_named : (number : ℕ) (kind : LineKind) → line_calls number kind ≡ (if is_of number kind then named_calls kind else [])
 unfolding line_calls
-own_calls number (line.Packet writer fields) is = chosen (number == writer) (named_calls (line.Packet writer fields)) is
-own_calls number (line.Begin writer) is = chosen (number == writer) (named_calls (line.Begin writer)) is
-own_calls number (line.Add writer fields) is = chosen (number == writer) (named_calls (line.Add writer fields)) is
-own_calls number (line.Nest writer field) is = chosen (number == writer) (named_calls (line.Nest writer field)) is
-own_calls number (line.Unnest writer) is = chosen (number == writer) (named_calls (line.Unnest writer)) is
-own_calls number (line.End writer) is = chosen (number == writer) (named_calls (line.End writer)) is
-own_calls number (line.Flush writer) is = chosen (number == writer) (named_calls (line.Flush writer)) is
-own_calls number (line.Collect producer) is = refl
-own_calls number (line.Scrape producer) is = refl
-own_calls number (line.Close producer) is = refl
-own_calls number (line.Read buffer limit) is = refl
-own_calls number line.Request is = refl
-
--- and any other line asks it for none
-pub other_calls : (number : ℕ) (kind : LineKind) → is_of number kind ≡ false → line_calls number kind ≡ []
-unfolding line_calls
-other_calls number (line.Packet writer fields) is = passed (number == writer) (named_calls (line.Packet writer fields)) is
-other_calls number (line.Begin writer) is = passed (number == writer) (named_calls (line.Begin writer)) is
-other_calls number (line.Add writer fields) is = passed (number == writer) (named_calls (line.Add writer fields)) is
-other_calls number (line.Nest writer field) is = passed (number == writer) (named_calls (line.Nest writer field)) is
-other_calls number (line.Unnest writer) is = passed (number == writer) (named_calls (line.Unnest writer)) is
-other_calls number (line.End writer) is = passed (number == writer) (named_calls (line.End writer)) is
-other_calls number (line.Flush writer) is = passed (number == writer) (named_calls (line.Flush writer)) is
-other_calls number (line.Collect producer) is = refl
-other_calls number (line.Scrape producer) is = refl
-other_calls number (line.Close producer) is = refl
-other_calls number (line.Read buffer limit) is = refl
-other_calls number line.Request is = refl
+calls_named number (line.Packet writer fields) = refl
+calls_named number (line.Begin writer) = refl
+calls_named number (line.Add writer fields) = refl
+calls_named number (line.Nest writer field) = refl
+calls_named number (line.Unnest writer) = refl
+calls_named number (line.End writer) = refl
+calls_named number (line.Flush writer) = refl
+calls_named number (line.Collect producer) = refl
+calls_named number (line.Scrape producer) = refl
+calls_named number (line.Close producer) = refl
+calls_named number (line.Read buffer limit) = refl
+calls_named number line.Request = refl
 
 -- ---- the lines of a writer
 
-own_line : (number : ℕ) (line : NumberedLine) (lines : List NumberedLine) (own : Bool) → is_of number line.what ≡ own
-    → flat_map named_calls (own_kinds number lines) ≡ calls_asked number lines
-    → flat_map named_calls (cond (is_of number line.what) (line.what ∷ own_kinds number lines) (own_kinds number lines))
-    ≡ line_calls number line.what ++ calls_asked number lines
-own_line number line lines true is behind =
-    ap (λ (b : Bool). flat_map named_calls (cond b (line.what ∷ own_kinds number lines) (own_kinds number lines))) is
-    ∙ ap (λ (calls : List Call). calls ++ flat_map named_calls (own_kinds number lines)) (sym (own_calls number line.what is))
-    ∙ ap (λ (calls : List Call). line_calls number line.what ++ calls) behind
-own_line number line lines false is behind =
-    ap (λ (b : Bool). flat_map named_calls (cond b (line.what ∷ own_kinds number lines) (own_kinds number lines))) is
-    ∙ behind
-    ∙ ap (λ (calls : List Call). calls ++ calls_asked number lines) (sym (other_calls number line.what is))
+-- one line more, if it is the writer's
+calls_more : (own : Bool) (kind : LineKind) (kinds : List LineKind) → flat_map named_calls (cond own (kind ∷ kinds) kinds)
+    ≡ (if own then named_calls kind else []) ++ flat_map named_calls kinds
+calls_more true kind kinds = refl
+calls_more false kind kinds = refl
 
 -- they ask it for all that all lines do
 pub own_asked : (number : ℕ) (lines : List NumberedLine) → flat_map named_calls (own_kinds number lines) ≡ calls_asked number lines
 own_asked number [] = refl
-own_asked number (line ∷ lines) = own_line number line lines (is_of number line.what) refl (own_asked number lines)
+own_asked number (line ∷ lines) =
+    calls_more (is_of number line.what) line.what (own_kinds number lines)
+    ∙ ap (λ (calls : List Call). calls ++ flat_map named_calls (own_kinds number lines)) (sym (calls_named number line.what))
+    ∙ ap (λ (calls : List Call). line_calls number line.what ++ calls) (own_asked number lines)
 
 -- ---- the line that comes next
 
