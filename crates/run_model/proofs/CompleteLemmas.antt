@@ -27,12 +27,12 @@ use Rattle.run_model.specs.Laws.{EveryEnoughRunIsComplete}
 use Rattle.run_model.specs.Settled.{IsRun}
 use Rattle.run_model.proofs.FinishLemmas.{before_reads}
 use Rattle.run_model.proofs.ReadLemmas.{IsReadOut, read_out, history_before}
-use Rattle.run_model.proofs.RunLemmas.{laid_out, run_done}
+use Rattle.run_model.proofs.RunLemmas.{laid_out, is_done}
 
 module _ (scenario : Parts) (setup : Setup) (world : World) (run : IsRun scenario setup world) (laid : IsLaid setup) (playable : IsPlayable scenario)
     (enough : HasEnough scenario) (place : ℕ) (spec : WriterSpec) (get : slice_get scenario.writers place ≡ Some spec) where
   abbrev done : IsDone scenario setup world
-  done = run_done scenario setup world run laid
+  done = is_done scenario setup world _ run.before.done laid
 
   low : place < length setup.writers
   low = within scenario setup world done place spec get
@@ -46,10 +46,10 @@ module _ (scenario : Parts) (setup : Setup) (world : World) (run : IsRun scenari
   abbrev history : List Event
   history = history_of world.service
 
-  out : IsReadOut setup (buffers_of scenario setup) (length scenario.buffers) run.last run.closed world.service
-  out = read_out setup buffers (length scenario.buffers) run.last run.closed world.service run.reads
+  out : IsReadOut setup (buffers_of scenario setup) (length scenario.buffers) run.last run.before.closed world.service
+  out = read_out setup buffers (length scenario.buffers) run.last run.before.closed world.service run.reads
 
-  read_last : IsReadAtEnd scenario setup world (history_of run.closed) run.last
+  read_last : IsReadAtEnd scenario setup world (history_of run.before.closed) run.last
   read_last = record { history = out.history; each = out.each }
 
   -- all came, the sequence was closed, and then it was read
@@ -58,19 +58,19 @@ module _ (scenario : Parts) (setup : Setup) (world : World) (run : IsRun scenari
   finishes =
       let events = ap (λ (view : ServiceView). view.events) out.view in
       let stage : Stage = record { come = (taken_of world.service place).count; closed = true; due = [] } in
-      let lead : LeadTo world.service (place + 2) beginning (run.closed.events ++ flat_map noted_read run.last) stage =
-      subst (λ (notes : List Noted). LeadTo world.service (place + 2) beginning notes stage) events (run.order place low) in
-      let come : (taken_of world.service place).count ≡ length own.cut.cut.pages = run.taken place low ∙ pages_begun setup place (writer world place) own in
-      let front = history_before setup buffers (length scenario.buffers) run.last run.closed world.service out in
-      let all : flat_map (happened world.service) run.closed.events ++ run.last ≡ history =
+      let lead : LeadTo world.service (place + 2) beginning (run.before.closed.events ++ flat_map noted_read run.last) stage =
+      subst (λ (notes : List Noted). LeadTo world.service (place + 2) beginning notes stage) events (run.before.done.order place low) in
+      let come : (taken_of world.service place).count ≡ length own.cut.cut.pages = run.before.done.taken place low ∙ pages_begun setup place (writer world place) own in
+      let front = history_before setup buffers (length scenario.buffers) run.last run.before.closed world.service out in
+      let all : flat_map (happened world.service) run.before.closed.events ++ run.last ≡ history =
       ap (λ (es : List Event). es ++ run.last) front ∙ sym out.history in
       subst (Finishes (place + 2) (length own.cut.cut.pages) (begun_count (writer world place).calls) 0 false) all
-      (lead_finishes (payload_at setup place) place (writer world place) own.held own.cut world.service (learnt world run.owned place) (named world run.owned place)
-      (begun_count (writer world place).calls) (length own.cut.cut.pages) run.closed.events beginning stage
-      (before_reads world.service (place + 2) run.last run.closed.events beginning stage lead) refl come run.last
-      (has_read scenario setup world done playable enough place spec get (history_of run.closed) run.last read_last))
+      (lead_finishes (payload_at setup place) place (writer world place) own.held own.cut world.service (learnt world run.before.done.owned place) (named world run.before.done.owned place)
+      (begun_count (writer world place).calls) (length own.cut.cut.pages) run.before.closed.events beginning stage
+      (before_reads world.service (place + 2) run.last run.before.closed.events beginning stage lead) refl come run.last
+      (has_read scenario setup world done playable enough place spec get (history_of run.before.closed) run.last read_last))
 
 pub every_enough_run_is_complete : EveryEnoughRunIsComplete
 every_enough_run_is_complete scenario setup world run playable enough =
-    let laid = laid_out scenario setup run.setup_is playable.set_up in
-    done_is_complete scenario setup world (run_done scenario setup world run laid) playable enough (finishes scenario setup world run laid playable enough)
+    let laid = laid_out scenario setup run.before.done.setup_is playable.set_up in
+    done_is_complete scenario setup world (is_done scenario setup world _ run.before.done laid) playable enough (finishes scenario setup world run laid playable enough)

@@ -1,5 +1,5 @@
 -- Every run is faithful, whole or up to a write that failed.
-use Rattle.std.proofs.Common.{◌≡◌, ◌∙◌, ℕ, zero, suc, ◌+◌, ◌<◌, ◌≤◌, inl, inr, true, false, All, List, [], ◌∷◌, ◌++◌, length, Some, refl, sym, ap, subst, arith}
+use Rattle.std.proofs.Common.{◌≡◌, ◌∙◌, ℕ, zero, suc, ◌+◌, ◌<◌, ◌≤◌, inl, inr, Bool, All, List, [], ◌∷◌, ◌++◌, length, Some, refl, sym, ap, subst, arith}
 use Rattle.std.specs.Prelude.{slice_get}
 use Rattle.trace_base.specs.declared.policy.WriterSpec.{WriterSpec}
 use Rattle.trace_model.specs.Delivery.{Delivered, IsFaithful, records_of}
@@ -28,7 +28,8 @@ use Rattle.replay_model.proofs.CompleteLemmas.{emitted_at}
 use Rattle.replay_model.proofs.OwnedLemmas.{named, learnt, finds, in_order}
 use Rattle.replay_model.proofs.PlayedLemmas.{setup_writers}
 use Rattle.run_model.specs.Laws.{EveryRunIsFaithful, EveryStoppedRunIsFaithful}
-use Rattle.run_model.proofs.RunLemmas.{HasLed, all_led, run_led, there, within, shape}
+use Rattle.run_model.specs.Settled.{HasDoneAll}
+use Rattle.run_model.proofs.RunLemmas.{there, within, shape}
 
 -- ---- what the lines have each writer emit
 
@@ -53,10 +54,10 @@ held_never (Completed other content ∷ begun) none (suc id) chunk draft at = he
 
 -- ---- the law
 
-module _ (scenario : Parts) (setup : Setup) (world : World) (run : HasLed scenario setup world) where
+module _ (scenario : Parts) (setup : Setup) (world : World) (closed : Bool) (done : HasDoneAll scenario setup world closed) where
   known : All (λ (d : Delivered). (2 ≤ d.sequence) × (d.sequence < length (emitted_in scenario) + 2)) (records_in scenario setup world)
   known =
-      let writers = ap (λ (specs : List WriterSpec). length specs) (setup_writers scenario setup run.setup_is) in
+      let writers = ap (λ (specs : List WriterSpec). length specs) (setup_writers scenario setup done.setup_is) in
       let long = emitted_long scenario.lines 1 scenario.writers in
       let many : length setup.writers ≡ length (emitted_in scenario) = omega (arith, writers, long) in
       subst (λ (n : ℕ). All (λ (d : Delivered). (2 ≤ d.sequence) × (d.sequence < n + 2)) (records_in scenario setup world)) many
@@ -65,18 +66,18 @@ module _ (scenario : Parts) (setup : Setup) (world : World) (run : HasLed scenar
   -- The cut is one into payloads of the size that the writer knows: that it is the one which the set-up says wants a chunk of its producer.
   module _ (place : ℕ) (inside : place < length setup.writers) where
     abbrev own : Writer
-    own = (run.writers place inside).between.writer
+    own = (done.writers place inside).between.writer
 
     cut : HasCut own.route.payload_size place (writer world place) (held_images place own.state)
     cut =
-        let agrees = (run.writers place inside).between.agrees in
+        let agrees = (done.writers place inside).between.agrees in
         let most = agrees.writes.route.most in
         let found = agreeing_is_cut setup place (writer world place) own agrees in
         record { unsent = held_patches own.pending own.state; cut = found.cut; ends = found.ends; possible = agrees.possible; small = omega (arith, most) }
 
     has_images : HasImages (writer world place) (all_images (writer world place) (held_images place own.state))
     has_images =
-        let none = (run.writers place inside).none_held in
+        let none = (done.writers place inside).none_held in
         record {
           completed = λ id chunk content at. completed_at (writer world place).begun (held_images place own.state) none id chunk content at;
           held = λ id chunk draft at. absurd (held_never (writer world place).begun none id chunk draft at);
@@ -85,27 +86,28 @@ module _ (scenario : Parts) (setup : Setup) (world : World) (run : HasLed scenar
     tells : (spec : WriterSpec) → slice_get setup.writers place ≡ Some spec
         → Tells (emissions_of (writer world place).calls) (place + 2) (records_of (place + 2) (records_in scenario setup world))
     tells spec get =
-        told_of own.route.payload_size place (writer world place) (held_images place own.state) cut world.service (learnt world run.owned place) (named world run.owned place)
-        (finds world run.owned place) setup (buffer_specs scenario) spec get
-        (in_order world run.owned place (all_images (writer world place) (held_images place own.state)) has_images (run.order place inside).0 (run.order place inside).1 (run.order place inside).2)
+        told_of own.route.payload_size place (writer world place) (held_images place own.state) cut world.service (learnt world done.owned place) (named world done.owned place)
+        (finds world done.owned place) setup (buffer_specs scenario) spec get
+        (in_order world done.owned place (all_images (writer world place) (held_images place own.state)) has_images _ (done.order place inside) refl)
 
   told : (place : ℕ) (packets : List (List ℕ)) → slice_get (emitted_in scenario) place ≡ Some packets
       → Tells packets (place + 2) (records_of (place + 2) (records_in scenario setup world))
   told place packets get =
       let one = emitted_at scenario.lines 1 scenario.writers place packets get in
-      let inside = within scenario setup world run place one.spec one.get in
+      let inside = within scenario setup world closed done place one.spec one.get in
       let at : suc place ≡ 1 + place = omega arith in
       let same : emissions_of (writer world place).calls ≡ packets =
-      (shape scenario setup world run place inside).emitted ∙ ap (λ (n : ℕ). emissions_of (calls_asked n scenario.lines)) at ∙ sym one.is in
+      (shape scenario setup world closed done place inside).emitted ∙ ap (λ (n : ℕ). emissions_of (calls_asked n scenario.lines)) at ∙ sym one.is in
       subst (λ (ps : List (List ℕ)). Tells ps (place + 2) (records_of (place + 2) (records_in scenario setup world))) same
-      (tells place inside one.spec (there scenario setup world run place one.spec one.get))
+      (tells place inside one.spec (there scenario setup world closed done place one.spec one.get))
 
-faithful : (scenario : Parts) (setup : Setup) (world : World) → HasLed scenario setup world → IsFaithful (emitted_in scenario) (records_in scenario setup world)
-faithful scenario setup world run = record { known = known scenario setup world run; told = told scenario setup world run }
+faithful : (scenario : Parts) (setup : Setup) (world : World) (closed : Bool) → HasDoneAll scenario setup world closed
+    → IsFaithful (emitted_in scenario) (records_in scenario setup world)
+faithful scenario setup world closed done = record { known = known scenario setup world closed done; told = told scenario setup world closed done }
 
 pub every_run_is_faithful : EveryRunIsFaithful
-every_run_is_faithful scenario setup world run = faithful scenario setup world (run_led scenario setup world run)
+every_run_is_faithful scenario setup world run = faithful scenario setup world _ run.before.done
 
 pub every_stopped_run_is_faithful : EveryStoppedRunIsFaithful
-every_stopped_run_is_faithful scenario setup world next (inl lines) = faithful scenario setup world (all_led scenario setup world false lines.done)
-every_stopped_run_is_faithful scenario setup world next (inr ends) = faithful scenario setup world (all_led scenario setup world true ends.done)
+every_stopped_run_is_faithful scenario setup world next (inl lines) = faithful scenario setup world _ lines.done
+every_stopped_run_is_faithful scenario setup world next (inr ends) = faithful scenario setup world _ ends.before.done

@@ -1,5 +1,5 @@
 -- What a run's writers wrote and its service noted: an account of each sequence.
-use Rattle.std.proofs.Common.{◌≡◌, ◌∙◌, ℕ, suc, ◌+◌, ◌<◌, false, List, [], length, Some, refl, sym, ap, subst, arith, Bool}
+use Rattle.std.proofs.Common.{◌≡◌, ◌∙◌, ℕ, suc, ◌+◌, ◌<◌, Bool, false, List, [], length, Some, refl, sym, ap, subst, arith}
 use Rattle.std.specs.Prelude.{slice_get}
 use Rattle.std.proofs.lemmas.Option.{slice_get_within}
 use Rattle.std.proofs.lemmas.Slice.Zip.{AllZip-long}
@@ -15,7 +15,6 @@ use Rattle.delivery_laws.specs.WriterSheets.{sheets_of}
 use Rattle.chunk_plain.specs.Setup.{Setup, IsLaid, sequence_of}
 use Rattle.chunk_plain.specs.World.{World, writer}
 use Rattle.chunk_plain.specs.Histories.{history_of}
-use Rattle.chunk_plain.specs.Owned.{IsOwned}
 use Rattle.chunk_plain.proofs.LayingLemmas.{setup_laid}
 use Rattle.world_model.specs.FirstBuffers.{payload_at}
 use Rattle.world_model.specs.Accounts.{all_images, InOrder}
@@ -24,7 +23,6 @@ use Rattle.scenario_text.specs.Scenario.{Parts}
 use Rattle.scenario_text.specs.Accepted.{calls_asked}
 use Rattle.scenario_text.specs.Limits.{IsSetUp}
 use Rattle.service_core.specs.Agreement.{spec_at}
-use Rattle.service_core.specs.Order.{Stage, LeadTo, beginning}
 use Rattle.replay_model.specs.Played.{IsSpecOf, IsSetupOf}
 use Rattle.replay_model.specs.Written.{HasWritten}
 use Rattle.replay_model.proofs.DoneLemmas.{IsDone}
@@ -32,8 +30,7 @@ use Rattle.replay_model.proofs.OwnedLemmas.{named, learnt, finds, in_order}
 use Rattle.replay_model.proofs.PlayedLemmas.{setup_writers}
 use Rattle.replay_model.proofs.SpecLemmas.{some_page, few_pages}
 use Rattle.schedule_laws.proofs.BetweenLemmas.{has_written}
-use Rattle.run_model.specs.Settled.{HasDoneLines, IsRun}
-use Rattle.run_model.specs.Stopped.{HasDoneAll}
+use Rattle.run_model.specs.Settled.{HasDoneAll}
 
 -- ---- the set-up
 
@@ -48,75 +45,49 @@ laid_out scenario setup is set_up =
 
 -- ---- one writer
 
--- what the records of a run are faithful by, whole or up to a write that failed: its writers have done their lines, and what was noted on each sequence is
--- in order, with no patch due
-pub record HasLed (scenario : Parts) (setup : Setup) (world : World) : Type 0 where
-  pub setup_is : IsSetupOf scenario setup
-  pub owned : ∥ ((other : World) × IsOwned other × (other.writers ≡ world.writers) × (other.service ≡ world.service)) ∥₁
-  pub writers : (place : ℕ) → place < length setup.writers → HasDoneLines setup scenario.lines place (writer world place)
-  pub order : (place : ℕ) → place < length setup.writers
-      → (last : Stage) × LeadTo world.service (sequence_of place) beginning world.service.events last × (last.due ≡ [])
-
-pub run_led : (scenario : Parts) (setup : Setup) (world : World) → IsRun scenario setup world → HasLed scenario setup world
-run_led scenario setup world run = record {
-  setup_is = run.setup_is;
-  owned = run.owned;
-  writers = run.writers;
-  order = λ place inside. (_, run.order place inside, refl);
-}
-
-pub all_led : (scenario : Parts) (setup : Setup) (world : World) (closed : Bool) → HasDoneAll scenario setup world closed → HasLed scenario setup world
-all_led scenario setup world closed all = record {
-  setup_is = all.setup_is;
-  owned = all.owned;
-  writers = all.writers;
-  order = λ place inside. (_, all.order place inside, refl);
-}
-
-module _ (scenario : Parts) (setup : Setup) (world : World) (run : HasLed scenario setup world) where
+module _ (scenario : Parts) (setup : Setup) (world : World) (closed : Bool) (done : HasDoneAll scenario setup world closed) where
   pub there : (place : ℕ) (spec : WriterSpec) → slice_get scenario.writers place ≡ Some spec → slice_get setup.writers place ≡ Some spec
-  there place spec get = ap (λ (specs : List WriterSpec). slice_get specs place) (setup_writers scenario setup run.setup_is) ∙ get
+  there place spec get = ap (λ (specs : List WriterSpec). slice_get specs place) (setup_writers scenario setup done.setup_is) ∙ get
 
   pub within : (place : ℕ) (spec : WriterSpec) → slice_get scenario.writers place ≡ Some spec → place < length setup.writers
   within place spec get = slice_get_within setup.writers place spec (there place spec get)
 
   -- its calls are what the lines ask, but for losses and flushes
   pub shape : (place : ℕ) → place < length setup.writers → HasShapeOf (calls_asked (suc place) scenario.lines) (writer world place).calls
-  shape place inside = losses_change_no_shape (calls_asked (suc place) scenario.lines) (writer world place).calls (run.writers place inside).lose
+  shape place inside = losses_change_no_shape (calls_asked (suc place) scenario.lines) (writer world place).calls (done.writers place inside).lose
 
-module _ (scenario : Parts) (setup : Setup) (world : World) (run : IsRun scenario setup world) where
+  -- only one that drops loses a packet
+  drops_lose : (place : ℕ) → place < length setup.writers → 0 < lost_count (packets_of (writer world place).calls)
+      → (spec_at setup.writers place).policy ≡ Drops
+  drops_lose place inside some = by_policy (spec_at setup.writers place).policy refl
+    where
+      by_policy : (policy : WriterPolicy) → (spec_at setup.writers place).policy ≡ policy → (spec_at setup.writers place).policy ≡ Drops
+      by_policy Drops is = is
+      by_policy Stalls is = let none = (done.writers place inside).stalls is in absurd (omega (arith, none, some))
+
   module _ (laid : IsLaid setup) (place : ℕ) (inside : place < length setup.writers) where
     pub wrote : HasWritten setup place (writer world place)
-    wrote = has_written setup place (writer world place) laid (run.writers place inside).between
+    wrote = has_written setup place (writer world place) laid (done.writers place inside).between
 
     pub ordered : InOrder (all_images (writer world place) wrote.held) world.service (sequence_of place) 0 false [] world.service.events
-    ordered = in_order world run.owned place (all_images (writer world place) wrote.held) wrote.images _ (run.order place inside) refl
+    ordered = in_order world done.owned place (all_images (writer world place) wrote.held) wrote.images _ (done.order place inside) refl
 
     -- its pages come in order in the history
     pub history_in_order : orders.InOrder (sheets_of (newest_goes_on (packets_of (writer world place).calls)) wrote.cut.cut.pages) (place + 2) 0 false [] (history_of world.service)
     history_in_order =
-        order_events (payload_at setup place) place (writer world place) wrote.held wrote.cut world.service (learnt world run.owned place) (named world run.owned place)
-        (finds world run.owned place) world.service.events 0 false [] ordered
+        order_events (payload_at setup place) place (writer world place) wrote.held wrote.cut world.service (learnt world done.owned place) (named world done.owned place)
+        (finds world done.owned place) world.service.events 0 false [] ordered
 
--- ---- all of them
+  -- ---- all of them
 
--- only one that drops loses a packet
-drops_lose : (scenario : Parts) (setup : Setup) (world : World) → IsRun scenario setup world → (place : ℕ) → place < length setup.writers
-    → 0 < lost_count (packets_of (writer world place).calls) → (spec_at setup.writers place).policy ≡ Drops
-drops_lose scenario setup world run place inside some = by_policy (spec_at setup.writers place).policy refl
-  where
-    by_policy : (policy : WriterPolicy) → (spec_at setup.writers place).policy ≡ policy → (spec_at setup.writers place).policy ≡ Drops
-    by_policy Drops is = is
-    by_policy Stalls is = let none = (run.writers place inside).stalls is in absurd (omega (arith, none, some))
-
-pub run_done : (scenario : Parts) (setup : Setup) (world : World) → IsRun scenario setup world → IsLaid setup → IsDone scenario setup world
-run_done scenario setup world run laid = record {
-  setup_is = run.setup_is;
-  many = run.many;
-  owned = run.owned;
-  shape = shape scenario setup world (run_led scenario setup world run);
-  drops = drops_lose scenario setup world run;
-  claims = λ place inside. (run.writers place inside).between.agrees.claims;
-  wrote = wrote scenario setup world run laid;
-  order = history_in_order scenario setup world run laid;
-}
+  pub is_done : IsLaid setup → IsDone scenario setup world
+  is_done laid = record {
+    setup_is = done.setup_is;
+    many = done.many;
+    owned = done.owned;
+    shape = shape;
+    drops = drops_lose;
+    claims = λ place inside. (done.writers place inside).between.agrees.claims;
+    wrote = wrote laid;
+    order = history_in_order laid;
+  }

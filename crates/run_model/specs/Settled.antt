@@ -1,5 +1,5 @@
 -- A scenario that was run on threads, once all is settled: what its writers and its service did, by their views, in whatever order the threads came.
-use Rattle.std.specs.Prelude.{◌≡◌, ℕ, zero, suc, ◌<◌, true, false, List, [], ◌∷◌, ◌++◌, length}
+use Rattle.std.specs.Prelude.{◌≡◌, ℕ, zero, suc, ◌<◌, Bool, true, false, List, [], ◌∷◌, ◌++◌, length}
 use Rattle.std.specs.List.{flat_map}
 use Rattle.trace_base.specs.declared.policy.WriterPolicy.TheVariants.{Stalls}
 use Rattle.trace_model.specs.Buffers.{Buffer}
@@ -42,6 +42,22 @@ pub record HasDoneLines (setup : Setup) (lines : List NumberedLine) (place : ℕ
   pub stalls : (spec_at setup.writers place).policy ≡ Stalls → lost_count (packets_of view.calls) ≡ 0
   pub none_held : held_count view.begun ≡ 0
 
+-- ---- all of them
+
+-- The writers and the service are those of one owned world. Each writer has done its lines, and all that it completed was taken. What was
+-- noted on each sequence is in order, and they are all closed, or none is. Finished fragments of a chunk before it was complete were noted
+-- only where a line scrapes the writer's producer.
+pub record HasDoneAll (scenario : Parts) (setup : Setup) (world : World) (closed : Bool) : Type 0 where
+  pub setup_is : IsSetupOf scenario setup
+  pub many : length world.writers ≡ length setup.writers
+  pub owned : ∥ ((other : World) × IsOwned other × (other.writers ≡ world.writers) × (other.service ≡ world.service)) ∥₁
+  pub writers : (place : ℕ) → place < length setup.writers → HasDoneLines setup scenario.lines place (writer world place)
+  pub taken : (place : ℕ) → place < length setup.writers → (taken_of world.service place).count ≡ length (writer world place).begun
+  pub order : (place : ℕ) → place < length setup.writers
+      → LeadTo world.service (sequence_of place) beginning world.service.events
+      (record { come = (taken_of world.service place).count; closed = closed; due = [] })
+  pub scraped : ScrapedByLines setup scenario.lines world.service
+
 -- ---- the end
 
 -- The producers up to this number are closed in rising number: of each the complete chunks are taken, and then its sequences closed.
@@ -58,29 +74,27 @@ ReadsTo setup first (suc number) reads old new =
     × (let here = reads_in setup (buffers_after first (history_of between)) (suc number) last_count in
     (reads ≡ earlier ++ here) × (new ≡ noted_more between (flat_map noted_read here)))
 
--- ---- all of it
-
--- The scenario was run, and all is settled. Its writers and its service are those of one owned world. Each writer has done its lines, and all that it
--- completed was taken. What was noted on each sequence is in order, and finished fragments of a chunk before it was complete only
--- where a line scrapes the writer's producer. The reads are those of the read lines in their order, each by what its buffer held
--- when the line was played, and then those of the end, where each producer is closed and then each buffer read without limit.
-pub record IsRun (scenario : Parts) (setup : Setup) (world : World) : Type 0 where
-  pub setup_is : IsSetupOf scenario setup
-  pub many : length world.writers ≡ length setup.writers
-  pub owned : ∥ ((other : World) × IsOwned other × (other.writers ≡ world.writers) × (other.service ≡ world.service)) ∥₁
-  pub writers : (place : ℕ) → place < length setup.writers → HasDoneLines setup scenario.lines place (writer world place)
-  pub taken : (place : ℕ) → place < length setup.writers → (taken_of world.service place).count ≡ length (writer world place).begun
-  pub order : (place : ℕ) → place < length setup.writers
-      → LeadTo world.service (sequence_of place) beginning world.service.events
-      (record { come = (taken_of world.service place).count; closed = true; due = [] })
-  pub scraped : ScrapedByLines setup scenario.lines world.service
+-- All was done and taken, and then each producer closed. The reads until then are those of the read lines in their order, each by what its
+-- buffer held when the line was played.
+pub record HasClosedAll (scenario : Parts) (setup : Setup) (world : World) : Type 0 where
+  pub done : HasDoneAll scenario setup world true
   -- the service once all was taken, and once all sequences were closed
   pub settled : ServiceView
   pub closed : ServiceView
   pub whole : (place : ℕ) → place < length setup.writers → (taken_of settled place).count ≡ length (writer world place).begun
   pub opened : (place : ℕ) → place < length setup.writers → is_shut (sequence_of place) settled.events ≡ false
   pub closes : ClosesTo setup (length setup.ranges) settled closed
-  -- the reads of the lines, and those of the end
+  -- the reads of the lines
   pub asked : GoesByReads setup (buffers_of scenario setup) scenario.lines [] (history_of closed)
+
+-- ---- all of it
+
+-- The scenario was run, and all is settled. Its writers and its service are those of one owned world. Each writer has done its lines, and
+-- all that it completed was taken. What was noted on each sequence is in order, and finished fragments of a chunk before it was complete
+-- only where a line scrapes the writer's producer. The reads are those of the read lines in their order, each by what its buffer held when
+-- the line was played, and then those of the end, where each producer is closed and then each buffer read without limit.
+pub record IsRun (scenario : Parts) (setup : Setup) (world : World) : Type 0 where
+  pub before : HasClosedAll scenario setup world
+  -- those of the end
   pub last : List model.Event
-  pub reads : ReadsTo setup (buffers_of scenario setup) (length scenario.buffers) last closed world.service
+  pub reads : ReadsTo setup (buffers_of scenario setup) (length scenario.buffers) last before.closed world.service

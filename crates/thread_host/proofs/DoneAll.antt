@@ -11,8 +11,7 @@ use Rattle.service_core.specs.Agreement.{KeepsRest, is_closed}
 use Rattle.service_core.specs.Order.{LeadTo, beginning}
 use Rattle.replay_host.proofs.TakenLemmas.{open_is, none_committed}
 use Rattle.replay_model.specs.Does.{is_shut}
-use Rattle.run_model.specs.Settled.{HasDoneLines}
-use Rattle.run_model.specs.Stopped.{HasDoneAll}
+use Rattle.run_model.specs.Settled.{HasDoneLines, HasDoneAll}
 use Rattle.thread_service.specs.declared.service.Service.{Service}
 use Rattle.thread_service.specs.Serving.{core_of, view_in, Serves}
 use Rattle.thread_host.specs.Finishing.{AreClosedTo}

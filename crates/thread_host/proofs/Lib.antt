@@ -11,6 +11,7 @@ pub mod PlayedLines
 pub mod PlayedWriters
 pub mod Closing
 pub mod DoneAll
+pub mod Ended
 pub mod Finished
 pub mod Stopped
 pub mod Tallying

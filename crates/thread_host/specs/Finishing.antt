@@ -22,8 +22,8 @@ use Rattle.replay_host.specs.declared.fault.HostFault.TheVariants.{OutOfMemory, 
 use Rattle.replay_model.specs.Played.{buffers_of, records_in, packet_counts, report_of, AreBalanced}
 use Rattle.run_model.specs.Reads.{GoesByReads}
 use Rattle.run_model.specs.Runs.{FailsRun, Runs}
-use Rattle.run_model.specs.Settled.{IsRun, ClosesTo, ReadsTo}
-use Rattle.run_model.specs.Stopped.{HasDoneAll, ReadsSomeTo, StopsInEnd}
+use Rattle.run_model.specs.Settled.{HasDoneAll, IsRun, ClosesTo, ReadsTo}
+use Rattle.run_model.specs.Stopped.{ReadsSomeTo, StopsInEnd}
 use Rattle.thread_service.specs.Reading.{GoesUnread}
 use Rattle.thread_service.specs.declared.service.Service.{Service}
 use Rattle.thread_service.specs.Serving.{core_of, view_in}

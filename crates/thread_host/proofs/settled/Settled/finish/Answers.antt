@@ -51,9 +51,10 @@ count_buffers-requires-clause-few g c =
 pub take_apart-requires-clause-seats : goal.take_apart-requires-clause-seats
 take_apart-requires-clause-seats g c =
     let is = c.requires.settled.1 in
-    has_all_seats c.requires.settled.0 c.args.self is c.close_all.new.service c.read_all.new.service c.read_all.new.pass (g.T.Sink.taken c.args.out.now)
-    (g.T.Sink.taken c.read_all.new.out) c.len.result c.close_all.ensures.closes c.close_all.ensures.closed c.close_all.ensures.first c.in-Ok.ensures.keeps
-    c.in-Ok.ensures.serves (c.len.ensures ∙ is.buffers) c.in-Ok.ensures.reads
+    let closing = c.close_all.ensures in
+    has_all_seats c.requires.settled.0 c.args.self is c.close_all.new.service c.read_all.new.service
+    (record { closes = closing.closes; all_closed = closing.closed; first = closing.first; keeps = c.in-Ok.ensures.keeps; serves = c.in-Ok.ensures.serves })
+    c.read_all.new.pass (g.T.Sink.taken c.args.out.now) (g.T.Sink.taken c.read_all.new.out) c.len.result (c.len.ensures ∙ is.buffers) c.in-Ok.ensures.reads
 
 pub returns-in-Ok-clause-done : goal.returns-in-Ok-clause-done
 returns-in-Ok-clause-done g c scenario is =
@@ -74,10 +75,11 @@ returns-in-Ok-clause-done g c scenario is =
     let counts = c.args.self.counts in
     let wide : length sequences ≡ length setup.writers =
     (let own = is.sequences in let there = ap (λ (ws : List WriterSpec). length ws) (setup_writers scenario setup is.laid) in omega (arith, long, lent, ok, own, there)) in
-    has_finished scenario c.args.self is c.close_all.new.service final c.read_all.new.pass (g.T.Sink.taken c.args.out.now) (g.T.Sink.taken c.read_all.new.out)
-    c.len.result c.close_all.ensures.closes c.close_all.ensures.closed c.close_all.ensures.first c.in-Ok.ensures.keeps c.in-Ok.ensures.serves
-    (c.len.ensures ∙ is.buffers) c.in-Ok.ensures.reads c.take_apart.ensures.account c.take_apart.ensures.taken c.take_apart.ensures.goes_on
-    c.in-Ok.ensures.known
+    let closing = c.close_all.ensures in
+    has_finished scenario c.args.self is c.close_all.new.service final
+    (record { closes = closing.closes; all_closed = closing.closed; first = closing.first; keeps = c.in-Ok.ensures.keeps; serves = serves })
+    c.read_all.new.pass (g.T.Sink.taken c.args.out.now) (g.T.Sink.taken c.read_all.new.out) c.len.result (c.len.ensures ∙ is.buffers) c.in-Ok.ensures.reads
+    c.take_apart.ensures.account c.take_apart.ensures.taken c.take_apart.ensures.goes_on c.in-Ok.ensures.known
     (record { buffers = with_items counts.buffers buffers; sequences = with_items counts.sequences sequences; flushes = counts.flushes })
     (with_items_is counts.buffers buffers (counted ∙ sym is.buffers) ∙ c.count_buffers.ensures table serves)
     (ap (λ (xs : List SequenceCounts). length xs) same ∙ wide)
@@ -90,13 +92,15 @@ returns-in-Ok-clause-done g c scenario is =
 pub take_apart-requires-in-Err-clause-seats : goal.take_apart-requires-in-Err-clause-seats
 take_apart-requires-in-Err-clause-seats g c =
     let is = c.requires.settled.1 in
-    seats_back c.requires.settled.0 c.args.self is c.close_all.new.service c.read_all.new.service c.read_all.new.pass (g.T.Sink.taken c.args.out.now)
-    (g.T.Sink.taken c.read_all.new.out) c.len.result c.close_all.ensures.closes c.close_all.ensures.closed c.close_all.ensures.first c.in-Err.ensures.keeps
-    c.in-Err.ensures.serves (c.len.ensures ∙ is.buffers) c.in-Err.ensures.fails
+    let closing = c.close_all.ensures in
+    seats_back c.requires.settled.0 c.args.self is c.close_all.new.service c.read_all.new.service
+    (record { closes = closing.closes; all_closed = closing.closed; first = closing.first; keeps = c.in-Err.ensures.keeps; serves = c.in-Err.ensures.serves })
+    c.read_all.new.pass (g.T.Sink.taken c.args.out.now) (g.T.Sink.taken c.read_all.new.out) c.len.result (c.len.ensures ∙ is.buffers) c.in-Err.ensures.fails
 
 pub returns-in-Err-clause-fails : goal.returns-in-Err-clause-fails
 returns-in-Err-clause-fails g c scenario is =
-    has_failed scenario c.args.self is c.close_all.new.service c.read_all.new.service c.read_all.new.pass (g.T.Sink.taken c.args.out.now)
-    (g.T.Sink.taken c.read_all.new.out) c.len.result c.close_all.ensures.closes c.close_all.ensures.closed c.close_all.ensures.first c.in-Err.ensures.keeps
-    c.in-Err.ensures.serves (c.len.ensures ∙ is.buffers) c.in-Err.ensures.fails c.take_apart-in-Err.ensures.account c.take_apart-in-Err.ensures.taken
-    c.take_apart-in-Err.ensures.goes_on c.in-Err.ensures.known
+    let closing = c.close_all.ensures in
+    has_failed scenario c.args.self is c.close_all.new.service c.read_all.new.service
+    (record { closes = closing.closes; all_closed = closing.closed; first = closing.first; keeps = c.in-Err.ensures.keeps; serves = c.in-Err.ensures.serves })
+    c.read_all.new.pass (g.T.Sink.taken c.args.out.now) (g.T.Sink.taken c.read_all.new.out) c.len.result (c.len.ensures ∙ is.buffers) c.in-Err.ensures.fails
+    c.take_apart-in-Err.ensures.account c.take_apart-in-Err.ensures.taken c.take_apart-in-Err.ensures.goes_on c.in-Err.ensures.known
