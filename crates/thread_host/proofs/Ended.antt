@@ -1,6 +1,6 @@
 -- Once all producers are closed and then buffers read, all of them or up to a write that failed: what the seats knew that were settled is a world in which
 -- all was done and then closed.
-use Rattle.std.proofs.Common.{◌≡◌, ◌∙◌, ℕ, ◌≤◌, true, All, List, [], ◌++◌, length, ap, subst, arith}
+use Rattle.std.proofs.Common.{◌≡◌, ◌∙◌, ℕ, ◌≤◌, true, All, List, [], ◌++◌, length, refl, ap, subst, arith}
 use Rattle.std.specs.Prelude.{slice_index_or}
 use Rattle.std.specs.List.{flat_map}
 use Rattle.trace_model.specs.Buffers.{Buffer}
@@ -10,6 +10,7 @@ use Rattle.trace_model.specs.History.{records_after}
 use Rattle.chunk_plain.specs.Histories.{history_of}
 use Rattle.chunk_plain.specs.Setup.{Setup}
 use Rattle.chunk_plain.specs.Views.{ServiceView, Taken, none_taken, taken_of}
+use Rattle.chunk_plain.specs.World.{World}
 use Rattle.chunk_words.specs.declared.seats.ReadPass.{ReadPass}
 use Rattle.chunk_words.specs.Closed.{HasAllSeats, IsAccount, AllTaken, views_of}
 use Rattle.chunk_words.specs.GoesOn.{GoesOn}
@@ -18,14 +19,14 @@ use Rattle.scenario_text.specs.Scenario.{Parts}
 use Rattle.service_core.specs.Agreement.{KeepsRest, first_of}
 use Rattle.service_core.specs.Reading.{noted_read}
 use Rattle.service_core.proofs.QuietLemmas.{adds_quiet}
-use Rattle.replay_model.specs.Played.{buffers_of, records_in}
+use Rattle.replay_model.specs.Played.{buffers_of}
 use Rattle.run_model.specs.Reads.{GoesByReads}
 use Rattle.run_model.specs.Settled.{ClosesTo, HasClosedAll}
 use Rattle.thread_service.specs.declared.service.Service.{Service}
 use Rattle.thread_service.specs.Reading.{GoesUnread, IsKnownWhole}
 use Rattle.thread_service.specs.Serving.{core_of, view_in, Serves}
 use Rattle.thread_service.proofs.GoingOn.{goes_adds, goes_unread}
-use Rattle.thread_host.specs.Finishing.{AreClosedTo}
+use Rattle.thread_host.specs.Finishing.{AreClosedTo, HasEnded}
 use Rattle.thread_host.specs.Hosts.{IsSettled}
 use Rattle.thread_host.specs.declared.settled.Settled.{Settled}
 use Rattle.thread_host.proofs.Closing.{IsNotedRead, closes_own, closes_rise, none_between}
@@ -65,6 +66,9 @@ module _ (scenario : Parts) (settled : Settled) (is : IsSettled scenario settled
 
   abbrev view : ServiceView
   view = view_in final
+
+  abbrev world : World
+  world = record { chunks = []; writers = views_of settled.seats.items; service = view_in final }
 
   -- the buffers were those of the scenario
   pub began : first_of (setup_in settled.table) (core_of closed) ≡ buffers_of scenario (setup_in settled.table)
@@ -119,9 +123,16 @@ module _ (scenario : Parts) (settled : Settled) (is : IsSettled scenario settled
       }
 
       -- the records are those that the pass knew, and then those that it knows more
-      pub records_are : (more : List Delivered)
+      abbrev pub has_ended : (more : List Delivered)
           → records_after (buffers_of scenario (setup_in settled.table)) (history_of (known_by_pass pass))
           ≡ records_after (buffers_of scenario (setup_in settled.table)) (history_of (known_by_pass settled.pass)) ++ more
-          → records_in scenario (setup_in settled.table) (record { chunks = []; writers = views_of settled.seats.items; service = view_in final })
-          ≡ records_after (buffers_of scenario (setup_in settled.table)) (history_of (known_by_pass settled.pass)) ++ more
-      records_are more told = adds_quiet (buffers_of scenario setup) (known_by_pass pass) view known (goes_adds (known_by_pass pass) view goes) ∙ told
+          → HasEnded scenario settled
+      has_ended more told = record {
+        world = world;
+        writers = refl;
+        account = account;
+        closed = view_in closed;
+        closes = ending.closes;
+        more = more;
+        records = adds_quiet (buffers_of scenario setup) (known_by_pass pass) view known (goes_adds (known_by_pass pass) view goes) ∙ told;
+      }

@@ -1,5 +1,5 @@
 -- Once all is closed, read and taken apart, what the seats knew is a run of the scenario, and what was counted is its report.
-use Rattle.std.proofs.Common.{◌≡◌, ◌∙◌, ℕ, ◌<◌, List, [], length, map, refl, ap}
+use Rattle.std.proofs.Common.{◌≡◌, ◌∙◌, ℕ, ◌<◌, List, [], length, map, ap}
 use Rattle.std.specs.Prelude.{slice_index_or}
 use Rattle.byte_io.specs.Bytes.{Intake}
 use Rattle.trace_buffer.specs.Answers as answers
@@ -29,7 +29,7 @@ use Rattle.thread_host.specs.Finishing.{HasFinished, ReadsOut}
 use Rattle.thread_host.specs.Hosts.{IsSettled}
 use Rattle.thread_host.specs.declared.settled.Settled.{Settled}
 use Rattle.thread_host.proofs.Closing.{reads_noted, reads_own, reads_taken}
-use Rattle.thread_host.proofs.Ended.{AddsReads, ClosesAll, began, closed_all, ended_seats, of_scenario, records_are}
+use Rattle.thread_host.proofs.Ended.{AddsReads, ClosesAll, began, closed_all, ended_seats, has_ended, of_scenario}
 use Rattle.thread_host.proofs.Parts.{reads_to_none}
 use Rattle.thread_host.proofs.Tallying.{report_is}
 
@@ -90,13 +90,10 @@ module _ (scenario : Parts) (settled : Settled) (is : IsSettled scenario settled
         let told = reads_out.tells.tells in
         let first = first_stays setup (core_of closed) (core_of final) ending.keeps.fields ∙ began scenario settled is closed final ending in
         record {
-          world = record { chunks = []; writers = views_of settled.seats.items; service = view_in final };
-          writers = refl;
-          service = record { closed = view_in closed; closes = ending.closes; last = reads_out.last; reads = reads_out.reads };
-          account = account;
+          ended = has_ended scenario settled is closed final ending pass only account taken goes known told.more told.records;
+          last = reads_out.last;
+          reads = reads_out.reads;
           run = run_is;
-          more = told.more;
-          records = records_are scenario settled is closed final ending pass only account taken goes known told.more told.records;
           taken = told.taken;
           report = λ balanced.
               ap (λ all. report_text all done.sequences.items done.flushes.items) buffers

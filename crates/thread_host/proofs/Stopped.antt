@@ -24,7 +24,7 @@ use Rattle.thread_host.specs.Hosts.{IsSettled}
 use Rattle.thread_host.specs.declared.settled.Settled.{Settled}
 use Rattle.thread_host.proofs.Closing.{IsNotedRead, reads_own, reads_taken, some_noted}
 use Rattle.thread_host.proofs.DoneAll.{all_seats, done_all}
-use Rattle.thread_host.proofs.Ended.{AddsReads, ClosesAll, closed_all, ended_seats, of_scenario, records_are}
+use Rattle.thread_host.proofs.Ended.{AddsReads, ClosesAll, closed_all, ended_seats, has_ended, of_scenario}
 use Rattle.thread_host.proofs.Parts.{reads_some_none}
 
 -- ---- at the end
@@ -74,14 +74,10 @@ module _ (scenario : Parts) (settled : Settled) (is : IsSettled scenario settled
 
     pub has_failed : HasFailed scenario settled before after
     has_failed = record {
-      world = record { chunks = []; writers = views_of settled.seats.items; service = view_in final };
+      ended = has_ended scenario settled is closed final ending pass only account taken goes known fails_out.tells.more fails_out.tells.records;
       next = fails_out.next;
-      writers = refl;
-      service = record { closed = view_in closed; closes = ending.closes; reads = fails_out.reads };
-      account = account;
+      reads = fails_out.reads;
       run = stops_in_end;
-      more = fails_out.tells.more;
-      records = records_are scenario settled is closed final ending pass only account taken goes known fails_out.tells.more fails_out.tells.records;
       part = fails_out.tells.part;
     }
 

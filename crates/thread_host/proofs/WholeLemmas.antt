@@ -37,25 +37,25 @@ module _ (faithful : EveryRunIsFaithful) (balanced : EveryRunIsBalanced) (counte
       let setup = setup_in settled.table in
       let known = known_by_pass settled.pass in
       let playable = is_playable scenario is in
-      let world = finished.world in
+      let world = finished.ended.world in
       let unread : history_of first ≡ [] = ap (λ (notes : List Noted). flat_map (happened first) notes) none in
       let run : IsRun (parts_of scenario) setup world = finished.run
       (subst (λ (history : List model.Event). GoesByReads setup (buffers_of (parts_of scenario) setup) (parts_of scenario).lines history (history_of known))
       unread tells.reads) in
       let nothing : records_after (buffers_of (parts_of scenario) setup) (history_of first) ≡ [] =
       ap (λ (history : List model.Event). records_after (buffers_of (parts_of scenario) setup) history) unread in
-      let records : records_in (parts_of scenario) setup world ≡ tells.tells.more ++ finished.more =
-      finished.records
-      ∙ ap (λ (records : List Delivered). records ++ finished.more)
+      let records : records_in (parts_of scenario) setup world ≡ tells.tells.more ++ finished.ended.more =
+      finished.ended.records
+      ∙ ap (λ (records : List Delivered). records ++ finished.ended.more)
       (tells.tells.records ∙ ap (λ (records : List Delivered). records ++ tells.tells.more) nothing) in
       record {
         setup = setup;
         world = world;
         run = run;
         trace = finished.taken
-            ∙ ap (λ (intake : Intake). after_told intake (trace_of finished.more)) tells.tells.taken
-            ∙ after_told_again before (trace_of tells.tells.more) (trace_of finished.more)
-            ∙ ap (after_told before) (sym (trace_append tells.tells.more finished.more))
+            ∙ ap (λ (intake : Intake). after_told intake (trace_of finished.ended.more)) tells.tells.taken
+            ∙ after_told_again before (trace_of tells.tells.more) (trace_of finished.ended.more)
+            ∙ ap (after_told before) (sym (trace_append tells.tells.more finished.ended.more))
             ∙ ap (λ (records : List Delivered). after_told before (trace_of records)) (sym records);
         report = finished.report (balanced (parts_of scenario) setup world run playable.few playable.set_up);
         faithful = faithful (parts_of scenario) setup world run;
@@ -109,13 +109,13 @@ module _ (faithful : EveryStoppedRunIsFaithful) (scenario : Parts) (settled : Se
       → TellsLines (setup_in settled.table) (buffers_of scenario (setup_in settled.table)) scenario.lines first (known_by_pass settled.pass) before between
       → HasFailed scenario settled between after → FailsRun scenario before after
   end_fails before between after tells failed =
-      let world = failed.world in
+      let world = failed.ended.world in
       let run : StopsInEnd scenario setup world failed.next = failed.run
       (subst (λ (history : List model.Event). GoesByReads setup buffers scenario.lines history (history_of known)) unread tells.reads) in
       let one = tells.tells.more in
-      let records : records_in scenario setup world ≡ one ++ failed.more =
-      failed.records
-      ∙ ap (λ (ds : List Delivered). ds ++ failed.more)
+      let records : records_in scenario setup world ≡ one ++ failed.ended.more =
+      failed.ended.records
+      ∙ ap (λ (ds : List Delivered). ds ++ failed.ended.more)
       (tells.tells.records ∙ ap (λ (history : List model.Event). records_after buffers history ++ one) unread) in
       record {
         setup = setup;
@@ -123,9 +123,9 @@ module _ (faithful : EveryStoppedRunIsFaithful) (scenario : Parts) (settled : Se
         next = failed.next;
         run = inr run;
         trace = subst (λ (intake : Intake). TakesPart intake after failed.next.bytes)
-            (ap (λ (intake : Intake). after_told intake (trace_of failed.more)) tells.tells.taken
-            ∙ after_told_again before (trace_of one) (trace_of failed.more)
-            ∙ ap (after_told before) (sym (trace_append one failed.more))
+            (ap (λ (intake : Intake). after_told intake (trace_of failed.ended.more)) tells.tells.taken
+            ∙ after_told_again before (trace_of one) (trace_of failed.ended.more)
+            ∙ ap (after_told before) (sym (trace_append one failed.ended.more))
             ∙ ap (λ (ds : List Delivered). after_told before (trace_of ds)) (sym records))
             failed.part;
         faithful = faithful scenario setup world failed.next (inr run);

@@ -57,53 +57,48 @@ pub record FailsOut (setup : Setup) (first : List Buffer) (number : ℕ) (old ne
   pub noted : flat_map noted_read since ≡ flat_map noted_read last
   pub tells : TellsUpTo first passed pass next before after
 
--- The service knows this view, once it has ended what was settled: from what it knew then all producers were closed in rising number, and then each
--- buffer of the scenario read without limit. It knows nothing more.
-pub record HasEnded (scenario : Parts) (settled : Settled) (view : ServiceView) : Type 0 where
+-- What was settled has ended, whole or up to a write that failed: there is one owned world of what its seats know, and of what its service
+-- knows that has ended it. From what the service knew once all was settled, all producers were closed in rising number. The records that
+-- the world's history writes are those that the pass knew, and then these more.
+pub record HasEnded (scenario : Parts) (settled : Settled) : Type 0 where
+  pub world : World
+  pub writers : world.writers ≡ views_of settled.seats.items
+  pub account : IsAccount world.writers world.service
   pub closed : ServiceView
   pub closes : ClosesTo (setup_in settled.table) settled.producers (view_in settled.service) closed
-  pub last : List model.Event
-  pub reads : ReadsTo (setup_in settled.table) (buffers_of scenario (setup_in settled.table)) (length scenario.buffers) last closed view
+  pub more : List Delivered
+  pub records : records_in scenario (setup_in settled.table) world
+      ≡ records_after (buffers_of scenario (setup_in settled.table)) (history_of (known_by_pass settled.pass)) ++ more
 
--- There is one owned world of what the seats that were settled know, and of what their service knows that has ended it. Where the history that the pass
--- knew went on by the reads of the scenario's lines, the scenario was run. The sink took exactly the records that the world's history writes behind
--- those that the pass knew, and the counts are those of its report, where it counts each packet once.
+-- What was settled has ended whole: behind the closes each buffer of the scenario was read in rising number, without limit, and the service
+-- knows nothing more. Where the history that the pass knew went on by the reads of the scenario's lines, the scenario was run. The sink
+-- took exactly the records that the world's history writes behind those that the pass knew, and the counts are those of its report, where
+-- it counts each packet once.
 pub record HasFinished (scenario : Parts) (settled : Settled) (old new : Intake) (done : Done) : Type 0 where
-  pub world : World
-  pub writers : world.writers ≡ views_of settled.seats.items
-  pub service : HasEnded scenario settled world.service
-  pub account : IsAccount world.writers world.service
-  pub run : GoesByReads (setup_in settled.table) (buffers_of scenario (setup_in settled.table)) scenario.lines [] (history_of (known_by_pass settled.pass))
-      → IsRun scenario (setup_in settled.table) world
-  pub more : List Delivered
-  pub records : records_in scenario (setup_in settled.table) world
-      ≡ records_after (buffers_of scenario (setup_in settled.table)) (history_of (known_by_pass settled.pass)) ++ more
-  pub taken : new ≡ after_told old (trace_of more)
-  pub report : AreBalanced (packet_counts scenario (setup_in settled.table) world)
-      → report_text done.buffers.items done.sequences.items done.flushes.items ≡ report_of scenario (setup_in settled.table) world []
+  pub ended : HasEnded scenario settled
+  pub last : List model.Event
+  pub reads : ReadsTo (setup_in settled.table) (buffers_of scenario (setup_in settled.table)) (length scenario.buffers) last ended.closed
+      ended.world.service
+  pub run : GoesByReads (setup_in settled.table) (buffers_of scenario (setup_in settled.table)) scenario.lines []
+      (history_of (known_by_pass settled.pass))
+      → IsRun scenario (setup_in settled.table) ended.world
+  pub taken : new ≡ after_told old (trace_of ended.more)
+  pub report : AreBalanced (packet_counts scenario (setup_in settled.table) ended.world)
+      → report_text done.buffers.items done.sequences.items done.flushes.items ≡ report_of scenario (setup_in settled.table) ended.world []
 
--- The service knows this view, where a write failed as it ended what was settled: from what it knew then all producers were closed in rising number, and
--- then the buffers of the scenario read as far as this record, each without limit. It knows nothing more.
-pub record HasEndedUpTo (scenario : Parts) (settled : Settled) (view : ServiceView) (next : Delivered) : Type 0 where
-  pub closed : ServiceView
-  pub closes : ClosesTo (setup_in settled.table) settled.producers (view_in settled.service) closed
-  pub reads : ReadsSomeTo (setup_in settled.table) (buffers_of scenario (setup_in settled.table)) (length scenario.buffers) closed view next
-
--- A write failed at the end. There is one owned world of what the seats that were settled know, and of what their service knows that went so far. Where the
--- history that the pass knew went on by the reads of the scenario's lines, the scenario was run up to there. The sink took exactly the records that the
--- world's history writes behind those that the pass knew, and then at most a front part of the next one.
+-- A write failed at the end: behind the closes the buffers of the scenario were read in rising number as far as this record, each without
+-- limit, and the service knows nothing more. Where the history that the pass knew went on by the reads of the scenario's lines, the
+-- scenario was run up to there. The sink took exactly the records that the world's history writes behind those that the pass knew, and then
+-- at most a front part of the next one.
 pub record HasFailed (scenario : Parts) (settled : Settled) (old new : Intake) : Type 0 where
-  pub world : World
+  pub ended : HasEnded scenario settled
   pub next : Delivered
-  pub writers : world.writers ≡ views_of settled.seats.items
-  pub service : HasEndedUpTo scenario settled world.service next
-  pub account : IsAccount world.writers world.service
-  pub run : GoesByReads (setup_in settled.table) (buffers_of scenario (setup_in settled.table)) scenario.lines [] (history_of (known_by_pass settled.pass))
-      → StopsInEnd scenario (setup_in settled.table) world next
-  pub more : List Delivered
-  pub records : records_in scenario (setup_in settled.table) world
-      ≡ records_after (buffers_of scenario (setup_in settled.table)) (history_of (known_by_pass settled.pass)) ++ more
-  pub part : TakesPart (after_told old (trace_of more)) new next.bytes
+  pub reads : ReadsSomeTo (setup_in settled.table) (buffers_of scenario (setup_in settled.table)) (length scenario.buffers) ended.closed
+      ended.world.service next
+  pub run : GoesByReads (setup_in settled.table) (buffers_of scenario (setup_in settled.table)) scenario.lines []
+      (history_of (known_by_pass settled.pass))
+      → StopsInEnd scenario (setup_in settled.table) ended.world next
+  pub part : TakesPart (after_told old (trace_of ended.more)) new next.bytes
 
 -- Nothing more was done of what was settled. There is one owned world of what its seats and its service know, in which all is done but that sequences are
 -- closed, and nothing was read behind what the pass knew.
