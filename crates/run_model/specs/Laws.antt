@@ -1,5 +1,5 @@
 -- The laws of runs on threads.
-use Rattle.std.specs.Prelude.{◌≡◌, ℕ, ◌≤◌, length, Some, slice_get}
+use Rattle.std.specs.Prelude.{◌≡◌, ℕ, ◌≤◌, [], ◌∷◌, ◌++◌, length, Some, slice_get}
 use Rattle.trace_model.specs.Balance.{PacketCounts}
 use Rattle.trace_model.specs.Counts.{last_count}
 use Rattle.trace_model.specs.Delivery.{Delivered, IsFaithful, IsComplete}
@@ -18,10 +18,10 @@ abbrev pub EveryRunIsFaithful : Type 0
 EveryRunIsFaithful = (scenario : Parts) (setup : Setup) (world : World) → IsRun scenario setup world
     → IsFaithful (emitted_in scenario) (records_in scenario setup world)
 
--- So are those of a run up to a write that failed.
+-- So are those of a run up to a write that failed, with the record behind them whose write that was.
 abbrev pub EveryStoppedRunIsFaithful : Type 0
 EveryStoppedRunIsFaithful = (scenario : Parts) (setup : Setup) (world : World) (next : Delivered) → StopsBefore scenario setup world next
-    → IsFaithful (emitted_in scenario) (records_in scenario setup world)
+    → IsFaithful (emitted_in scenario) (records_in scenario setup world ++ next ∷ [])
 
 -- The report counts every packet once, where no more lines are there than a count can tell and the set-up is within its
 -- limits.

@@ -1,5 +1,5 @@
 -- The run of a scenario on threads, end to end: the account that its threads led to, and the trace and the report that are functions of it.
-use Rattle.std.specs.Prelude.{◌≡◌, ℕ, List, [], Some, slice_get}
+use Rattle.std.specs.Prelude.{◌≡◌, ℕ, List, [], ◌∷◌, ◌++◌, Some, slice_get}
 use Rattle.byte_io.specs.Bytes.{Intake, after_told, TakesPart}
 use Rattle.trace_model.specs.Balance.{PacketCounts}
 use Rattle.trace_model.specs.Delivery.{Delivered, IsFaithful, IsComplete, trace_of}
@@ -29,11 +29,11 @@ pub record Runs (scenario : Parts) (old new : Intake) (text : List ℕ) : Type 0
 
 -- A write failed, in the reads of the scenario's lines or in those of the end. There is a world that its threads led to, whose reads end before the
 -- record that was next. The trace has taken that world's records whole, then at most a front part of that record, and nothing else. The world's records
--- are faithful to what the scenario has its writers emit.
+-- with that record behind them are faithful to what the scenario has its writers emit.
 pub record FailsRun (scenario : Parts) (old new : Intake) : Type 0 where
   pub setup : Setup
   pub world : World
   pub next : Delivered
   pub run : StopsBefore scenario setup world next
   pub trace : TakesPart (after_told old (trace_of (records_in scenario setup world))) new next.bytes
-  pub faithful : IsFaithful (emitted_in scenario) (records_in scenario setup world)
+  pub faithful : IsFaithful (emitted_in scenario) (records_in scenario setup world ++ next ∷ [])

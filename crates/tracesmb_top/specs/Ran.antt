@@ -59,7 +59,7 @@ pub record IsRanBy (text : List ℕ) (old new : Intake) (report : List ℕ) : Ty
   pub runs : Runs parts old new report
 
 -- The trace took a front part of what a run writes that came to its end, or of what one writes up to a write that fails: in both the
--- records are faithful, and in the second a front part of one more record may stand behind them.
+-- records are faithful, and in the second a front part of one more record may stand behind them, which is faithful with them.
 pub record TakesSomeRun (scenario : Parts) (old new : Intake) : Type 0 where
   pub bytes : List ℕ
   pub would : ((report : List ℕ) × Runs scenario old (after_told old bytes) report) ⊎ FailsRun scenario old (after_told old bytes)
