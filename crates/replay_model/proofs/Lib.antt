@@ -8,6 +8,7 @@ pub mod EndLemmas
 pub mod FinishLemmas
 pub mod FirstLemmas
 pub mod FlushLemmas
+pub mod FrontLemmas
 pub mod LosesLemmas
 pub mod LostLemmas
 pub mod NoneLostLemmas

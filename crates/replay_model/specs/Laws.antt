@@ -1,11 +1,12 @@
 -- The laws of replay.
-use Rattle.std.specs.Prelude.{◌≡◌, ℕ, suc, ◌<◌, ◌≤◌, List, [], length, Some, slice_get}
+use Rattle.std.specs.Prelude.{◌≡◌, ℕ, suc, ◌<◌, ◌≤◌, List, [], ◌++◌, length, Some, slice_get}
 use Rattle.trace_model.specs.Balance.{PacketCounts}
 use Rattle.trace_model.specs.Buffers.{Buffer}
 use Rattle.trace_model.specs.Counts.{last_count}
 use Rattle.trace_model.specs.Delivery.{IsFaithful, IsComplete}
 use Rattle.trace_model.specs.Packets.{packets_of, lost_count}
 use Rattle.model_laws.specs.Losses.{Loses}
+use Rattle.chunk_plain.specs.Plain.{first_world}
 use Rattle.chunk_plain.specs.Setup.{Setup}
 use Rattle.chunk_plain.specs.World.{World, writer}
 use Rattle.world_model.specs.Accounts.{IsAccount}
@@ -13,11 +14,13 @@ use Rattle.scenario_text.specs.Scenario.{Parts}
 use Rattle.scenario_text.specs.Accepted.{calls_asked}
 use Rattle.scenario_text.specs.Limits.{IsSetUp}
 use Rattle.scenario_text.specs.Emissions.{emitted_in}
+use Rattle.replay_model.specs.Acts.{Act}
 use Rattle.replay_model.specs.Does.{Wrote}
 use Rattle.replay_model.specs.Enough.{HasEnough, IsPlayable}
 use Rattle.replay_model.specs.Flushes.{FlushNote}
 use Rattle.replay_model.specs.Plays.{Plays}
-use Rattle.replay_model.specs.Played.{IsPlayed, records_in, packet_counts, AreBalanced, CountsPackets}
+use Rattle.replay_model.specs.Played.{IsSetupOf, IsPlayed, buffers_of, records_in, packet_counts, AreBalanced, CountsPackets}
+use Rattle.replay_model.specs.Schedule.{schedule_of}
 
 -- no acts lead from a world to itself
 abbrev pub NothingPlaysNothing : Type 0
@@ -41,6 +44,14 @@ ReplaysAreAccounts = (scenario : Parts) (setup : Setup) (world : World) (notes :
 -- So the records that are written are faithful to the packets that the lines have writers emit, whatever is lost on the way.
 abbrev pub EveryReplayIsFaithful : Type 0
 EveryReplayIsFaithful = (scenario : Parts) (setup : Setup) (world : World) (notes : List FlushNote) → IsPlayed scenario setup world notes
+    → IsFaithful (emitted_in scenario) (records_in scenario setup world)
+
+-- So are those that are written behind any front of a scenario's acts, to what all of its lines have writers emit: where a replay stops on
+-- the way, it has written nothing else.
+abbrev pub EveryFrontIsFaithful : Type 0
+EveryFrontIsFaithful = (scenario : Parts) (setup : Setup) (done rest : List Act) (world : World) (notes : List FlushNote)
+    → IsSetupOf scenario setup → IsPlayable scenario → schedule_of scenario ≡ done ++ rest
+    → Plays setup (buffers_of scenario setup) done (first_world setup) world notes
     → IsFaithful (emitted_in scenario) (records_in scenario setup world)
 
 -- The report counts every packet once, where no more lines are there than a count can tell and each writer names a buffer.

@@ -1,6 +1,6 @@
 //! Laws on what acts make of a world, and on what a scenario's acts lead to: contracts of functions with
 //! nothing to do.
-ghost use Rattle.replay_model.specs.Laws.{NothingPlaysNothing, WritersWrote, WritersLose, ReplaysAreAccounts, EveryReplayIsFaithful};
+ghost use Rattle.replay_model.specs.Laws.{NothingPlaysNothing, WritersWrote, WritersLose, ReplaysAreAccounts, EveryReplayIsFaithful, EveryFrontIsFaithful};
 ghost use Rattle.replay_model.specs.FlushLaws.{EveryFlushIsSettled, EveryRequestIsSettled};
 ghost use Rattle.replay_model.specs.Laws.{EveryReportIsBalanced, EveryReportCountsPackets, EnoughLosesNothing, EveryEnoughReplayIsComplete};
 
@@ -29,6 +29,12 @@ pub fn replays_are_accounts()
 /// The records that are written are faithful to the packets that the lines have writers emit.
 pub fn every_replay_is_faithful()
     ensures { EveryReplayIsFaithful }
+{}
+
+/// So are those that are written behind any front of a scenario's acts, to what all of its lines have
+/// writers emit.
+pub fn every_front_is_faithful()
+    ensures { EveryFrontIsFaithful }
 {}
 
 /// The report of what the lines lead to counts every packet once.
