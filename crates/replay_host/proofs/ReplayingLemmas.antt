@@ -1,35 +1,47 @@
 -- What was played of a scenario, from its first world on, is its replay; or it stopped at an act.
-use Rattle.std.proofs.Common.{◌≡◌, ◌∙◌, ℕ, ◌≤◌, vec_len, Some, List, [], length, sym, ap, subst, append-nil, arith}
+use Rattle.std.proofs.Common.{◌≡◌, ◌∙◌, ℕ, ◌≤◌, vec_len, Some, List, [], ◌∷◌, ◌++◌, length, refl, sym, ap, subst, append_assoc, append-nil, arith}
+use Rattle.std.specs.List.{flat_map}
+use Rattle.std.proofs.Math.Logic.{∥∥₁_map}
 use Rattle.byte_io.specs.Bytes.{Intake, after_told}
 use Rattle.trace_base.specs.declared.limits.TheConstants.{MAX_BUFFERS}
 use Rattle.trace_base.specs.declared.policy.WriterSpec.{WriterSpec}
 use Rattle.trace_model.specs.Buffers.{Buffer}
-use Rattle.trace_model.specs.Delivery.{trace_of}
-use Rattle.trace_model.specs.History.{records_after}
+use Rattle.trace_model.specs.Delivery.{Delivered, IsFaithful, trace_of}
+use Rattle.trace_model.specs.History.{buffers_after, records_after}
 use Rattle.trace_buffer.specs.declared.answers.BufferCounts.{BufferCounts}
 use Rattle.scenario_text.specs.declared.scenario.NumberedLine.{NumberedLine}
 use Rattle.scenario_text.specs.declared.scenario.Scenario.{Scenario}
 use Rattle.scenario_text.specs.Scenario.{Parts, IsScenario, parts_of}
+use Rattle.scenario_text.specs.Emissions.{emitted_in}
 use Rattle.scenario_text.proofs.AcceptedLemmas.{scenario_is_accepted}
 use Rattle.scenario_text.proofs.LimitLemmas.{scenario_is_set_up}
 use Rattle.scenario_text.proofs.ReachLemmas.{scenario_is_in_reach}
 use Rattle.scenario_text.proofs.ShortLemmas.{scenario_is_short}
 use Rattle.chunk_plain.specs.Histories.{history_of}
 use Rattle.chunk_plain.specs.Meaning.{Meaning}
+use Rattle.chunk_plain.specs.Owned.{IsOwned}
 use Rattle.chunk_plain.specs.Plain.{first_world}
 use Rattle.chunk_plain.specs.Setup.{Setup}
-use Rattle.chunk_plain.specs.Views.{ServiceView}
+use Rattle.chunk_plain.specs.Steps.{serviced}
+use Rattle.chunk_plain.specs.Views.{Noted, ServiceView}
 use Rattle.chunk_plain.specs.World.{World}
+use Rattle.chunk_plain.proofs.MadeLemmas.{first_owned}
+use Rattle.chunk_plain.proofs.Owned.{serviced_owned}
 use Rattle.service_core.specs.Agreement.{first_of}
+use Rattle.service_core.specs.Reading.{reads_in, noted_read}
+use Rattle.service_core.specs.Taking.{noted_more}
 use Rattle.loss_report.specs.declared.counts.Done.{Done}
 use Rattle.loss_report.specs.declared.counts.SequenceCounts.{SequenceCounts}
 use Rattle.loss_report.specs.Report.{report_text}
 use Rattle.replay_model.specs.Acts.{Act, Ask, Request, Answer, Collect, Scrape, CloseProducer, ReadAll}
+use Rattle.replay_model.specs.Does.{Reads}
 use Rattle.replay_model.specs.Enough.{IsPlayable}
 use Rattle.replay_model.specs.Flushes.{FlushNote}
-use Rattle.replay_model.specs.Played.{IsPlayed, buffers_of, Replays}
+use Rattle.replay_model.specs.Played.{IsSetupOf, IsPlayed, buffers_of, records_in, Replays}
 use Rattle.replay_model.specs.Plays.{Plays}
 use Rattle.replay_model.specs.Schedule.{acts_from, last_acts, schedule_of}
+use Rattle.replay_model.proofs.FrontLemmas.{every_front_is_faithful}
+use Rattle.replay_model.proofs.PlayLemmas.{plays_one, plays_both, plays_keep}
 use Rattle.replay_model.proofs.PlayedLemmas.{setup_writers}
 use Rattle.replay_model.proofs.ReplayLemmas.{replays_of, scenario_is_playable}
 use Rattle.replay_host.specs.declared.fault.HostFault.{HostFault}
@@ -53,23 +65,66 @@ use Rattle.replay_host.proofs.StopLemmas.{stopped_later, stopped_more}
 -- ---- a fault
 
 -- no act halts since memory ran out
-has_memory : (setup : Setup) (buffers : List Buffer) (act : Act) (world : World) (start left : Intake)
-    → Halts setup buffers act world OutOfMemory start left → ⊥
-has_memory setup buffers (Ask place call) world start left halts = halts
-has_memory setup buffers Request world start left halts = halts
-has_memory setup buffers (Answer place) world start left halts = halts
-has_memory setup buffers (Collect producer) world start left halts = halts
-has_memory setup buffers (Scrape producer) world start left halts = halts
-has_memory setup buffers (CloseProducer producer) world start left halts = halts
-has_memory setup buffers (ReadAll number limit) world start left halts = halts
+has_memory : (setup : Setup) (buffers : List Buffer) (act : Act) (world : World) (records : List Delivered)
+    → Halts setup buffers act world OutOfMemory records → ⊥
+has_memory setup buffers (Ask place call) world records halts = halts
+has_memory setup buffers Request world records halts = halts
+has_memory setup buffers (Answer place) world records halts = halts
+has_memory setup buffers (Collect producer) world records halts = halts
+has_memory setup buffers (Scrape producer) world records halts = halts
+has_memory setup buffers (CloseProducer producer) world records halts = halts
+has_memory setup buffers (ReadAll number limit) world records halts = halts
 
 -- acts that stopped end a replay early
 ends_early : (scenario : Parts) (fault : HostFault) (old new : Intake) → HasStopped scenario fault old new
     → EndsEarly scenario fault old new
 ends_early scenario OutOfMemory old new stopped =
-    absurd (has_memory stopped.setup (buffers_of scenario stopped.setup) stopped.stops.act stopped.stops.world old new stopped.stops.halts)
+    absurd (has_memory stopped.setup (buffers_of scenario stopped.setup) stopped.stops.act stopped.stops.world stopped.stops.records stopped.stops.halts)
 ends_early scenario WriteFault old new stopped = stopped
 ends_early scenario (Stalled writer) old new stopped = stopped
+
+-- ---- what was written up to a stop
+
+module _ (scenario : Parts) (setup : Setup) (setup_is : IsSetupOf scenario setup) (playable : IsPlayable scenario) (done more : List Act)
+    (world : World) (notes : List FlushNote) (plays : Plays setup (buffers_of scenario setup) done (first_world setup) world notes) where
+  -- the acts before a read, and the read as if it were done whole
+  read_faithful : (number limit : ℕ) (last : World) → schedule_of scenario ≡ done ++ ReadAll number limit ∷ more
+      → Reads setup (buffers_of scenario setup) number limit world last → IsFaithful (emitted_in scenario) (records_in scenario setup last)
+  read_faithful number limit last cut reads =
+      subst (λ (view : ServiceView). IsFaithful (emitted_in scenario) (records_in scenario setup (serviced world view))) (sym reads.notes)
+      (every_front_is_faithful scenario setup (done ++ ReadAll number limit ∷ []) more whole (notes ++ []) setup_is playable
+      (cut ∙ sym (append_assoc done (ReadAll number limit ∷ []) more))
+      (plays_both setup (buffers_of scenario setup) done (ReadAll number limit ∷ []) (first_world setup) world whole notes [] plays
+      (plays_one setup (buffers_of scenario setup) (ReadAll number limit) world whole (record { writers = refl; notes = refl }) owned)))
+    where
+      read : List Noted
+      read = flat_map noted_read (reads_in setup (buffers_after (buffers_of scenario setup) (history_of world.service)) number limit)
+
+      whole : World
+      whole = serviced world (noted_more world.service read)
+
+      owned : ∥ IsOwned whole ∥₁
+      owned = ∥∥₁_map (plays_keep setup (buffers_of scenario setup) (λ (w : World). ∥ IsOwned w ∥₁) (λ act old new does owned_new owned_old. owned_new) done
+          (first_world setup) world notes plays ∣ first_owned setup ∣₁)
+          (λ (is : IsOwned world). serviced_owned world (noted_more world.service read) is refl refl refl)
+
+  -- so what is written up to a halt is faithful
+  halt_faithful : (act : Act) (fault : HostFault) (records : List Delivered) → schedule_of scenario ≡ done ++ act ∷ more
+      → Halts setup (buffers_of scenario setup) act world fault records → IsFaithful (emitted_in scenario) records
+  halt_faithful (Ask place call) (Stalled writer) records cut halts =
+      subst (IsFaithful (emitted_in scenario)) (sym halts.4)
+      (every_front_is_faithful scenario setup done (Ask place call ∷ more) world notes setup_is playable cut plays)
+  halt_faithful (ReadAll number limit) WriteFault records cut halts =
+      subst (IsFaithful (emitted_in scenario)) (sym halts.2) (read_faithful number limit halts.0 cut halts.1)
+  halt_faithful (Ask place call) WriteFault records cut halts = absurd halts
+  halt_faithful (Ask place call) OutOfMemory records cut halts = absurd halts
+  halt_faithful (ReadAll number limit) OutOfMemory records cut halts = absurd halts
+  halt_faithful (ReadAll number limit) (Stalled writer) records cut halts = absurd halts
+  halt_faithful Request fault records cut halts = absurd halts
+  halt_faithful (Answer place) fault records cut halts = absurd halts
+  halt_faithful (Collect producer) fault records cut halts = absurd halts
+  halt_faithful (Scrape producer) fault records cut halts = absurd halts
+  halt_faithful (CloseProducer producer) fault records cut halts = absurd halts
 
 -- ---- from the first line on
 
@@ -99,10 +154,16 @@ module _ {T W S : Type 0} (means : Meaning T W S) (scenario : Scenario) (is : Is
   stopped fault left stops = ends_early (parts_of scenario) fault taken left (record {
     setup = means.setup old.table;
     setup_is = made.at.going.kept.laid;
-    stops = subst (λ (buffers : List Buffer). StopsAt (means.setup old.table) buffers (schedule_of (parts_of scenario))
-        (first_world (means.setup old.table)) fault taken left) first
-        (stops (first_world (means.setup old.table)) made.told taken (made_trace means (parts_of scenario) old made taken));
+    stops = at;
+    faithful = halt_faithful (parts_of scenario) (means.setup old.table) made.at.going.kept.laid (is_playable scenario is) at.done at.rest at.world
+        at.notes at.plays at.act fault at.records at.cut at.halts;
   })
+    where
+      at : StopsAt (means.setup old.table) (buffers_of (parts_of scenario) (means.setup old.table)) (schedule_of (parts_of scenario))
+          (first_world (means.setup old.table)) fault taken left
+      at = subst (λ (buffers : List Buffer). StopsAt (means.setup old.table) buffers (schedule_of (parts_of scenario))
+          (first_world (means.setup old.table)) fault taken left) first
+          (stops (first_world (means.setup old.table)) made.told taken (made_trace means (parts_of scenario) old made taken))
 
   -- the lines as they are passed on
   module _ (lines : List NumberedLine) (seen : lines ≡ scenario.lines) where

@@ -23,7 +23,7 @@ use Rattle.replay_model.proofs.PlayLemmas.{plays_both}
 use Rattle.replay_host.specs.declared.fault.HostFault.{HostFault}
 use Rattle.replay_host.specs.declared.host.Host.{Host}
 use Rattle.replay_host.specs.Playing.{IsHost, IsTraceOf, HasAsked, HasDone}
-use Rattle.replay_host.specs.Stopping.{FailsReading, Halts, Stalls, StallsIn, StopsAt, StopsIn, with_reads}
+use Rattle.replay_host.specs.Stopping.{FailsReading, Halts, Stalls, StallsIn, StopsAt, StopsIn, TakesRecords, with_reads}
 use Rattle.replay_host.proofs.RowLemmas.{AreLaws}
 use Rattle.replay_host.proofs.ServedLemmas.{quiet_writes}
 
@@ -41,7 +41,9 @@ stopped_more means acts more old taken fault left stops was told start traced =
       notes = at.notes;
       world = at.world;
       plays = at.plays;
+      records = at.records;
       halts = at.halts;
+      takes = at.takes;
     }
 
 -- acts that stop do so behind others that were done
@@ -58,7 +60,9 @@ stopped_later {T} {W} {S} means acts others notes old mid taken between fault le
   world = at.world;
   plays = plays_both (means.setup old.table) (first_of (means.setup old.table) old.helper.service) acts at.done was middle.0 at.world
       notes at.notes middle.2 at.plays;
+  records = at.records;
   halts = at.halts;
+  takes = at.takes;
 }
   where
     middle : (is : World) × (means.told mid.table ≡ Some is)
@@ -104,8 +108,8 @@ stopped_asked means place calls others old mid taken fault left asked stops =
 -- the act stops in which a writer stalled
 pub stopped_one : {T W S : Type 0} (means : Meaning T W S) → AreLaws means
     → (place : ℕ) (call : Call) (old new : Host T W S) (fault : HostFault)
-    → Stalls means place call old new fault → (taken : Intake) → StopsIn means (Ask place call ∷ []) old taken fault taken
-stopped_one {T} {W} {S} means laws place call old new fault stalled taken was told start traced = record {
+    → IsHost means old → Stalls means place call old new fault → (taken : Intake) → StopsIn means (Ask place call ∷ []) old taken fault taken
+stopped_one {T} {W} {S} means laws place call old new fault host stalled taken was told start traced = record {
   done = [];
   act = Ask place call;
   rest = [];
@@ -113,15 +117,11 @@ stopped_one {T} {W} {S} means laws place call old new fault stalled taken was to
   notes = [];
   world = was;
   plays = (refl, refl);
-  halts = subst (λ (f : HostFault). Halts (means.setup old.table) buffers (Ask place call) was f start taken) (sym stalled.fault_is) (
-    refl,
-    last.0,
-    last.2,
-    quiet_writes start taken buffers (means.service_view old.table old.helper.service.seat)
-        (means.service_view new.table new.helper.service.seat) (stalled.service.quiet buffers) traced
-        ∙ ap (λ (v : ServiceView). after_told start (trace_of (records_after buffers (history_of v))))
-        (laws.told_service_view new.table new.helper.service.seat last.0 last.1 stalled.serves),
-  );
+  records = records_after buffers (history_of was.service);
+  halts = subst (λ (f : HostFault). Halts (means.setup old.table) buffers (Ask place call) was f (records_after buffers (history_of was.service)))
+      (sym stalled.fault_is) (refl, last.0, last.2, sym quiet, refl);
+  takes = subst (λ (f : HostFault). TakesRecords f start taken (records_after buffers (history_of was.service))) (sym stalled.fault_is)
+      (traced ∙ ap (λ (v : ServiceView). after_told start (trace_of (records_after buffers (history_of v)))) before);
 }
   where
     buffers : List Buffer
@@ -129,6 +129,16 @@ stopped_one {T} {W} {S} means laws place call old new fault stalled taken was to
 
     last : (is : World) × (means.told new.table ≡ Some is) × StallsIn (means.setup old.table) place call was is
     last = stalled.told was told
+
+    before : means.service_view old.table old.helper.service.seat ≡ was.service
+    before = laws.told_service_view old.table old.helper.service.seat was told host.stands.served.serves
+
+    quiet : records_after buffers (history_of last.0.service) ≡ records_after buffers (history_of was.service)
+    quiet =
+        sym (ap (λ (v : ServiceView). records_after buffers (history_of v))
+        (laws.told_service_view new.table new.helper.service.seat last.0 last.1 stalled.serves))
+        ∙ stalled.service.quiet buffers
+        ∙ ap (λ (v : ServiceView). records_after buffers (history_of v)) before
 
 -- the read stops in which a write failed
 pub stopped_read : {T W S : Type 0} (means : Meaning T W S) → AreLaws means
@@ -142,8 +152,11 @@ stopped_read {T} {W} {S} means laws number limit old new taken left fault host f
   notes = [];
   world = was;
   plays = (refl, refl);
-  halts = subst (λ (f : HostFault). Halts setup buffers (ReadAll number limit) was f start left) (sym fails.fault_is)
-      (serviced was view, does, fails.part start traced);
+  records = records_after buffers (history_of view);
+  halts = subst (λ (f : HostFault). Halts setup buffers (ReadAll number limit) was f (records_after buffers (history_of view)))
+      (sym fails.fault_is) (serviced was view, does, refl);
+  takes = subst (λ (f : HostFault). TakesRecords f start left (records_after buffers (history_of view))) (sym fails.fault_is)
+      (fails.part start traced);
 }
   where
     setup : Setup

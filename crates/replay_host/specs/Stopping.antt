@@ -5,7 +5,7 @@ use Rattle.byte_io.specs.Bytes.{Intake, after_told, TakesPart}
 use Rattle.trace_base.specs.declared.policy.WriterPolicy.TheVariants as policies
 use Rattle.trace_model.specs.Buffers.{Buffer}
 use Rattle.trace_model.specs.Calls.{Call}
-use Rattle.trace_model.specs.Delivery.{trace_of}
+use Rattle.trace_model.specs.Delivery.{Delivered, trace_of}
 use Rattle.trace_model.specs.History.{buffers_after, records_after}
 use Rattle.chunk_plain.specs.Histories.{history_of}
 use Rattle.chunk_plain.specs.Meaning.{Meaning}
@@ -96,16 +96,21 @@ pub record FailsReading {T W S : Type 0} (means : Meaning T W S) (number limit :
 
 -- ---- where the acts stop
 
--- the act wasn't done in this world: the writer that it asks stalled, or a write failed in its read; what the sink has taken since the
--- start
-abbrev pub Halts : Setup → List Buffer → Act → World → HostFault → (start left : Intake) → Type 0
-Halts setup buffers (Ask place call) world (Stalled writer) start left =
+-- The act wasn't done in this world: the writer that it asks stalled, or a write failed in its read. The records are those of the reads up
+-- to there: where a writer stalled, of those before, since what was taken within the call writes none; and where a write failed, of its read
+-- too, as if that were done whole.
+abbrev pub Halts : Setup → List Buffer → Act → World → HostFault → List Delivered → Type 0
+Halts setup buffers (Ask place call) world (Stalled writer) records =
     (writer ≡ suc place) × (last : World) × StallsIn setup place call world last
-    × (left ≡ after_told start (trace_of (records_after buffers (history_of last.service))))
-Halts setup buffers (ReadAll number limit) world WriteFault start left =
-    (last : World) × Reads setup buffers number limit world last
-    × TakesPart start left (trace_of (records_after buffers (history_of last.service)))
-Halts setup buffers act world fault start left = ⊥
+    × (records ≡ records_after buffers (history_of last.service)) × (records ≡ records_after buffers (history_of world.service))
+Halts setup buffers (ReadAll number limit) world WriteFault records =
+    (last : World) × Reads setup buffers number limit world last × (records ≡ records_after buffers (history_of last.service))
+Halts setup buffers act world fault records = ⊥
+
+-- what the sink has taken since the start: a front part of the records where a write failed, and else all of them and nothing else
+abbrev pub TakesRecords : HostFault → (start left : Intake) → List Delivered → Type 0
+TakesRecords WriteFault start left records = TakesPart start left (trace_of records)
+TakesRecords fault start left records = left ≡ after_told start (trace_of records)
 
 -- the acts before one were played, and it halted
 pub record StopsAt (setup : Setup) (buffers : List Buffer) (acts : List Act) (first : World) (fault : HostFault) (start left : Intake) : Type 0 where
@@ -116,7 +121,9 @@ pub record StopsAt (setup : Setup) (buffers : List Buffer) (acts : List Act) (fi
   pub notes : List FlushNote
   pub world : World
   pub plays : Plays setup buffers done first world notes
-  pub halts : Halts setup buffers act world fault start left
+  pub records : List Delivered
+  pub halts : Halts setup buffers act world fault records
+  pub takes : TakesRecords fault start left records
 
 -- in the world that was told they stopped so, where the sink had taken the trace
 abbrev pub StopsIn : {T W S : Type 0} → Meaning T W S → List Act → Host T W S → (taken : Intake) → HostFault → (left : Intake) → Type 0

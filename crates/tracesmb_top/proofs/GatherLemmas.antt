@@ -4,83 +4,38 @@ use Rattle.std.specs.Prelude.{IfErr, OnOk, OnErr}
 use Rattle.byte_io.specs.Bytes.{Intake, Loan, told, untold, after_told, lent_by, told_bytes, TakesPart, TakesUpTo, HandsOn}
 use Rattle.byte_io.proofs.Lent.{lent_part, handed_on}
 use Rattle.byte_io.proofs.Told.{up_to_end, after_told_nothing}
-use Rattle.trace_model.specs.Buffers.{Buffer}
 use Rattle.trace_model.specs.Delivery.{trace_of}
-use Rattle.trace_model.specs.History.{records_after}
-use Rattle.chunk_plain.specs.Histories.{history_of}
-use Rattle.chunk_plain.specs.Setup.{Setup}
-use Rattle.chunk_plain.specs.World.{World}
 use Rattle.scenario_text.specs.Scenario.{Parts}
-use Rattle.replay_model.specs.Acts.{Act, Ask, Request, Answer, Collect, Scrape, CloseProducer, ReadAll}
 use Rattle.replay_model.specs.Played.{Replays, records_in}
 use Rattle.replay_host.specs.declared.fault.HostFault.{HostFault}
 use Rattle.replay_host.specs.declared.fault.HostFault.TheVariants.{OutOfMemory, WriteFault, Stalled}
 use Rattle.loss_report.specs.declared.counts.Done.{Done}
 use Rattle.replay_host.specs.Replaying.{HasReplayed, HasStopped, EndsEarly}
-use Rattle.replay_host.specs.Stopping.{Halts}
+use Rattle.replay_host.specs.Stopping.{TakesRecords}
 use Rattle.tracesmb_top.specs.Replayed.{TakesSome, Gathers, report_of}
 
--- ---- a stop writes the same bytes, whatever the trace had taken before
+-- ---- a stop writes the same records, whatever the trace had taken before
 
--- the trace took the bytes where a writer stalled, and some of them where a write failed
-abbrev TookBy : HostFault → (old new : Intake) → List ℕ → Type 0
-TookBy WriteFault old new bytes = TakesPart old new bytes
-TookBy other old new bytes = new ≡ after_told old bytes
-
-record HaltsBy (setup : Setup) (buffers : List Buffer) (act : Act) (world : World) (fault : HostFault) (old new : Intake) : Type 0 where
-  bytes : List ℕ
-  took : TookBy fault old new bytes
-  again : (start left : Intake) → TookBy fault start left bytes → Halts setup buffers act world fault start left
-
-halts_by : (setup : Setup) (buffers : List Buffer) (act : Act) (world : World) (fault : HostFault) (old new : Intake)
-    → Halts setup buffers act world fault old new → HaltsBy setup buffers act world fault old new
-halts_by setup buffers (Ask place call) world (Stalled writer) old new halts = record {
-  bytes = trace_of (records_after buffers (history_of halts.1.service));
-  took = halts.3;
-  again = λ start left took. (halts.0, halts.1, halts.2, took);
-}
-halts_by setup buffers (ReadAll number limit) world WriteFault old new halts = record {
-  bytes = trace_of (records_after buffers (history_of halts.0.service));
-  took = halts.2;
-  again = λ start left took. (halts.0, halts.1, took);
-}
-halts_by setup buffers (Ask place call) world WriteFault old new halts = absurd halts
-halts_by setup buffers (Ask place call) world OutOfMemory old new halts = absurd halts
-halts_by setup buffers (ReadAll number limit) world OutOfMemory old new halts = absurd halts
-halts_by setup buffers (ReadAll number limit) world (Stalled writer) old new halts = absurd halts
-halts_by setup buffers Request world fault old new halts = absurd halts
-halts_by setup buffers (Answer place) world fault old new halts = absurd halts
-halts_by setup buffers (Collect producer) world fault old new halts = absurd halts
-halts_by setup buffers (Scrape producer) world fault old new halts = absurd halts
-halts_by setup buffers (CloseProducer producer) world fault old new halts = absurd halts
-
--- the same of a scenario
-record StopsBy (scenario : Parts) (fault : HostFault) (old new : Intake) : Type 0 where
-  bytes : List ℕ
-  took : TookBy fault old new bytes
-  again : (start left : Intake) → TookBy fault start left bytes → HasStopped scenario fault start left
-
-stops_by : (scenario : Parts) (fault : HostFault) (old new : Intake) → HasStopped scenario fault old new → StopsBy scenario fault old new
-stops_by scenario fault old new has =
+stops_again : (scenario : Parts) (fault : HostFault) (old new start left : Intake) (has : HasStopped scenario fault old new)
+    → TakesRecords fault start left has.stops.records → HasStopped scenario fault start left
+stops_again scenario fault old new start left has takes =
     let at = has.stops in
-    let by = halts_by has.setup _ at.act at.world fault old new at.halts in
     record {
-      bytes = by.bytes;
-      took = by.took;
-      again = λ start left took. record {
-        setup = has.setup;
-        setup_is = has.setup_is;
-        stops = record {
-          done = at.done;
-          act = at.act;
-          rest = at.rest;
-          cut = at.cut;
-          notes = at.notes;
-          world = at.world;
-          plays = at.plays;
-          halts = by.again start left took;
-        };
+      setup = has.setup;
+      setup_is = has.setup_is;
+      stops = record {
+        done = at.done;
+        act = at.act;
+        rest = at.rest;
+        cut = at.cut;
+        notes = at.notes;
+        world = at.world;
+        plays = at.plays;
+        records = at.records;
+        halts = at.halts;
+        takes = takes;
       };
+      faithful = has.faithful;
     }
 
 -- ---- what the trace behind an adapter took
@@ -171,16 +126,15 @@ gathered_of scenario (Err OutOfMemory) loan loan' old new waits grown started re
     none_part old new (lent_part loan loan' old new waits [] started grown
     (record { part = []; rest = []; cut = refl; taken = early ∙ sym (after_told_nothing lent) }))
 gathered_of scenario (Err WriteFault) loan loan' old new waits grown started replays early =
-    let by = stops_by scenario WriteFault _ _ early in
+    let bytes = trace_of early.stops.records in
     record {
-      bytes = by.bytes;
-      would = inr (WriteFault, by.again old (after_told old by.bytes) (all_part old by.bytes));
-      part = lent_part loan loan' old new waits by.bytes started grown by.took;
+      bytes = bytes;
+      would = inr (WriteFault, stops_again scenario WriteFault _ _ old (after_told old bytes) early (all_part old bytes));
+      part = lent_part loan loan' old new waits bytes started grown early.stops.takes;
     }
 gathered_of scenario (Err (Stalled writer)) loan loan' old new waits grown started replays early =
-    let by = stops_by scenario (Stalled writer) _ _ early in
-    let handed = lent_all loan loan' old new waits by.bytes grown started by.took in
-    (by.again old (after_told new waits) handed.all, handed.grown)
+    let handed = lent_all loan loan' old new waits (trace_of early.stops.records) grown started early.stops.takes in
+    (stops_again scenario (Stalled writer) _ _ old (after_told new waits) early handed.all, handed.grown)
 
 pub gathered : (scenario : Parts) (result : Result Done HostFault) (loan loan' : Loan) (lent old new : Intake) (waits : List ℕ)
     → lent ≡ lent_by loan (after_told old []) → take (length loan'.start) (told_bytes new) ≡ loan'.start → loan.start ≡ told_bytes old
@@ -225,9 +179,9 @@ passed_part scenario done old new left waits rest gathers passed =
 pub passed_stall_part : (scenario : Parts) (writer : ℕ) (old new left : Intake) (waits rest : List ℕ)
     → Gathers scenario (Err (Stalled writer)) old new waits → TakesUpTo new left waits rest → TakesSome scenario old left
 passed_stall_part scenario writer old new left waits rest gathers passed =
-    let by = stops_by scenario (Stalled writer) _ _ gathers.0 in
+    let bytes = trace_of gathers.0.stops.records in
     record {
-      bytes = by.bytes;
-      would = inr (Stalled writer, by.again old (after_told old by.bytes) refl);
-      part = handed_on old new left by.bytes waits rest (record { all = by.took; grown = gathers.1 }) passed;
+      bytes = bytes;
+      would = inr (Stalled writer, stops_again scenario (Stalled writer) _ _ old (after_told old bytes) gathers.0 refl);
+      part = handed_on old new left bytes waits rest (record { all = gathers.0.stops.takes; grown = gathers.1 }) passed;
     }

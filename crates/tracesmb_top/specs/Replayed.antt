@@ -17,13 +17,15 @@ pub record IsReplayed (text : List ℕ) (old new : Intake) (report : List ℕ) :
   pub scenario_is : scenario_of text ≡ Ok parts
   pub replays : Replays parts old new report
 
--- The text is a scenario, and its replay stopped where a writer stalled: the trace took the records of the reads before.
+-- The text is a scenario, and its replay stopped where a writer stalled: the trace took the records of the reads before, and nothing else.
+-- They are faithful to what the writers emit by all the lines (`HasStopped`).
 pub record IsStalled (text : List ℕ) (writer : ℕ) (old new : Intake) : Type 0 where
   pub parts : Parts
   pub scenario_is : scenario_of text ≡ Ok parts
   pub stops : HasStopped parts (stops.Stalled writer) old new
 
--- what the trace takes of a scenario's replay: all to its end, or all up to a stop
+-- What the trace takes of a scenario's replay: all to its end, or all up to a stop. To its end and up to a stall these are records that are
+-- faithful to what the writers emit by the lines, and up to a write that failed a front part of such records.
 abbrev pub TakesReplay : Parts → (old new : Intake) → Type 0
 TakesReplay scenario old new =
     ((report : List ℕ) × Replays scenario old new report) ⊎ ((fault : HostFault) × HasStopped scenario fault old new)

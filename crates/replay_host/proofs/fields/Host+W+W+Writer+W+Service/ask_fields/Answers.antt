@@ -107,7 +107,7 @@ returns-in_err-ask-clause-stops g c taken =
     if_err_is c.from_residual.result found _ result_is
     (subst (λ (calls : List Call). StopsIn means (asks c.args.place calls) c.args.self.now taken found taken) (sym (calls_all c.args.fields.now before others one whole))
     (stopped_calls means c.args.place (map node_call before) (node_call one ∷ []) (map node_call others) c.args.self.now c.nodes.self taken found taken
-    c.nodes.invariant.asked (stopped_one means laws c.args.place (node_call one) c.nodes.self c.ask.new.self found stalled taken)))
+    c.nodes.invariant.asked (stopped_one means laws c.args.place (node_call one) c.nodes.self c.ask.new.self found c.nodes.invariant.host stalled taken)))
 
 pub returns-clause-asked : goal.returns-clause-asked
 returns-clause-asked g c =

@@ -61,7 +61,7 @@ returns-in_err-ask-clause-stops g c taken =
     let result_is : c.from_residual.result ≡ Err found = search rules in
     if_err_is c.from_residual.result found _ result_is
     (stopped_calls means c.args.place [] (Begun true ∷ []) (fields ++ Finished ∷ []) c.args.self.now c.args.self.now taken found taken
-    (asked_none means c.args.place c.args.self.now) (stopped_one means laws c.args.place (Begun true) c.args.self.now c.ask.new.self found c.in_err-ask.ensures.stalls taken))
+    (asked_none means c.args.place c.args.self.now) (stopped_one means laws c.args.place (Begun true) c.args.self.now c.ask.new.self found c.requires.host c.in_err-ask.ensures.stalls taken))
 
 pub returns-in_err-ask_fields-clause-stops : goal.returns-in_err-ask_fields-clause-stops
 returns-in_err-ask_fields-clause-stops g c taken =
@@ -87,4 +87,4 @@ returns-clause-stops g c taken =
     subst (λ (calls : List Call). StopsIn means (asks c.args.place calls) c.args.self.now taken fault taken) (append-nil (Begun true ∷ fields ++ Finished ∷ []))
     (stopped_calls means c.args.place (Begun true ∷ fields) (Finished ∷ []) [] c.args.self.now c.ask_fields.new.self taken fault taken
     (asked_both means c.args.place (Begun true ∷ []) fields c.args.self.now c.ask.new.self c.ask_fields.new.self c.in_ok-ask.ensures.asked c.in_ok-ask_fields.ensures.asked)
-    (stopped_one means laws c.args.place Finished c.ask_fields.new.self c.ask-2.new.self fault stalled taken)))
+    (stopped_one means laws c.args.place Finished c.ask_fields.new.self c.ask-2.new.self fault c.in_ok-ask_fields.ensures.host stalled taken)))

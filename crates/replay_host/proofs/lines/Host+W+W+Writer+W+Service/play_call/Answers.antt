@@ -39,4 +39,4 @@ returns-clause-stops g c =
     if_err_map c.ask.result _ _ c.ask.ensures.stalls
     (λ fault stalls moment comes taken.
     subst (λ (acts : List Act). StopsIn means acts c.args.self.now taken fault taken) (sym comes.acts)
-    (stopped_one means laws c.args.place (call_of c.args.call) c.args.self.now c.ask.new.self fault stalls taken))
+    (stopped_one means laws c.args.place (call_of c.args.call) c.args.self.now c.ask.new.self fault comes.next.at.going.kept.is_host stalls taken))
