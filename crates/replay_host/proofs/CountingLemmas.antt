@@ -24,6 +24,7 @@ use Rattle.chunk_plain.specs.Views.{ServiceView, WriterView}
 use Rattle.chunk_plain.specs.World.{World, writer}
 use Rattle.trace_writer.specs.declared.writer.WriterCore.{WriterCore}
 use Rattle.trace_writer.specs.Agreement.{counted}
+use Rattle.world_model.proofs.MakingLemmas.{first_long}
 use Rattle.scenario_text.specs.declared.scenario.BufferLine.{BufferLine}
 use Rattle.scenario_text.specs.Scenario.{Parts}
 use Rattle.service_core.specs.declared.service.ServiceCore.{ServiceCore}
@@ -35,7 +36,7 @@ use Rattle.loss_report.specs.Report.{report_text}
 use Rattle.replay_model.specs.Enough.{IsPlayable}
 use Rattle.replay_model.specs.Flushes.{FlushNote, flush_sums}
 use Rattle.replay_model.specs.Played.{IsPlayed, buffer_specs, buffers_of, buffers_in, counts_from, packet_counts, printed, report_of}
-use Rattle.replay_model.proofs.BalanceLemmas.{count_at, every_report_is_balanced, first_long}
+use Rattle.replay_model.proofs.BalanceLemmas.{count_at, every_report_is_balanced}
 use Rattle.replay_model.proofs.PlayedLemmas.{setup_writers}
 use Rattle.replay_host.specs.declared.flushes.Flushes.{Flushes}
 use Rattle.replay_host.specs.declared.host.Host.{Host}

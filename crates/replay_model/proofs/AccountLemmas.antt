@@ -7,7 +7,6 @@ use Rattle.std.proofs.lemmas.Bool.{cases_lt}
 use Rattle.std.proofs.lemmas.List.{length-map}
 use Rattle.std.proofs.lemmas.Option.{same_Some, slice_get-map, slice_get-get_or, slice_get_within}
 use Rattle.trace_base.proofs.Lists.{get_more}
-use Rattle.trace_base.specs.declared.policy.WriterPolicy.TheVariants.{Drops}
 use Rattle.trace_base.specs.declared.policy.WriterSpec.{WriterSpec}
 use Rattle.trace_model.specs.Fragments.{drop_size}
 use Rattle.trace_model.specs.Images.{Image}
@@ -37,6 +36,7 @@ use Rattle.world_model.proofs.MakingLemmas.{only_writers}
 use Rattle.world_model.proofs.FaithfulLemmas.{told_of, order_events}
 use Rattle.world_model.proofs.OwnLemmas.{image_at, elem_at}
 use Rattle.trace_writer.specs.Laws.{IsHeldImage}
+use Rattle.service_core.specs.Agreement.{no_writer}
 use Rattle.service_core.specs.OrderLaws.{HasImages}
 use Rattle.replay_model.specs.Does.{Wrote, is_shut}
 use Rattle.replay_model.specs.Written.{HasWritten}
@@ -213,9 +213,6 @@ module _ (setup : Setup) (world : World) (owned : ∥ IsOwned world ∥₁) (pla
 pub many_writers : (setup : Setup) (world : World) → ∥ IsOwned world ∥₁ → Stands setup world → length world.writers ≡ length setup.writers
 many_writers setup world owned stands = ∥∥₁_elim owned (ℕ_set _ _) (λ (is : IsOwned world). sym is.all_taken ∙ stands.sorted.many)
 
-no_spec : WriterSpec
-no_spec = record { producer = 0; buffer = 0; policy = Drops }
-
 pub standing_is_faithful : (setup : Setup) (buffers : List BufferSpec) (world : World) → ∥ IsOwned world ∥₁ → Stands setup world
     → IsFaithful (map (λ (view : WriterView). emissions_of view.calls) world.writers) (records_after (first_buffers setup 1 buffers) (history_of world.service))
 standing_is_faithful setup buffers world owned stands = record { known = known; told = tells }
@@ -243,8 +240,8 @@ standing_is_faithful setup buffers world owned stands = record { known = known; 
         let same : emissions_of view.calls ≡ packets =
         same_Some (emissions_of view.calls) packets
         (sym (slice_get-map (λ (v : WriterView). emissions_of v.calls) world.writers place ∙ ap (option_map (λ (v : WriterView). emissions_of v.calls)) there) ∙ e) in
-        let spec : WriterSpec = get_or setup.writers place no_spec in
-        let get = slice_get-get_or setup.writers place no_spec within in
+        let spec : WriterSpec = get_or setup.writers place no_writer in
+        let get = slice_get-get_or setup.writers place no_writer within in
         subst (λ (ps : List (List ℕ)). Tells ps (place + 2) (records_of (place + 2) (records_after (first_buffers setup 1 buffers) (history_of world.service)))) same
         (tells_of setup world owned place (stands.wrote place within) stands.sorted within buffers spec get)
 

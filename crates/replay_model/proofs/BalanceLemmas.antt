@@ -24,7 +24,7 @@ use Rattle.chunk_plain.specs.Setup.{Setup, sequence_of, size_of}
 use Rattle.chunk_plain.specs.World.{World, writer}
 use Rattle.chunk_plain.specs.Histories.{history_of}
 use Rattle.world_model.specs.FirstBuffers.{BufferSpec, sequences_from, first_buffers}
-use Rattle.world_model.proofs.MakingLemmas.{set_at}
+use Rattle.world_model.proofs.MakingLemmas.{first_long, set_at}
 use Rattle.scenario_text.specs.declared.scenario.BufferLine.{BufferLine}
 use Rattle.scenario_text.specs.declared.scenario.NumberedLine.{NumberedLine}
 use Rattle.scenario_text.specs.declared.scenario.LineKind.{LineKind}
@@ -163,10 +163,6 @@ pub after_at : (buffers : List Buffer) (events : List Event) (i : ℕ) → i < l
 after_at [] events i low = absurd (omega (arith, low))
 after_at (buffer ∷ buffers) events zero low = refl
 after_at (buffer ∷ buffers) events (suc i) low = after_at buffers events i (omega (arith, low))
-
-pub first_long : (setup : Setup) (n : ℕ) (specs : List BufferSpec) → length (first_buffers setup n specs) ≡ length specs
-first_long setup n [] = refl
-first_long setup n (s ∷ specs) = ap suc (first_long setup (suc n) specs)
 
 -- ---- the counts
 

@@ -39,7 +39,7 @@ use Rattle.chunk_plain.specs.Owned.{IsOwned}
 use Rattle.chunk_plain.specs.Histories.{completed_images, history_of}
 use Rattle.chunk_plain.proofs.MadeLemmas.{first_owned}
 use Rattle.world_model.specs.FirstBuffers.{BufferSpec, payload_at, sequences_from}
-use Rattle.world_model.proofs.MakingLemmas.{set_at}
+use Rattle.world_model.proofs.MakingLemmas.{first_long, set_at}
 use Rattle.world_model.proofs.OwnLemmas.{elem_at, page_of}
 use Rattle.scenario_text.specs.declared.scenario.BufferLine.{BufferLine}
 use Rattle.scenario_text.specs.Scenario.{Parts}
@@ -57,7 +57,7 @@ use Rattle.replay_model.specs.FlushLaws.{begun_in, IsFlushRead, HasSettled, Ever
 use Rattle.replay_model.specs.Plays.{Plays}
 use Rattle.replay_model.specs.Played.{IsSetupOf, buffer_specs, buffers_of, first_buffer}
 use Rattle.replay_model.proofs.AccountLemmas.{account_in, has_written, many_writers}
-use Rattle.replay_model.proofs.BalanceLemmas.{first_at, after_at, first_long, each_is, get_map}
+use Rattle.replay_model.proofs.BalanceLemmas.{first_at, after_at, each_is, get_map}
 use Rattle.replay_model.proofs.EndLemmas.{flush_done}
 use Rattle.replay_model.proofs.FinishLemmas.{HasRead}
 use Rattle.replay_model.proofs.FirstLemmas.{small_payload, first_stands}

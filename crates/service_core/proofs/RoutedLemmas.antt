@@ -16,15 +16,11 @@ use Rattle.chunk_plain.specs.Views.{Taken, ServiceView}
 use Rattle.chunk_plain.specs.Histories.{history_of}
 use Rattle.world_model.specs.FirstBuffers as first
 use Rattle.world_model.specs.FirstBuffers.{sequences_from, first_buffers}
-use Rattle.world_model.proofs.MakingLemmas.{set_at}
+use Rattle.world_model.proofs.MakingLemmas.{first_long, set_at}
 use Rattle.service_core.specs.declared.service.ServiceCore.{ServiceCore}
 use Rattle.service_core.specs.Routing.{buffer_at, IsAt, is_closed_at, arrivals_of}
 use Rattle.service_core.specs.Agreement.{ServiceAgrees, KeepsFields, KeepsRest, spec_value, first_of, spec_at, no_writer, buffer_of, is_closed, IsAgreeing}
 use Rattle.service_core.proofs.RouteLemmas.{length_after, is_at_after, open_after, none_at, NoCloses, closes_none}
-
-first_long : (setup : Setup) (n : ℕ) (specs : List first.BufferSpec) → length (first_buffers setup n specs) ≡ length specs
-first_long setup n [] = refl
-first_long setup n (s ∷ specs) = ap suc (first_long setup (suc n) specs)
 
 first_sequences : (setup : Setup) (n : ℕ) (specs : List first.BufferSpec) (i : ℕ) → i < length specs
     → (buffer_at (first_buffers setup n specs) i).sequences ≡ sequences_from setup (n + i) 0 setup.writers

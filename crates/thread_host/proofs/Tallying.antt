@@ -19,12 +19,13 @@ use Rattle.chunk_words.specs.Closed.{views_of}
 use Rattle.chunk_words.specs.Sits.{known_by}
 use Rattle.loss_report.specs.declared.counts.SequenceCounts.{SequenceCounts}
 use Rattle.loss_report.specs.Report.{report_text}
+use Rattle.world_model.proofs.MakingLemmas.{first_long}
 use Rattle.scenario_text.specs.Scenario.{Parts}
 use Rattle.service_core.specs.Agreement.{first_of, buffer_of, spec_at, spec_value, no_writer}
 use Rattle.service_core.specs.Routing.{buffer_at}
 use Rattle.service_core.proofs.RouteLemmas.{length_after}
 use Rattle.replay_model.specs.Played.{IsSetupOf, buffers_of, buffers_in as buffers_of_world, packet_counts, printed, report_of, AreBalanced}
-use Rattle.replay_model.proofs.BalanceLemmas.{count_at, first_long}
+use Rattle.replay_model.proofs.BalanceLemmas.{count_at}
 use Rattle.replay_model.proofs.PlayedLemmas.{setup_writers}
 use Rattle.replay_host.proofs.CountingLemmas.{left_is, map_each, counts_long, left_in}
 use Rattle.thread_service.specs.declared.service.Service.{Service}

@@ -143,6 +143,11 @@ pub only_writers : (setup : Setup) (n : ℕ) (buffers : List BufferSpec) → Onl
 only_writers setup n [] = tt
 only_writers setup n (buffer ∷ buffers) = ((λ s known. let range = known_range setup n 0 setup.writers s known in let low = range.0 in let high = range.1 in (omega (arith, low), omega (arith, high))), only_writers setup (suc n) buffers)
 
+-- as many buffers as were named
+pub first_long : (setup : Setup) (n : ℕ) (specs : List BufferSpec) → length (first_buffers setup n specs) ≡ length specs
+first_long setup n [] = refl
+first_long setup n (spec ∷ specs) = ap suc (first_long setup (suc n) specs)
+
 -- each sequence is in one buffer, or in none
 pub once_or_none : (setup : Setup) (buffers : List BufferSpec) (q : ℕ)
     → ((b : Buffer) × Once q b (first_buffers setup 1 buffers)) ⊎ Without q (first_buffers setup 1 buffers)
