@@ -147,6 +147,25 @@ fn a_collect_frees_what_a_writer_completed_meanwhile(rt: HostRuntime) -> Result<
 /// Packets of each writer that stalls.
 const MANY: usize = 60;
 
+const FIRST_BEHIND_SECOND: &[u8] =
+    b"buffer 4 ring\nproducer 1 4096 1\nproducer 1 4096 1\nwriter 2 1 drop\nwriter 1 1 drop\np 1 8:1\np 2 8:2\n";
+
+const SECOND_OVERWRITTEN: &[u8] =
+    b"buffer 1 ring bytes 4096 placed 2 rewritten 0 overwritten 1 discarded 0 unpatched 0 padding 0\nsequence 2 begun 1 delivered 1 dropped 0 overwritten 0 discarded 0 cut 0\nsequence 3 begun 1 delivered 0 dropped 0 overwritten 1 discarded 0 cut 0\n";
+
+// The ring has room for one chunk, and the first writer's is taken last: its producer is the second one.
+#[test]
+fn the_end_takes_producers_in_rising_number(rt: HostRuntime) -> Result<(), Fail> {
+    let ran = run(&rt, FIRST_BEHIND_SECOND.to_vec(rt.alloc())?, &OpenGate)?;
+    assert_eq!(rt; ran.status, 0);
+    assert_eq!(rt;
+        ran.trace.taken(),
+        b"\x0A\x07\x40\x01\x50\x02\xD0\x02\x01".as_slice()
+    );
+    assert_eq!(rt; ran.text.taken(), SECOND_OVERWRITTEN);
+    Ok(())
+}
+
 const NONE_LOST: &[u8] =
     b"sequence 2 begun 60 delivered 60 dropped 0 overwritten 0 discarded 0 cut 0\nsequence 3 begun 60 delivered 60 dropped 0 overwritten 0 discarded 0 cut 0\n";
 

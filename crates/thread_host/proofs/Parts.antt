@@ -13,7 +13,6 @@ use Rattle.trace_model.specs.Delivery.{Delivered}
 use Rattle.trace_model.specs.History as model
 use Rattle.trace_model.specs.History.{buffers_after}
 use Rattle.trace_model.specs.Images.{Patch}
-use Rattle.trace_base.specs.declared.policy.WriterSpec.{WriterSpec}
 use Rattle.chunk_plain.specs.Histories.{history_of}
 use Rattle.chunk_plain.specs.Setup.{Setup, producer_of, sequence_of}
 use Rattle.chunk_plain.specs.Views.{Content, Noted, ServiceView}
@@ -83,11 +82,11 @@ rounds_none setup producer (taken ∷ rounds) old new takes sequence =
     rounds_none setup producer rounds takes.0 new takes.2 sequence
     ∙ takes_none setup (places_of producer 0 setup.writers) taken old takes.0 takes.1 sequence
 
-pub takes_out_none : (setup : Setup) (specs : List WriterSpec) (old new : ServiceView) → TakesAllOut setup specs old new → AddsNoPart old new
-takes_out_none setup [] old new takes sequence = ap (λ (v : ServiceView). has_part sequence v.events) takes
-takes_out_none setup (spec ∷ specs) old new takes sequence =
-    takes_out_none setup specs takes.0 new takes.2 sequence
-    ∙ rounds_none setup spec.producer (takes.1.rounds ++ 0 ∷ []) old takes.0 takes.1.takes sequence
+pub takes_out_none : (setup : Setup) (number : ℕ) (old new : ServiceView) → TakesAllOut setup number old new → AddsNoPart old new
+takes_out_none setup zero old new takes sequence = ap (λ (v : ServiceView). has_part sequence v.events) takes
+takes_out_none setup (suc number) old new takes sequence =
+    rounds_none setup (suc number) (takes.2.rounds ++ 0 ∷ []) takes.0 new takes.2.takes sequence
+    ∙ takes_out_none setup number old takes.0 takes.1 sequence
 
 pub closes_to_none : (setup : Setup) (number : ℕ) (old new : ServiceView) → ClosesTo setup number old new → AddsNoPart old new
 closes_to_none setup zero old new closes sequence = ap (λ (v : ServiceView). has_part sequence v.events) closes

@@ -37,7 +37,7 @@ pub struct Settled {
 
 impl Host {
     /// Has all taken that the writers completed. Their seats know what they knew. What the service knows
-    /// grows by rounds that take complete chunks, and by nothing else.
+    /// grows by rounds that take complete chunks, producer by producer in rising number, and by nothing else.
     pub fn settle(self, writers: Vec<TraceWriter>) -> Settled
         requires played { (scenario : Parts) × IsHost scenario self × HavePlayed scenario.lines self.table writers.items }
         ensures settled { (scenario : Parts) → IsHost scenario self → HavePlayed scenario.lines self.table writers.items
@@ -45,7 +45,7 @@ impl Host {
         ensures writers { views_of result.seats.items ≡ map view_in writers.items }
         ensures service { IfSome self.service (λ before. KeepsRest (setup_in self.table)
             (serving.core_of before) (serving.core_of result.service)) }
-        ensures takes { IfSome self.service (λ before. TakesAllOut (setup_in self.table) (setup_in self.table).writers
+        ensures takes { IfSome self.service (λ before. TakesAllOut (setup_in self.table) (length (setup_in self.table).ranges)
             (serving.view_in before) (serving.view_in result.service)) }
         ensures table { result.table ≡ self.table }
         ensures pass { known_by_pass result.pass ≡ known_by_pass self.pass }
@@ -55,7 +55,7 @@ impl Host {
             table,
             service,
             pass,
-            specs,
+            specs: _,
             mut seats,
             producers,
             mut counts,
@@ -70,7 +70,7 @@ impl Host {
             &mut seats,
             &mut counts.sequences,
         );
-        service.settle(&table, &specs);
+        service.settle(&table, producers);
         Settled {
             table,
             service,

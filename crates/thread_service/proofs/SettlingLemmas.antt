@@ -19,7 +19,7 @@ use Rattle.service_core.proofs.AnswerLemmas.{takes_nothing, takes_own}
 use Rattle.service_core.proofs.LookLemmas.{shows_left}
 use Rattle.service_core.proofs.QuietLemmas.{AllBelow}
 use Rattle.service_core.proofs.TakingLemmas.{taken_other}
-use Rattle.thread_service.specs.Settling.{IsSeenOut, TakesRounds, TakesOut, TakesAllOut}
+use Rattle.thread_service.specs.Settling.{AreSeenOut, IsSeenOut, TakesRounds, TakesOut, TakesAllOut}
 
 -- ---- which writers a round is for
 
@@ -128,15 +128,17 @@ pub some_more : (rounds : List ℕ) (taken : ℕ) → All (λ n. 0 < n) rounds �
 some_more rounds taken before some = All-append (λ n. 0 < n) rounds (taken ∷ []) before (All-cons (λ n. 0 < n) taken [] some (All-nil (λ n. 0 < n)))
 
 -- one producer more
-pub all_out_more : (setup : Setup) (specs : List WriterSpec) (spec : WriterSpec) (old mid new : ServiceView) → TakesAllOut setup specs old mid
-    → TakesOut setup spec.producer mid new → TakesAllOut setup (specs ++ spec ∷ []) old new
-all_out_more setup [] spec old mid new same takes = (new, subst (λ (v : ServiceView). TakesOut setup spec.producer v new) same takes, refl)
-all_out_more setup (one ∷ specs) spec old mid new before takes = (before.0, before.1, all_out_more setup specs spec before.0 mid new before.2 takes)
+pub all_out_more : (setup : Setup) (number : ℕ) (old mid new : ServiceView) → TakesAllOut setup number old mid → TakesOut setup (number + 1) mid new
+    → TakesAllOut setup (number + 1) old new
+all_out_more setup number old mid new before takes =
+    let more : suc number ≡ number + 1 = omega arith in
+    let all : TakesAllOut setup (suc number) old new = (mid, before, subst (λ (n : ℕ). TakesOut setup n mid new) (sym more) takes) in
+    subst (λ (n : ℕ). TakesAllOut setup n old new) more all
 
-pub all_out_own : (setup : Setup) (specs : List WriterSpec) (old new : ServiceView) → TakesAllOut setup specs old new → new.commits ≡ old.commits
-all_out_own setup [] old new same = ap (λ (v : ServiceView). v.commits) same
-all_out_own setup (spec ∷ specs) old new takes =
-    all_out_own setup specs takes.0 new takes.2 ∙ (rounds_look setup spec.producer (takes.1.rounds ++ 0 ∷ []) old takes.0 takes.1.takes).own
+pub all_out_own : (setup : Setup) (number : ℕ) (old new : ServiceView) → TakesAllOut setup number old new → new.commits ≡ old.commits
+all_out_own setup zero old new same = ap (λ (v : ServiceView). v.commits) same
+all_out_own setup (suc number) old new takes =
+    (rounds_look setup (suc number) (takes.2.rounds ++ 0 ∷ []) takes.0 new takes.2.takes).own ∙ all_out_own setup number old takes.0 takes.1
 
 -- ---- what a round that takes nothing shows
 
@@ -210,22 +212,17 @@ pub round_shows : (setup : Setup) (producer : ℕ) (old new : ServiceView) → T
 round_shows setup producer old new takes some below place inside own =
     seen_each setup (places_of producer 0 setup.writers) 0 old new takes refl some below place (is_in producer 0 setup.writers place place inside (omega arith) own)
 
--- of one writer more, where the chunks of its producer were taken
-pub seen_next : (setup : Setup) (since places producer : ℕ) (old new : ServiceView) → since ≤ length old.looks → ((place : ℕ) → place < places → IsSeenOut setup since place old)
-    → LooksOn setup producer old new
-    → ((place : ℕ) → place < length setup.writers → producer_of setup place ≡ producer → IsSeenOut setup (length old.looks) place new)
-    → places < length setup.writers → producer_of setup places ≡ producer → (place : ℕ) → place < places + 1 → IsSeenOut setup since place new
-seen_next setup since places producer old new order before takes seen inside own place below = by_case (cases_eq (producer_of setup place) producer)
+-- of the writers of one producer more, where its chunks were taken
+pub seen_next : (setup : Setup) (since number : ℕ) (old new : ServiceView) → since ≤ length old.looks → AreSeenOut setup since number old
+    → LooksOn setup (number + 1) old new
+    → ((place : ℕ) → place < length setup.writers → producer_of setup place ≡ number + 1 → IsSeenOut setup (length old.looks) place new)
+    → AreSeenOut setup since (number + 1) new
+seen_next setup since number old new order before takes seen place inside below = by_case (cases_eq (producer_of setup place) (number + 1))
   where
-    by_case : (producer_of setup place ≡ producer) ⊎ (producer_of setup place ≡ producer → ⊥) → IsSeenOut setup since place new
-    by_case (inl same) = seen_since setup since (length old.looks) place new order (seen place (omega (arith, below, inside)) same)
+    by_case : (producer_of setup place ≡ number + 1) ⊎ (producer_of setup place ≡ number + 1 → ⊥) → IsSeenOut setup since place new
+    by_case (inl same) = seen_since setup since (length old.looks) place new order (seen place inside same)
     by_case (inr other) =
-        let earlier : place < places = by_place (cases_eq place places) in
-        seen_more setup since place old new takes.looks (before place earlier) takes.more (takes.others place other)
-      where
-        by_place : (place ≡ places) ⊎ (place ≡ places → ⊥) → place < places
-        by_place (inl here) = absurd (other (ap (producer_of setup) here ∙ own))
-        by_place (inr apart) = omega (arith, below, apart)
+        seen_more setup since place old new takes.looks (before place inside (omega (arith, below, other))) takes.more (takes.others place other)
 
 -- ---- what writers told
 

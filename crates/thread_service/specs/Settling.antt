@@ -1,7 +1,6 @@
 -- What the service has taken of what writers told it, once they are done.
-use Rattle.std.specs.Prelude.{◌≡◌, ℕ, ◌<◌, ◌≤◌, ◌⊎◌, List, [], ◌∷◌, ◌++◌, length}
+use Rattle.std.specs.Prelude.{◌≡◌, ℕ, zero, suc, ◌<◌, ◌≤◌, ◌⊎◌, List, [], ◌∷◌, ◌++◌, length}
 use Rattle.std.specs.List.{All}
-use Rattle.trace_base.specs.declared.policy.WriterSpec.{WriterSpec}
 use Rattle.chunk_plain.specs.declared.tokens.TheConstants.{ID_LIMIT}
 use Rattle.chunk_plain.specs.Setup.{Setup, producer_of, IsChunkOf}
 use Rattle.chunk_plain.specs.Views.{At, BegunChunk, chunk_of, Completed, Content, Look, ServiceView, taken_of}
@@ -17,9 +16,9 @@ pub record IsSeenOut (setup : Setup) (since place : ℕ) (view : ServiceView) : 
   pub late : since ≤ length before
   pub none : ShowNone setup (producer_of setup place) place (taken_of view place).count looks ⊎ (ID_LIMIT ≤ (taken_of view place).count)
 
--- the writers of the table from the first one up to this place
-abbrev pub AreSeenOut : Setup → (since places : ℕ) → ServiceView → Type 0
-AreSeenOut setup since places view = (place : ℕ) → place < places → IsSeenOut setup since place view
+-- each writer of the producers up to this number
+abbrev pub AreSeenOut : Setup → (since number : ℕ) → ServiceView → Type 0
+AreSeenOut setup since number view = (place : ℕ) → place < length setup.writers → producer_of setup place ≤ number → IsSeenOut setup since place view
 
 -- Rounds for the producer's writers, one after another: each took so many complete chunks of them as its number says, and nothing else
 -- became known.
@@ -35,11 +34,10 @@ pub record TakesOut (setup : Setup) (producer : ℕ) (old new : ServiceView) : T
   pub some : All (λ taken. 0 < taken) rounds
   pub takes : TakesRounds setup producer (rounds ++ 0 ∷ []) old new
 
--- such rounds for the producer of each of these writers, one writer after another, and nothing else
-abbrev pub TakesAllOut : Setup → List WriterSpec → ServiceView → ServiceView → Type 0
-TakesAllOut setup [] old new = new ≡ old
-TakesAllOut setup (spec ∷ specs) old new = (between : ServiceView) × TakesOut setup spec.producer old between
-    × TakesAllOut setup specs between new
+-- such rounds for the producers up to this number, in rising number, and nothing else
+abbrev pub TakesAllOut : Setup → (number : ℕ) → ServiceView → ServiceView → Type 0
+TakesAllOut setup zero old new = new ≡ old
+TakesAllOut setup (suc number) old new = (between : ServiceView) × TakesAllOut setup number old between × TakesOut setup (suc number) between new
 
 -- A tale of all that a writer has begun: each chunk is complete and of its producer, and the service has looked so often since.
 pub record IsWholeTale (setup : Setup) (view : ServiceView) (tale : Tale) : Type 0 where

@@ -11,7 +11,6 @@ ghost use Rattle.thread_service.specs.Settling.{AreSeenOut, IsSeenOut, IsWholeTa
 
 use crate::service::Service;
 use chunk_words::HostTable;
-use trace_base::policy::WriterSpec;
 
 impl Service {
     /// Takes the complete chunks of the producer's writers, round by round, until a round finds none.
@@ -30,40 +29,38 @@ impl Service {
         }
     }
 
-    /// The same for the producers of all writers.
-    fn collect_all_out(&mut self, table: &HostTable, writers: &[WriterSpec])
+    /// The same for the producers up to this number, in rising number.
+    fn collect_all_out(&mut self, table: &HostTable, producers: u16)
         requires serves { Serves table.now self.old }
-        requires writers { writers.now ≡ (setup_in table.now).writers }
         requires open { (place : ℕ) → place < length (setup_in table.now).writers
             → is_closed (setup_in table.now) (core_of self.old) place ≡ false }
         ensures serves { Serves table.now self.new }
         ensures keeps { KeepsRest (setup_in table.now) (core_of self.old) (core_of self.new) }
         ensures desk { desk_in self.new ≡ desk_in self.old }
-        ensures takes { TakesAllOut (setup_in table.now) (setup_in table.now).writers (view_in self.old) (view_in self.new) }
-        ensures seen { AreSeenOut (setup_in table.now) (length (view_in self.old).looks) (length (setup_in table.now).writers)
-            (view_in self.new) }
+        ensures takes { TakesAllOut (setup_in table.now) producers (view_in self.old) (view_in self.new) }
+        ensures seen { AreSeenOut (setup_in table.now) (length (view_in self.old).looks) producers (view_in self.new) }
     {
-        'writers: for place in 0..writers.len() {
-            self.collect_out(table, writers[place].producer);
+        'producers: for index in 0..producers {
+            self.collect_out(table, index + 1);
         }
     }
 
-    /// Takes all that the writers told of, where they told of all that they had begun. What is written
-    /// meanwhile may be taken too; but taking is all that it does.
-    pub fn settle(&mut self, table: &HostTable, writers: &[WriterSpec])
+    /// Takes all that the writers told of, where they told of all that they had begun, producer by producer
+    /// in rising number. What is written meanwhile may be taken too; but taking is all that it does.
+    pub fn settle(&mut self, table: &HostTable, producers: u16)
         requires serves { Serves table.now self.old }
-        requires writers { writers.now ≡ (setup_in table.now).writers }
+        requires producers { producers ≡ length (setup_in table.now).ranges }
         requires open { (place : ℕ) → place < length (setup_in table.now).writers
             → is_closed (setup_in table.now) (core_of self.old) place ≡ false }
         ensures serves { Serves table.now self.new }
         ensures keeps { KeepsRest (setup_in table.now) (core_of self.old) (core_of self.new) }
         ensures desk { desk_in self.new ≡ desk_in self.old }
         ensures own { (view_in self.new).commits ≡ (view_in self.old).commits }
-        ensures takes { TakesAllOut (setup_in table.now) (setup_in table.now).writers (view_in self.old) (view_in self.new) }
+        ensures takes { TakesAllOut (setup_in table.now) (length (setup_in table.now).ranges) (view_in self.old) (view_in self.new) }
         ensures taken { (i : ℕ) (tale : Tale) → At (desk_in self.old).told i tale → IsWholeTale (setup_in table.now) (view_in self.old) tale
             → length tale.begun ≤ (taken_of (view_in self.new) tale.place).count }
     {
-        self.collect_all_out(table, writers);
+        self.collect_all_out(table, producers);
         self.recall(table);
     }
 }

@@ -29,8 +29,8 @@ pub returns-clause-takes : goal.returns-clause-takes
 returns-clause-takes c =
     let setup = setup_in c.args.self.table in
     let last : Service = c.settle.new.self in
-    subst (λ (o : Option Service). IfSome o (λ before. TakesAllOut setup setup.writers (serving.view_in before) (serving.view_in last))) (sym c.in-Some.is)
-    (subst (λ (v : ServiceView). TakesAllOut setup setup.writers v (serving.view_in last)) c.end_writers.ensures.view c.settle.ensures.takes)
+    subst (λ (o : Option Service). IfSome o (λ before. TakesAllOut setup (length setup.ranges) (serving.view_in before) (serving.view_in last))) (sym c.in-Some.is)
+    (subst (λ (v : ServiceView). TakesAllOut setup (length setup.ranges) v (serving.view_in last)) c.end_writers.ensures.view c.settle.ensures.takes)
 
 pub returns-clause-settled : goal.returns-clause-settled
 returns-clause-settled c scenario host played =
@@ -53,7 +53,7 @@ returns-clause-settled c scenario host played =
       laid = host.laid;
       producers = host.producers;
       served = served_on scenario table first last was settles.serves keeps (settles.own ∙ ap (λ v. v.commits) ends.view)
-          (λ sequence. takes_out_none (setup_in table) (setup_in table).writers (serving.view_in mid) (serving.view_in last) settles.takes sequence
+          (λ sequence. takes_out_none (setup_in table) (length (setup_in table).ranges) (serving.view_in mid) (serving.view_in last) settles.takes sequence
           ∙ ap (λ (v : ServiceView). has_part sequence v.events) ends.view);
       many = ends.many;
       done = subst (λ (xs : List SequenceCounts). AreDoneSeats scenario.lines table seats xs)

@@ -1,5 +1,5 @@
 -- The looks that each writer's rounds end with are made since it told, and show all that it told of.
-use Rattle.std.proofs.Common.{◌∙◌, length, sym, ap, subst}
+use Rattle.std.proofs.Common.{◌∙◌, ℕ, length, sym, ap, subst, arith}
 use Rattle.chunk_plain.specs.Views.{At, Completed, ServiceView, taken_of}
 use Rattle.chunk_words.specs.Knows.{Desk}
 use Rattle.chunk_words.specs.Sits.{setup_in}
@@ -12,12 +12,13 @@ pub returns-clause-own : goal.returns-clause-own
 returns-clause-own c =
     let setup = setup_in c.args.table.now in
     ap (λ (v : ServiceView). v.commits) c.recall.ensures.view
-    ∙ all_out_own setup setup.writers (view_in c.args.self.now) (view_in c.collect_all_out.new.self) c.collect_all_out.ensures.takes
+    ∙ all_out_own setup c.args.producers (view_in c.args.self.now) (view_in c.collect_all_out.new.self) c.collect_all_out.ensures.takes
 
 pub returns-clause-takes : goal.returns-clause-takes
 returns-clause-takes c =
     let setup = setup_in c.args.table.now in
-    subst (λ (v : ServiceView). TakesAllOut setup setup.writers (view_in c.args.self.now) v) (sym c.recall.ensures.view) c.collect_all_out.ensures.takes
+    subst (λ (v : ServiceView). TakesAllOut setup (length setup.ranges) (view_in c.args.self.now) v) (sym c.recall.ensures.view)
+    (subst (λ (n : ℕ). TakesAllOut setup n (view_in c.args.self.now) (view_in c.collect_all_out.new.self)) c.requires.producers c.collect_all_out.ensures.takes)
 
 pub returns-clause-taken : goal.returns-clause-taken
 returns-clause-taken c i tale told whole =
@@ -25,7 +26,10 @@ returns-clause-taken c i tale told whole =
     let old = view_in c.args.self.now in
     let view = view_in c.recall.new.self in
     let same = c.recall.ensures.desk ∙ c.collect_all_out.ensures.desk in
-    let seen = subst (λ (v : ServiceView). IsSeenOut setup (length old.looks) tale.place v) (sym c.recall.ensures.view) (c.collect_all_out.ensures.seen tale.place whole.inside) in
+    let most = (c.requires.serves.agrees.routed.producers tale.place whole.inside).most in
+    let many = c.requires.producers in
+    let seen = subst (λ (v : ServiceView). IsSeenOut setup (length old.looks) tale.place v) (sym c.recall.ensures.view)
+    (c.collect_all_out.ensures.seen tale.place whole.inside (omega (arith, most, many))) in
     told_out setup (length old.looks) i view (desk_in c.recall.new.self) tale c.recall.ensures.shown
     (subst (λ (d : Desk). At d.told i tale) (sym same) told) whole.heard seen whole.complete
     (λ chunk content at. whole.own (taken_of view tale.place).count (Completed chunk content) at) whole.few
