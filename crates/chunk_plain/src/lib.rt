@@ -1,8 +1,8 @@
 //! The chunks of shared memory pages as writers and the service use them, and the table of one
 //! thread. A writer claims a chunk, begins it, writes into its body and completes it; the service
 //! takes it and gives it back. A layer above may rely on this: each call of the trait `Words` makes
-//! one step on its seat's view and leaves every other view, and between two calls each chunk is
-//! owned by exactly one seat, or waits for the service whole, as its writer completed it.
+//! one step on its seat's view and leaves every other view, and between two calls each chunk is free,
+//! or owned by exactly one seat, or waits for the service whole, as its writer completed it.
 #![tactic(auto)]
 
 pub mod bytes;

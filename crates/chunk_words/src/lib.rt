@@ -1,8 +1,8 @@
 //! The table of chunks that threads share: the words of all pages, the header words and the payload
 //! words of all chunks in one table of atomic words, beside a slot for each chunk's body. Each writer
 //! and the service have a seat, with which they step on it. A layer above may rely on this: between
-//! any two steps of any number of threads each chunk is owned by exactly one seat, or waits for the
-//! service whole, as its writer completed it.
+//! any two steps of any number of threads each chunk is free, or owned by exactly one seat, or waits
+//! for the service whole, as its writer completed it.
 #![tactic(auto)]
 
 mod close;

@@ -8,6 +8,7 @@
 mod laws;
 
 pub use laws::{
-    accounts_are_histories, every_ask_is_counted, every_history_tells, every_packet_is_delivered,
-    every_writer_is_told, worked_account, worked_enough,
+    accounts_are_histories, every_ask_is_counted, every_flush_is_settled, every_history_tells,
+    every_outcome_stays, every_packet_is_delivered, every_writer_is_told, worked_account,
+    worked_enough,
 };

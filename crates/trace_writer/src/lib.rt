@@ -28,5 +28,7 @@ mod writer;
 pub use fault::{Begun, CallFault};
 pub use helper::{HelperOn, NoHelp};
 pub use ids::PACKET_IDS;
-pub use laws::{agreeing_is_cut, drops_never_stall, held_is_published, newest_is_held};
+pub use laws::{
+    agreeing_is_cut, drops_never_stall, held_is_published, newest_is_held, nothing_is_kept_back,
+};
 pub use writer::WriterCore;

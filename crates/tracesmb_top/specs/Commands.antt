@@ -57,7 +57,7 @@ Wrote Replay given old new report = IsReplayed given old new report
 Wrote Run given old new report = IsRanBy given old new report
 Wrote other given old new report = WroteBytes other given old new × (report ≡ [])
 
--- A write of the trace failed, and it took a front part of what the command writes.
+-- The trace took a front part of what the command writes.
 abbrev pub WrotePart : Command → (given : List ℕ) → (old new : Intake) → Type 0
 WrotePart Replay given old new = IsCutShort given old new
 WrotePart Run given old new = IsRanShort given old new

@@ -65,7 +65,7 @@ pub record TakesSomeRun (scenario : Parts) (old new : Intake) : Type 0 where
   pub would : ((report : List ℕ) × Runs scenario old (after_told old bytes) report) ⊎ FailsRun scenario old (after_told old bytes)
   pub part : TakesPart old new bytes
 
--- The text is a scenario for threads, and a write of its trace failed.
+-- The text is a scenario for threads, and the trace took a front part of what its run writes.
 pub record IsRanShort (text : List ℕ) (old new : Intake) : Type 0 where
   pub parts : Parts
   pub for_threads : IsForThreads text parts

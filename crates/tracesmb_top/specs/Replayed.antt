@@ -36,7 +36,7 @@ pub record TakesSome (scenario : Parts) (old new : Intake) : Type 0 where
   pub would : TakesReplay scenario old (after_told old bytes)
   pub part : TakesPart old new bytes
 
--- The text is a scenario, and a write of its trace failed.
+-- The text is a scenario, and the trace took a front part of what its replay writes.
 pub record IsCutShort (text : List ℕ) (old new : Intake) : Type 0 where
   pub parts : Parts
   pub scenario_is : scenario_of text ≡ Ok parts
