@@ -2,6 +2,7 @@ pub mod Noted
 pub mod Reads
 pub mod Vain
 pub mod Scraped
+pub mod Collected
 pub mod Settled
 pub mod Stopped
 pub mod Runs

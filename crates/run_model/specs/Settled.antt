@@ -25,6 +25,7 @@ use Rattle.service_core.specs.Taking.{noted_more}
 use Rattle.replay_model.specs.Does.{is_shut}
 use Rattle.replay_model.specs.Played.{IsSetupOf, buffers_of}
 use Rattle.schedule_laws.specs.Resting.{IsBetweenCalls}
+use Rattle.run_model.specs.Collected.{IsTakenBy}
 use Rattle.run_model.specs.Noted.{done_calls}
 use Rattle.run_model.specs.Reads.{GoesByReads}
 use Rattle.run_model.specs.Scraped.{ScrapedByLines}
@@ -74,13 +75,15 @@ ReadsTo setup first (suc number) reads old new =
     × (let here = reads_in setup (buffers_after first (history_of between)) (suc number) last_count in
     (reads ≡ earlier ++ here) × (new ≡ noted_more between (flat_map noted_read here)))
 
--- All was done and taken, and then each producer closed. The reads until then are those of the read lines in their order, each by what its
--- buffer held when the line was played.
+-- All was done and taken, and then each producer closed. Nothing of a producer that no line collects or scrapes, and none of whose writers
+-- stalls, was taken before the threads were done, and what was left then was taken producer by producer in rising number. The reads until
+-- then are those of the read lines in their order, each by what its buffer held when the line was played.
 pub record HasClosedAll (scenario : Parts) (setup : Setup) (world : World) : Type 0 where
   pub done : HasDoneAll scenario setup world true
   -- the service once all was taken, and once all sequences were closed
   pub settled : ServiceView
   pub closed : ServiceView
+  pub taken_by : IsTakenBy setup scenario.lines settled
   pub whole : (place : ℕ) → place < length setup.writers → (taken_of settled place).count ≡ length (writer world place).begun
   pub opened : (place : ℕ) → place < length setup.writers → is_shut (sequence_of place) settled.events ≡ false
   pub closes : ClosesTo setup (length setup.ranges) settled closed
@@ -91,8 +94,10 @@ pub record HasClosedAll (scenario : Parts) (setup : Setup) (world : World) : Typ
 
 -- The scenario was run, and all is settled. Its writers and its service are those of one owned world. Each writer has done its lines, and
 -- all that it completed was taken. What was noted on each sequence is in order, and finished fragments of a chunk before it was complete
--- only where a line scrapes the writer's producer. The reads are those of the read lines in their order, each by what its buffer held when
--- the line was played, and then those of the end, where each producer is closed and then each buffer read without limit.
+-- only where a line scrapes the writer's producer. Nothing of a producer that no line collects or scrapes, and none of whose writers
+-- stalls, was taken before the threads were done, and what was left then was taken producer by producer in rising number. The reads are
+-- those of the read lines in their order, each by what its buffer held when the line was played, and then those of the end, where each
+-- producer is closed and then each buffer read without limit.
 pub record IsRun (scenario : Parts) (setup : Setup) (world : World) : Type 0 where
   pub before : HasClosedAll scenario setup world
   -- those of the end

@@ -15,12 +15,16 @@ use Rattle.service_core.specs.Reading.{noted_read}
 use Rattle.service_core.specs.Taking.{noted_more}
 use Rattle.replay_model.specs.Played.{buffers_of}
 use Rattle.thread_service.specs.Reading.{GoesUnread}
+use Rattle.run_model.specs.Collected.{IsTakenBy}
 use Rattle.run_model.specs.Reads.{GoesUpTo, ReadsUpTo}
 use Rattle.run_model.specs.Settled.{HasDoneAll, HasClosedAll, ReadsTo}
 
--- A write failed in the reads of the lines: they went as far as this record, and nothing was read behind that. No sequence is closed.
+-- A write failed in the reads of the lines: they went as far as this record, and nothing was read behind that. No sequence is closed. Nothing
+-- of a producer that no line collects or scrapes, and none of whose writers stalls, was taken before the threads were done, and what was
+-- left then was taken producer by producer in rising number.
 pub record StopsInLines (scenario : Parts) (setup : Setup) (world : World) (next : Delivered) : Type 0 where
   pub done : HasDoneAll scenario setup world false
+  pub taken_by : IsTakenBy setup scenario.lines world.service
   pub stopped : List model.Event
   pub reads : GoesUpTo setup (buffers_of scenario setup) scenario.lines [] stopped next
   pub goes : GoesUnread stopped (history_of world.service)

@@ -115,6 +115,7 @@ module _ (scenario : Parts) (settled : Settled) (is : IsSettled scenario settled
         done = done_all scenario settled is final ending.serves rises own no_part account taken true (closed_here scenario settled closed final is ending.all_closed ending.keeps);
         settled = view_in settled.service;
         closed = view_in closed;
+        taken_by = is.taken_by;
         whole = whole_here scenario settled is final ending.serves rises own no_part account taken;
         opened = opened_here scenario settled is;
         closes = subst (λ (n : ℕ). ClosesTo setup n (view_in settled.service) (view_in closed)) is.producers ending.closes;

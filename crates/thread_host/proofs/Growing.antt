@@ -11,6 +11,7 @@ use Rattle.service_core.specs.declared.service.ServiceCore.{ServiceCore}
 use Rattle.service_core.specs.Reading.{ReadsAll, FailsAmong}
 use Rattle.service_core.specs.Scraping.{TakesAndScrapes}
 use Rattle.service_core.specs.Taking.{Takes, places_of}
+use Rattle.run_model.specs.Collected.{may_be_collected}
 use Rattle.run_model.specs.Scraped.{is_scraped_by}
 use Rattle.thread_service.proofs.PassLemmas.{some_noted}
 use Rattle.thread_host.specs.Growing.{Grows, GrowsBy, GrowsOnce}
@@ -29,8 +30,9 @@ pub grows_none : (setup : Setup) (lines : List NumberedLine) (view : ServiceView
 grows_none setup lines view = ∣ ([], refl) ∣₁
 
 pub collect_grows : (setup : Setup) (lines : List NumberedLine) (producer taken : ℕ) (old mid new : ServiceView)
-    → Takes setup (places_of producer 0 setup.writers) taken mid new → Grows setup lines old mid → Grows setup lines old new
-collect_grows setup lines producer taken old mid new takes = grows_more setup lines old mid new (inl (producer, taken, takes))
+    → may_be_collected setup lines producer ≡ true → Takes setup (places_of producer 0 setup.writers) taken mid new → Grows setup lines old mid
+    → Grows setup lines old new
+collect_grows setup lines producer taken old mid new asked takes = grows_more setup lines old mid new (inl (producer, taken, asked, takes))
 
 pub scrape_grows : (setup : Setup) (lines : List NumberedLine) (producer taken : ℕ) (old mid new : ServiceView) → is_scraped_by lines producer ≡ true
     → TakesAndScrapes setup producer taken mid new → Grows setup lines old mid → Grows setup lines old new

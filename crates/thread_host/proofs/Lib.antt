@@ -3,6 +3,7 @@ pub mod InVain
 pub mod Telling
 pub mod Hosting
 pub mod Parts
+pub mod Collected
 pub mod Growing
 pub mod Made
 pub mod Seating

@@ -4,13 +4,15 @@ use Rattle.std.specs.Prelude.{if◌then◌else◌}
 use Rattle.std.proofs.lemmas.Option.{slice_get_within}
 use Rattle.trace_base.specs.declared.policy.WriterSpec.{WriterSpec}
 use Rattle.trace_model.specs.Calls.{Call, Flushed}
+use Rattle.scenario_text.specs.declared.scenario.NumberedLine.{NumberedLine}
 use Rattle.scenario_text.specs.declared.scenario.Scenario.{Scenario}
 use Rattle.scenario_text.specs.Accepted.{calls_asked}
 use Rattle.scenario_text.specs.Scenario.{IsScenario, Parts, parts_of}
 use Rattle.scenario_text.proofs.ShortLemmas.{scenario_is_short}
 use Rattle.chunk_plain.specs.Plain.{first_world}
-use Rattle.chunk_plain.specs.Setup.{sequence_of}
-use Rattle.chunk_plain.specs.Views.{At, ServiceView, WriterView, newcomer}
+use Rattle.chunk_plain.specs.Setup.{Setup, sequence_of}
+use Rattle.chunk_plain.specs.Views.{At, ServiceView, WriterView, newcomer, taken_of}
+use Rattle.run_model.specs.Collected.{CollectedByLines}
 use Rattle.run_model.specs.Scraped.{has_part}
 use Rattle.chunk_words.specs.declared.host.HostTable.{HostTable}
 use Rattle.chunk_words.specs.declared.seats.WriterSeat.{WriterSeat}
@@ -20,6 +22,7 @@ use Rattle.trace_buffer.specs.declared.answers.BufferSpec.{BufferSpec}
 use Rattle.service_core.specs.Agreement.{is_closed, spec_at, spec_value}
 use Rattle.replay_host.specs.Asking.{IsReadyFor}
 use Rattle.replay_host.specs.Making.{buffer_asked}
+use Rattle.replay_host.proofs.BuiltLemmas.{unused}
 use Rattle.replay_host.proofs.MadeLemmas.{all_ready}
 use Rattle.replay_host.proofs.MakingLemmas.{asked_values}
 use Rattle.replay_host.proofs.SetUpLemmas.{asks_well}
@@ -81,6 +84,11 @@ is_served scenario table service serves laid opened buffers view = record {
   own = ap (λ (v : ServiceView). v.commits) view;
   scraped = λ place below other. ap (λ (v : ServiceView). has_part (sequence_of place) v.events) view;
 }
+
+-- nothing was taken yet
+pub nothing_collected : (setup : Setup) (lines : List NumberedLine) (view : ServiceView) → view ≡ (first_world setup).service → CollectedByLines setup lines view
+nothing_collected setup lines view is place below nobody =
+    ap (λ (v : ServiceView). (taken_of v place).count) is ∙ (unused setup).none_taken place
 
 -- ---- seats
 

@@ -150,7 +150,7 @@ none_scraped setup lines old new none scraped place inside other = none (sequenc
 once_scraped : (setup : Setup) (lines : List NumberedLine) (old new : ServiceView) → GrowsOnce setup lines old new → ScrapedByLines setup lines old
     → ScrapedByLines setup lines new
 once_scraped setup lines old new (inl collect) scraped =
-    none_scraped setup lines old new (takes_none setup (places_of collect.0 0 setup.writers) collect.1 old new collect.2) scraped
+    none_scraped setup lines old new (takes_none setup (places_of collect.0 0 setup.writers) collect.1 old new collect.3) scraped
 once_scraped setup lines old new (inr (inl scrape)) scraped =
     λ place inside other.
     scrape_apart setup scrape.0 scrape.1 place old new scrape.3

@@ -98,5 +98,6 @@ module _ (scenario : Parts) (settled : Settled) (is : IsSettled scenario settled
     service = refl;
     account = account;
     done = done_all scenario settled is settled.service is.served.serves same_count is.served.own (λ sequence. refl) account taken false is.served.opened;
+    taken_by = is.taken_by;
     goes = goes_unread (known_by_pass settled.pass) (view_in settled.service) is.known goes;
   }

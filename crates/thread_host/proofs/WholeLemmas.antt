@@ -87,6 +87,7 @@ module _ (faithful : EveryStoppedRunIsFaithful) (scenario : Parts) (settled : Se
       let world = left.world in
       let run : StopsInLines scenario setup world fails.next = record {
         done = left.done;
+        taken_by = left.taken_by;
         stopped = history_of known;
         reads = subst (λ (history : List model.Event). GoesUpTo setup buffers scenario.lines history (history_of known) fails.next) unread fails.reads;
         goes = left.goes;

@@ -20,6 +20,7 @@ use Rattle.service_core.specs.Reading.{noted_read}
 use Rattle.replay_host.specs.declared.fault.HostFault.{HostFault}
 use Rattle.replay_host.specs.declared.fault.HostFault.TheVariants.{OutOfMemory, WriteFault, Stalled}
 use Rattle.replay_model.specs.Played.{buffers_of, records_in, packet_counts, report_of, AreBalanced}
+use Rattle.run_model.specs.Collected.{IsTakenBy}
 use Rattle.run_model.specs.Reads.{GoesByReads}
 use Rattle.run_model.specs.Runs.{FailsRun, Runs}
 use Rattle.run_model.specs.Settled.{HasDoneAll, IsRun, ClosesTo, ReadsTo}
@@ -108,6 +109,7 @@ pub record HasLetGo (scenario : Parts) (settled : Settled) : Type 0 where
   pub service : world.service ≡ view_in settled.service
   pub account : IsAccount world.writers world.service
   pub done : HasDoneAll scenario (setup_in settled.table) world false
+  pub taken_by : IsTakenBy (setup_in settled.table) scenario.lines world.service
   pub goes : GoesUnread (history_of (known_by_pass settled.pass)) (history_of world.service)
 
 -- the scenario was run, and these are the counts of its report

@@ -8,13 +8,15 @@ use Rattle.scenario_text.specs.declared.scenario.NumberedLine.{NumberedLine}
 use Rattle.service_core.specs.Reading.{noted_read}
 use Rattle.service_core.specs.Scraping.{TakesAndScrapes}
 use Rattle.service_core.specs.Taking.{Takes, noted_more, places_of}
+use Rattle.run_model.specs.Collected.{may_be_collected}
 use Rattle.run_model.specs.Scraped.{is_scraped_by}
 
--- Complete chunks of a producer's writers were taken.
-abbrev pub IsCollect : Setup → ServiceView → ServiceView → Type 0
-IsCollect setup old new = (producer taken : ℕ) × Takes setup (places_of producer 0 setup.writers) taken old new
+-- Complete chunks of a producer's writers were taken; somebody may have it collected: a line, or one of its writers, which stalls.
+abbrev pub IsCollect : Setup → List NumberedLine → ServiceView → ServiceView → Type 0
+IsCollect setup lines old new =
+    (producer taken : ℕ) × (may_be_collected setup lines producer ≡ true) × Takes setup (places_of producer 0 setup.writers) taken old new
 
--- They were, and then the finished fragments of the chunks that these writers hold; one of the lines scrapes the producer.
+-- Such were taken, and then the finished fragments of the chunks that these writers hold; one of the lines scrapes the producer.
 abbrev pub IsScrape : Setup → List NumberedLine → ServiceView → ServiceView → Type 0
 IsScrape setup lines old new = (producer taken : ℕ) × (is_scraped_by lines producer ≡ true) × TakesAndScrapes setup producer taken old new
 
@@ -24,10 +26,10 @@ IsReading old new = (reads : List model.Event) × (new ≡ noted_more old (flat_
 
 -- by one call
 abbrev pub GrowsOnce : Setup → List NumberedLine → ServiceView → ServiceView → Type 0
-GrowsOnce setup lines old new = IsCollect setup old new ⊎ (IsScrape setup lines old new ⊎ IsReading old new)
+GrowsOnce setup lines old new = IsCollect setup lines old new ⊎ (IsScrape setup lines old new ⊎ IsReading old new)
 
--- The view is what these calls made of the earlier one: each collects, scrapes a producer that one of the lines scrapes, or reads,
--- and leaves one of these views to the next.
+-- The view is what these calls made of the earlier one: each collects a producer that somebody may have collected, scrapes one that one of
+-- the lines scrapes, or reads, and leaves one of these views to the next.
 abbrev pub GrowsBy : Setup → List NumberedLine → List ServiceView → ServiceView → ServiceView → Type 0
 GrowsBy setup lines [] old new = new ≡ old
 GrowsBy setup lines (view ∷ views) old new = GrowsOnce setup lines old view × GrowsBy setup lines views view new

@@ -13,6 +13,7 @@ use Rattle.scenario_text.specs.Accepted.{calls_asked, is_closed_by}
 use Rattle.service_core.specs.Agreement.{first_of}
 use Rattle.replay_model.specs.Played.{IsSetupOf, buffers_of}
 use Rattle.replay_host.specs.Asking.{IsReadyFor}
+use Rattle.run_model.specs.Collected.{CollectedByLines, IsTakenBy}
 use Rattle.run_model.specs.Scraped.{ScrapedByLines}
 use Rattle.run_model.specs.Settled.{HasDoneLines}
 use Rattle.thread_service.specs.declared.service.Service.{Service}
@@ -82,13 +83,14 @@ pub record IsServed (scenario : Parts) (table : HostTable) (service : Service) :
 
 -- ---- the host
 
--- The host of a scenario: its table is laid out for it, its service is there and serves it, and it has the reading pass. There is room for the seats of its
--- writers and for the counts of its report.
+-- The host of a scenario: its table is laid out for it, its service is there and serves it, and it has the reading pass. Nothing was taken of a writer
+-- whose producer nobody may have collected. There is room for the seats of its writers and for the counts of its report.
 pub record IsHost (scenario : Parts) (host : Host) : Type 0 where
   pub laid : IsSetupOf scenario (setup_in host.table)
   pub specs : host.specs.items ≡ (setup_in host.table).writers
   pub producers : host.producers ≡ length (setup_in host.table).ranges
   pub served : IsSomeAnd host.service (IsServed scenario host.table)
+  pub collected : IsSomeAnd host.service (λ service. CollectedByLines (setup_in host.table) scenario.lines (serving.view_in service))
   pub pass : Passes host.table host.pass
   pub known : IsKnownWhole (known_by_pass host.pass)
   pub no_seats : host.seats.items ≡ []
@@ -100,7 +102,8 @@ pub record IsHost (scenario : Parts) (host : Host) : Type 0 where
 
 -- ---- all settled
 
--- The writers have done their lines, and all that they completed was taken. Their seats are there, in their order, and with each what its writer counted.
+-- The writers have done their lines, and all that they completed was taken: while the threads ran only where somebody may have the producer
+-- collected, and what was left then producer by producer in rising number. Their seats are there, in their order, and with each what its writer counted.
 pub record IsSettled (scenario : Parts) (settled : Settled) : Type 0 where
   pub laid : IsSetupOf scenario (setup_in settled.table)
   pub producers : settled.producers ≡ length (setup_in settled.table).ranges
@@ -108,6 +111,7 @@ pub record IsSettled (scenario : Parts) (settled : Settled) : Type 0 where
   pub many : length settled.seats.items ≡ length (setup_in settled.table).writers
   pub done : AreDoneSeats scenario.lines settled.table settled.seats.items settled.counts.sequences.items
   pub taken : AreTakenOut (serving.view_in settled.service) settled.seats.items
+  pub taken_by : IsTakenBy (setup_in settled.table) scenario.lines (serving.view_in settled.service)
   pub pass : Passes settled.table settled.pass
   pub known : IsKnownWhole (known_by_pass settled.pass)
   pub few_buffers : length scenario.buffers ≤ MAX_BUFFERS

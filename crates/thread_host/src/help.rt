@@ -1,4 +1,6 @@
-//! The helper of a writer that stalls: it takes the service's lock and has the producer collected.
+//! The helper of a writer that stalls: it takes the service's lock and has the writer's producer collected.
+ghost use Rattle.std.specs.Prelude.{◌≡◌, true};
+ghost use Rattle.run_model.specs.Collected.{may_be_collected};
 ghost use Rattle.thread_host.specs.Keeping.{IsNamed, named_prop};
 
 use crate::locked::Locked;
@@ -13,18 +15,28 @@ pub struct LockHelp<'a, N: HostName, R: Wait> {
     rt: &'a R,
     table: &'a HostTable,
     service: &'a Mutex<Locked<N>>,
+    producer: u16,
     left: u64,
     ghost named: { IsNamed N.table N.setup table.now } by { named_prop N.table N.setup table.now },
+    ghost asked: { may_be_collected N.setup N.lines producer ≡ true },
 }
 
 impl<'a, N: HostName, R: Wait> LockHelp<'a, N, R> {
-    pub fn new(rt: &'a R, table: &'a HostTable, service: &'a Mutex<Locked<N>>) -> LockHelp<'a, N, R>
+    /// Of a writer of this producer.
+    pub fn new(
+        rt: &'a R,
+        table: &'a HostTable,
+        service: &'a Mutex<Locked<N>>,
+        producer: u16,
+    ) -> LockHelp<'a, N, R>
         requires table { IsNamed N.table N.setup table.now }
+        requires asked { may_be_collected N.setup N.lines producer ≡ true }
     {
         LockHelp {
             rt,
             table,
             service,
+            producer,
             left: u64::MAX,
         }
     }
@@ -39,13 +51,17 @@ impl<'a, N: HostName, R: Wait> Helper for LockHelp<'a, N, R> {
 
     ghost helps = { λ help _ answer after. (answer ≡ true) × (help.left ≡ suc after.left) };
 
-    fn help(&mut self, _table: &HostTable, producer: u16) -> bool {
+    // The writer asks for no producer but its own.
+    fn help(&mut self, _table: &HostTable, _producer: u16) -> bool {
         if self.left == 0 {
             for _ in self.rt.forever() {}
             unreachable!()
         }
         self.left -= 1;
-        let _taken = self.service.lock(self.rt).collect(self.table, producer);
+        let _taken = self
+            .service
+            .lock(self.rt)
+            .collect(self.table, self.producer);
         true
     }
 }

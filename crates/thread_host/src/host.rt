@@ -79,8 +79,9 @@ impl Host {
 
     /// Runs the scenario: each writer plays its lines on a thread of its own, beside the service's own
     /// lines. The sink takes the records of the reads. After a write fault the service plays no more. What
-    /// the service knows grows by what is collected, scraped and read, and by nothing else; scraped is no
-    /// producer but one that a line scrapes.
+    /// the service knows grows by what is collected, scraped and read, and by nothing else. A line scrapes each
+    /// producer that is scraped; and one collects or scrapes each that is collected, or a writer of the
+    /// producer stalls.
     pub fn run<R: Threads + Wait + Sync, T: Sink + Send, G: Gate + Sync>(
         &mut self,
         rt: &R,
@@ -113,6 +114,7 @@ impl Host {
             gate,
             &self.table,
             service,
+            &self.specs,
             &scenario.lines,
             &own,
             &mut self.pass,

@@ -3,6 +3,7 @@ ghost use Rattle.std.specs.Prelude.{◌≡◌, ℕ, true, IfOk, OnErr};
 ghost use Rattle.byte_io.specs.Bytes.{CountsFaults};
 ghost use Rattle.chunk_words.specs.Sits.{Passes, known_by_pass};
 ghost use Rattle.scenario_text.specs.declared.scenario.LineKind.TheVariants as line_kinds;
+ghost use Rattle.run_model.specs.Collected.{may_be_collected};
 ghost use Rattle.run_model.specs.Scraped.{is_scraped_by};
 ghost use Rattle.thread_service.specs.Reading.{IsKnownWhole};
 ghost use Rattle.thread_host.specs.Keeping.{IsNamed};
@@ -79,6 +80,7 @@ fn play_line<N: HostName, R: Wait, O: Sink>(
     out: &mut O,
 ) -> Result<(), WriteFault>
     requires table { IsNamed N.table N.setup table.now }
+    requires collected { (producer : ℕ) → line.now ≡ line_kinds.Collect producer → may_be_collected N.setup N.lines producer ≡ true }
     requires scraped { (producer : ℕ) → line.now ≡ line_kinds.Scrape producer → is_scraped_by N.lines producer ≡ true }
     requires pass { Passes table.now pass.old }
     requires known { IsKnownWhole (known_by_pass pass.old) }

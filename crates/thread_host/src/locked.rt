@@ -9,6 +9,7 @@ ghost use Rattle.service_core.specs.Agreement.{KeepsRest};
 ghost use Rattle.service_core.specs.Reading.{NotesReads, ReadsAll, FailsAmong};
 ghost use Rattle.service_core.specs.Scraping.{TakesAndScrapes};
 ghost use Rattle.service_core.specs.Taking.{Takes, places_of};
+ghost use Rattle.run_model.specs.Collected.{may_be_collected};
 ghost use Rattle.run_model.specs.Scraped.{is_scraped_by};
 ghost use Rattle.thread_service.specs.Reading.{IsKnownWhole, PassReads};
 ghost use Rattle.thread_service.specs.Serving.{core_of, view_in, desk_in};
@@ -26,7 +27,8 @@ use thread_service::Service;
 
 /// The service of the table that its type names, none of whose sequences is closed. No image came by a
 /// commit. What it knows is what the type says that it knew, and what was collected, scraped and read
-/// since; scraped was none but a producer that a line of those scrapes which the type names.
+/// since. Of the lines that the type names, one scrapes each producer that was scraped; and one collects or
+/// scrapes each that was collected, or a writer of the producer stalls.
 #[derive(Drop)]
 pub struct Locked<N: HostName> {
     pub(crate) service: Service,
@@ -65,9 +67,11 @@ impl<N: HostName> Locked<N> {
         service
     }
 
-    /// Takes the complete chunks of the producer's writers. Answers how many.
+    /// Takes the complete chunks of the producer's writers. Answers how many. A line, or a writer of the
+    /// producer that stalls, may ask for it.
     pub fn collect(&mut self, table: &HostTable, producer: u16) -> u64
         requires table { IsNamed N.table N.setup table.now }
+        requires asked { may_be_collected N.setup N.lines producer ≡ true }
         ensures keeps { KeepsRest N.setup (core_of self.old.service) (core_of self.new.service) }
         ensures takes { Takes N.setup (places_of producer 0 N.setup.writers) result
             (view_in self.old.service) (view_in self.new.service) }

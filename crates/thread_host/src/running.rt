@@ -21,6 +21,7 @@ use std::sync::{Mutex, Wait};
 use std::thread::{Threads, join_mut};
 use thread_service::Service;
 use thread_writer::TraceWriter;
+use trace_base::policy::WriterSpec;
 
 /// How many writers a thread starts one after the other. More of them are halved first, so that the
 /// stack doesn't grow with their number.
@@ -35,17 +36,28 @@ fn writers_from<N: HostName + Send + Sync, R: Threads + Wait + Sync, G: Gate + S
     gate: &G,
     table: &HostTable,
     service: &Mutex<Locked<N>>,
+    specs: &[WriterSpec],
     lines: &LinesByWriter<'_>,
     from: usize,
     writers: &mut [TraceWriter],
 )
     requires table { IsNamed N.table N.setup table.now }
+    requires specs { specs.now ≡ N.setup.writers }
     requires ready { AreReadyFrom lines.now table.now from writers.old }
     ensures played { HavePlayedFrom lines.now table.now from writers.old writers.new }
 {
     match writers.len() {
         0 => {}
-        1 => writer_job(rt, gate, table, service, lines, from, &mut writers[0]),
+        1 => writer_job(
+            rt,
+            gate,
+            table,
+            service,
+            specs,
+            lines,
+            from,
+            &mut writers[0],
+        ),
         many => {
             let front = if many > MOST_STARTS { many / 2 } else { 1 };
             let (first, rest) = writers.split_at_mut(front);
@@ -54,6 +66,7 @@ fn writers_from<N: HostName + Send + Sync, R: Threads + Wait + Sync, G: Gate + S
                 gate,
                 table,
                 service,
+                specs,
                 lines,
                 from,
                 first,
@@ -72,6 +85,7 @@ fn start_both<N: HostName + Send + Sync, R: Threads + Wait + Sync, G: Gate + Syn
     gate: &G,
     table: &HostTable,
     service: &Mutex<Locked<N>>,
+    specs: &[WriterSpec],
     lines: &LinesByWriter<'_>,
     from: usize,
     first: &mut [TraceWriter],
@@ -79,6 +93,7 @@ fn start_both<N: HostName + Send + Sync, R: Threads + Wait + Sync, G: Gate + Syn
     rest: &mut [TraceWriter],
 )
     requires table { IsNamed N.table N.setup table.now }
+    requires specs { specs.now ≡ N.setup.writers }
     requires some { (0 < length first.old) × (0 < length rest.old) }
     requires first { AreReadyFrom lines.now table.now from first.old }
     requires rest { AreReadyFrom lines.now table.now behind rest.old }
@@ -86,13 +101,13 @@ fn start_both<N: HostName + Send + Sync, R: Threads + Wait + Sync, G: Gate + Syn
     ensures rest { HavePlayedFrom lines.now table.now behind rest.old rest.new }
 {
     let mut play_first = ||
-        requires { IsNamed N.table N.setup table.now × AreReadyFrom lines.now table.now from first.now }
+        requires { IsNamed N.table N.setup table.now × (specs.now ≡ N.setup.writers) × AreReadyFrom lines.now table.now from first.now }
         ensures { HavePlayedFrom lines.entry.now table.entry.now from first.entry.now first.exit.now }
-    { writers_from(rt, gate, table, service, lines, from, first) };
+    { writers_from(rt, gate, table, service, specs, lines, from, first) };
     let mut start_rest = ||
-        requires { IsNamed N.table N.setup table.now × AreReadyFrom lines.now table.now behind rest.now }
+        requires { IsNamed N.table N.setup table.now × (specs.now ≡ N.setup.writers) × AreReadyFrom lines.now table.now behind rest.now }
         ensures { HavePlayedFrom lines.entry.now table.entry.now behind rest.entry.now rest.exit.now }
-    { writers_from(rt, gate, table, service, lines, behind, rest) };
+    { writers_from(rt, gate, table, service, specs, lines, behind, rest) };
     join_mut(rt, &mut play_first, &mut start_rest);
 }
 
@@ -108,6 +123,7 @@ pub fn run_named<
     gate: &G,
     table: &HostTable,
     service: Service,
+    specs: &[WriterSpec],
     lines: &LineList,
     own: &LinesByWriter<'_>,
     pass: &mut ReadPass,
@@ -115,6 +131,7 @@ pub fn run_named<
     writers: &mut [TraceWriter],
 ) -> (Service, Result<(), WriteFault>)
     requires table { IsNamed N.table N.setup table.now }
+    requires specs { specs.now ≡ N.setup.writers }
     requires lines { lines.now ≡ N.lines }
     requires serves { ServesNamed N.table N.setup service }
     requires open { AllOpen N.setup service }
@@ -144,8 +161,8 @@ pub fn run_named<
         rt,
         &mut || service_job(rt, gate, table, &locked, lines, pass, out),
         &mut ||
-            requires { IsNamed N.table N.setup table.now × AreReadyFrom own.now table.now 0 writers.now }
-        { writers_from(rt, gate, table, &locked, own, 0, writers) },
+            requires { IsNamed N.table N.setup table.now × (specs.now ≡ N.setup.writers) × AreReadyFrom own.now table.now 0 writers.now }
+        { writers_from(rt, gate, table, &locked, specs, own, 0, writers) },
     );
     (locked.into_inner().into_service(), told)
 }

@@ -1,4 +1,5 @@
 //! A writer's job of a run.
+ghost use Rattle.std.specs.Prelude.{◌≡◌};
 ghost use Rattle.thread_host.specs.Keeping.{IsNamed};
 ghost use Rattle.thread_host.specs.Hosts.{IsReady, HasPlayed};
 
@@ -13,7 +14,7 @@ use std::marker::Brand;
 use std::sync::ledger::Blank;
 use std::sync::{Mutex, Wait};
 use thread_writer::{Asks, TraceWriter};
-use trace_base::policy::WriterPolicy;
+use trace_base::policy::{WriterPolicy, WriterSpec};
 use trace_writer::NoHelp;
 
 /// Plays the writer's lines, in their order, and then a flush, and passes the gate before each. A writer
@@ -23,11 +24,13 @@ pub fn writer_job<N: HostName, R: Wait, G: Gate>(
     gate: &G,
     table: &HostTable,
     service: &Mutex<Locked<N>>,
+    specs: &[WriterSpec],
     lines: &LinesByWriter<'_>,
     place: usize,
     writer: &mut TraceWriter,
 )
     requires table { IsNamed N.table N.setup table.now }
+    requires specs { specs.now ≡ N.setup.writers }
     requires ready { IsReady lines.now table.now place writer.old }
     ensures played { HasPlayed lines.now table.now place writer.new }
 {
@@ -47,7 +50,7 @@ pub fn writer_job<N: HostName, R: Wait, G: Gate>(
         }
         WriterPolicy::Stalls => {
             let mut help = Asks {
-                help: LockHelp::new(rt, table, service),
+                help: LockHelp::new(rt, table, service, specs[place].producer),
             };
             play_all::<G, LockHelp<'_, N, R>, Brand>(
                 gate,

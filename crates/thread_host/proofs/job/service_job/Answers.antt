@@ -3,6 +3,7 @@ use Rattle.std.proofs.Common.{◌≡◌, ◌∙◌, List, [], ◌∷◌, ◌++�
 use Rattle.chunk_words.specs.Sits.{known_by_pass}
 use Rattle.scenario_text.specs.declared.scenario.NumberedLine.{NumberedLine}
 use Rattle.thread_host.specs.Jobs.{FailsLines, TellsLines}
+use Rattle.thread_host.proofs.Collected.{collected_here}
 use Rattle.thread_host.proofs.Parts.{scraped_here}
 use Rattle.thread_host.proofs.Telling.{fails_behind, on_err, tells_none, tells_more}
 use Rattle.thread_host.proofs.job.service_job.Goals as goal
@@ -17,6 +18,11 @@ lines-init g c = record {
   stands = refl;
   steady = refl;
 }
+
+pub play_line-requires-clause-collected : goal.play_line-requires-clause-collected
+play_line-requires-clause-collected g c producer is =
+    collected_here g.N.HostName.setup c.lines.invariant.before c.next.new.self g.N.HostName.lines c.in-Some.line producer
+    (ap (λ (ls : List NumberedLine). c.lines.invariant.before ++ ls) (sym c.in-Some.ensures.first) ∙ c.lines.invariant.all ∙ c.requires.lines) is
 
 pub play_line-requires-clause-scraped : goal.play_line-requires-clause-scraped
 play_line-requires-clause-scraped g c producer is =

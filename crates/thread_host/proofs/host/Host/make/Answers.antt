@@ -22,7 +22,7 @@ use Rattle.replay_host.proofs.MomentLemmas.{ranges_many}
 use Rattle.replay_host.proofs.SetUpLemmas.{made_as_asked, specs_few, specs_some_page, specs_few_pages, specs_routed, specs_fit, specs_sizes}
 use Rattle.thread_service.specs.Serving as serving
 use Rattle.thread_host.specs.Hosts.{IsServed}
-use Rattle.thread_host.proofs.Made.{are_ready, is_served}
+use Rattle.thread_host.proofs.Made.{are_ready, is_served, nothing_collected}
 use Rattle.thread_host.proofs.host.Host.make.Goals as goal
 
 pub producer_specs-requires : goal.producer_specs-requires
@@ -161,6 +161,7 @@ returns c =
             let kept_len = scenario.producers.ok.0 in
             search (arith, rules, long, few, asked, kept_len);
         served = served;
+        collected = nothing_collected (setup_in table) scenario.lines (serving.view_in service) seen;
         few_buffers = (scenario_is_set_up scenario c.requires.scenario).few_buffers;
         pass = c.pass-pass.ensures.pass;
         known = subst (λ (v : ServiceView). AreKnownNotes v v.events) known tt;

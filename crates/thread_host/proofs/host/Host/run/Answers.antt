@@ -8,6 +8,8 @@ use Rattle.thread_service.specs.declared.service.Service.{Service}
 use Rattle.thread_service.specs.Serving.{view_in}
 use Rattle.thread_host.specs.Growing.{Grows}
 use Rattle.thread_host.specs.Hosts.{AreReadyFrom, IsServed, HavePlayed, HavePlayedFrom}
+use Rattle.run_model.specs.Collected.{CollectedByLines}
+use Rattle.thread_host.proofs.Collected.{grown_collected}
 use Rattle.thread_host.proofs.Growing.{grows_none}
 use Rattle.thread_host.proofs.Hosting.{all_played, given_back, held_of, never_none, ready_from, serves_named}
 use Rattle.thread_host.proofs.Parts.{grown_scraped}
@@ -53,6 +55,8 @@ returns-clause-host g c =
     let after = c.run_named-service.result.0 in
     let back = c.run_named-service.ensures in
     let served = held_of (IsServed (parts_of c.args.scenario.now) table) c.args.self.now.service before host.served (sym c.take.ensures.value ∙ c.in-Some.is) in
+    let collected = held_of (λ (service : Service). CollectedByLines setup c.args.scenario.now.lines (view_in service)) c.args.self.now.service before host.collected
+    (sym c.take.ensures.value ∙ c.in-Some.is) in
     record {
       laid = host.laid;
       specs = host.specs;
@@ -64,6 +68,7 @@ returns-clause-host g c =
         own = back.own;
         scraped = grown_scraped setup c.args.scenario.now.lines (view_in before) (view_in after) back.grows served.scraped;
       };
+      collected = grown_collected setup c.args.scenario.now.lines (view_in before) (view_in after) back.grows collected;
       pass = back.pass;
       known = back.known;
       no_seats = host.no_seats;

@@ -13,6 +13,7 @@ use Rattle.thread_service.specs.Serving as serving
 use Rattle.thread_service.specs.Settling.{TakesAllOut}
 use Rattle.thread_host.specs.Ending.{AreDoneSeats}
 use Rattle.thread_host.specs.Hosts.{IsServed}
+use Rattle.run_model.specs.Collected.{CollectedByLines}
 use Rattle.run_model.specs.Scraped.{has_part}
 use Rattle.thread_host.proofs.Parts.{takes_out_none}
 use Rattle.thread_host.proofs.Seating.{only_keeps, served_on, whole_tale}
@@ -66,6 +67,12 @@ returns-clause-settled c scenario host played =
           let taken = settles.taken heard.number heard.tale heard.told whole in
           subst (λ (begun : List BegunChunk). length begun ≤ (taken_of (serving.view_in last) place).count) heard.begun_is
           (subst (λ (p : ℕ). length heard.tale.begun ≤ (taken_of (serving.view_in last) p).count) heard.place_is taken);
+      taken_by = record {
+        ran = serving.view_in first;
+        collected = subst (λ (o : Option Service). IsSomeAnd o (λ service. CollectedByLines (setup_in table) scenario.lines (serving.view_in service)))
+            c.in-Some.is host.collected;
+        settles = subst (λ (v : ServiceView). TakesAllOut (setup_in table) (length (setup_in table).ranges) v (serving.view_in last)) ends.view settles.takes;
+      };
       pass = host.pass;
       known = host.known;
       few_buffers = host.few_buffers;

@@ -17,7 +17,7 @@ invariant_of-self g c = record {
       let start = g.N.HostName.start in
       let old = view_in c.args.self.now.service in
       let new = view_in c.collect.new.self in
-      collect_grows g.N.HostName.setup g.N.HostName.lines c.args.producer c.collect.result start old new
+      collect_grows g.N.HostName.setup g.N.HostName.lines c.args.producer c.collect.result start old new c.requires.asked
       (subst (λ (s : Setup). Takes s (places_of c.args.producer 0 s.writers) c.collect.result old new) setup_is c.collect.ensures.takes)
       c.args.self.now.grows;
 }
