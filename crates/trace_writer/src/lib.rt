@@ -1,9 +1,9 @@
 //! Writers: the packets of one thread, streamed into the chunks of its producer.
 //! A layer above may rely on this: after any calls the writer's chunks are a cut of the packets that
-//! the calls say, each call joins the calls in the seat's view, a packet is dropped only where a
-//! claim was lost, and a refused call leaves the packet as it was. What the header of a held chunk
-//! counts was published, but for its last fragment. It works over any table of chunks, takes no
-//! memory, and copies each byte of a packet once into a payload and once into the table's words.
+//! the calls say, each call joins the calls in the seat's view, a packet is dropped only where each
+//! chunk of the producer was just asked for in vain, and a refused call leaves the packet as it was.
+//! What the header of a held chunk counts was published, but for its last fragment. It works over any
+//! table, takes no memory, and copies each byte once into a payload and once into the table's words.
 #![tactic(auto)]
 
 mod begin;
