@@ -1,0 +1,4 @@
+pub mod Again
+pub mod ByteKinds
+pub mod Walks
+pub mod Readings

@@ -102,7 +102,7 @@ behind_step line go_on (Moved items depth mode) = with_items items (go_on depth 
 abbrev pub items_from : ℕ → ℕ → Mode → List ℕ → Result (List Item) ℕ
 items_from depth line mode [] = at_end depth line mode
 items_from depth line mode (byte ∷ rest) =
-    behind_step line (λ deep then. items_from deep (line_behind line byte) then rest) (step depth line mode byte)
+    behind_step line (λ deep to. items_from deep (line_behind line byte) to rest) (step depth line mode byte)
 
 -- the items of a text, or the line of its first fault
 unfoldable pub items_or_line : List ℕ → Result (List Item) ℕ

@@ -5,10 +5,16 @@
 //! nothing again: the depth of blocks is a number. The laws are functions with empty bodies.
 #![tactic(auto)]
 
+mod field;
+mod gap;
 mod item;
+mod kinds;
 mod laws;
 mod reader;
 
 pub use item::{BadText, TextItem, TextValue};
 pub use laws::{bad_lines_are_found, fields_are_read, items_tell_the_fields, texts_are_read};
 pub use reader::TextReader;
+
+#[cfg(test)]
+mod tests;

@@ -1,8 +1,39 @@
 //! Reading a text item by item.
 ghost use Rattle.std.specs.Prelude.{◌≡◌, ◌+◌, ◌^◌, ◌<◌, [], Ok, Err, length, IfOk, IfErr, IfSome, IfNone};
 
+use crate::field::{Found, field};
+use crate::gap::{Spot, behind_lead};
 use crate::item::{BadText, TextItem};
+use crate::kinds::{first_byte, is_name_start};
 use std::marker::Model;
+
+/// The first item of the part of a text, inside so many blocks.
+#[inline(always)]
+fn first_item<'a>(
+    depth: u32,
+    after: bool,
+    here: Spot<'a>,
+) -> Result<Option<Found<'a>>, BadText> {
+    let there = behind_lead(after, here)?;
+    let line = there.line;
+    let Some((byte, behind)) = first_byte(there.rest) else {
+        return if depth == 0 {
+            Ok(None)
+        } else {
+            Err(BadText { line })
+        };
+    };
+    if is_name_start(byte) {
+        return Ok(Some(field(there)?));
+    }
+    if byte != b'}' || depth == 0 {
+        return Err(BadText { line });
+    }
+    Ok(Some(Found {
+        item: TextItem::End,
+        there: Spot { line, rest: behind },
+    }))
+}
 
 /// The part of a text that wasn't read, with its line and how many blocks are open; `after` says whether
 /// a field of the same block was read just before. Contracts see what is to come of it.
@@ -61,6 +92,24 @@ impl<'a> TextReader<'a> {
         ensures bad { IfErr result (λ bad. self.old.coming ≡ Err bad.line) }
         ensures kept { IfErr result (λ bad. self.new ≡ self.old) }
     {
-        Ok(None)
+        let here = Spot {
+            line: self.line,
+            rest: self.rest,
+        };
+        let Some(found) = first_item(self.depth, self.after, here)? else {
+            return Ok(None);
+        };
+        self.line = found.there.line;
+        self.rest = found.there.rest;
+        self.after = true;
+        match found.item {
+            TextItem::Single { .. } => {}
+            TextItem::Begin { .. } => {
+                self.depth += 1;
+                self.after = false;
+            }
+            TextItem::End => self.depth -= 1,
+        }
+        Ok(Some(found.item))
     }
 }
