@@ -311,7 +311,7 @@ ends depth line (InWord at name word) = end_follows depth line (InWord at name w
     }))
 ends depth line (InQuotes at name text) = tt
 
-with_items-err : (items : List Item) (line : ℕ) → with_items items (Err line) ≡ Err line
+pub with_items-err : (items : List Item) (line : ℕ) → with_items items (Err line) ≡ Err line
 with_items-err [] line = refl
 with_items-err (item ∷ items) line = ap (λ (r : Result (List Item) ℕ). with_item item r) (with_items-err items line)
 

@@ -2,5 +2,7 @@ pub mod Accepted
 pub mod Again
 pub mod Before
 pub mod ByteKinds
-pub mod Walks
+pub mod Completes
+pub mod Faults
 pub mod Readings
+pub mod Walks

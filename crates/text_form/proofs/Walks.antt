@@ -78,7 +78,7 @@ over_name depth line at name (byte ∷ bytes) rest all =
     ∙ over_name depth line at (name ++ byte ∷ []) bytes rest all.1
     ∙ ap (λ (w : List ℕ). items_from depth line (InName at w) rest) (append_assoc name (byte ∷ []) bytes)
 
-ends_name : (depth line at : ℕ) (name rest : List ℕ) → EndsRun is_name_byte rest
+pub ends_name : (depth line at : ℕ) (name rest : List ℕ) → EndsRun is_name_byte rest
     → items_from depth line (InName at name) rest ≡ items_from depth line (Between (Named at name)) rest
 ends_name depth line at name [] ends = refl
 ends_name depth line at name (byte ∷ rest) ends =
@@ -109,7 +109,7 @@ over_word depth line at name word (byte ∷ bytes) rest all =
     ∙ over_word depth line at name (word ++ byte ∷ []) bytes rest all.1
     ∙ ap (λ (w : List ℕ). items_from depth line (InWord at name w) rest) (append_assoc word (byte ∷ []) bytes)
 
-ends_word : (depth line at : ℕ) (name word rest : List ℕ) → EndsRun is_word_byte rest
+pub ends_word : (depth line at : ℕ) (name word rest : List ℕ) → EndsRun is_word_byte rest
     → items_from depth line (InWord at name word) rest ≡ with_item (Single at name (Word word)) (items_from depth line (Between Ended) rest)
 ends_word depth line at name word [] ends =
     cond_both (depth == 0) (Ok []) (Err line)
