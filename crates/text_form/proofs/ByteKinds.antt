@@ -35,7 +35,7 @@ blank_is_none kind byte blank space tab return feed = unless_true (kind byte) (�
 pub no_gap : (byte : ℕ) → is_blank byte ≡ false → (byte == 35) ≡ false → begins_gap byte ≡ false
 no_gap byte blank sharp = both_false _ _ blank sharp
 
-either_false : (a b : Bool) → (a || b) ≡ false → (a ≡ false) × (b ≡ false)
+pub either_false : (a b : Bool) → (a || b) ≡ false → (a ≡ false) × (b ≡ false)
 either_false true b is = absurd (cc)
 either_false false b is = (refl, is)
 

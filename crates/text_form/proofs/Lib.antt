@@ -4,5 +4,8 @@ pub mod Before
 pub mod ByteKinds
 pub mod Completes
 pub mod Faults
+pub mod FieldLemmas
+pub mod GapLemmas
 pub mod Readings
+pub mod RunLemmas
 pub mod Walks

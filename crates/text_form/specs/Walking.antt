@@ -19,6 +19,19 @@ pub record IsRun (kind : ℕ → Bool) (bytes front left : List ℕ) : Type 0 wh
 abbrev pub begins_gap : ℕ → Bool
 begins_gap byte = is_blank byte || byte == 35
 
+-- what else may stand behind a colon than a value
+abbrev pub begins_no_value : ℕ → Bool
+begins_no_value byte = begins_gap byte || byte == 123
+
+-- what else may stand there than a word
+abbrev pub begins_no_word : ℕ → Bool
+begins_no_word byte = begins_no_value byte || byte == 34
+
+-- one of this kind comes first
+abbrev pub BeginsWith : (ℕ → Bool) → List ℕ → Type 0
+BeginsWith kind [] = ⊥
+BeginsWith kind (byte ∷ rest) = kind byte ≡ true
+
 -- the end of a line, or of the text
 abbrev pub EndsLine : List ℕ → Type 0
 EndsLine [] = Unit {0}
@@ -62,7 +75,7 @@ RefusesLead after line rest bad = (depth : ℕ) → items_from depth line (Betwe
 -- a value of a field is read, with what is left behind it, or refused
 abbrev pub ReadsValue : ℕ → List ℕ → Option (Value × List ℕ) → Type 0
 ReadsValue line rest None = (depth at : ℕ) (name : List ℕ) → items_from depth line (Between (Valued at name)) rest ≡ Err line
-ReadsValue line rest (Some (value, left)) = (length left ≤ length rest)
+ReadsValue line rest (Some (value, left)) = (length left < length rest)
     × ((depth at : ℕ) (name : List ℕ) → items_from depth line (Between (Valued at name)) rest
         ≡ with_item (Single at name value) (items_from depth line (Between Ended) left))
 
@@ -77,9 +90,10 @@ abbrev pub place_behind : Item → Place
 place_behind (Begin line name) = Start
 place_behind item = Ended
 
--- an item is read
+-- an item is read; a block ends only where one is open
 pub record ReadsItem (depth line : ℕ) (place : Place) (rest : List ℕ) (item : Item) (there : ℕ) (left : List ℕ) : Type 0 where
   pub shorter : length left < length rest
   pub lines : there + length left ≤ line + length rest
+  pub closes : item ≡ End → 0 < depth
   pub same : items_from depth line (Between place) rest
       ≡ with_item item (items_from (depth_behind item depth) there (Between (place_behind item)) left)

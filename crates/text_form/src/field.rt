@@ -1,10 +1,11 @@
 //! One field: its name, and its value or the brace that opens its block.
-ghost use Rattle.std.specs.Prelude.{◌≡◌, ℕ, ◌+◌, ◌^◌, ◌<◌, ◌≤◌, List, Bool, true, length, IfOk, IfErr};
+ghost use Rattle.std.specs.Prelude.{◌≡◌, ℕ, ◌+◌, ◌^◌, ◌<◌, ◌∷◌, Err, length, IfOk, IfErr};
 ghost use Rattle.std.specs.Option.{option_map};
+ghost use Rattle.text_form.specs.Bytes.{is_name_start};
 ghost use Rattle.text_form.specs.Grammar.{EndsRun};
-ghost use Rattle.text_form.specs.Machine.{Start, Ended, Named, Valued};
+ghost use Rattle.text_form.specs.Machine.{Start, Valued, Between, items_from};
 ghost use Rattle.text_form.specs.Reading.{value_of, item_of};
-ghost use Rattle.text_form.specs.Walking.{begins_gap, ReadsValue};
+ghost use Rattle.text_form.specs.Walking.{begins_no_value, begins_no_word, BeginsWith, ReadsValue, ReadsItem};
 
 use crate::gap::{Spot, behind_gap};
 use crate::item::{BadText, TextItem, TextValue};
@@ -25,9 +26,15 @@ struct FieldName<'a> {
 }
 
 impl<'a> FieldName<'a> {
+    ghost use Rattle.std.specs.Prelude.{◌≡◌};
+    ghost use Rattle.text_form.specs.Entries.{Begin};
+    ghost use Rattle.text_form.specs.Reading.{item_of};
+
     /// The field's block begins with the byte before these.
     #[inline(always)]
     fn begin(self, line: u32, behind: &'a [u8]) -> Found<'a>
+        ensures item { item_of result.item ≡ Begin self.entry.line self.entry.name.now }
+        ensures there { (result.there.line ≡ line) × (result.there.rest.now ≡ behind.now) }
     {
         Found {
             item: TextItem::Begin {
@@ -46,20 +53,28 @@ struct FoundValue<'a> {
     left: &'a [u8],
 }
 
-/// The value that stands in front.
+/// The text that ends with the next quotes.
 #[inline(always)]
-fn first_value(rest: &[u8]) -> Option<FoundValue<'_>> {
-    let (first, behind) = first_byte(rest)?;
-    if first == b'"' {
-        let run = text_run(behind);
-        return match first_byte(run.left) {
-            Some((b'"', left)) => Some(FoundValue {
-                value: TextValue::Quoted(run.front),
-                left,
-            }),
-            _ => None,
-        };
+fn quoted_text(behind: &[u8]) -> Option<FoundValue<'_>>
+    ensures { (line : ℕ) → ReadsValue line (34 ∷ behind.now) (option_map (λ found. (value_of found.value, found.left.now)) result) }
+{
+    let run = text_run(behind);
+    let (byte, left) = first_byte(run.left)?;
+    if byte != b'"' {
+        return None;
     }
+    Some(FoundValue {
+        value: TextValue::Quoted(run.front),
+        left,
+    })
+}
+
+/// The word that stands in front.
+#[inline(always)]
+fn word(rest: &[u8]) -> Option<FoundValue<'_>>
+    requires { EndsRun begins_no_word rest.now }
+    ensures { (line : ℕ) → ReadsValue line rest.now (option_map (λ found. (value_of found.value, found.left.now)) result) }
+{
     let run = word_run(rest);
     if run.front.is_empty() {
         return None;
@@ -70,12 +85,34 @@ fn first_value(rest: &[u8]) -> Option<FoundValue<'_>> {
     })
 }
 
+/// The value that stands in front.
+#[inline(always)]
+fn first_value(rest: &[u8]) -> Option<FoundValue<'_>>
+    requires { EndsRun begins_no_value rest.now }
+    ensures { (line : ℕ) → ReadsValue line rest.now (option_map (λ found. (value_of found.value, found.left.now)) result) }
+{
+    let (byte, behind) = first_byte(rest)?;
+    if byte == b'"' {
+        quoted_text(behind)
+    } else {
+        word(rest)
+    }
+}
+
 /// The rest of a field behind its colon.
 #[inline(always)]
-fn behind_colon<'a>(field: FieldName<'a>, here: Spot<'a>) -> Result<Found<'a>, BadText> {
+fn behind_colon<'a>(field: FieldName<'a>, here: Spot<'a>) -> Result<Found<'a>, BadText>
+    requires { here.line + length here.rest.now < 2 ^ 32 }
+    ensures read { IfOk result (λ found. (depth : ℕ) → ReadsItem depth here.entry.line (Valued field.entry.line field.entry.name.now) here.entry.rest.now
+        (item_of found.item) found.there.line found.there.rest.now) }
+    ensures refused { IfErr result (λ bad. (depth : ℕ) → items_from depth here.entry.line (Between (Valued field.entry.line field.entry.name.now)) here.entry.rest.now ≡ Err bad.line) }
+{
     let there = behind_gap(here)?;
     let line = there.line;
-    if let Some((b'{', behind)) = first_byte(there.rest) {
+    let Some((byte, behind)) = first_byte(there.rest) else {
+        return Err(BadText { line });
+    };
+    if byte == b'{' {
         return Ok(field.begin(line, behind));
     }
     let Some(found) = first_value(there.rest) else {
@@ -96,7 +133,13 @@ fn behind_colon<'a>(field: FieldName<'a>, here: Spot<'a>) -> Result<Found<'a>, B
 
 /// The field or the beginning of a block whose name stands here.
 #[inline(always)]
-pub(crate) fn field(here: Spot<'_>) -> Result<Found<'_>, BadText> {
+pub(crate) fn field(here: Spot<'_>) -> Result<Found<'_>, BadText>
+    requires fits { here.line + length here.rest.now < 2 ^ 32 }
+    requires name { BeginsWith is_name_start here.rest.now }
+    ensures read { IfOk result (λ found. (depth : ℕ) → ReadsItem depth here.entry.line Start here.entry.rest.now
+        (item_of found.item) found.there.line found.there.rest.now) }
+    ensures refused { IfErr result (λ bad. (depth : ℕ) → items_from depth here.entry.line (Between Start) here.entry.rest.now ≡ Err bad.line) }
+{
     let run = name_run(here.rest);
     let field = FieldName {
         line: here.line,
@@ -107,9 +150,14 @@ pub(crate) fn field(here: Spot<'_>) -> Result<Found<'_>, BadText> {
         rest: run.left,
     })?;
     let line = there.line;
-    match first_byte(there.rest) {
-        Some((b':', behind)) => behind_colon(field, Spot { line, rest: behind }),
-        Some((b'{', behind)) => Ok(field.begin(line, behind)),
-        _ => Err(BadText { line }),
+    let Some((byte, behind)) = first_byte(there.rest) else {
+        return Err(BadText { line });
+    };
+    if byte == b':' {
+        return behind_colon(field, Spot { line, rest: behind });
     }
+    if byte == b'{' {
+        return Ok(field.begin(line, behind));
+    }
+    Err(BadText { line })
 }

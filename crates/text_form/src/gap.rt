@@ -20,19 +20,19 @@ fn behind_comment(rest: &[u8]) -> Option<&[u8]>
     ensures { PassesComment rest.now (option_map (λ left. left.now) result) }
 {
     let left = comment_run(rest).left;
-    match first_byte(left) {
-        Some((byte, _)) if byte != b'\n' => None,
-        _ => Some(left),
-    }
+    let Some((byte, _)) = first_byte(left) else {
+        return Some(left);
+    };
+    if byte == b'\n' { Some(left) } else { None }
 }
 
 /// Behind the blanks and comments that stand here.
 #[inline(always)]
 pub(crate) fn behind_gap(here: Spot<'_>) -> Result<Spot<'_>, BadText>
     requires { here.line + length here.rest.now < 2 ^ 32 }
-    ensures passes { IfOk result (λ there. PassesGap here.line here.rest.now there.line there.rest.now) }
+    ensures passes { IfOk result (λ there. PassesGap here.entry.line here.entry.rest.now there.line there.rest.now) }
     ensures ends { IfOk result (λ there. EndsRun begins_gap there.rest.now) }
-    ensures refuses { IfErr result (λ bad. RefusesGap here.line here.rest.now bad.line) }
+    ensures refuses { IfErr result (λ bad. RefusesGap here.entry.line here.entry.rest.now bad.line) }
 {
     let mut line = here.line;
     let mut rest = here.rest;
@@ -58,15 +58,18 @@ pub(crate) fn behind_gap(here: Spot<'_>) -> Result<Spot<'_>, BadText>
 #[inline(always)]
 pub(crate) fn behind_lead(after: bool, here: Spot<'_>) -> Result<Spot<'_>, BadText>
     requires { here.line + length here.rest.now < 2 ^ 32 }
-    ensures passes { IfOk result (λ there. PassesLead after here.line here.rest.now there.line there.rest.now) }
-    ensures refuses { IfErr result (λ bad. RefusesLead after here.line here.rest.now bad.line) }
+    ensures passes { IfOk result (λ there. PassesLead after here.entry.line here.entry.rest.now there.line there.rest.now) }
+    ensures refuses { IfErr result (λ bad. RefusesLead after here.entry.line here.entry.rest.now bad.line) }
 {
     let there = behind_gap(here)?;
-    match first_byte(there.rest) {
-        Some((byte, behind)) if after && is_separator(byte) => behind_gap(Spot {
-            line: there.line,
-            rest: behind,
-        }),
-        _ => Ok(there),
+    let Some((byte, behind)) = first_byte(there.rest) else {
+        return Ok(there);
+    };
+    if !after || !is_separator(byte) {
+        return Ok(there);
     }
+    behind_gap(Spot {
+        line: there.line,
+        rest: behind,
+    })
 }

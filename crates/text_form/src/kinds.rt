@@ -1,6 +1,7 @@
 //! Kinds of bytes, and runs of one kind.
 ghost use Rattle.std.specs.Prelude.{◌≡◌, ℕ, ◌≤◌, ◌∷◌, [], Bool, not, length, MatchOption};
 ghost use Rattle.std.specs.List.{position};
+ghost use Rattle.std.specs.Option.{ForSome};
 ghost use Rattle.text_form.specs.Bytes as kinds;
 ghost use Rattle.text_form.specs.Walking.{IsRun};
 
@@ -74,7 +75,7 @@ pub(crate) struct Run<'a> {
 /// Cuts before the place, if there is one.
 #[inline(always)]
 fn cut(bytes: &[u8], place: Option<usize>) -> Run<'_>
-    requires { MatchOption place (Unit {0}) (λ n. n ≤ length bytes.now) }
+    requires { ForSome place (λ n. n ≤ length bytes.now) }
     ensures { (kind : ℕ → Bool) → place ≡ position (λ byte. not (kind byte)) bytes.now → IsRun kind bytes.now result.front.now result.left.now }
 {
     let (front, left) = bytes.split_at(place.unwrap_or(bytes.len()));
@@ -82,29 +83,61 @@ fn cut(bytes: &[u8], place: Option<usize>) -> Run<'_>
 }
 
 #[inline(always)]
+fn name_end(bytes: &[u8]) -> Option<usize>
+    ensures { result ≡ position (λ byte. not (kinds.is_name_byte byte)) bytes.now }
+{
+    bytes.iter().position(|&byte| !is_name_byte(byte))
+}
+
+/// The bytes of a name in front.
+#[inline(always)]
 pub(crate) fn name_run(bytes: &[u8]) -> Run<'_>
     ensures { IsRun kinds.is_name_byte bytes.now result.front.now result.left.now }
 {
-    cut(bytes, bytes.iter().position(|&byte| !is_name_byte(byte)))
+    cut(bytes, name_end(bytes))
 }
 
+#[inline(always)]
+fn word_end(bytes: &[u8]) -> Option<usize>
+    ensures { result ≡ position (λ byte. not (kinds.is_word_byte byte)) bytes.now }
+{
+    bytes.iter().position(|&byte| !is_word_byte(byte))
+}
+
+/// The bytes of a word in front.
 #[inline(always)]
 pub(crate) fn word_run(bytes: &[u8]) -> Run<'_>
     ensures { IsRun kinds.is_word_byte bytes.now result.front.now result.left.now }
 {
-    cut(bytes, bytes.iter().position(|&byte| !is_word_byte(byte)))
+    cut(bytes, word_end(bytes))
 }
 
+#[inline(always)]
+fn text_end(bytes: &[u8]) -> Option<usize>
+    ensures { result ≡ position (λ byte. not (kinds.is_text_byte byte)) bytes.now }
+{
+    bytes.iter().position(|&byte| !is_text_byte(byte))
+}
+
+/// The bytes of a text in quotes in front.
 #[inline(always)]
 pub(crate) fn text_run(bytes: &[u8]) -> Run<'_>
     ensures { IsRun kinds.is_text_byte bytes.now result.front.now result.left.now }
 {
-    cut(bytes, bytes.iter().position(|&byte| !is_text_byte(byte)))
+    cut(bytes, text_end(bytes))
 }
 
+#[inline(always)]
+fn comment_end(bytes: &[u8]) -> Option<usize>
+    ensures { result ≡ position (λ byte. not (kinds.is_comment_byte byte)) bytes.now }
+{
+    bytes.iter().position(|&byte| !is_comment_byte(byte))
+}
+
+/// The bytes of a comment in front.
 #[inline(always)]
 pub(crate) fn comment_run(bytes: &[u8]) -> Run<'_>
     ensures { IsRun kinds.is_comment_byte bytes.now result.front.now result.left.now }
 {
-    cut(bytes, bytes.iter().position(|&byte| !is_comment_byte(byte)))
+    cut(bytes, comment_end(bytes))
 }

@@ -1,5 +1,10 @@
 //! Reading a text item by item.
 ghost use Rattle.std.specs.Prelude.{◌≡◌, ◌+◌, ◌^◌, ◌<◌, [], Ok, Err, length, IfOk, IfErr, IfSome, IfNone};
+ghost use Rattle.text_form.specs.Entries.{End};
+ghost use Rattle.text_form.specs.Machine.{Between, items_from};
+ghost use Rattle.text_form.specs.Reading.{item_of};
+ghost use Rattle.text_form.specs.Walking as walking;
+ghost use Rattle.text_form.specs.Walking.{place_before, place_behind, ReadsItem};
 
 use crate::field::{Found, field};
 use crate::gap::{Spot, behind_lead};
@@ -7,13 +12,44 @@ use crate::item::{BadText, TextItem};
 use crate::kinds::{first_byte, is_name_start};
 use std::marker::Model;
 
+/// How many blocks are open behind an item.
+#[inline(always)]
+fn depth_behind(depth: u32, item: TextItem<'_>) -> u32
+    requires fits { depth + 1 < 2 ^ 32 }
+    requires closes { item_of item ≡ End → 0 < depth }
+    ensures { result ≡ walking.depth_behind (item_of item.entry) depth }
+{
+    match item {
+        TextItem::Single { .. } => depth,
+        TextItem::Begin { .. } => depth + 1,
+        TextItem::End => depth - 1,
+    }
+}
+
+/// Whether a field ends with an item.
+#[inline(always)]
+fn ends_field(item: TextItem<'_>) -> bool
+    ensures { place_before result ≡ place_behind (item_of item.entry) }
+{
+    match item {
+        TextItem::Begin { .. } => false,
+        _ => true,
+    }
+}
+
 /// The first item of the part of a text, inside so many blocks.
 #[inline(always)]
 fn first_item<'a>(
     depth: u32,
     after: bool,
     here: Spot<'a>,
-) -> Result<Option<Found<'a>>, BadText> {
+) -> Result<Option<Found<'a>>, BadText>
+    requires { here.line + length here.rest.now < 2 ^ 32 }
+    ensures read { IfOk result (λ found. IfSome found (λ found. ReadsItem depth here.entry.line (place_before after) here.entry.rest.now
+        (item_of found.item) found.there.line found.there.rest.now)) }
+    ensures end { IfOk result (λ found. IfNone found (items_from depth here.entry.line (Between (place_before after)) here.entry.rest.now ≡ Ok [])) }
+    ensures refused { IfErr result (λ bad. items_from depth here.entry.line (Between (place_before after)) here.entry.rest.now ≡ Err bad.line) }
+{
     let there = behind_lead(after, here)?;
     let line = there.line;
     let Some((byte, behind)) = first_byte(there.rest) else {
@@ -46,14 +82,15 @@ pub struct TextReader<'a> {
 }
 
 impl<'a> Model for TextReader<'a> {
-    ghost use Rattle.std.specs.Prelude.{◌+◌, ◌^◌, ◌<◌, length, if◌then◌else◌};
-    ghost use Rattle.text_form.specs.Machine.{items_from, Between, Start, Ended};
+    ghost use Rattle.std.specs.Prelude.{◌+◌, ◌^◌, ◌<◌, length};
+    ghost use Rattle.text_form.specs.Machine.{Between, items_from};
     ghost use Rattle.text_form.specs.Reading.{Unread};
+    ghost use Rattle.text_form.specs.Walking.{place_before};
 
     ghost Value = { Unread };
 
     ghost view = { λ reader. record {
-        coming = items_from reader.depth reader.line (Between (if reader.after then Ended else Start)) reader.rest.now;
+        coming = items_from reader.depth reader.line (Between (place_before reader.after)) reader.rest.now;
         left = length reader.rest.now
     } };
 
@@ -66,6 +103,7 @@ impl<'a> TextReader<'a> {
     ghost use Rattle.text_form.specs.Reading.{item_of};
 
     /// A reader before the first item of a text.
+    #[tactic(auto, unfolding(crate::specs::Machine::items_or_line))]
     pub fn new(text: &'a [u8]) -> TextReader<'a>
         requires { length text.now < u32.MAX }
         ensures coming { result.coming ≡ items_or_line text.now }
@@ -101,15 +139,8 @@ impl<'a> TextReader<'a> {
         };
         self.line = found.there.line;
         self.rest = found.there.rest;
-        self.after = true;
-        match found.item {
-            TextItem::Single { .. } => {}
-            TextItem::Begin { .. } => {
-                self.depth += 1;
-                self.after = false;
-            }
-            TextItem::End => self.depth -= 1,
-        }
+        self.depth = depth_behind(self.depth, found.item);
+        self.after = ends_field(found.item);
         Ok(Some(found.item))
     }
 }
