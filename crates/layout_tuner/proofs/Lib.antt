@@ -1,0 +1,14 @@
+pub mod Puts
+pub mod WordBits
+pub mod Spots
+pub mod WorldTurns
+pub mod SeatTurns
+pub mod UserTurns
+pub mod Asking
+pub mod Wins
+pub mod CollectorTurns
+pub mod Collections
+pub mod Making
+pub mod Hearing
+pub mod Ending
+pub mod Owners

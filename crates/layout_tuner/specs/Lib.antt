@@ -1,0 +1,11 @@
+pub mod PageWords
+pub mod Knows
+pub mod World
+pub mod Rule
+pub mod Plays
+pub mod Sits
+pub mod Claiming
+pub mod Retiling
+pub mod Collecting
+pub mod Closed
+pub mod Laws
