@@ -18,13 +18,13 @@ use Rattle.world_model.specs.Accounts.{all_images, HasCut, InOrder, IsAccount}
 use Rattle.world_model.proofs.FaithfulLemmas.{told_of, every_account_is_faithful}
 use Rattle.service_core.proofs.AccountLemmas.{leads_are_in_order}
 use Rattle.replay_model.specs.Written.{HasWritten}
-use Rattle.schedule_laws.specs.Moves.{Move}
-use Rattle.schedule_laws.specs.Schedules.{IsSchedule}
+use Rattle.chunk_schedules.specs.Moves.{Move}
+use Rattle.chunk_schedules.specs.Schedules.{IsSchedule}
 use Rattle.schedule_laws.specs.Resting.{AreBetweenCalls, IsNotedInOrder, AreNotedInOrder}
 use Rattle.schedule_laws.specs.Laws.{SchedulesAreAccounts, EveryScheduleIsFaithful, EverySequenceIsTold, EveryServedScheduleIsFaithful}
 use Rattle.schedule_laws.proofs.BetweenLemmas.{has_written}
 use Rattle.schedule_laws.proofs.CommitLemmas.{none_committed, serving_is_in_order}
-use Rattle.schedule_laws.proofs.ScheduleLemmas.{schedules_keep_ownership}
+use Rattle.chunk_schedules.proofs.ScheduleLemmas.{schedules_keep_ownership}
 
 -- the world that a schedule leads to is owned, with as many writers as the set-up
 pub owned_behind : (setup : Setup) (moves : List Move) (world : World) → IsSchedule (first_world setup) moves world → IsOwned world

@@ -6,8 +6,8 @@ use Rattle.chunk_plain.specs.Views.{Committed, ServiceView, taken_of}
 use Rattle.chunk_plain.specs.World.{World, Status, Unclaimed, Claimed, Stamped, Writing, Ready, Reading, status}
 use Rattle.chunk_plain.specs.Plain.{first_world}
 use Rattle.service_core.specs.Agreement.{NoneCommitted, is_closed}
-use Rattle.schedule_laws.specs.Moves.{Move, Claims, Stamps, Begins, SetsHeader, Publishes, Completes, Calls, Looks, Takes, Learns, Releases, Notes, Commits, claimed_in, behind}
-use Rattle.schedule_laws.specs.Schedules.{IsSchedule, CommitsNone}
+use Rattle.chunk_schedules.specs.Moves.{Move, Claims, Stamps, Begins, SetsHeader, Publishes, Completes, Calls, Looks, Takes, Learns, Releases, Notes, Commits, claimed_in, behind}
+use Rattle.chunk_schedules.specs.Schedules.{IsSchedule, CommitsNone}
 use Rattle.schedule_laws.specs.Laws.{ServingIsInOrder}
 
 -- none of these commits brought an image of the sequence

@@ -3,6 +3,4 @@ pub mod BetweenLemmas
 pub mod CommitLemmas
 pub mod CompleteLemmas
 pub mod EnoughLemmas
-pub mod MoveLemmas
 pub mod ReportLemmas
-pub mod ScheduleLemmas

@@ -14,8 +14,8 @@ use Rattle.chunk_plain.specs.World.{World, writer}
 use Rattle.chunk_plain.specs.Plain.{first_world}
 use Rattle.chunk_plain.specs.Histories.{history_of}
 use Rattle.world_model.specs.FirstBuffers.{BufferSpec, first_buffers}
-use Rattle.schedule_laws.specs.Moves.{Move}
-use Rattle.schedule_laws.specs.Schedules.{IsSchedule}
+use Rattle.chunk_schedules.specs.Moves.{Move}
+use Rattle.chunk_schedules.specs.Schedules.{IsSchedule}
 use Rattle.schedule_laws.specs.Resting.{AreBetweenCalls, AreNotedInOrder}
 
 -- In each set-up that is laid out for producers no chunk is one of two of them.

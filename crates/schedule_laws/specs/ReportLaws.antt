@@ -15,8 +15,8 @@ use Rattle.chunk_plain.specs.Plain.{first_world}
 use Rattle.chunk_plain.specs.Histories.{history_of}
 use Rattle.world_model.specs.FirstBuffers.{BufferSpec, payload_at, sequences_from}
 use Rattle.replay_model.specs.Written.{HasWritten}
-use Rattle.schedule_laws.specs.Moves.{Move}
-use Rattle.schedule_laws.specs.Schedules.{IsSchedule}
+use Rattle.chunk_schedules.specs.Moves.{Move}
+use Rattle.chunk_schedules.specs.Schedules.{IsSchedule}
 use Rattle.schedule_laws.specs.Resting.{IsBetweenCalls, IsNotedInOrder}
 
 -- The history in a world is an account of the sequence of the writer at this place and of the pages of its own chunks, in each buffer that

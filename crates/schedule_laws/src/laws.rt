@@ -1,18 +1,8 @@
 //! The laws: contracts of functions with nothing to do.
-ghost use Rattle.schedule_laws.specs.Laws.{SchedulesJoin, SchedulesKeepOwnership, SchedulesAreAccounts, EveryScheduleIsFaithful};
+ghost use Rattle.schedule_laws.specs.Laws.{SchedulesAreAccounts, EveryScheduleIsFaithful};
 ghost use Rattle.schedule_laws.specs.Laws.{EverySequenceIsTold, ServingIsInOrder, EveryServedScheduleIsFaithful};
 ghost use Rattle.schedule_laws.specs.ReportLaws.{SequencesHaveAccounts, EveryPacketIsCounted};
 ghost use Rattle.schedule_laws.specs.EnoughLaws.{SetupsAreApart, EnoughChunksLoseNothing, EnoughMissesNothing};
-
-/// Schedules go on one behind another, and each front of a schedule is one.
-pub fn schedules_join()
-    ensures { SchedulesJoin }
-{}
-
-/// Each chunk is owned by exactly one in each world that a schedule leads to.
-pub fn schedules_keep_ownership()
-    ensures { SchedulesKeepOwnership }
-{}
 
 /// What a schedule leads to is an account, where each writer is between two calls and the service noted
 /// in order.

@@ -10,6 +10,5 @@ mod laws;
 pub use laws::{
     enough_chunks_lose_nothing, enough_misses_nothing, every_packet_is_counted,
     every_schedule_is_faithful, every_sequence_is_told, every_served_schedule_is_faithful,
-    schedules_are_accounts, schedules_join, schedules_keep_ownership, sequences_have_accounts,
-    serving_is_in_order, setups_are_apart,
+    schedules_are_accounts, sequences_have_accounts, serving_is_in_order, setups_are_apart,
 };

@@ -9,7 +9,7 @@ use Rattle.chunk_plain.proofs.WriterSteps.{claims_owned, misses_owned, notes_cal
 use Rattle.chunk_plain.proofs.EntrySteps.{heads_owned, publishes_owned, completes_owned}
 use Rattle.chunk_plain.proofs.ServiceSteps.{takes_owned, learns_owned, lets_go_owned}
 use Rattle.chunk_plain.proofs.Owned.{serviced_owned, looks_owned}
-use Rattle.schedule_laws.specs.Moves.{Move, Claims, Stamps, Begins, SetsHeader, Publishes, Completes, Calls, Looks, Takes, Learns, Releases, Notes, Commits, MayMove, IsWriter, IsChunk, IsNext, claimed_in, behind}
+use Rattle.chunk_schedules.specs.Moves.{Move, Claims, Stamps, Begins, SetsHeader, Publishes, Completes, Calls, Looks, Takes, Learns, Releases, Notes, Commits, MayMove, IsWriter, IsChunk, IsNext, claimed_in, behind}
 
 -- a claim, by what the chunk is used for
 claims_keep : (world : World) (place chunk found : ℕ) → IsOwned world → IsWriter world place → IsChunk world chunk → (is : Status) → status world chunk ≡ is

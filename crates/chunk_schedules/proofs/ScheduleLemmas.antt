@@ -2,10 +2,10 @@
 use Rattle.std.proofs.Common.{◌∙◌, List, [], ◌∷◌, ◌++◌, length, refl, sym, ap, subst}
 use Rattle.chunk_plain.specs.World.{World}
 use Rattle.chunk_plain.specs.Owned.{IsOwned}
-use Rattle.schedule_laws.specs.Moves.{Move, behind}
-use Rattle.schedule_laws.specs.Schedules.{IsSchedule}
-use Rattle.schedule_laws.specs.Laws.{SchedulesJoin, SchedulesKeepOwnership}
-use Rattle.schedule_laws.proofs.MoveLemmas.{move_keeps, move_writers, move_chunks}
+use Rattle.chunk_schedules.specs.Moves.{Move, behind}
+use Rattle.chunk_schedules.specs.Schedules.{IsSchedule}
+use Rattle.chunk_schedules.specs.Laws.{SchedulesJoin, SchedulesKeepOwnership}
+use Rattle.chunk_schedules.proofs.MoveLemmas.{move_keeps, move_writers, move_chunks}
 
 both : (old mid new : World) (moves more : List Move) → IsSchedule old moves mid → IsSchedule mid more new → IsSchedule old (moves ++ more) new
 both old mid new [] more first then = subst (λ (world : World). IsSchedule world more new) first then

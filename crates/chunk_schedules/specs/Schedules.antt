@@ -1,7 +1,10 @@
 -- Schedules: any list of moves, by writers and the service in any order, of which each is possible where it stands.
 use Rattle.std.specs.Prelude.{◌≡◌, ℕ, ◌==◌, false, List, [], ◌∷◌}
+use Rattle.chunk_plain.specs.Setup.{Setup}
+use Rattle.chunk_plain.specs.Views.{At}
 use Rattle.chunk_plain.specs.World.{World}
-use Rattle.schedule_laws.specs.Moves.{Move, Commits, MayMove, behind}
+use Rattle.chunk_plain.specs.Plain.{first_world}
+use Rattle.chunk_schedules.specs.Moves.{Move, Commits, MayMove, behind}
 
 -- the moves lead from one world to another
 abbrev pub IsSchedule : World → List Move → World → Type 0
@@ -13,3 +16,12 @@ abbrev pub CommitsNone : (sequence : ℕ) → List Move → Type 0
 CommitsNone sequence [] = Unit {0}
 CommitsNone sequence (Commits committed ∷ moves) = ((committed.image.sequence == sequence) ≡ false) × CommitsNone sequence moves
 CommitsNone sequence (_ ∷ moves) = CommitsNone sequence moves
+
+-- some moves lead from one world to another
+abbrev pub Leads : World → World → Type 0
+Leads old new = ∥ ((moves : List Move) × IsSchedule old moves new) ∥₁
+
+-- Moves lead to the world from a table as it is made, and from each of these worlds, by which it came.
+pub record IsLed (setup : Setup) (marks : List World) (world : World) : Type 0 where
+  pub reached : Leads (first_world setup) world
+  pub marked : (i : ℕ) (mark : World) → At marks i mark → Leads mark world

@@ -1,0 +1,4 @@
+pub mod Leading
+pub mod MoveLemmas
+pub mod ScheduleLemmas
+pub mod VainLemmas

@@ -1,0 +1,39 @@
+-- The laws of schedules that hold on each table of chunks, whatever is read from it.
+use Rattle.std.specs.Prelude.{◌≡◌, ℕ, false, List, [], ◌∷◌, ◌++◌, length}
+use Rattle.chunk_plain.specs.Setup.{Setup}
+use Rattle.chunk_plain.specs.Views.{At, Ask}
+use Rattle.chunk_plain.specs.World.{World, Unclaimed, status, writer}
+use Rattle.chunk_plain.specs.Plain.{first_world}
+use Rattle.chunk_plain.specs.Owned.{IsOwned}
+use Rattle.chunk_schedules.specs.Moves.{Move, Claims}
+use Rattle.chunk_schedules.specs.Schedules.{IsSchedule}
+
+-- No moves lead nowhere else; schedules go on one behind another; and each front of a schedule is one, which leads to a world on the way.
+pub record SchedulesJoin : Type 0 where
+  pub none : (world : World) → IsSchedule world [] world
+  pub both : (old mid new : World) (moves more : List Move) → IsSchedule old moves mid → IsSchedule mid more new
+      → IsSchedule old (moves ++ more) new
+  pub front : (old new : World) (moves more : List Move) → IsSchedule old (moves ++ more) new
+      → (mid : World) × IsSchedule old moves mid × IsSchedule mid more new
+
+-- Whatever a schedule leads to from an owned world is owned, with as many writers and chunks. So is each world on the way, since fronts are
+-- schedules.
+abbrev pub SchedulesKeepOwnership : Type 0
+SchedulesKeepOwnership = (old new : World) (moves : List Move) → IsOwned old → IsSchedule old moves new
+    → IsOwned new × (length new.writers ≡ length old.writers) × (length new.chunks ≡ length old.chunks)
+
+-- A world on the way of a schedule in which the writer at this place makes its claim with this number, and somebody has the chunk.
+pub record FindsHad (old new : World) (place number : ℕ) (ask : Ask) : Type 0 where
+  pub mid : World
+  pub before : List Move
+  pub after : List Move
+  pub first : IsSchedule old before mid
+  pub then : IsSchedule mid (Claims place ask.chunk ask.found ∷ after) new
+  pub count : length (writer mid place).asked ≡ number
+  pub had : status mid ask.chunk ≡ Unclaimed → ⊥
+
+-- Each claim in vain was made where somebody had the chunk.
+abbrev pub ClaimsInVainFindHad : Type 0
+ClaimsInVainFindHad = (setup : Setup) (moves : List Move) (world : World) → IsSchedule (first_world setup) moves world
+    → (place number : ℕ) (ask : Ask) → At (writer world place).asked number ask → ask.won ≡ false
+    → FindsHad (first_world setup) world place number ask

@@ -1,0 +1,17 @@
+//! The laws: contracts of functions with nothing to do.
+ghost use Rattle.chunk_schedules.specs.Laws.{SchedulesJoin, SchedulesKeepOwnership, ClaimsInVainFindHad};
+
+/// Schedules go on one behind another, and each front of a schedule is one.
+pub fn schedules_join()
+    ensures { SchedulesJoin }
+{}
+
+/// Each chunk is owned by exactly one in each world that a schedule leads to.
+pub fn schedules_keep_ownership()
+    ensures { SchedulesKeepOwnership }
+{}
+
+/// Each claim in vain was made where somebody had the chunk.
+pub fn claims_in_vain_find_had()
+    ensures { ClaimsInVainFindHad }
+{}

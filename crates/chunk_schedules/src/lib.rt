@@ -1,0 +1,10 @@
+//! Schedules of the atomic steps that writers and the service make on a table of chunks: what each step
+//! makes of the table's world, where it is possible, and that each keeps ownership. There is no program
+//! code here.
+//! A layer above may rely on this: steps lead on from any world to which steps lead (`led_on`), and it
+//! may cite the laws, public functions with empty bodies whose contracts are the statements.
+#![tactic(auto)]
+
+mod laws;
+
+pub use laws::{claims_in_vain_find_had, schedules_join, schedules_keep_ownership};
