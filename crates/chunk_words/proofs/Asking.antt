@@ -1,24 +1,29 @@
 -- A writer's look at a page word, which is its claim where the claim bit is set: it keeps the rule, and tells what it does.
-use Rattle.std.proofs.Common.{◌≡◌, ℕ, ◌<◌, Bool, true, false, List, [], length, set, get_or, if◌then◌else◌, subst, sym, refl, ap, ◌∙◌, arith}
+use Rattle.std.proofs.Common.{◌≡◌, ℕ, ◌+◌, ◌<◌, Bool, true, false, List, [], length, set, get_or, if◌then◌else◌, subst, sym, refl, ap, ◌∙◌, arith}
 use Rattle.std.proofs.lemmas.Bool.Decides.{nat_tests}
+use Rattle.std.specs.Int.{bit_at}
 use Rattle.atomic_table.specs.Table.{Allows, keeps}
 use Rattle.page_geometry.specs.PageBits.{IsClaimed}
 use Rattle.chunk_plain.specs.declared.step.Step.TheVariants.{Claim}
 use Rattle.chunk_plain.specs.Setup.{Setup, spot, IsLaid}
 use Rattle.chunk_plain.specs.Views.{WriterView}
-use Rattle.chunk_plain.specs.World.{World, writer}
+use Rattle.chunk_plain.specs.World.{World, Unclaimed, status, writer}
 use Rattle.chunk_plain.specs.Steps.{claims}
 use Rattle.chunk_plain.specs.Stored.{Stored}
-use Rattle.chunk_plain.specs.Shows.{page_word}
+use Rattle.chunk_plain.specs.Shows.{claim_of, page_word}
 use Rattle.chunk_plain.specs.Plain.{world_after, IsKept}
 use Rattle.chunk_plain.proofs.Kept.{claim_seen}
+use Rattle.chunk_schedules.specs.Moves.{Claims as ClaimsMove}
+use Rattle.chunk_schedules.specs.Schedules.{IsLed}
+use Rattle.chunk_schedules.proofs.Leading.{led_on}
 use Rattle.chunk_words.specs.Knows.{Writer, by_writer}
 use Rattle.chunk_words.specs.Places.{front_place}
 use Rattle.chunk_words.specs.Rule.{IsManned, IsShared}
 use Rattle.chunk_words.specs.Moves.{Mine, is_clear, Asks, Claims}
 use Rattle.chunk_words.proofs.Bodies.{with_hand, in_before, bodies_stay}
 use Rattle.chunk_words.proofs.Turns.{IsWriterChange, noted_change, same_change, writer_turn}
-use Rattle.chunk_words.proofs.WriterMoves.{page_is, writer_inside, world_inside, hand_none}
+use Rattle.chunk_words.proofs.Leads.{claim_is, bit_held}
+use Rattle.chunk_words.proofs.WriterMoves.{page_is, writer_inside, world_inside, chunk_inside, hand_none}
 use Rattle.chunk_words.proofs.WriterEnds.{words_loaded}
 
 -- the world behind it
@@ -41,6 +46,15 @@ asked_kept : (setup : Setup) (words : List ℕ) (slots : List Stored) (world : W
 asked_kept setup words slots world place chunk found true laid kept inside_w inside is set_ = kept
 asked_kept setup words slots world place chunk found false laid kept inside_w inside is set_ = claim_seen setup words slots world place chunk found laid kept inside_w inside is (set_ refl)
 
+-- where the claim bit is set the look is a claim in vain, and else it is no move
+asked_led : (setup : Setup) (marks : List World) (world : World) (place chunk found : ℕ) (clear : Bool) → IsLed setup marks world
+    → place < length world.writers → chunk < length world.chunks → (clear ≡ false → status world chunk ≡ Unclaimed → ⊥)
+    → IsLed setup marks (asked_world world place chunk found clear)
+asked_led setup marks world place chunk found true led inside_w inside_c held = led
+asked_led setup marks world place chunk found false led inside_w inside_c held =
+    led_on setup marks world (world_after world (Claim place chunk found false)) (ClaimsMove place chunk found) led (inside_w, inside_c)
+    (claim_is world place chunk found false (status world chunk) (λ yes_. absurd cc) (λ _. held refl))
+
 pub asks_allowed : (setup : Setup) (count id k chunk : ℕ) (v : WriterView) → chunk < length setup.spots
     → Allows (IsShared setup) count id (Writer k 0 v, []) (front_place (spot setup chunk).page) (λ found. found) (Asks chunk (spot setup chunk).place (Writer k 0 v, []))
 asks_allowed setup count id k chunk v inside s r deep at small =
@@ -48,7 +62,10 @@ asks_allowed setup count id k chunk v inside s r deep at small =
     let world = r.world in let f = r.manned.each id (Writer k 0 v) at in
     let inside_w = writer_inside setup s r id k 0 v at in let w_inside = world_inside setup s r id k 0 v at in
     let next = asked_world world k chunk found clear in let roll = with_hand r.roll k 0 in
+    let c_inside = chunk_inside setup s r chunk inside in
     let set_ : clear ≡ false → IsClaimed found at_.place = λ unclear. grind (arith, nat_tests, unclear) in
+    let bit = subst (λ w. bit_at w (32 + at_.place) ≡ claim_of (status world chunk)) (sym (page_is setup s r chunk inside)) (r.kept.shown.page chunk inside).claim in
+    let held : clear ≡ false → status world chunk ≡ Unclaimed → ⊥ = λ unclear. bit_held found at_.place (status world chunk) bit (set_ unclear) in
     let turn = writer_turn setup world next r.roll s.views id k 0 0 v (asked_view (writer world k) chunk found clear) r.manned at
     (asked_change world k chunk found clear w_inside) (λ d e. absurd (omega arith)) in (
       Writer k 0 (asked_view v chunk found clear),
@@ -60,6 +77,7 @@ asks_allowed setup count id k chunk v inside s r deep at small =
         slots = r.slots;
         roll = roll;
         laid = r.laid;
+        led = asked_led setup r.roll.marks world k chunk found clear r.led w_inside c_inside held;
         kept = asked_kept setup r.front r.slots world k chunk found clear r.laid r.kept inside_w inside (page_is setup s r chunk inside) set_;
         words = words_loaded setup s.words r.front r.slots (front_place at_.page) r.words;
         bodies = bodies_stay setup s.homes r.slots r.slots r.roll roll r.bodies (λ d. refl) (λ d. in_before r.roll k 0 d (hand_none r.roll k d f.2));

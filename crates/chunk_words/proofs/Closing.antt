@@ -18,6 +18,7 @@ use Rattle.chunk_plain.specs.Shows.{ShowsPage, page_word}
 use Rattle.chunk_plain.proofs.Lists.{at_inside, at_one, at_more, at_seam, at_some}
 use Rattle.chunk_plain.proofs.Owned.{claims_of-mine}
 use Rattle.chunk_words.specs.GoesOn.{GoesOn}
+use Rattle.chunk_schedules.specs.Schedules.{IsLed}
 use Rattle.chunk_words.specs.Knows.{Watch, Here, Desk, Knows, Spent, Writer, Service, Pass, Report, place_of, view_of, with_view, with_views}
 use Rattle.chunk_words.specs.Places.{front_place}
 use Rattle.chunk_words.specs.Rule.{Roll, HasJoined, IsMade, Fits, IsShared}
@@ -68,6 +69,7 @@ joins_shared setup id k made other desk watch v w count s r at apart there =
       roll = roll;
       laid = r.laid;
       kept = r.kept;
+      led = r.led;
       words = r.words;
       bodies = record { count = r.bodies.count; home_is = λ chunk below in_now. r.bodies.home_is chunk below (record { with_none = in_now.with_none; not_service = in_now.not_service }) };
       manned = record {
@@ -92,7 +94,7 @@ joins_shared setup id k made other desk watch v w count s r at apart there =
         each = λ j knows in_views. ⊎_elim
             (λ here. subst (λ i. Fits setup world roll i knows) (sym here.0) (subst (λ z. Fits setup world roll other z) here.1 tt))
             (λ rest. ⊎_elim
-            (λ here. subst (λ i. Fits setup world roll i knows) (sym here.0) (subst (λ z. Fits setup world roll id z) here.1 (f.0, f.1, f.2, f.3, has, f.5, f.6, f.7)))
+            (λ here. subst (λ i. Fits setup world roll i knows) (sym here.0) (subst (λ z. Fits setup world roll id z) here.1 (f.0, f.1, f.2, f.3, has, f.5, f.6, f.7, f.8)))
             (λ older. joins_fits setup world r.roll j k other knows joined_is g.1 rest.0 (λ e. older.0 (sym e ∙ f.1)) (r.manned.each j knows older.1))
             (at_set s.views id j both knows rest.1))
             (at_set one other j Spent knows in_views);
@@ -172,8 +174,8 @@ module _ (setup : Setup) (id made : ℕ) (desk : Desk) (views : List WriterView)
       let there = at_some rule.world.writers k inside in
       subst (λ v. At rule.world.writers k v) (sym (at_get rule.world.writers k newcomer there.0 there.1) ∙ sym (known k view at)) there.1)
 
-  pub closed_account : IsAccount views service
-  closed_account = ∣ (rule.world, rule.kept.owned, writers_are, sym fits.0) ∣₁
+  pub closed_account : IsAccount setup desk.marks views service
+  closed_account = ∣ (rule.world, rule.kept.owned, subst (λ marks. IsLed setup marks rule.world) fits.8 rule.led, writers_are, sym fits.0) ∣₁
 
   -- the service has the reading pass
   pub closed_goes : (known : ServiceView) → desk.stage ≡ Here known → GoesOn known service

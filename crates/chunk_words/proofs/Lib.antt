@@ -1,3 +1,4 @@
+pub mod Leads
 pub mod Standing
 pub mod Bodies
 pub mod Passing

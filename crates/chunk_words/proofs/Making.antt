@@ -24,6 +24,7 @@ use Rattle.chunk_plain.specs.Words.{IsAtRest}
 use Rattle.chunk_plain.specs.Plain.{first_world}
 use Rattle.chunk_plain.proofs.Lists.{at_inside, at_one, at_more}
 use Rattle.chunk_plain.proofs.MadeLemmas.{all_same, first_kept, first_sits}
+use Rattle.chunk_schedules.proofs.Leading.{led_first}
 use Rattle.chunk_words.specs.Knows.{Watch, Nothing, Unmade, Desk, first_desk, Knows, Spent, Writer, Service, Pass, Report, put, view_of}
 use Rattle.chunk_words.specs.Places.{words_for, words_before, front_place, front_count, payload_start, payload_words, word_total}
 use Rattle.chunk_words.specs.Rule.{Roll, IsIn, Fits, IsShared, first_of}
@@ -102,7 +103,7 @@ free_list setup bodies o = record {
 }
 
 first_roll : Roll
-first_roll = record { seats = λ _. 0; server = 0; hands = λ _. 0; hand = 0; made = 0; joined = 0; stage = Unmade; keeper = 0; passed = newcomer_service }
+first_roll = record { seats = λ _. 0; server = 0; hands = λ _. 0; hand = 0; made = 0; joined = 0; stage = Unmade; keeper = 0; passed = newcomer_service; marks = [] }
 
 pub starts_shared : (setup : Setup) (words : List ℕ) (bodies : List (Option CommitBody)) → IsLaid setup → words ≡ replicate (word_total setup) 0 → HasFreeBodies setup.spots (length setup.spots) bodies
     → IsShared setup (opening words bodies (first_of setup))
@@ -118,6 +119,7 @@ starts_shared setup words bodies laid zero_ o =
       roll = first_roll;
       laid = laid;
       kept = first_kept setup slots free;
+      led = led_first setup;
       words = record {
         total = ap (λ (l : List ℕ). length l) zero_ ∙ length-replicate (word_total setup) 0;
         front_is = λ i below. word (front_place i) ∙ sym (zeros (front_count setup) i);
@@ -145,7 +147,7 @@ starts_shared setup words bodies laid zero_ o =
   where
     first_fits : (seat : ℕ) (knows : Knows) → At (first_of setup ∷ []) seat knows → Fits setup (first_world setup) first_roll seat knows
     first_fits zero knows at = subst (λ k. Fits setup (first_world setup) first_roll 0 k) (some-injective (first_of setup) knows at)
-        (refl, refl, refl, refl, record { count = refl; each = λ place view there. absurd (some-ne-none view (sym there)) }, tt, refl, λ i tale there. absurd (some-ne-none tale (sym there)))
+        (refl, refl, refl, refl, record { count = refl; each = λ place view there. absurd (some-ne-none view (sym there)) }, tt, refl, (λ i tale there. absurd (some-ne-none tale (sym there))), refl)
     first_fits (suc seat) knows at = absurd (some-ne-none knows (sym at))
 
 -- ---- a writer's seat is made
@@ -169,6 +171,7 @@ splits_shared setup id made desk watch v inside s r at =
       roll = roll;
       laid = r.laid;
       kept = r.kept;
+      led = r.led;
       words = r.words;
       bodies = record { count = r.bodies.count; home_is = λ chunk below in_now. r.bodies.home_is chunk below (same_in chunk in_now) };
       manned = record {
@@ -195,7 +198,7 @@ splits_shared setup id made desk watch v inside s r at =
         each = λ j knows there. ⊎_elim
             (λ before. ⊎_elim
             (λ here. subst (λ i. Fits setup world roll i knows) (sym here.0) (subst (λ k. Fits setup world roll id k) here.1
-            (f.0, f.1, f.2, refl, record { count = f.4.count; each = f.4.each }, f.5, f.6, f.7)))
+            (f.0, f.1, f.2, refl, record { count = f.4.count; each = f.4.each }, f.5, f.6, f.7, f.8)))
             (λ other. still_fits setup world r.roll j made seat knows made_is (r.manned.each j knows other.1) (λ same. other.0 (sym same ∙ f.1)))
             (at_set s.views id j more knows before))
             (λ last. subst (λ i. Fits setup world roll i knows) (sym last.0) (subst (λ k. Fits setup world roll seat k) last.1

@@ -18,6 +18,7 @@ shared_ownership setup state r = record {
   words = r.words;
   bodies = r.bodies;
   parts = ownership setup r.front r.slots r.world r.kept;
+  reached = r.led.reached;
   writers = λ seat place hand view at. (r.manned.each seat (Writer place hand view) at).0;
   one_seat = λ seat other place hand held view known at there. sym (r.manned.each seat (Writer place hand view) at).1 ∙ (r.manned.each other (Writer place held known) there).1;
   service = λ seat hand made desk watch view at. (r.manned.each seat (Service hand made desk watch view) at).0;

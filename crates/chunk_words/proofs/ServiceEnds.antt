@@ -6,7 +6,7 @@ use Rattle.page_geometry.specs.declared.chunk_state.ChunkState.TheVariants as st
 use Rattle.commit_body.specs.declared.body.CommitBody.{CommitBody}
 use Rattle.chunk_plain.specs.Setup.{Setup, spot}
 use Rattle.chunk_plain.specs.Views.{At, Content, Look, ServiceView, taken_of}
-use Rattle.chunk_plain.specs.World.{Unclaimed, Reading, status}
+use Rattle.chunk_plain.specs.World.{World, Unclaimed, Reading, status}
 use Rattle.chunk_plain.specs.Steps.{learns, lets_go, served, serviced}
 use Rattle.chunk_plain.specs.Owned.{times}
 use Rattle.chunk_plain.specs.Stored.{stored_at}
@@ -14,6 +14,8 @@ use Rattle.chunk_plain.specs.Shows.{page_word}
 use Rattle.chunk_plain.specs.Plain.{IsLent, IsKept}
 use Rattle.chunk_plain.proofs.KeptWriter.{is_chunk, body_kept}
 use Rattle.chunk_plain.proofs.KeptService.{serviced_kept, learn_kept, reading_of, read_chunk, release_kept}
+use Rattle.chunk_schedules.specs.Moves.{Move, Learns as LearnsMove, Releases as ReleasesMove, MayMove, behind}
+use Rattle.chunk_schedules.proofs.Leading.{led_on}
 use Rattle.chunk_words.specs.Knows.{Watch, Desk, Nothing, Lifted, Service, hand_with}
 use Rattle.chunk_words.specs.Places.{front_place}
 use Rattle.chunk_words.specs.Rule.{Roll, IsIn, IsOf, IsRead, IsMade, IsManned, IsShared}
@@ -48,6 +50,8 @@ module _ (setup : Setup) (count id made : ℕ) (desk : Desk) where
       let kept = body_kept setup r.front r.slots world chunk kept_body r.laid r.kept (subst IsLent (sym was) tt) in
       let view = learns world.service place content in let next = serviced world view in
       let kept' = learn_kept setup r.front slots world place chunk content kept inside_w last' reading in
+      let w_inside : place < length world.writers = let many = r.kept.writers in omega arith in
+      let completed = ((r.kept.owned.owns place chunk).reading_is (length (taken_of world.service place).contents) content reading).0 in
       let roll = with_service_hand r.roll 0 in
       let turn = service_turn setup world next r.roll s.views id (hand_with chunk) 0 made desk (Lifted chunk place i content) Nothing v view r.manned at (serviced_change world view)
       (λ _. goes_learn world.service place content) (λ i tale there true_. true_.1) (λ d e. absurd (omega arith)) tt in (
@@ -61,6 +65,7 @@ module _ (setup : Setup) (count id made : ℕ) (desk : Desk) where
           roll = roll;
           laid = r.laid;
           kept = kept';
+          led = led_on setup r.roll.marks world next (LearnsMove place chunk content) r.led (w_inside, record { taken = omega arith; completed = completed }) refl;
           words = words_body setup (set s.words index (get_or s.words index 0)) r.front r.slots chunk kept_body inside deep_slots (words_loaded setup s.words r.front r.slots index r.words);
           bodies = bodies_back setup s.homes r.slots slots r.roll roll chunk kept_body r.bodies inside (body_here r.slots chunk kept_body (omega arith))
               (λ d differs. body_else r.slots chunk d kept_body differs)
@@ -97,6 +102,7 @@ module _ (setup : Setup) (count id made : ℕ) (desk : Desk) where
           roll = roll;
           laid = r.laid;
           kept = r.kept;
+          led = r.led;
           words = words_loaded setup s.words r.front r.slots index r.words;
           bodies = bodies_out setup s.homes r.slots r.roll roll chunk r.bodies (λ in_now. in_now.not_service refl)
               (λ d _. in_before_service r.roll (hand_with chunk) d (no_slot r.roll d f.2));
@@ -140,6 +146,7 @@ module _ (setup : Setup) (count id made : ℕ) (desk : Desk) where
           roll = roll;
           laid = r.laid;
           kept = kept';
+          led = led_on setup r.roll.marks world next (ReleasesMove chunk) r.led (c_inside, was) refl;
           words = words_front setup s.words r.front slots at_.page new (page_front setup s r chunk inside) (front_many setup s r)
               (words_body setup s.words r.front r.slots chunk (Some body) inside deep_slots r.words);
           bodies = bodies_back setup s.homes r.slots slots r.roll roll chunk (Some body) r.bodies inside here
@@ -165,8 +172,9 @@ module _ (setup : Setup) (count id made : ℕ) (desk : Desk) where
   pub notes_allowed : (index : ℕ) (step : ServiceView → ServiceView) (watch : Watch) (v : ServiceView)
       → ((view : ServiceView) → (step view).looks ≡ view.looks) → ((view : ServiceView) → (step view).taken ≡ view.taken) → ((view : ServiceView) → (step view).reading ≡ view.reading)
       → ((view : ServiceView) → IsMade desk.stage → GoesOn view (step view))
+      → ((world : World) → (move : Move) × MayMove world move × (behind world move ≡ serviced world (step world.service)))
       → Allows (IsShared setup) count id (Service 0 made desk watch v, []) index (λ found. found) (λ _. Serves step (Service 0 made desk watch v, []))
-  notes_allowed index step watch v looks taken reading goes s r deep at small =
+  notes_allowed index step watch v looks taken reading goes moves s r deep at small =
       let f = r.manned.each id (Service 0 made desk watch v) at in
       let view = step r.world.service in
       let kept = serviced_kept setup r.front r.slots r.world view r.kept (looks r.world.service) (taken r.world.service) (reading r.world.service) in (
@@ -175,6 +183,7 @@ module _ (setup : Setup) (count id made : ℕ) (desk : Desk) where
         tt,
         subst (λ z. IsShared setup (record { words = set s.words index (get_or s.words index 0); homes = s.homes; views = set s.views id (Service 0 made desk Nothing (step z)) })) (sym f.0)
             (serviced_allowed setup s r id index made desk watch Nothing v view at kept (goes r.world.service)
-            (λ i tale there true_ n id_ look content since at_look. true_.1 n id_ look content since (subst (λ (l : List Look). At l n look) (looks r.world.service) at_look)) tt),
+            (λ i tale there true_ n id_ look content since at_look. true_.1 n id_ look content since (subst (λ (l : List Look). At l n look) (looks r.world.service) at_look)) tt
+            (let one = moves r.world in led_on setup r.roll.marks r.world (serviced r.world view) one.0 r.led one.1 one.2)),
         record { new_is = refl; seen = ∣ (serviced r.world view, kept.owned, ap step (sym f.0)) ∣₁ },
       )

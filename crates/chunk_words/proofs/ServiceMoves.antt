@@ -15,9 +15,12 @@ use Rattle.chunk_plain.specs.Drafts.{head_of}
 use Rattle.chunk_plain.specs.Stored.{Stored, stored_at}
 use Rattle.chunk_plain.specs.Shows.{state_of, ShowsHeader, ShowsSlot, IsHeader, page_word, header_word}
 use Rattle.chunk_plain.specs.Words.{LooksAt}
-use Rattle.chunk_plain.specs.Plain.{IsKept}
+use Rattle.chunk_plain.specs.Plain.{read_as, IsKept}
 use Rattle.chunk_plain.proofs.Owned.{looks_owned}
 use Rattle.chunk_plain.proofs.KeptService.{serviced_shown, header_reads, take_kept}
+use Rattle.chunk_schedules.specs.Moves.{Looks as LooksMove, Takes as TakesMove}
+use Rattle.chunk_schedules.specs.Schedules.{IsLed}
+use Rattle.chunk_schedules.proofs.Leading.{led_on}
 use Rattle.chunk_words.specs.Knows.{Watch, Tale, Desk, Nothing, Peeked, Known, Lifted, Service, hand_with}
 use Rattle.chunk_words.specs.Places.{front_place, payload_start, payload_words}
 use Rattle.chunk_words.specs.Rule.{Roll, IsIn, IsOf, IsRead, IsCompleteChunk, IsWatched, HasHeader, IsMade, IsTrue, IsManned, IsShared}
@@ -47,9 +50,9 @@ same_hand roll hand chunk same in_now = record { with_none = in_now.with_none; n
 pub serviced_allowed : (setup : Setup) (s : Table) (r : IsShared setup s) (id index made : ℕ) (desk : Desk) (watch seen : Watch) (v view : ServiceView)
     → At s.views id (Service 0 made desk watch v) → IsKept setup r.front r.slots (serviced r.world view) → (IsMade desk.stage → GoesOn r.world.service view)
     → ((i : ℕ) (tale : Tale) → At desk.told i tale → IsTrue setup r.world tale → ShowsTold setup view tale)
-    → IsWatched setup (serviced r.world view) seen
+    → IsWatched setup (serviced r.world view) seen → IsLed setup r.roll.marks (serviced r.world view)
     → IsShared setup (record { words = set s.words index (get_or s.words index 0); homes = s.homes; views = set s.views id (Service 0 made desk seen view) })
-serviced_allowed setup s r id index made desk watch seen v view at kept goes shows watched =
+serviced_allowed setup s r id index made desk watch seen v view at kept goes shows watched led =
     let f = r.manned.each id (Service 0 made desk watch v) at in
     record {
       world = serviced r.world view;
@@ -58,6 +61,7 @@ serviced_allowed setup s r id index made desk watch seen v view at kept goes sho
       roll = with_service_hand r.roll 0;
       laid = r.laid;
       kept = kept;
+      led = led;
       words = words_loaded setup s.words r.front r.slots index r.words;
       bodies = bodies_stay setup s.homes r.slots r.slots r.roll (with_service_hand r.roll 0) r.bodies (λ d. refl) (λ d. same_hand r.roll 0 d f.2);
       manned = service_turn setup r.world (serviced r.world view) r.roll s.views id 0 0 made desk watch seen v view r.manned at (serviced_change r.world view) goes shows (λ d e. absurd (omega arith)) watched;
@@ -82,7 +86,7 @@ module _ (setup : Setup) (count id made : ℕ) (desk : Desk) where
         keeps,
         tt,
         subst (λ z. IsShared setup (record { words = set s.words (front_place (spot setup chunk).page) found; homes = s.homes; views = set s.views id (Service 0 made desk seen z) })) (sym f.0)
-            (serviced_allowed setup s r id (front_place (spot setup chunk).page) made desk watch seen v r.world.service at r.kept (λ _. goes_same r.world.service) (λ i tale there true_. true_.1) (stays_found found (spot setup chunk).place (status r.world chunk) state)),
+            (serviced_allowed setup s r id (front_place (spot setup chunk).page) made desk watch seen v r.world.service at r.kept (λ _. goes_same r.world.service) (λ i tale there true_. true_.1) (stays_found found (spot setup chunk).place (status r.world chunk) state) r.led),
         record {
           new_is = refl;
           told = λ i id_ tale content there begun untaken.
@@ -110,7 +114,8 @@ module _ (setup : Setup) (count id made : ℕ) (desk : Desk) where
             = subst (λ w. IsHeader setup w tale.place id_ (head_of content)) (sym is) (subst (λ t. ShowsHeader setup (header_word setup r.front chunk) t) ready (r.kept.shown.header chunk inside)) in (
               told i id_ tale content there begun (subst (λ (z : ServiceView). (taken_of z tale.place).count ≤ id_) (sym f.0) untaken),
               (head_of content, subst (λ w. IsHeader setup w tale.place id_ (head_of content)) (sym (packed_back setup header tale.place id_ (head_of content) shows)) shows),
-            ))) tt,
+            ))) tt
+            (led_on setup r.roll.marks r.world (serviced r.world view) (LooksMove chunk word (packed (unpacked header)) finds.found) r.led finds.there refl),
         record {
           peeked = refl;
           view = view;
@@ -135,7 +140,7 @@ module _ (setup : Setup) (count id made : ℕ) (desk : Desk) where
         keeps,
         tt,
         subst (λ z. IsShared setup (record { words = set s.words index (get_or s.words index 0); homes = s.homes; views = set s.views id (Service 0 made desk Nothing z) })) (sym f.0)
-            (serviced_allowed setup s r id index made desk watch Nothing v r.world.service at r.kept (λ _. goes_same r.world.service) (λ i tale there true_. true_.1) tt),
+            (serviced_allowed setup s r id index made desk watch Nothing v r.world.service at r.kept (λ _. goes_same r.world.service) (λ i tale there true_. true_.1) tt r.led),
         record {
           new_is = refl;
           shown = λ i tale there. subst (λ (z : ServiceView). ShowsTold setup z tale) (sym f.0) (f.7 i tale there).1;
@@ -155,7 +160,7 @@ module _ (setup : Setup) (count id made : ℕ) (desk : Desk) where
         keeps,
         tt,
         subst (λ z. IsShared setup (record { words = set s.words (front_place (setup.pages + chunk)) header; homes = s.homes; views = set s.views id (Service 0 made desk (Known chunk word header) z) })) (sym f.0)
-            (serviced_allowed setup s r id (front_place (setup.pages + chunk)) made desk (Peeked chunk word) (Known chunk word header) v r.world.service at r.kept (λ _. goes_same r.world.service) (λ i tale there true_. true_.1) (full_header header (status r.world chunk) (f.5.complete complete) shows)),
+            (serviced_allowed setup s r id (front_place (setup.pages + chunk)) made desk (Peeked chunk word) (Known chunk word header) v r.world.service at r.kept (λ _. goes_same r.world.service) (λ i tale there true_. true_.1) (full_header header (status r.world chunk) (f.5.complete complete) shows) r.led),
         record { peeked = refl; new_is = refl },
       )
     where
@@ -180,7 +185,8 @@ module _ (setup : Setup) (count id made : ℕ) (desk : Desk) where
         subst (λ z. IsShared setup (record { words = set s.words index (get_or s.words index 0); homes = s.homes; views = set s.views id (Service 0 made desk Nothing (looks_at z chunk word (packed header) None)) })) (sym f.0)
             (serviced_allowed setup s r id index made desk watch Nothing v view at kept (λ _. goes_look r.world.service chunk word (packed header) None)
             (look_shows setup r.world desk chunk word (packed header) None r.kept.owned (λ i id_ tale content there begun untaken ready.
-            (complete, (head_of content, subst (λ t. HasHeader setup (packed header) t) ready f.5)))) tt),
+            (complete, (head_of content, subst (λ t. HasHeader setup (packed header) t) ready f.5)))) tt
+            (led_on setup r.roll.marks r.world (serviced r.world view) (LooksMove chunk word (packed header) None) r.led (λ one e. absurd cc) refl)),
         record { known = refl; serves = record { new_is = refl; seen = seen_now setup r.front r.slots (serviced r.world view) (looks_at v chunk word (packed header) None) kept (ap (λ z. looks_at z chunk word (packed header) None) (sym f.0)) } },
       )
 
@@ -210,6 +216,7 @@ module _ (setup : Setup) (count id made : ℕ) (desk : Desk) where
       let at_ = spot setup chunk in let found = get_or s.words (front_place at_.page) 0 in let new = bit_and found mask in
       let world = r.world in let f = r.manned.each id (Service 0 made desk (Known chunk word header) v) at in
       let is = page_is setup s r chunk inside in let c_inside = chunk_inside setup s r chunk inside in
+      let w_inside : place < length world.writers = let many = r.kept.writers in omega arith in
       let known = known_by world chunk header (status world chunk) refl f.5 in let content = known.content in
       let reads = header_reads setup header known.place known.at_id (head_of content) known.header_is in
       let same_writer : known.place ≡ place = let one = ap (λ (h : ChunkHeader). h.writer_id) reads in omega arith in
@@ -252,6 +259,8 @@ module _ (setup : Setup) (count id made : ℕ) (desk : Desk) where
           roll = roll;
           laid = r.laid;
           kept = kept;
+          led = led_on setup r.roll.marks world next (TakesMove place chunk word (packed (unpacked header))) r.led (w_inside, c_inside, (content, ready))
+              (ap (λ t. served world view chunk (read_as t)) ready);
           words = words_front setup s.words r.front r.slots at_.page new (page_front setup s r chunk inside) (front_many setup s r) r.words;
           bodies = bodies_out setup s.homes r.slots r.roll roll chunk r.bodies (λ in_now. in_now.not_service refl)
               (λ d _. in_before_service r.roll (hand_with chunk) d (no_slot r.roll d f.2));
@@ -295,6 +304,7 @@ module _ (setup : Setup) (count id made : ℕ) (desk : Desk) where
           roll = roll;
           laid = r.laid;
           kept = r.kept;
+          led = r.led;
           words = words_loaded setup s.words r.front r.slots place r.words;
           bodies = bodies_stay setup s.homes r.slots r.slots r.roll roll r.bodies (λ d. refl) (λ d. same_hand r.roll hand d f.2);
           manned = subst (λ z. IsManned setup r.world roll (set s.views id (Service hand made desk seen z))) (sym f.0) turn;

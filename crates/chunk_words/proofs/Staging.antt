@@ -10,10 +10,13 @@ use Rattle.chunk_plain.specs.World.{World, writer}
 use Rattle.chunk_plain.specs.Steps.{notes, serviced}
 use Rattle.chunk_plain.proofs.Lists.{at_inside, at_one, at_more}
 use Rattle.chunk_plain.proofs.KeptService.{serviced_kept}
+use Rattle.chunk_schedules.specs.Moves.{Notes as NotesMove, IsPlainNote}
+use Rattle.chunk_schedules.specs.Schedules.{IsLed}
+use Rattle.chunk_schedules.proofs.Leading.{led_on, led_mark}
 use Rattle.chunk_words.specs.GoesOn.{GoesOn}
-use Rattle.chunk_words.specs.Knows.{Watch, Nothing, Stage, Unmade, Away, Here, Tale, Desk, Knows, Spent, Writer, Service, Pass, Report, staged, with_stage, with_tale}
+use Rattle.chunk_words.specs.Knows.{Watch, Nothing, Stage, Unmade, Away, Here, Tale, Desk, Knows, Spent, Writer, Service, Pass, Report, staged, with_stage, with_tale, with_mark}
 use Rattle.chunk_words.specs.Rule.{Roll, IsMade, IsTrue, Fits, IsManned, IsShared}
-use Rattle.chunk_words.specs.Moves.{NotesRead}
+use Rattle.chunk_words.specs.Moves.{NotesRead, Marks}
 use Rattle.chunk_words.proofs.Bodies.{with_service_hand, bodies_stay}
 use Rattle.chunk_words.specs.Told.{StaysCompleted}
 use Rattle.chunk_words.proofs.Telling.{stays_same}
@@ -75,7 +78,7 @@ restage setup world roll views seat hand made keeper desk watch v stage passed m
       each = λ j knows there. ⊎_elim
           (λ now. subst (λ i. Fits setup world (with_pass roll stage keeper passed) i knows) (sym now.0)
           (subst (λ k. Fits setup world (with_pass roll stage keeper passed) seat k) now.1
-          (f.0, f.1, f.2, f.3, record { count = f.4.count; each = f.4.each }, f.5, refl, f.7)))
+          (f.0, f.1, f.2, f.3, record { count = f.4.count; each = f.4.each }, f.5, refl, f.7, f.8)))
           (λ was. restaged_on setup world roll j keeper stage passed knows (λ same. was.0 (sym same ∙ f.1))
           (λ view is. none j view (subst (λ k. At views j k) is was.1)) (manned.each j knows was.1))
           (at_set views seat j new knows there);
@@ -127,7 +130,7 @@ kept_on : (setup : Setup) (world : World) (roll : Roll) (seat keeper : ℕ) (kno
 kept_on setup world roll seat keeper Spent none fits = tt
 kept_on setup world roll seat keeper (Writer place hand view) none fits = fits
 kept_on setup world roll seat keeper (Service hand made desk watch view) none fits =
-    (fits.0, fits.1, fits.2, fits.3, record { count = fits.4.count; each = fits.4.each }, fits.5, fits.6, fits.7)
+    (fits.0, fits.1, fits.2, fits.3, record { count = fits.4.count; each = fits.4.each }, fits.5, fits.6, fits.7, fits.8)
 kept_on setup world roll seat keeper (Report place begun) none fits = fits
 kept_on setup world roll seat keeper (Pass view) none fits = absurd (none view refl)
 
@@ -161,6 +164,7 @@ as_shared setup s r stage keeper passed views manned = record {
   roll = with_pass r.roll stage keeper passed;
   laid = r.laid;
   kept = r.kept;
+  led = r.led;
   words = r.words;
   bodies = bodies_stay setup s.homes r.slots r.slots r.roll (with_pass r.roll stage keeper passed) r.bodies (λ d. refl)
       (λ d in_now. record { with_none = in_now.with_none; not_service = in_now.not_service });
@@ -205,8 +209,9 @@ module _ (setup : Setup) (id made : ℕ) (desk : Desk) (watch : Watch) (v : Serv
       (subst (λ views. IsManned setup r.world (with_pass r.roll (Here passed) 0 passed) views) (set_comm s.views other id Spent both apart) two)
 
   pub read_allowed : (count index : ℕ) (passed : ServiceView) (note : Noted) → desk.stage ≡ Here passed
+      → IsPlainNote note
       → Allows (IsShared setup) count id (Service 0 made desk watch v, []) index (λ found. found) (λ _. NotesRead note (Service 0 made desk watch v, []))
-  read_allowed count index passed note here s r deep at small =
+  read_allowed count index passed note here plain s r deep at small =
       let world = r.world in let f = r.manned.each id (Service 0 made desk watch v) at in let stage = f.6 ∙ here in
       let view = notes world.service note in let next = serviced world view in
       let kept = serviced_kept setup r.front r.slots world view r.kept refl refl refl in
@@ -235,6 +240,7 @@ module _ (setup : Setup) (id made : ℕ) (desk : Desk) (watch : Watch) (v : Serv
           roll = roll;
           laid = r.laid;
           kept = kept;
+          led = led_on setup r.roll.marks world next (NotesMove note) r.led plain refl;
           words = words_loaded setup s.words r.front r.slots index r.words;
           bodies = bodies_stay setup s.homes r.slots r.slots r.roll roll r.bodies (λ d. refl)
               (λ d in_now. record { with_none = in_now.with_none; not_service = λ e. in_now.not_service (sym f.2 ∙ e) });
@@ -257,6 +263,95 @@ pass_handed setup id passed s r at =
     let two = append setup r.world r.roll views one (none_left setup r.world r.roll s.views id passed r.manned at) g.2 in
     as_shared setup s r r.roll.stage (length views) r.roll.passed (views ++ Pass passed ∷ [])
     (subst (λ z. IsManned setup r.world (with_pass r.roll r.roll.stage (length views) r.roll.passed) (views ++ Pass z ∷ [])) (sym g.0) two)
+
+-- ---- marks
+
+-- the worlds that the service marked are these
+abbrev pub with_marks : Roll → List World → Roll
+with_marks roll marks = record roll { marks = marks }
+
+marked_on : (setup : Setup) (world : World) (roll : Roll) (seat : ℕ) (marks : List World) (knows : Knows) → roll.server ≢ seat
+    → Fits setup world roll seat knows → Fits setup world (with_marks roll marks) seat knows
+marked_on setup world roll seat marks Spent apart fits = tt
+marked_on setup world roll seat marks (Writer place hand view) apart fits = fits
+marked_on setup world roll seat marks (Service hand made desk watch view) apart fits = absurd (apart fits.1)
+marked_on setup world roll seat marks (Pass view) apart fits = fits
+marked_on setup world roll seat marks (Report place begun) apart fits = fits
+
+-- the service's seat has a mark more
+remark : (setup : Setup) (world : World) (roll : Roll) (views : List Knows) (seat hand made : ℕ) (desk : Desk) (watch : Watch) (v : ServiceView) (mark : World)
+    → IsManned setup world roll views → At views seat (Service hand made desk watch v)
+    → IsManned setup world (with_marks roll (desk.marks ++ mark ∷ [])) (set views seat (Service hand made (with_mark desk mark) watch v))
+remark setup world roll views seat hand made desk watch v mark manned at =
+    let old = Service hand made desk watch v in let more = with_mark desk mark in let new = Service hand made more watch v in
+    let marks = desk.marks ++ mark ∷ [] in
+    let f = manned.each seat old at in let inside = at_inside views old seat at in
+    record {
+      most = manned.most;
+      least = manned.least;
+      fresh = manned.fresh;
+      seated = λ p low below. let was = manned.seated p low below in let whole = Writer p (roll.hands p) (writer world p) in
+          let apart : roll.seats p ≢ seat = λ same. absurd (let clash = at_one views whole old seat (subst (λ j. At views j whole) same was) at in cc) in
+          set_else views seat (roll.seats p) new apart ∙ was;
+      staffed = (
+        more,
+        watch,
+        subst (λ j. At (set views seat new) j (Service roll.hand roll.made more watch world.service)) (sym f.1)
+            (subst (λ h. At (set views seat new) seat (Service h roll.made more watch world.service)) (sym f.2)
+            (subst (λ m. At (set views seat new) seat (Service hand m more watch world.service)) (sym f.3)
+            (subst (λ z. At (set views seat new) seat (Service hand made more watch z)) f.0 (set_here views seat new inside)))),
+      );
+      each = λ j knows there. ⊎_elim
+          (λ now. subst (λ i. Fits setup world (with_marks roll marks) i knows) (sym now.0)
+          (subst (λ k. Fits setup world (with_marks roll marks) seat k) now.1
+          (f.0, f.1, f.2, f.3, record { count = f.4.count; each = f.4.each }, f.5, f.6, f.7, refl)))
+          (λ was. marked_on setup world roll j marks knows (λ same. was.0 (sym same ∙ f.1)) (manned.each j knows was.1))
+          (at_set views seat j new knows there);
+      handed = manned.handed;
+      lifted = manned.lifted;
+      goes_on = manned.goes_on;
+      here = manned.here;
+    }
+
+pub marks_allowed : (setup : Setup) (id made : ℕ) (desk : Desk) (watch : Watch) (v : ServiceView) (count index : ℕ)
+    → Allows (IsShared setup) count id (Service 0 made desk watch v, []) index (λ found. found) (λ _. Marks setup (Service 0 made desk watch v, []))
+marks_allowed setup id made desk watch v count index s r deep at small =
+    let world = r.world in let f = r.manned.each id (Service 0 made desk watch v) at in
+    let first = Service 0 made desk Nothing world.service in let second = Service 0 made (with_mark desk world) Nothing world.service in
+    let one = service_turn setup world world r.roll s.views id 0 0 made desk watch Nothing v world.service r.manned at
+    (record { service = refl; writers = refl; still = λ other d x. x }) (λ _. goes_same world.service) (λ i tale there true_. true_.1) (λ d e. absurd (omega arith)) tt in
+    let one_at : At (set s.views id first) id first = set_here s.views id first (at_inside s.views (Service 0 made desk watch v) id at) in
+    let two = remark setup world (with_service_hand r.roll 0) (set s.views id first) id 0 made desk Nothing world.service world one one_at in
+    let roll = with_marks (with_service_hand r.roll 0) (desk.marks ++ world ∷ []) in (
+      Service 0 made (with_mark desk world) Nothing v,
+      keeps,
+      tt,
+      record {
+        world = world;
+        front = r.front;
+        slots = r.slots;
+        roll = roll;
+        laid = r.laid;
+        kept = r.kept;
+        led = subst (λ (marks : List World). IsLed setup (marks ++ world ∷ []) world) f.8 (led_mark setup r.roll.marks world r.led);
+        words = words_loaded setup s.words r.front r.slots index r.words;
+        bodies = bodies_stay setup s.homes r.slots r.slots r.roll roll r.bodies (λ d. refl)
+            (λ d in_now. record { with_none = in_now.with_none; not_service = λ e. in_now.not_service (sym f.2 ∙ e) });
+        manned = subst (λ z. IsManned setup world roll (set s.views id (Service 0 made (with_mark desk world) Nothing z))) (sym f.0)
+            (subst (λ views. IsManned setup world roll views) (set_twice s.views id first second) two);
+      },
+      record {
+        marked = record {
+          world = world;
+          desk_is = refl;
+          view_is = sym f.0;
+          owned = r.kept.owned;
+          reached = r.led.reached;
+          told = λ i tale there. (f.7 i tale there).0;
+        };
+        new_is = refl;
+      },
+    )
 
 -- ---- tales
 
@@ -330,7 +425,7 @@ retell setup world roll views seat hand made place desk watch v begun manned at 
       each = λ j knows there. ⊎_elim
           (λ now. subst (λ i. Fits setup world roll i knows) (sym now.0)
           (subst (λ k. Fits setup world roll seat k) now.1
-          (f.0, f.1, f.2, f.3, f.4, f.5, f.6, told_on setup world v desk place begun f.0 f.7 stays)))
+          (f.0, f.1, f.2, f.3, f.4, f.5, f.6, told_on setup world v desk place begun f.0 f.7 stays, f.8)))
           (λ was. manned.each j knows was.1)
           (at_set views seat j new knows there);
       handed = manned.handed;

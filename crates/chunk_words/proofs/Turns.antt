@@ -131,6 +131,7 @@ fits_on setup world next roll seat place hand view (Service held made desk watch
     λ id chunk content at. begun_stays world next place view change tale.place id chunk content (was.0 id chunk content at),
     subst (λ (z : ServiceView). ShowsTold setup z tale) (sym change.service) was.1,
   ),
+  fits.8,
 )
 
 pub writer_turn : (setup : Setup) (world next : World) (roll : Roll) (views : List Knows) (seat place hand now : ℕ) (known view : WriterView)
@@ -223,6 +224,7 @@ service_turn setup world next roll views seat hand now made desk watch seen know
               subst (λ (l : List WriterView). StaysCompleted tale.begun (get_or l tale.place newcomer).begun) (sym change.writers) was.0,
               subst (λ (z : ServiceView). ShowsTold setup z tale) (sym change.service) (shows i tale told was),
             ),
+            fits.8,
           )))
           (λ old. served_on setup world next roll other now view knows change (λ same. old.0 (sym same ∙ fits.1)) (manned.each other knows old.1))
           (at_set views seat other (Service now made desk seen view) knows there);

@@ -14,13 +14,16 @@ use Rattle.chunk_plain.specs.Drafts.{draft_at, head_at, IsHolding}
 use Rattle.chunk_plain.specs.Stored.{Stored, stored_at}
 use Rattle.chunk_plain.specs.Shows.{content_of, page_word}
 use Rattle.chunk_plain.specs.Plain.{IsLent, StandsWhole, IsKept}
-use Rattle.chunk_plain.proofs.KeptWriter.{body_kept, held_status, held_chunk, complete_kept, call_kept}
+use Rattle.chunk_plain.proofs.KeptWriter.{body_kept, held_status, held_chunk, held_slot, complete_kept, call_kept}
+use Rattle.chunk_schedules.specs.Moves.{Completes as CompletesMove, Calls as CallsMove}
+use Rattle.chunk_schedules.proofs.Leading.{led_on}
 use Rattle.chunk_words.specs.Knows.{Writer, hand_with}
 use Rattle.chunk_words.specs.Places.{front_place}
 use Rattle.chunk_words.specs.Rule.{IsOf, HoldsWords, IsManned, IsShared}
 use Rattle.chunk_words.specs.Moves.{Fetches, Completes, Notes}
 use Rattle.chunk_words.proofs.Standing.{words_front, words_body}
 use Rattle.chunk_words.proofs.Bodies.{put_same, with_hand, in_before, bodies_stay, bodies_out, bodies_back, body_here, body_else}
+use Rattle.chunk_words.proofs.Leads.{may_complete}
 use Rattle.chunk_words.proofs.Telling.{stays_set}
 use Rattle.chunk_words.proofs.Turns.{Still, moved_change, noted_change, same_change, writer_turn}
 use Rattle.chunk_words.proofs.WriterMoves.{front_many, page_front, page_is, writer_inside, world_inside, chunk_inside, slot_in, hand_else, hand_none}
@@ -50,6 +53,7 @@ fetches_allowed setup count id k chunk i index v holding s r deep at small =
         roll = roll;
         laid = r.laid;
         kept = r.kept;
+        led = r.led;
         words = words_loaded setup s.words r.front r.slots index r.words;
         bodies = bodies_out setup s.homes r.slots r.roll roll chunk r.bodies (λ in_now. in_now.with_none k (put_same r.roll.hands k (hand_with chunk)))
             (λ d _. in_before r.roll k (hand_with chunk) d (hand_none r.roll k d f.2));
@@ -81,6 +85,8 @@ completes_allowed setup count id k chunk i mask body v holding whole sets keep s
     let kept' = subst (λ w. IsKept setup (set r.front at_.page (bit_or w mask)) slots next) (sym is)
     (complete_kept setup r.front slots world k chunk i (bit_or (page_word setup r.front chunk) mask) body r.laid kept inside_w holding' here
     (subst (λ z. StandsWhole at_.payload_size z i body) f.0 whole) (sets (page_word setup r.front chunk)) (keep (page_word setup r.front chunk))) in
+    let may = may_complete at_.payload_size k i v' body (subst (λ z. StandsWhole at_.payload_size z i body) f.0 whole)
+    (held_slot setup r.front r.slots world k chunk i r.kept holding').words.1 in
     let front = set r.front at_.page new in
     let roll = with_hand r.roll k 0 in
     let change = moved_change world k chunk view to w_inside c_inside
@@ -97,6 +103,7 @@ completes_allowed setup count id k chunk i mask body v holding whole sets keep s
         roll = roll;
         laid = r.laid;
         kept = kept';
+        led = led_on setup r.roll.marks world next (CompletesMove k chunk i content) r.led (w_inside, c_inside, holding', may) refl;
         words = words_front setup s.words r.front slots at_.page new (page_front setup s r chunk inside) (front_many setup s r)
             (words_body setup s.words r.front r.slots chunk (Some body) inside deep_slots r.words);
         bodies = bodies_back setup s.homes r.slots slots r.roll roll chunk (Some body) r.bodies inside here
@@ -125,6 +132,7 @@ calls_allowed setup count id k index call v s r deep at small =
         roll = roll;
         laid = r.laid;
         kept = call_kept setup r.front r.slots world k call r.kept inside_w;
+        led = led_on setup r.roll.marks world next (CallsMove k call) r.led (w_inside) refl;
         words = words_loaded setup s.words r.front r.slots index r.words;
         bodies = bodies_stay setup s.homes r.slots r.slots r.roll roll r.bodies (λ d. refl) (λ d. in_before r.roll k 0 d (hand_none r.roll k d f.2));
         manned = subst (λ z. IsManned setup next roll (set s.views id (Writer k 0 (notes_call z call)))) (sym f.0) turn;

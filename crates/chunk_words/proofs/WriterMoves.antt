@@ -1,5 +1,5 @@
 -- Each step of a writer's seat keeps the rule, and tells what it does.
-use Rattle.std.proofs.Common.{◌≡◌, ◌≢◌, ℕ, ◌+◌, ◌*◌, ◌<◌, ◌≤◌, ◌↔◌, ◌==◌, IsTrue, Bool, true, false, Option, Some, None, List, [], ◌∷◌, length, set, get_or, subst, sym, refl, ap, ◌∙◌, arith, bit_or}
+use Rattle.std.proofs.Common.{◌≡◌, ◌≢◌, ℕ, ◌+◌, ◌-◌, ◌*◌, ◌<◌, ◌≤◌, ◌↔◌, ◌==◌, IsTrue, Bool, true, false, Option, Some, None, List, [], ◌∷◌, length, set, get_or, subst, sym, refl, ap, ◌∙◌, arith, bit_or}
 use Rattle.std.specs.Int.{bit_at}
 use Rattle.std.proofs.lemmas.List.{get_or-set_same}
 use Rattle.std.proofs.lemmas.Bool.Decides.{nat_tests}
@@ -12,7 +12,7 @@ use Rattle.chunk_plain.specs.Setup.{Setup, spot}
 use Rattle.chunk_plain.specs.Payload.{byte_of, byte_at, sealed_to, HasFragments}
 use Rattle.chunk_plain.specs.Views.{At, Head, no_head, fresh, Draft, Held, WriterView}
 use Rattle.chunk_plain.specs.World.{World, Status, Unclaimed, Claimed, Stamped, Writing, status, writer}
-use Rattle.chunk_plain.specs.Steps.{claims, stamps, begins, redrafts, with_head, with_word, with_words, moved}
+use Rattle.chunk_plain.specs.Steps.{claims, stamps, begins, redrafts, with_head, with_word, with_words, drafted, moved}
 use Rattle.chunk_plain.specs.Owned.{times, claims_of}
 use Rattle.chunk_plain.specs.Drafts.{MayFollow, draft_at, head_at, published, ends_by, IsHolding}
 use Rattle.chunk_plain.specs.Stored.{Stored, nothing_stored, stored_at}
@@ -20,13 +20,16 @@ use Rattle.chunk_plain.specs.Shows.{claim_of, IsHeader, page_word}
 use Rattle.chunk_plain.specs.Plain.{world_after, IsLent, IsKept}
 use Rattle.chunk_plain.proofs.Kept.{claim_kept, claim_bit_free}
 use Rattle.chunk_plain.proofs.KeptWriter.{claimed_by, body_of_claimed, stamp_kept, begin_kept, body_kept, held_status, held_chunk, held_slot, header_kept, publish_kept}
-use Rattle.chunk_plain.proofs.Sealing.{word_bytes}
+use Rattle.chunk_plain.proofs.Sealing.{word_bytes, length-ends_from}
+use Rattle.chunk_schedules.specs.Moves.{Claims as ClaimsMove, Stamps as StampsMove, Begins as BeginsMove, SetsHeader as SetsHeaderMove, Publishes as PublishesMove, MaySetHeader}
+use Rattle.chunk_schedules.proofs.Leading.{led_on}
 use Rattle.chunk_words.specs.Knows.{Knows, Writer, hand_with}
 use Rattle.chunk_words.specs.Places.{front_place, front_count, payload_start, payload_words}
 use Rattle.chunk_words.specs.Rule.{Roll, IsIn, IsOf, IsRead, IsManned, IsShared}
 use Rattle.chunk_words.specs.Moves.{is_clear, Claims, Stamps, Begins, SetsHeader, Publishes}
 use Rattle.chunk_words.proofs.Standing.{words_front, words_payload, words_body}
 use Rattle.chunk_words.proofs.Bodies.{put_same, with_hand, in_before, bodies_stay, bodies_out, bodies_back, body_here, body_else}
+use Rattle.chunk_words.proofs.Leads.{claim_is, bit_held}
 use Rattle.chunk_words.proofs.Telling.{stays_same, stays_more, stays_set}
 use Rattle.chunk_words.proofs.Turns.{Still, IsWriterChange, moved_change, noted_change, writer_turn}
 
@@ -95,6 +98,8 @@ claims_allowed setup count id k chunk mask v inside sets keep s r deep at small 
     let free : won ≡ true → status world chunk ≡ Unclaimed = λ yes_. claim_bit_free found at_.place (status world chunk)
     (subst (λ w. bit_at w (32 + at_.place) ≡ claim_of (status world chunk)) (sym is) (r.kept.shown.page chunk inside).claim)
     (λ one. absurd (let set_ : claimed ≡ true = (set_is found at_.place).1 one in grind (arith, nat_tests, set_, yes_))) in
+    let held : won ≡ false → status world chunk ≡ Unclaimed → ⊥ = λ no_. bit_held found at_.place (status world chunk)
+    (subst (λ w. bit_at w (32 + at_.place) ≡ claim_of (status world chunk)) (sym is) (r.kept.shown.page chunk inside).claim) (grind (arith, nat_tests, no_)) in
     let kept = claim_kept setup r.front r.slots world k chunk found new claimed at_ refl r.laid r.kept inside_w inside is (sets found) (keep found) (set_is found at_.place) in
     let turn = writer_turn setup world next r.roll s.views id k 0 0 v (claims (writer world k) chunk found won) r.manned at
     (claim_change world k chunk found won w_inside c_inside free) (λ d e. absurd (omega arith)) in (
@@ -108,6 +113,7 @@ claims_allowed setup count id k chunk mask v inside sets keep s r deep at small 
         roll = with_hand r.roll k 0;
         laid = r.laid;
         kept = kept;
+        led = led_on setup r.roll.marks world next (ClaimsMove k chunk found) r.led (w_inside, c_inside) (claim_is world k chunk found won (status world chunk) free held);
         words = words_front setup s.words r.front r.slots at_.page new (page_front setup s r chunk inside) (front_many setup s r) r.words;
         bodies = bodies_stay setup s.homes r.slots r.slots r.roll (with_hand r.roll k 0) r.bodies (λ d. refl) (λ d. in_before r.roll k 0 d (hand_none r.roll k d f.2));
         manned = subst (λ z. IsManned setup next (with_hand r.roll k 0) (set s.views id (Writer k 0 (claims z chunk found won)))) (sym f.0) turn;
@@ -152,6 +158,7 @@ stamps_allowed setup count id k chunk header v inside mine unstamped is_header s
         roll = roll;
         laid = r.laid;
         kept = kept;
+        led = led_on setup r.roll.marks world next (StampsMove k chunk) r.led (w_inside, c_inside, mine', subst (λ (z : WriterView). z.stamped ≡ None) f.0 unstamped) refl;
         words = words_front setup s.words r.front r.slots (setup.pages + chunk) header (omega arith) (front_many setup s r) r.words;
         bodies = bodies_out setup s.homes r.slots r.roll roll chunk r.bodies (λ in_now. in_now.with_none k (put_same r.roll.hands k (hand_with chunk)))
             (λ d _. in_before r.roll k (hand_with chunk) d (hand_none r.roll k d f.2));
@@ -198,6 +205,7 @@ begins_allowed setup count id k chunk mask v inside stamped sets keep s r deep a
         roll = roll;
         laid = r.laid;
         kept = kept';
+        led = led_on setup r.roll.marks world next (BeginsMove k chunk payload) r.led (w_inside, c_inside, stamped') refl;
         words = words_body setup (set s.words (front_place at_.page) new) front r.slots chunk None inside deep_slots
             (words_front setup s.words r.front r.slots at_.page new (page_front setup s r chunk inside) (front_many setup s r) r.words);
         bodies = bodies_back setup s.homes r.slots slots r.roll roll chunk None r.bodies inside (body_here r.slots chunk None (omega arith))
@@ -225,6 +233,13 @@ heads_allowed setup count id k chunk i header head v holding is_header follows r
     let view = redrafts v' chunk i draft in let next = moved world k view chunk to in
     let kept = header_kept setup r.front r.slots world k chunk i header head r.laid r.kept inside_w holding' is_header (subst (λ z. MayFollow (head_at z i) head) f.0 follows)
     (subst (λ z. HasFragments (published z i) (ends_by z i head.count)) f.0 reads) (subst (λ z. sealed_to (ends_by z i head.count) ≤ (spot setup chunk).payload_size) f.0 fits_in) in
+    let may : MaySetHeader (draft_at v' i) head (ends_by v' i head.count) = record {
+      follows = subst (λ z. MayFollow (head_at z i) head) f.0 follows;
+      reads = record {
+        count = length-ends_from (published v' i) 0 (head.count - 1);
+        reads = subst (λ z. HasFragments (published z i) (ends_by z i head.count)) f.0 reads;
+      };
+    } in
     let roll = with_hand r.roll k 0 in
     let change = moved_change world k chunk view to w_inside c_inside
     (subst (λ t. Still k t to) (sym was) (record { started = λ x. tt; full = λ x. absurd x; read = λ x. absurd x; others = λ other differs same. absurd (differs (sym same)) }))
@@ -240,6 +255,7 @@ heads_allowed setup count id k chunk i header head v holding is_header follows r
         roll = roll;
         laid = r.laid;
         kept = kept;
+        led = led_on setup r.roll.marks world next (SetsHeaderMove k chunk i head) r.led (w_inside, c_inside, holding', may) refl;
         words = words_front setup s.words r.front r.slots (setup.pages + chunk) header (omega arith) (front_many setup s r) r.words;
         bodies = bodies_stay setup s.homes r.slots r.slots r.roll roll r.bodies (λ d. refl) (λ d. in_before r.roll k 0 d (hand_none r.roll k d f.2));
         manned = subst (λ z. IsManned setup next roll (set s.views id (Writer k 0 (redrafts z chunk i (with_head (draft_at z i) head (ends_by z i head.count)))))) (sym f.0) turn;
@@ -292,6 +308,7 @@ publishes_allowed setup count id k chunk i index word v holding less same s r de
         roll = roll;
         laid = r.laid;
         kept = kept;
+        led = led_on setup r.roll.marks world next (PublishesMove k chunk i index word) r.led (w_inside, c_inside, holding', record { inside = many; kept = same' }) (ap (λ l. drafted world k chunk i (with_words old l)) (sym stored_is));
         words = words_payload setup s.words r.front r.slots chunk index word inside less deep_slots r.words;
         bodies = bodies_stay setup s.homes r.slots (set r.slots chunk (record (stored_at r.slots chunk) { words = stored })) r.roll roll r.bodies (words_else r.slots chunk stored (omega arith)) (λ d. in_before r.roll k 0 d (hand_none r.roll k d f.2));
         manned = subst (λ z. IsManned setup next roll (set s.views id (Writer k 0 (redrafts z chunk i (with_word (draft_at z i) index word))))) (sym f.0)

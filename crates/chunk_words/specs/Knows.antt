@@ -1,6 +1,7 @@
 -- What a seat of a table that threads share knows: a view, and what it does with it in the middle of a call.
 use Rattle.std.specs.Prelude.{ℕ, ◌+◌, ◌==◌, ◌++◌, ◌∷◌, List, [], length, if◌then◌else◌}
 use Rattle.chunk_plain.specs.Views.{Content, BegunChunk, WriterView, newcomer, ServiceView, newcomer_service}
+use Rattle.chunk_plain.specs.World.{World}
 
 -- What the service found at one step of a call and relies on at the next one.
 pub data Watch : Type 0 where
@@ -25,16 +26,17 @@ pub record Tale : Type 0 where
   pub looks : ℕ
   pub begun : List BegunChunk
 
--- What the service's seat has of the other seats: the views of the writers' that it took in again, where the reading pass is, and what
--- writers told it.
+-- What the service's seat has of the other seats: the views of the writers' that it took in again, where the reading pass is, what
+-- writers told it, and the worlds of the table that it marked, in their order.
 pub record Desk : Type 0 where
   pub joined : List WriterView
   pub stage : Stage
   pub told : List Tale
+  pub marks : List World
 
--- no seat came back, no pass was made, and nothing was told
+-- no seat came back, no pass was made, nothing was told, and nothing is marked
 abbrev pub first_desk : Desk
-first_desk = record { joined = []; stage = Unmade; told = [] }
+first_desk = record { joined = []; stage = Unmade; told = []; marks = [] }
 
 -- What a seat knows. The hand says whose slot is out with the seat: 0 for none, else the chunk's number and 1. A later kind of seat is one
 -- case more.
@@ -139,6 +141,10 @@ with_stage desk stage = record desk { stage = stage }
 -- the service has heard so much of the writer at this place
 abbrev pub with_tale : Desk → ServiceView → (place : ℕ) → List BegunChunk → Desk
 with_tale desk view place begun = record desk { told = desk.told ++ record { place = place; looks = length view.looks; begun = begun } ∷ [] }
+
+-- the service has marked the world that the table has now
+abbrev pub with_mark : Desk → World → Desk
+with_mark desk world = record desk { marks = desk.marks ++ world ∷ [] }
 
 -- the service has taken in the seat of a writer
 abbrev pub takes_seat : Knows → Knows → Knows

@@ -8,12 +8,14 @@ use Rattle.chunk_plain.specs.Views.{At, Content, Completed, WriterView, ServiceV
 use Rattle.chunk_plain.specs.World.{World, writer}
 use Rattle.chunk_plain.specs.Stored.{Stored}
 use Rattle.chunk_plain.specs.Ownership.{Ownership}
+use Rattle.chunk_plain.specs.Plain.{first_world}
+use Rattle.chunk_schedules.specs.Schedules.{Leads}
 use Rattle.chunk_words.specs.Knows.{Watch, Tale, Desk, Knows, Writer, Service, Pass}
 use Rattle.chunk_words.specs.GoesOn.{GoesOn}
 use Rattle.chunk_words.specs.Told.{ShowsTold, PassesOver}
 use Rattle.chunk_words.specs.Rule.{HoldsWords, Roll, HoldsBodies, IsShared}
 
--- The table's words are those of chunks in a world that is owned in its eight parts, and each writer and the service have one seat at most,
+-- The table's words are those of chunks in a world that is owned in its eight parts and to which some schedule leads, and each writer and the service have one seat at most,
 -- whose view is that world's; and so has the reading pass.
 pub record SharedOwnership (setup : Setup) (state : State (Option CommitBody) Knows) : Type 0 where
   pub world : World
@@ -24,6 +26,8 @@ pub record SharedOwnership (setup : Setup) (state : State (Option CommitBody) Kn
   pub words : HoldsWords setup state.words front slots
   pub bodies : HoldsBodies setup state.homes slots roll
   pub parts : Ownership setup front slots world
+  -- some schedule of steps leads to the world from a table as it is made
+  pub reached : Leads (first_world setup) world
   pub writers : (seat place hand : ℕ) (view : WriterView) → At state.views seat (Writer place hand view) → view ≡ writer world place
   pub one_seat : (seat other place hand held : ℕ) (view known : WriterView) → At state.views seat (Writer place hand view)
       → At state.views other (Writer place held known) → seat ≡ other

@@ -21,10 +21,10 @@ use Rattle.chunk_plain.specs.Shows.{IsBodyOf, content_of}
 use Rattle.chunk_plain.specs.Setup.{Setup, spot, sequence_of}
 use Rattle.chunk_plain.specs.Words.{LooksAt, call_of, event_of, committed_of}
 use Rattle.chunk_words.specs.declared.moves.Move.{Move}
-use Rattle.chunk_words.specs.declared.moves.Move.TheVariants.{Ask, Claim, Stamp, Begin, SetHeader, Publish, Fetch, Complete as CompleteStep, Call as CallStep, Peek, Find, Know, Miss, Take, Load, Learn, Lift, Release, Event, NoteRead, Recall, Commit}
+use Rattle.chunk_words.specs.declared.moves.Move.TheVariants.{Ask, Claim, Stamp, Begin, SetHeader, Publish, Fetch, Complete as CompleteStep, Call as CallStep, Peek, Find, Know, Miss, Take, Load, Learn, Lift, Release, Event, NoteRead, Recall, Mark, Commit}
 use Rattle.chunk_words.specs.GoesOn.{GoesOn}
-use Rattle.chunk_words.specs.Told.{ShowsAllTold, TellsComplete}
-use Rattle.chunk_words.specs.Knows.{Watch, Nothing, Peeked, Known, Lifted, Here, Knows, Service, hand_with, made_of, desk_of, stage_of, staged, with_stage, no_content, hand_of, view_of, place_of, service_of, watch_of, by_writer, by_service}
+use Rattle.chunk_words.specs.Told.{ShowsAllTold, TellsComplete, IsMarked}
+use Rattle.chunk_words.specs.Knows.{Watch, Nothing, Peeked, Known, Lifted, Here, Knows, Service, hand_with, made_of, desk_of, stage_of, staged, with_stage, with_mark, no_content, hand_of, view_of, place_of, service_of, watch_of, by_writer, by_service}
 
 -- what a seat knows and has
 abbrev pub Mine : Type 0
@@ -180,6 +180,11 @@ pub record Recalls (setup : Setup) (me new : Mine) : Type 0 where
   pub new_is : new ≡ (by_service 0 Nothing (λ view. view) me.0, [])
   pub shown : ShowsAllTold setup (service_of me.0) (desk_of me.0)
 
+-- the world of the table is marked, and nothing else changes
+pub record Marks (setup : Setup) (me new : Mine) : Type 0 where
+  pub marked : IsMarked setup (service_of me.0) (desk_of me.0) (desk_of new.0)
+  pub new_is : new ≡ (Service 0 (made_of me.0) (with_mark (desk_of me.0) marked.world) Nothing (service_of me.0), [])
+
 -- The chunk is taken, whose page word and header were found: the slot is out with the service.
 pub record Takes (place chunk size word : ℕ) (header : ChunkHeader) (me new : Mine) : Type 0 where
   pub known : watch_of me.0 ≡ Known chunk word (packed header)
@@ -256,5 +261,6 @@ After (Lift layout chunk) me found new = Lifts layout.now chunk me new
 After (Release chunk) me found new = Serves (λ view. lets_go view chunk) me new
 After (Event event) me found new = Serves (λ view. notes view (event_of event)) me new
 After (Recall layout) me found new = Recalls layout.now me new
+After (Mark layout) me found new = Marks layout.now me new
 After (NoteRead event) me found new = NotesRead (event_of event) me new
 After (Commit header payload patches) me found new = Serves (λ view. notes_commit view (committed_of header payload.now patches.now)) me new

@@ -14,6 +14,7 @@ use Rattle.chunk_plain.specs.Drafts.{head_of}
 use Rattle.chunk_plain.specs.Stored.{Stored, stored_at}
 use Rattle.chunk_plain.specs.Shows.{IsHeader}
 use Rattle.chunk_plain.specs.Plain.{IsKept, first_world}
+use Rattle.chunk_schedules.specs.Schedules.{IsLed}
 use Rattle.chunk_words.specs.Knows.{Watch, Nothing, Peeked, Known, Lifted, Stage, Unmade, Away, Here, Tale, Desk, first_desk, Knows, Spent, Writer, Service, Pass, Report, hand_with}
 use Rattle.chunk_words.specs.Told.{StaysCompleted, ShowsTold}
 use Rattle.chunk_words.specs.GoesOn.{GoesOn}
@@ -40,6 +41,8 @@ pub record Roll : Type 0 where
   pub stage : Stage
   pub keeper : ℕ
   pub passed : ServiceView
+  -- the worlds that the service marked, in their order
+  pub marks : List World
 
 -- the slot of a chunk is with no seat
 pub record IsIn (roll : Roll) (chunk : ℕ) : Type 0 where
@@ -116,6 +119,7 @@ Fits setup world roll seat (Service hand made desk watch view) =
     (view ≡ world.service) × (roll.server ≡ seat) × (roll.hand ≡ hand) × (roll.made ≡ made) × HasJoined world roll desk.joined
     × IsWatched setup world watch
     × (roll.stage ≡ desk.stage) × ((i : ℕ) (tale : Tale) → At desk.told i tale → IsTrue setup world tale)
+    × (roll.marks ≡ desk.marks)
 Fits setup world roll seat (Pass view) = (view ≡ roll.passed) × (roll.keeper ≡ seat) × (roll.stage ≡ Away)
 Fits setup world roll seat (Report place begun) = StaysCompleted begun (writer world place).begun
 
@@ -144,6 +148,8 @@ pub record IsShared (setup : Setup) (state : State (Option CommitBody) Knows) : 
   pub roll : Roll
   pub laid : IsLaid setup
   pub kept : IsKept setup front slots world
+  -- a schedule of moves leads to the world from a table as it is made, and from each world that the service marked
+  pub led : IsLed setup roll.marks world
   pub words : HoldsWords setup state.words front slots
   pub bodies : HoldsBodies setup state.homes slots roll
   pub manned : IsManned setup world roll state.views

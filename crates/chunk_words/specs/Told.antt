@@ -6,8 +6,12 @@ use Rattle.page_geometry.specs.Header.{packed}
 use Rattle.page_geometry.specs.PageBits.{HasState}
 use Rattle.chunk_plain.specs.Setup.{Setup, spot}
 use Rattle.chunk_plain.specs.Views.{At, Head, Content, BegunChunk, Completed, Look, ServiceView, taken_of}
+use Rattle.chunk_plain.specs.World.{World, writer}
+use Rattle.chunk_plain.specs.Owned.{IsOwned}
 use Rattle.chunk_plain.specs.Shows.{IsHeader}
-use Rattle.chunk_words.specs.Knows.{Tale, Desk}
+use Rattle.chunk_plain.specs.Plain.{first_world}
+use Rattle.chunk_schedules.specs.Schedules.{Leads}
+use Rattle.chunk_words.specs.Knows.{Tale, Desk, with_mark}
 
 -- what was completed is completed still, as it was
 abbrev pub StaysCompleted : List BegunChunk → List BegunChunk → Type 0
@@ -27,6 +31,16 @@ ShowsTold setup view tale = (n id : ℕ) (look : Look) (content : Content) → t
 -- and so do all looks of all that was told
 abbrev pub ShowsAllTold : Setup → ServiceView → Desk → Type 0
 ShowsAllTold setup view desk = (i : ℕ) (tale : Tale) → At desk.told i tale → ShowsTold setup view tale
+
+-- The service has marked the world of the table: its own view is there what it knows, each chunk is owned by one, a schedule of steps leads
+-- there from a table as it is made, and what writers told that they completed they have completed there.
+pub record IsMarked (setup : Setup) (view : ServiceView) (old new : Desk) : Type 0 where
+  pub world : World
+  pub desk_is : new ≡ with_mark old world
+  pub view_is : world.service ≡ view
+  pub owned : IsOwned world
+  pub reached : Leads (first_world setup) world
+  pub told : (i : ℕ) (tale : Tale) → At old.told i tale → StaysCompleted tale.begun (writer world tale.place).begun
 
 -- The page word shows the chunk complete, where it was told so and its id isn't taken.
 abbrev pub TellsComplete : Setup → (chunk word : ℕ) → ServiceView → Desk → Type 0

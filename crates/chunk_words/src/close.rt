@@ -34,13 +34,13 @@ pub struct ClosedTable {
 
 impl HostTable {
     /// Takes all seats back. No chunk is used then, and the views that the seats had are the account
-    /// of all that was done.
+    /// of all that was done, to which a schedule of steps leads by way of what the service marked.
     pub fn close(self, seats: Vec<WriterSeat>, service: ServiceSeat) -> ClosedTable
         requires seats { HasAllSeats self (service_of service.seat.me.0) seats.items }
         requires service { Attends self service }
         requires none_out { (service_of service.seat.me.0).reading ≡ [] }
         ensures unused { (chunk : ℕ) → chunk < length self.layout.spots → IsUnused self.layout (slots_items result.closed.words) chunk }
-        ensures account { IsAccount (views_of seats.items) (service_of service.seat.me.0) }
+        ensures account { IsAccount self.layout (desk_of service.seat.me.0).marks (views_of seats.items) (service_of service.seat.me.0) }
         ensures taken { AllTaken (service_of service.seat.me.0) (views_of seats.items) }
     {
         self.close_all(seats, service)
@@ -59,7 +59,7 @@ impl HostTable {
         requires none_out { (service_of service.seat.me.0).reading ≡ [] }
         requires pass { Passes self pass }
         ensures unused { (chunk : ℕ) → chunk < length self.layout.spots → IsUnused self.layout (slots_items result.closed.words) chunk }
-        ensures account { IsAccount (views_of seats.items) (service_of service.seat.me.0) }
+        ensures account { IsAccount self.layout (desk_of service.seat.me.0).marks (views_of seats.items) (service_of service.seat.me.0) }
         ensures taken { AllTaken (service_of service.seat.me.0) (views_of seats.items) }
         ensures goes_on { GoesOn (passed_of pass.seat.me.0) (service_of service.seat.me.0) }
     {
@@ -74,7 +74,7 @@ impl HostTable {
         requires service { Attends self service }
         requires none_out { (service_of service.seat.me.0).reading ≡ [] }
         ensures unused { (chunk : ℕ) → chunk < length self.layout.spots → IsUnused self.layout (slots_items result.closed.words) chunk }
-        ensures account { IsAccount (views_of seats.items) (service_of service.seat.me.0) }
+        ensures account { IsAccount self.layout (desk_of service.seat.me.0).marks (views_of seats.items) (service_of service.seat.me.0) }
         ensures taken { AllTaken (service_of service.seat.me.0) (views_of seats.items) }
         ensures goes_on { (known : ServiceView) → stage_of service.seat.me.0 ≡ Here known → GoesOn known (service_of service.seat.me.0) }
     {

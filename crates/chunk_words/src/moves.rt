@@ -106,6 +106,10 @@ pub enum Move<'a> {
     Recall {
         layout: &'a Layout,
     },
+    /// The world of the table is marked.
+    Mark {
+        layout: &'a Layout,
+    },
     Commit {
         header: ChunkHeader,
         payload: &'a [u8],

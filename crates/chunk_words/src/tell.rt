@@ -1,11 +1,12 @@
 //! What writers tell the service: what they have completed by now. Later looks show it, so a service
-//! that has looked at each chunk since knows that it took all of it.
+//! that has looked at each chunk since knows that it took all of it. And the service marks worlds, by
+//! which the schedule of all steps came.
 ghost use Rattle.std.specs.Prelude.{◌≡◌, ◌<◌, []};
 ghost use Rattle.chunk_words.specs.Knows.{desk_of, service_of, view_of, with_tale};
-ghost use Rattle.chunk_words.specs.Moves.{Recalls};
+ghost use Rattle.chunk_words.specs.Moves.{Recalls, Marks};
 ghost use Rattle.chunk_words.specs.Seats.{IsServiceIdle};
 ghost use Rattle.chunk_words.specs.Sits.{Sits, Attends};
-ghost use Rattle.chunk_words.specs.Told.{ShowsAllTold};
+ghost use Rattle.chunk_words.specs.Told.{ShowsAllTold, IsMarked};
 
 use crate::host::HostTable;
 use crate::moves::Move;
@@ -66,6 +67,18 @@ impl HostTable {
         self.step_recall(seat);
     }
 
+    /// Marks the world of the table as it is between two steps: a schedule of steps leads there, and
+    /// what writers told that they completed they have completed there. Where the table is closed, the
+    /// schedule that leads to its account came by way of each marked world.
+    pub fn mark(&self, seat: &mut ServiceSeat)
+        requires seat { Attends self.now seat.old }
+        ensures marked { IsMarked self.now.layout (service_of seat.old.seat.me.0) (desk_of seat.old.seat.me.0) (desk_of seat.new.seat.me.0) }
+        ensures view { service_of seat.new.seat.me.0 ≡ service_of seat.old.seat.me.0 }
+        ensures seat { Attends self.now seat.new }
+    {
+        self.step_mark(seat);
+    }
+
     fn step_recall(&self, seat: &mut ServiceSeat)
         requires seat { seat.old.seat.table_id ≡ self.now.table.shared.table_id }
         requires idle { IsServiceIdle seat.old.seat.me }
@@ -73,6 +86,19 @@ impl HostTable {
         ensures me { Recalls self.now.layout seat.old.seat.me seat.new.seat.me }
     {
         let step = Move::Recall {
+            layout: &self.layout,
+        };
+        let table = &self.table;
+        make_load(&table.shared, &mut seat.seat, self.spare, &step);
+    }
+
+    fn step_mark(&self, seat: &mut ServiceSeat)
+        requires seat { seat.old.seat.table_id ≡ self.now.table.shared.table_id }
+        requires idle { IsServiceIdle seat.old.seat.me }
+        ensures seat { seat.new.seat.table_id ≡ seat.old.seat.table_id }
+        ensures me { Marks self.now.layout seat.old.seat.me seat.new.seat.me }
+    {
+        let step = Move::Mark {
             layout: &self.layout,
         };
         let table = &self.table;

@@ -16,7 +16,9 @@ close_all-requires-clause-service c =
 pub returns-clause-account : goal.returns-clause-account
 returns-clause-account c =
     let view_is : service_of c.take_pass.new.seat.seat.me.0 ≡ service_of c.args.service.seat.me.0 = ap (λ (m : Mine). service_of m.0) c.take_pass.ensures.me in
-    subst (IsAccount (views_of c.args.seats.items)) view_is c.close_all.ensures.account
+    let marks_are : (desk_of c.take_pass.new.seat.seat.me.0).marks ≡ (desk_of c.args.service.seat.me.0).marks = ap (λ (m : Mine). (desk_of m.0).marks) c.take_pass.ensures.me in
+    subst (λ marks. IsAccount c.args.self.layout marks (views_of c.args.seats.items) (service_of c.args.service.seat.me.0)) marks_are
+    (subst (IsAccount c.args.self.layout (desk_of c.take_pass.new.seat.seat.me.0).marks (views_of c.args.seats.items)) view_is c.close_all.ensures.account)
 
 pub returns-clause-goes_on : goal.returns-clause-goes_on
 returns-clause-goes_on c =

@@ -1,0 +1,56 @@
+-- Each step of a seat is one move of a schedule or none: what each move asks for.
+use Rattle.std.proofs.Common.{◌≡◌, ℕ, ◌+◌, ◌≤◌, Bool, true, false, length, refl, ap, arith}
+use Rattle.std.specs.Int.{bit_at}
+use Rattle.commit_body.specs.declared.body.CommitBody.{CommitBody}
+use Rattle.chunk_plain.specs.declared.notes.ServiceEvent.{ServiceEvent}
+use Rattle.chunk_plain.specs.declared.notes.ServiceEvent.TheVariants as event
+use Rattle.chunk_plain.specs.declared.step.Step.TheVariants.{Claim}
+use Rattle.chunk_plain.specs.Payload.{sealed_to}
+use Rattle.chunk_plain.specs.Views.{WriterView}
+use Rattle.chunk_plain.specs.World.{World, Status, Unclaimed, Claimed, Stamped, Writing, Ready, Reading}
+use Rattle.chunk_plain.specs.Drafts.{draft_at, head_at}
+use Rattle.chunk_plain.specs.Shows.{claim_of, content_of}
+use Rattle.chunk_plain.specs.Words.{event_of}
+use Rattle.chunk_plain.specs.Plain.{world_after, StandsWhole}
+use Rattle.chunk_schedules.specs.Moves.{MayComplete, IsPlainNote, claimed_in}
+
+-- a claim wins exactly where nobody has the chunk
+pub claim_is : (world : World) (place chunk found : ℕ) (won : Bool) (is : Status) → (won ≡ true → is ≡ Unclaimed) → (won ≡ false → is ≡ Unclaimed → ⊥)
+    → claimed_in world place chunk found is ≡ world_after world (Claim place chunk found won)
+claim_is world place chunk found true Unclaimed free held = refl
+claim_is world place chunk found false Unclaimed free held = absurd (held refl refl)
+claim_is world place chunk found true (Claimed other) free held = absurd (let clash = free refl in cc)
+claim_is world place chunk found true (Stamped other id) free held = absurd (let clash = free refl in cc)
+claim_is world place chunk found true (Writing other id draft) free held = absurd (let clash = free refl in cc)
+claim_is world place chunk found true (Ready other id content) free held = absurd (let clash = free refl in cc)
+claim_is world place chunk found true (Reading other id content) free held = absurd (let clash = free refl in cc)
+claim_is world place chunk found false (Claimed other) free held = refl
+claim_is world place chunk found false (Stamped other id) free held = refl
+claim_is world place chunk found false (Writing other id draft) free held = refl
+claim_is world place chunk found false (Ready other id content) free held = refl
+claim_is world place chunk found false (Reading other id content) free held = refl
+
+-- somebody has a chunk whose claim bit is set
+pub bit_held : (word place : ℕ) (is : Status) → bit_at word (32 + place) ≡ claim_of is → bit_at word (32 + place) ≡ 1 → is ≡ Unclaimed → ⊥
+bit_held word place is bit one free = let none : claim_of is ≡ 0 = ap claim_of free in absurd (omega (arith, bit, one, none))
+
+-- a chunk that stands whole may be completed
+pub may_complete : (size place id : ℕ) (view : WriterView) (body : CommitBody) → StandsWhole size view id body
+    → sealed_to (draft_at view id).ends ≤ size → MayComplete place id (draft_at view id) (content_of place id (head_at view id) body)
+may_complete size place id view body whole most =
+    let many : length body.payload.items ≡ size = let size_is = whole.size_is in let same = body.payload.ok.0 in omega arith in
+    record {
+      id_is = refl;
+      sequence_is = refl;
+      head_is = refl;
+      inside = omega arith;
+      bytes = λ j less. whole.published j (omega arith);
+    }
+
+-- an event that the service notes alone is no commit
+pub plain_note : (one : ServiceEvent) → IsPlainNote (event_of one)
+plain_note (event.Arrive sequence chunk_id) = tt
+plain_note (event.Partial sequence chunk_id limit) = tt
+plain_note (event.Patched sequence chunk_id) = tt
+plain_note (event.Closed sequence) = tt
+plain_note (event.Read sequence limit) = tt
