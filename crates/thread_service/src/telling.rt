@@ -2,7 +2,7 @@
 ghost use Rattle.std.specs.Prelude.{◌≡◌};
 ghost use Rattle.chunk_words.specs.Knows.{with_tale};
 ghost use Rattle.chunk_words.specs.Sits.{Sits, setup_in, known_by};
-ghost use Rattle.chunk_words.specs.Told.{ShowsAllTold};
+ghost use Rattle.chunk_words.specs.Told.{ShowsAllTold, IsMarked};
 ghost use Rattle.thread_service.specs.Serving.{core_of, view_in, desk_in, Serves, IsOnlySeat};
 
 use crate::service::Service;
@@ -35,5 +35,16 @@ impl Service {
         ensures only { IsOnlySeat (core_of self.old) (core_of self.new) }
     {
         table.recall(&mut self.core.seat);
+    }
+
+    /// Marks the world of the table as it is between two steps. Nothing else changes.
+    pub fn mark(&mut self, table: &HostTable)
+        requires serves { Serves table.now self.old }
+        ensures serves { Serves table.now self.new }
+        ensures marked { IsMarked (setup_in table.now) (view_in self.old) (desk_in self.old) (desk_in self.new) }
+        ensures view { view_in self.new ≡ view_in self.old }
+        ensures only { IsOnlySeat (core_of self.old) (core_of self.new) }
+    {
+        table.mark(&mut self.core.seat);
     }
 }

@@ -1,0 +1,11 @@
+use Rattle.chunk_words.specs.Sits.{setup_in, known_by_service}
+use Rattle.thread_service.specs.Serving.{view_in}
+use Rattle.thread_service.proofs.Standing.{agrees_seat}
+use Rattle.thread_service.proofs.service.Service.mark.Goals as goal
+
+pub returns-clause-serves : goal.returns-clause-serves
+returns-clause-serves c = record {
+  attends = c.mark.ensures.seat;
+  agrees = agrees_seat (setup_in c.args.table.now) (view_in c.args.self.now) (known_by_service c.mark.new.seat) c.args.self.now.core c.mark.new.seat
+      c.mark.ensures.view c.requires.serves.agrees;
+}
