@@ -1,6 +1,11 @@
+pub mod AskedLemmas
+pub mod ChunkLemmas
 pub mod CompleteLemmas
 pub mod CountLemmas
 pub mod FaithfulLemmas
 pub mod FinishLemmas
 pub mod ReadLemmas
 pub mod RunLemmas
+pub mod VainLemmas
+pub mod FreshLemmas
+pub mod WorkedLemmas

@@ -42,10 +42,8 @@ CollectedByLines setup lines view =
     (place : ℕ) → place < length setup.writers → may_be_collected setup lines (producer_of setup place) ≡ false
     → (taken_of view place).count ≡ 0
 
--- How all came to be taken that was. While the threads ran, nothing was taken of a writer whose producer nobody may have collected. What was
--- left was taken once they were done, producer by producer in rising number.
-pub record IsTakenBy (setup : Setup) (lines : List NumberedLine) (settled : ServiceView) : Type 0 where
-  -- the service once the threads were done
-  pub ran : ServiceView
+-- How all came to be taken that was, where this is what the service knew once the threads were done. While they ran, nothing was taken of a
+-- writer whose producer nobody may have collected. What was left was taken then, producer by producer in rising number.
+pub record IsTakenBy (setup : Setup) (lines : List NumberedLine) (ran settled : ServiceView) : Type 0 where
   pub collected : CollectedByLines setup lines ran
   pub settles : TakesAllOut setup (length setup.ranges) ran settled

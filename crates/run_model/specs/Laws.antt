@@ -1,15 +1,20 @@
 -- The laws of runs on threads.
-use Rattle.std.specs.Prelude.{◌≡◌, ℕ, ◌≤◌, [], ◌∷◌, ◌++◌, length, Some, slice_get}
+use Rattle.std.specs.Prelude.{◌≡◌, ℕ, ◌<◌, ◌≤◌, false, List, [], ◌∷◌, ◌++◌, length, Some, slice_get}
 use Rattle.trace_model.specs.Balance.{PacketCounts}
 use Rattle.trace_model.specs.Counts.{last_count}
 use Rattle.trace_model.specs.Delivery.{Delivered, IsFaithful, IsComplete}
-use Rattle.chunk_plain.specs.Setup.{Setup}
-use Rattle.chunk_plain.specs.World.{World}
+use Rattle.chunk_plain.specs.Setup.{Setup, producer_of}
+use Rattle.chunk_plain.specs.Views.{At, Ask, Content, Completed}
+use Rattle.chunk_plain.specs.World.{World, writer}
+use Rattle.chunk_plain.specs.Plain.{first_world}
+use Rattle.chunk_schedules.specs.Laws.{FindsHad}
+use Rattle.scenario_text.specs.declared.scenario.NumberedLine.{NumberedLine}
 use Rattle.scenario_text.specs.Scenario.{Parts}
 use Rattle.scenario_text.specs.Limits.{IsSetUp}
 use Rattle.scenario_text.specs.Emissions.{emitted_in}
 use Rattle.replay_model.specs.Enough.{HasEnough, IsPlayable}
 use Rattle.replay_model.specs.Played.{records_in, packet_counts, AreBalanced, CountsPackets}
+use Rattle.run_model.specs.Collected.{may_be_collected}
 use Rattle.run_model.specs.Settled.{IsRun}
 use Rattle.run_model.specs.Stopped.{StopsBefore}
 
@@ -41,3 +46,29 @@ EveryRunCountsPackets = (scenario : Parts) (setup : Setup) (world : World) → I
 abbrev pub EveryEnoughRunIsComplete : Type 0
 EveryEnoughRunIsComplete = (scenario : Parts) (setup : Setup) (world : World) → IsRun scenario setup world
     → IsPlayable scenario → HasEnough scenario → IsComplete (emitted_in scenario) (records_in scenario setup world)
+
+-- Each chunk of a producer that no line collects or scrapes, and none of whose writers stalls, is begun once at most, by one of its writers.
+abbrev pub UsesOnce : Setup → List NumberedLine → World → Type 0
+UsesOnce setup lines world =
+    (place other id more chunk : ℕ) (content known : Content) → place < length setup.writers → other < length setup.writers
+    → may_be_collected setup lines (producer_of setup place) ≡ false → may_be_collected setup lines (producer_of setup other) ≡ false
+    → At (writer world place).begun id (Completed chunk content) → At (writer world other).begun more (Completed chunk known)
+    → (place ≡ other) × (id ≡ more)
+
+-- So it is in each run, whole or up to a write that failed: no more chunks are out at once than there are.
+pub record UncollectedChunksAreUsedOnce : Type 0 where
+  pub run : (scenario : Parts) (setup : Setup) (world : World) → IsRun scenario setup world → UsesOnce setup scenario.lines world
+  pub stopped : (scenario : Parts) (setup : Setup) (world : World) (next : Delivered) → StopsBefore scenario setup world next
+      → UsesOnce setup scenario.lines world
+
+-- Each claim in vain was made where somebody had the chunk: in a world on the way of a schedule that leads to what was done.
+abbrev pub LosesWhereHad : Setup → World → Type 0
+LosesWhereHad setup world = (place number : ℕ) (ask : Ask) → At (writer world place).asked number ask → ask.won ≡ false
+    → ∥ ((other : World) × FindsHad (first_world setup) other place number ask × (other.writers ≡ world.writers)
+    × (other.service ≡ world.service)) ∥₁
+
+-- So it is in each run, whole or up to a write that failed.
+pub record LostClaimsFindHad : Type 0 where
+  pub run : (scenario : Parts) (setup : Setup) (world : World) → IsRun scenario setup world → LosesWhereHad setup world
+  pub stopped : (scenario : Parts) (setup : Setup) (world : World) (next : Delivered) → StopsBefore scenario setup world next
+      → LosesWhereHad setup world

@@ -7,3 +7,4 @@ pub mod Settled
 pub mod Stopped
 pub mod Runs
 pub mod Laws
+pub mod Worked

@@ -10,10 +10,12 @@ use Rattle.trace_model.specs.History.{buffers_after}
 use Rattle.trace_model.specs.Packets.{packets_of, lost_count}
 use Rattle.model_laws.specs.Losses.{Loses}
 use Rattle.chunk_plain.specs.Setup.{Setup, producer_of, sequence_of}
-use Rattle.chunk_plain.specs.Views.{ServiceView, WriterView, taken_of}
+use Rattle.chunk_plain.specs.Views.{At, Content, Completed, ServiceView, WriterView, taken_of}
 use Rattle.chunk_plain.specs.World.{World, writer}
 use Rattle.chunk_plain.specs.Histories.{history_of}
 use Rattle.chunk_plain.specs.Owned.{IsOwned, held_count}
+use Rattle.chunk_plain.specs.Plain.{first_world}
+use Rattle.chunk_schedules.specs.Schedules.{Leads}
 use Rattle.scenario_text.specs.declared.scenario.NumberedLine.{NumberedLine}
 use Rattle.scenario_text.specs.Scenario.{Parts}
 use Rattle.scenario_text.specs.Accepted.{calls_asked}
@@ -45,13 +47,21 @@ pub record HasDoneLines (setup : Setup) (lines : List NumberedLine) (place : ℕ
 
 -- ---- all of them
 
--- The writers and the service are those of one owned world. Each writer has done its lines, and all that it completed was taken. What was
--- noted on each sequence is in order, and they are all closed, or none is. Finished fragments of a chunk before it was complete were noted
--- only where a line scrapes the writer's producer.
+-- The writers and the service are those of one owned world. A schedule of their steps leads to it from a table as it is made, by way of the
+-- world in which the threads were done. Each writer has done its lines, and all that it completed was taken. What was noted on each sequence
+-- is in order, and they are all closed, or none is. Finished fragments of a chunk before it was complete were noted only where a line scrapes
+-- the writer's producer.
 pub record HasDoneAll (scenario : Parts) (setup : Setup) (world : World) (closed : Bool) : Type 0 where
   pub setup_is : IsSetupOf scenario setup
   pub many : length world.writers ≡ length setup.writers
   pub owned : ∥ ((other : World) × IsOwned other × (other.writers ≡ world.writers) × (other.service ≡ world.service)) ∥₁
+  -- The world once the threads were done: a schedule of steps leads to it from a table as it is made, and one goes on from it to these
+  -- views. Each chunk that a writer has completed it had completed by then.
+  pub stood : World
+  pub reached : Leads (first_world setup) stood
+  pub leads : ∥ ((other : World) × Leads stood other × (other.writers ≡ world.writers) × (other.service ≡ world.service)) ∥₁
+  pub completed : (place : ℕ) → place < length setup.writers → (id chunk : ℕ) (content : Content)
+      → At (writer world place).begun id (Completed chunk content) → At (writer stood place).begun id (Completed chunk content)
   pub writers : (place : ℕ) → place < length setup.writers → HasDoneLines setup scenario.lines place (writer world place)
   pub taken : (place : ℕ) → place < length setup.writers → (taken_of world.service place).count ≡ length (writer world place).begun
   pub order : (place : ℕ) → place < length setup.writers
@@ -83,7 +93,7 @@ pub record HasClosedAll (scenario : Parts) (setup : Setup) (world : World) : Typ
   -- the service once all was taken, and once all sequences were closed
   pub settled : ServiceView
   pub closed : ServiceView
-  pub taken_by : IsTakenBy setup scenario.lines settled
+  pub taken_by : IsTakenBy setup scenario.lines done.stood.service settled
   pub whole : (place : ℕ) → place < length setup.writers → (taken_of settled place).count ≡ length (writer world place).begun
   pub opened : (place : ℕ) → place < length setup.writers → is_shut (sequence_of place) settled.events ≡ false
   pub closes : ClosesTo setup (length setup.ranges) settled closed
@@ -92,8 +102,9 @@ pub record HasClosedAll (scenario : Parts) (setup : Setup) (world : World) : Typ
 
 -- ---- all of it
 
--- The scenario was run, and all is settled. Its writers and its service are those of one owned world. Each writer has done its lines, and
--- all that it completed was taken. What was noted on each sequence is in order, and finished fragments of a chunk before it was complete
+-- The scenario was run, and all is settled. Its writers and its service are those of one owned world, to which a schedule of their steps leads
+-- from a table as it is made, by way of the world in which the threads were done. Each writer has done its lines, and all that it
+-- completed was taken. What was noted on each sequence is in order, and finished fragments of a chunk before it was complete
 -- only where a line scrapes the writer's producer. Nothing of a producer that no line collects or scrapes, and none of whose writers
 -- stalls, was taken before the threads were done, and what was left then was taken producer by producer in rising number. The reads are
 -- those of the read lines in their order, each by what its buffer held when the line was played, and then those of the end, where each

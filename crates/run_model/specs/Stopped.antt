@@ -24,7 +24,7 @@ use Rattle.run_model.specs.Settled.{HasDoneAll, HasClosedAll, ReadsTo}
 -- left then was taken producer by producer in rising number.
 pub record StopsInLines (scenario : Parts) (setup : Setup) (world : World) (next : Delivered) : Type 0 where
   pub done : HasDoneAll scenario setup world false
-  pub taken_by : IsTakenBy setup scenario.lines world.service
+  pub taken_by : IsTakenBy setup scenario.lines done.stood.service world.service
   pub stopped : List model.Event
   pub reads : GoesUpTo setup (buffers_of scenario setup) scenario.lines [] stopped next
   pub goes : GoesUnread stopped (history_of world.service)

@@ -1,5 +1,6 @@
 //! The laws: contracts of functions with nothing to do.
-ghost use Rattle.run_model.specs.Laws.{EveryRunIsFaithful, EveryStoppedRunIsFaithful, EveryRunIsBalanced, EveryRunCountsPackets, EveryEnoughRunIsComplete};
+ghost use Rattle.run_model.specs.Laws.{EveryRunIsFaithful, EveryStoppedRunIsFaithful, EveryRunIsBalanced, EveryRunCountsPackets, EveryEnoughRunIsComplete, UncollectedChunksAreUsedOnce, LostClaimsFindHad};
+ghost use Rattle.run_model.specs.Worked.{OneChunkHoldsOnePacket};
 
 /// The records of a run are faithful to the packets that the lines have writers emit.
 pub fn every_run_is_faithful()
@@ -24,4 +25,19 @@ pub fn every_run_counts_packets()
 /// Where chunks and bytes are enough, no packet is missing.
 pub fn every_enough_run_is_complete()
     ensures { EveryEnoughRunIsComplete }
+{}
+
+/// Of a producer that nobody has collected each chunk is used once at most.
+pub fn uncollected_chunks_are_used_once()
+    ensures { UncollectedChunksAreUsedOnce }
+{}
+
+/// Each claim in vain of a run was made where somebody had the chunk.
+pub fn lost_claims_find_had()
+    ensures { LostClaimsFindHad }
+{}
+
+/// Over one chunk that nobody has collected two packets aren't both delivered: two scenarios, computed.
+pub fn one_chunk_holds_one_packet()
+    ensures { OneChunkHoldsOnePacket }
 {}

@@ -1,13 +1,15 @@
 //! The run of a scenario on threads, as definitions and laws alone: what its writers and its service did,
 //! in whatever order the threads came, and what comes of it.
-//! A layer above may rely on this: where all is settled, the records are faithful to what the lines have
-//! the writers emit, also up to a write that failed, the report counts every packet once, and where chunks
-//! and bytes are enough none is missing.
+//! A layer above may rely on this: a schedule of steps leads to what was done, by way of the world in which
+//! the threads were done; the records are faithful to what the lines have the writers emit, also up to a
+//! write that failed, the report counts every packet once, and where chunks and bytes are enough none is
+//! missing.
 #![tactic(auto)]
 
 mod laws;
 
 pub use laws::{
     every_enough_run_is_complete, every_run_counts_packets, every_run_is_balanced,
-    every_run_is_faithful, every_stopped_run_is_faithful,
+    every_run_is_faithful, every_stopped_run_is_faithful, lost_claims_find_had,
+    one_chunk_holds_one_packet, uncollected_chunks_are_used_once,
 };

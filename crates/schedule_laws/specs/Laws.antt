@@ -1,5 +1,5 @@
 -- The laws of schedules.
-use Rattle.std.specs.Prelude.{◌≡◌, ℕ, ◌<◌, List, [], ◌++◌, length, map}
+use Rattle.std.specs.Prelude.{ℕ, ◌<◌, List, length, map}
 use Rattle.trace_model.specs.Packets.{emissions_of}
 use Rattle.trace_model.specs.Tells.{Tells}
 use Rattle.trace_model.specs.Delivery.{IsFaithful, records_of}
@@ -8,7 +8,6 @@ use Rattle.chunk_plain.specs.Setup.{Setup, IsLaid, sequence_of}
 use Rattle.chunk_plain.specs.Views.{WriterView, ServiceView}
 use Rattle.chunk_plain.specs.World.{World, writer}
 use Rattle.chunk_plain.specs.Plain.{first_world}
-use Rattle.chunk_plain.specs.Owned.{IsOwned}
 use Rattle.chunk_plain.specs.Histories.{history_of}
 use Rattle.world_model.specs.FirstBuffers.{BufferSpec, first_buffers}
 use Rattle.world_model.specs.Accounts.{IsAccount}

@@ -1,0 +1,211 @@
+-- Over one chunk that nobody has collected a packet is lost in each run that has two chunks' worth.
+use Rattle.std.proofs.Common.{◌≡◌, ◌∙◌, ℕ, zero, suc, ◌+◌, ◌*◌, ◌<◌, ◌≤◌, ◌⊎◌, inl, inr, Bool, true, false, List, [], ◌∷◌, ◌++◌, length, map, refl, ap, subst, arith}
+use Rattle.std.specs.Prelude.{fold}
+use Rattle.std.proofs.lemmas.Bool.{cases_eq}
+use Rattle.std.specs.List.{AllByRecursion, AllZip}
+use Rattle.trace_base.specs.declared.limits.TheConstants.{MAX_WRITERS}
+use Rattle.trace_base.specs.declared.policy.FullPolicy.TheVariants.{Ring}
+use Rattle.trace_base.specs.declared.policy.WriterSpec.{WriterSpec}
+use Rattle.trace_model.specs.Calls.{Call, Begun, Finished, Flushed}
+use Rattle.trace_model.specs.Cut.{CutsInto}
+use Rattle.trace_model.specs.Packets.{Packet, packets_of, lost_count}
+use Rattle.field_tree.specs.Nodes.{Shown}
+use Rattle.page_geometry.specs.Sizes.{payload_size, chunk_size}
+use Rattle.chunk_plain.specs.declared.setup.ProducerSpec.{ProducerSpec}
+use Rattle.chunk_plain.specs.Laying.{setup_of}
+use Rattle.chunk_plain.specs.Setup.{Setup, IsLaid, IsChunkOf, range_of, producer_of}
+use Rattle.chunk_plain.specs.Views.{At, BegunChunk, Held, Completed, Content}
+use Rattle.chunk_plain.specs.World.{World, writer}
+use Rattle.chunk_plain.specs.Owned.{held_count}
+use Rattle.scenario_text.specs.declared.scenario.NumberedLine.{NumberedLine}
+use Rattle.world_model.specs.FirstBuffers.{payload_at}
+use Rattle.trace_writer.specs.Claims.{AreOwnChunks}
+use Rattle.scenario_text.specs.Limits.{IsSetUp, IsWriter}
+use Rattle.scenario_text.specs.Accepted.{calls_asked, line_calls, node_call}
+use Rattle.replay_model.specs.Played.{IsSpecOf}
+use Rattle.replay_model.proofs.AccountLemmas.{pages_begun}
+use Rattle.run_model.specs.Collected.{CollectedByLines, may_be_collected}
+use Rattle.run_model.specs.Settled.{HasDoneAll, IsRun}
+use Rattle.run_model.specs.Worked.{over_one_chunk, dropping, flushed_between, one_of_each, OneChunkHoldsOnePacket}
+use Rattle.run_model.proofs.AskedLemmas.{Flags, flag_after, flags_are, packet_flag, flags_behind}
+use Rattle.run_model.proofs.ChunkLemmas.{uses_once}
+use Rattle.run_model.proofs.FreshLemmas.{one_page, two_pages}
+use Rattle.run_model.proofs.RunLemmas.{laid_out, wrote}
+
+-- what a writer that holds no chunk has begun it has completed, in a chunk of its own producer
+completed_there : (setup : Setup) (producer : ℕ) (begun : List BegunChunk) → AreOwnChunks setup producer begun → held_count begun ≡ 0 → (id : ℕ) → id < length begun
+    → (chunk : ℕ) × (content : Content) × At begun id (Completed chunk content) × IsChunkOf setup producer chunk
+completed_there setup producer [] own none id inside = absurd (omega (arith, inside))
+completed_there setup producer (Held chunk draft ∷ begun) own none id inside = absurd (omega (arith, none))
+completed_there setup producer (Completed chunk content ∷ begun) own none zero inside = (chunk, content, refl, own.0)
+completed_there setup producer (Completed chunk content ∷ begun) own none (suc id) inside =
+    completed_there setup producer begun own.1 none id (omega (arith, inside))
+
+-- the producer's one chunk is the first one
+one_range : (writers : List WriterSpec) (specs : List ProducerSpec) → AllZip IsSpecOf (record { pages = 1; page_size = 4096; chunks = 1 } ∷ []) specs
+    → ((range_of (setup_of specs writers) 1).first ≡ 0) × ((range_of (setup_of specs writers) 1).count ≡ 1)
+one_range writers [] made = absurd made
+one_range writers (spec ∷ []) made = (refl, ap (λ (n : ℕ). n * spec.geometry.chunks) made.0.pages ∙ ap (λ (n : ℕ). 1 * n) made.0.chunks)
+one_range writers (spec ∷ other ∷ specs) made = absurd made.1
+
+module _ (writers : List WriterSpec) (lines : List NumberedLine) (set_up : IsSetUp (over_one_chunk writers lines).buffers (over_one_chunk writers lines).producers writers)
+    (setup : Setup) (world : World) (closed : Bool) (done : HasDoneAll (over_one_chunk writers lines) setup world closed)
+    (collected : CollectedByLines setup lines done.stood.service) where
+  laid : IsLaid setup
+  laid = laid_out (over_one_chunk writers lines) setup done.setup_is set_up
+
+  only_chunk : (chunk : ℕ) → IsChunkOf setup 1 chunk → chunk ≡ 0
+  only_chunk chunk is =
+      let range = one_range writers done.setup_is.specs done.setup_is.made in
+      let first : (range_of setup 1).first ≡ 0 = ap (λ (s : Setup). (range_of s 1).first) done.setup_is.laid ∙ range.0 in
+      let count : (range_of setup 1).count ≡ 1 = ap (λ (s : Setup). (range_of s 1).count) done.setup_is.laid ∙ range.1 in
+      let below = is.below in omega (arith, first, count, below)
+
+  -- an entry is the completed first chunk
+  entry : (place : ℕ) → place < length setup.writers → producer_of setup place ≡ 1 → (id : ℕ) → id < length (writer world place).begun
+      → (content : Content) × At (writer world place).begun id (Completed 0 content)
+  entry place inside of_one id low =
+      let there = completed_there setup (producer_of setup place) (writer world place).begun (done.writers place inside).between.agrees.claims.own_chunks
+      (done.writers place inside).none_held id low in
+      let is = only_chunk there.0 (subst (λ (n : ℕ). IsChunkOf setup n there.0) of_one there.3) in
+      (there.1, subst (λ (n : ℕ). At (writer world place).begun id (Completed n there.1)) is there.2)
+
+  -- no two entries
+  one_entry : (place other id more : ℕ) → place < length setup.writers → other < length setup.writers → producer_of setup place ≡ 1 → producer_of setup other ≡ 1
+      → may_be_collected setup lines 1 ≡ false → id < length (writer world place).begun → more < length (writer world other).begun
+      → (place ≡ other) × (id ≡ more)
+  one_entry place other id more inside within of_one to_one none low under =
+      let one = entry place inside of_one id low in let two = entry other within to_one more under in
+      uses_once (over_one_chunk writers lines) setup world closed done collected place other id more 0 one.0 two.0 inside within
+      (ap (may_be_collected setup lines) of_one ∙ none) (ap (may_be_collected setup lines) to_one ∙ none) one.1 two.1
+
+  -- as many chunks were begun as there are pages
+  two_begun : (place : ℕ) → place < length setup.writers → map (λ (packet : Packet). packet.follows_flush) (packets_of (writer world place).calls) ≡ true ∷ false ∷ []
+      → lost_count (packets_of (writer world place).calls) ≡ 0 → 2 ≤ length (writer world place).begun
+  two_begun place inside flags none =
+      let own = wrote (over_one_chunk writers lines) setup world closed done laid place inside in
+      let pages = pages_begun setup place (writer world place) own in
+      let two = two_pages _ (packets_of (writer world place).calls) own.cut.cut.pages flags none own.cut.cut.cut in
+      omega (arith, pages, two)
+
+  one_begun : (place : ℕ) → place < length setup.writers → map (λ (packet : Packet). packet.follows_flush) (packets_of (writer world place).calls) ≡ false ∷ []
+      → lost_count (packets_of (writer world place).calls) ≡ 0 → 1 ≤ length (writer world place).begun
+  one_begun place inside flags none =
+      let own = wrote (over_one_chunk writers lines) setup world closed done laid place inside in
+      let pages = pages_begun setup place (writer world place) own in
+      let one = by_packets (packets_of (writer world place).calls) flags none own.cut.cut.cut in
+      omega (arith, pages, one)
+    where
+      by_packets : (packets : List Packet) → map (λ (packet : Packet). packet.follows_flush) packets ≡ false ∷ [] → lost_count packets ≡ 0
+          → CutsInto (payload_at setup place) packets (wrote (over_one_chunk writers lines) setup world closed done laid place inside).cut.cut.pages
+          → 1 ≤ length (wrote (over_one_chunk writers lines) setup world closed done laid place inside).cut.cut.pages
+      by_packets [] is whole cut = absurd (let long = ap (λ (bs : List Bool). length bs) is in omega (arith, long))
+      by_packets (packet ∷ older) is whole cut = one_page _ packet older _ whole cut
+
+-- ---- the scenarios
+
+a_writer : (lines : List NumberedLine) → IsWriter (over_one_chunk (dropping ∷ []) lines).buffers (over_one_chunk (dropping ∷ []) lines).producers dropping
+unfolding payload_size chunk_size
+a_writer lines = record {
+  of_producer = record { pages = 1; page_size = 4096; chunks = 1 };
+  into_buffer = record { kb = 64; policy = Ring };
+  counts_producer = omega arith;
+  counts_buffer = omega arith;
+  producer_is = refl;
+  buffer_is = refl;
+  fits = omega arith;
+}
+
+set_up : (writers : List WriterSpec) (lines : List NumberedLine) → length writers ≤ MAX_WRITERS
+    → AllByRecursion (IsWriter (over_one_chunk writers lines).buffers (over_one_chunk writers lines).producers) writers
+    → IsSetUp (over_one_chunk writers lines).buffers (over_one_chunk writers lines).producers writers
+set_up writers lines few all = record {
+  few_buffers = omega arith;
+  few_producers = omega arith;
+  few_writers = few;
+  are_buffers = (record { least = omega arith; most = omega arith }, tt);
+  are_producers = (
+    record {
+      some_pages = omega arith;
+      few_pages = omega arith;
+      page_size = record { whole = refl; least = omega arith; most = omega arith };
+      chunks = (0, omega arith, refl);
+    },
+    tt,
+  );
+  are_writers = all;
+}
+
+-- ---- a flush between two packets
+
+flushed_flags : (first second : List Shown) → fold flag_after ([], false) (calls_asked 1 (flushed_between first second).lines ++ Flushed ∷ []) ≡ (true ∷ false ∷ [], true)
+unfolding line_calls
+flushed_flags first second =
+    let one : List Call = Begun true ∷ map node_call first ++ Finished ∷ [] in let two : List Call = Begun true ∷ map node_call second ++ Finished ∷ [] in
+    flags_behind (one ++ (Flushed ∷ [] ++ (two ++ []))) (Flushed ∷ []) ([], false) (true ∷ false ∷ [], false)
+    (flags_behind one (Flushed ∷ [] ++ (two ++ [])) ([], false) (false ∷ [], false) (packet_flag first ([], false))
+    ∙ flags_behind two [] (false ∷ [], true) (true ∷ false ∷ [], false) (packet_flag second (false ∷ [], true)))
+
+flushed : (first second : List Shown) (setup : Setup) (world : World) → IsRun (flushed_between first second) setup world
+    → 0 < lost_count (packets_of (writer world 0).calls)
+flushed first second setup world run = by_count (cases_eq (lost_count (packets_of (writer world 0).calls)) 0)
+  where
+    by_count : (lost_count (packets_of (writer world 0).calls) ≡ 0) ⊎ (lost_count (packets_of (writer world 0).calls) ≡ 0 → ⊥)
+        → 0 < lost_count (packets_of (writer world 0).calls)
+    by_count (inr more) = omega (arith, more)
+    by_count (inl none) =
+        let done = run.before.done in let lines = (flushed_between first second).lines in let writers = dropping ∷ [] in
+        let laid_is = done.setup_is.laid in
+        let inside : 0 < length setup.writers = let many = ap (λ (s : Setup). length s.writers) laid_is in omega (arith, many) in
+        let of_one : producer_of setup 0 ≡ 1 = ap (λ (s : Setup). producer_of s 0) laid_is in
+        let nobody : may_be_collected setup lines 1 ≡ false = ap (λ (s : Setup). may_be_collected s lines 1) laid_is in
+        let fits = set_up writers lines (omega arith) (a_writer lines, tt) in
+        let flags = flags_are (writer world 0).calls (calls_asked 1 lines ++ Flushed ∷ []) (done.writers 0 inside).asked
+        ∙ ap (λ (f : Flags). f.0) (flushed_flags first second) in
+        let two = two_begun writers lines fits setup world _ done run.before.taken_by.collected 0 inside flags none in
+        let same = one_entry writers lines fits setup world _ done run.before.taken_by.collected 0 0 0 1 inside inside of_one of_one nobody
+        (omega (arith, two)) (omega (arith, two)) in
+        absurd (let clash = same.1 in omega (arith, clash))
+
+-- ---- a packet of each of two writers
+
+each_flags : (number : ℕ) (first second : List Shown) → (number ≡ 1) ⊎ (number ≡ 2)
+    → fold flag_after ([], false) (calls_asked number (one_of_each first second).lines ++ Flushed ∷ []) ≡ (false ∷ [], true)
+unfolding line_calls
+each_flags number first second (inl is) =
+    let one : List Call = Begun true ∷ map node_call first ++ Finished ∷ [] in
+    ap (λ (n : ℕ). fold flag_after ([], false) (calls_asked n (one_of_each first second).lines ++ Flushed ∷ [])) is
+    ∙ flags_behind (one ++ []) (Flushed ∷ []) ([], false) (false ∷ [], false) (flags_behind one [] ([], false) (false ∷ [], false) (packet_flag first ([], false)))
+each_flags number first second (inr is) =
+    let two : List Call = Begun true ∷ map node_call second ++ Finished ∷ [] in
+    ap (λ (n : ℕ). fold flag_after ([], false) (calls_asked n (one_of_each first second).lines ++ Flushed ∷ [])) is
+    ∙ flags_behind (two ++ []) (Flushed ∷ []) ([], false) (false ∷ [], false) (flags_behind two [] ([], false) (false ∷ [], false) (packet_flag second ([], false)))
+
+each : (first second : List Shown) (setup : Setup) (world : World) → IsRun (one_of_each first second) setup world
+    → 0 < lost_count (packets_of (writer world 0).calls) + lost_count (packets_of (writer world 1).calls)
+each first second setup world run = by_count (cases_eq (lost_count (packets_of (writer world 0).calls) + lost_count (packets_of (writer world 1).calls)) 0)
+  where
+    by_count : (lost_count (packets_of (writer world 0).calls) + lost_count (packets_of (writer world 1).calls) ≡ 0)
+        ⊎ (lost_count (packets_of (writer world 0).calls) + lost_count (packets_of (writer world 1).calls) ≡ 0 → ⊥)
+        → 0 < lost_count (packets_of (writer world 0).calls) + lost_count (packets_of (writer world 1).calls)
+    by_count (inr more) = omega (arith, more)
+    by_count (inl none) =
+        let done = run.before.done in let lines = (one_of_each first second).lines in let writers = dropping ∷ dropping ∷ [] in
+        let laid_is = done.setup_is.laid in
+        let inside : 0 < length setup.writers = let many = ap (λ (s : Setup). length s.writers) laid_is in omega (arith, many) in
+        let within : 1 < length setup.writers = let many = ap (λ (s : Setup). length s.writers) laid_is in omega (arith, many) in
+        let of_one : producer_of setup 0 ≡ 1 = ap (λ (s : Setup). producer_of s 0) laid_is in
+        let to_one : producer_of setup 1 ≡ 1 = ap (λ (s : Setup). producer_of s 1) laid_is in
+        let nobody : may_be_collected setup lines 1 ≡ false = ap (λ (s : Setup). may_be_collected s lines 1) laid_is in
+        let fits = set_up writers lines (omega arith) (a_writer lines, (a_writer lines, tt)) in
+        let flags = flags_are (writer world 0).calls (calls_asked 1 lines ++ Flushed ∷ []) (done.writers 0 inside).asked
+        ∙ ap (λ (f : Flags). f.0) (each_flags 1 first second (inl refl)) in
+        let other_flags = flags_are (writer world 1).calls (calls_asked 2 lines ++ Flushed ∷ []) (done.writers 1 within).asked
+        ∙ ap (λ (f : Flags). f.0) (each_flags 2 first second (inr refl)) in
+        let one = one_begun writers lines fits setup world _ done run.before.taken_by.collected 0 inside flags (omega (arith, none)) in
+        let other = one_begun writers lines fits setup world _ done run.before.taken_by.collected 1 within other_flags (omega (arith, none)) in
+        let same = one_entry writers lines fits setup world _ done run.before.taken_by.collected 0 1 0 0 inside within of_one to_one nobody one other in
+        absurd (let clash = same.0 in omega (arith, clash))
+
+pub one_chunk_holds_one_packet : OneChunkHoldsOnePacket
+one_chunk_holds_one_packet = record { flushed = flushed; each = each }
