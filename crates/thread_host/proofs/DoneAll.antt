@@ -1,9 +1,12 @@
 -- Once all is taken apart, what the seats knew that were settled is a world in which all is done.
-use Rattle.std.proofs.Common.{◌≡◌, ◌∙◌, ℕ, ◌<◌, ◌≤◌, Bool, true, false, [], length, refl, sym, subst, arith}
+use Rattle.std.proofs.Common.{◌≡◌, ◌∙◌, ℕ, ◌<◌, ◌≤◌, Bool, true, false, List, [], length, refl, sym, subst, arith}
 use Rattle.std.proofs.lemmas.List.{length-map}
 use Rattle.chunk_plain.specs.Setup.{Setup, producer_of, sequence_of}
-use Rattle.chunk_plain.specs.Views.{ServiceView, WriterView, taken_of}
+use Rattle.std.proofs.Math.Logic.{∥∥₁_map}
+use Rattle.chunk_plain.specs.Views.{At, Content, Completed, ServiceView, WriterView, taken_of}
 use Rattle.chunk_plain.specs.World.{World, writer}
+use Rattle.chunk_plain.specs.Owned.{IsOwned}
+use Rattle.chunk_schedules.specs.Schedules.{IsLed}
 use Rattle.chunk_words.specs.Closed.{HasAllSeats, IsAccount, AllTaken, views_of}
 use Rattle.chunk_words.specs.Sits.{setup_in, known_by}
 use Rattle.scenario_text.specs.Scenario.{Parts}
@@ -13,7 +16,7 @@ use Rattle.replay_host.proofs.TakenLemmas.{open_is, none_committed}
 use Rattle.replay_model.specs.Does.{is_shut}
 use Rattle.run_model.specs.Settled.{HasDoneLines, HasDoneAll}
 use Rattle.thread_service.specs.declared.service.Service.{Service}
-use Rattle.thread_service.specs.Serving.{core_of, view_in, Serves}
+use Rattle.thread_service.specs.Serving.{core_of, view_in, desk_in, Serves}
 use Rattle.thread_host.specs.Finishing.{AreClosedTo}
 use Rattle.thread_host.specs.Hosts.{IsSettled}
 use Rattle.thread_host.specs.declared.settled.Settled.{Settled}
@@ -46,6 +49,9 @@ module _ (scenario : Parts) (settled : Settled) (is : IsSettled scenario settled
   abbrev view : ServiceView
   view = view_in final
 
+  abbrev marks : List World
+  marks = (desk_in settled.service).marks
+
   abbrev world : World
   world = record { chunks = []; writers = views_of settled.seats.items; service = view_in final }
 
@@ -68,17 +74,18 @@ module _ (scenario : Parts) (settled : Settled) (is : IsSettled scenario settled
         );
   }
 
-  module _ (account : IsAccount (views_of settled.seats.items) (view_in final)) (taken : AllTaken (view_in final) (views_of settled.seats.items)) where
+  module _ (account : IsAccount (setup_in settled.table) (desk_in settled.service).marks (views_of settled.seats.items) (view_in final))
+      (taken : AllTaken (view_in final) (views_of settled.seats.items)) where
     seat_here : (place : ℕ) → place < length (setup_in settled.table).writers → HasSeatAt settled.seats.items place
     seat_here place inside = let many = is.many in seat_at settled.seats.items place (omega (arith, inside, many))
 
-    done_here : (place : ℕ) → place < length (setup_in settled.table).writers
+    pub done_here : (place : ℕ) → place < length (setup_in settled.table).writers
         → HasDoneLines (setup_in settled.table) scenario.lines place (writer (record { chunks = []; writers = views_of settled.seats.items; service = view_in final }) place)
     done_here place inside =
         let here = seat_here place inside in
         subst (λ (v : WriterView). HasDoneLines setup scenario.lines place v) (sym here.view) (is.done place here.seat here.there).done
 
-    taken_here : (place : ℕ) → place < length (setup_in settled.table).writers
+    pub taken_here : (place : ℕ) → place < length (setup_in settled.table).writers
         → (taken_of (view_in final) place).count ≡ length (writer (record { chunks = []; writers = views_of settled.seats.items; service = view_in final }) place).begun
     taken_here place inside =
         let here = seat_here place inside in
@@ -95,20 +102,34 @@ module _ (scenario : Parts) (settled : Settled) (is : IsSettled scenario settled
         let same : (taken_of (view_in settled.service) place).count ≡ length (known_by here.seat).begun = omega (arith, least, rise, all) in
         subst (λ (v : WriterView). (taken_of (view_in settled.service) place).count ≡ length v.begun) (sym here.view) same
 
+    -- what a writer has completed it had completed once the threads were done
+    pub completed_here : (place : ℕ) → place < length (setup_in settled.table).writers → (id chunk : ℕ) (content : Content)
+        → At (writer (record { chunks = []; writers = views_of settled.seats.items; service = view_in final }) place).begun id (Completed chunk content)
+        → At (writer is.stood place).begun id (Completed chunk content)
+    completed_here place inside id chunk content at =
+        let here = seat_here place inside in
+        is.completed place here.seat here.there id chunk content (subst (λ (v : WriterView). At v.begun id (Completed chunk content)) here.view at)
+
     module _ (closed : Bool) (all_closed : (place : ℕ) → place < length (setup_in settled.table).writers
         → is_closed (setup_in settled.table) (core_of final) place ≡ closed) where
-      order_here : (place : ℕ) → place < length (setup_in settled.table).writers
+      pub order_here : (place : ℕ) → place < length (setup_in settled.table).writers
           → LeadTo (view_in final) (sequence_of place) beginning (view_in final).events
           (record { come = (taken_of (view_in final) place).count; closed = closed; due = [] })
       order_here place inside =
           subst (λ (b : Bool). LeadTo view (sequence_of place) beginning view.events (record { come = (taken_of view place).count; closed = b; due = [] }))
           (all_closed place inside) (serves.agrees.order place inside (none_committed view (sequence_of place) own))
 
-      pub done_all : HasDoneAll scenario (setup_in settled.table) (record { chunks = []; writers = views_of settled.seats.items; service = view_in final }) closed
+      abbrev pub done_all : HasDoneAll scenario (setup_in settled.table) (record { chunks = []; writers = views_of settled.seats.items; service = view_in final }) closed
       done_all = record {
         setup_is = is.laid;
         many = length-map settled.seats.items known_by ∙ is.many;
-        owned = account;
+        owned = ∥∥₁_map account (λ (one : (other : World) × IsOwned other × IsLed setup marks other × (other.writers ≡ views_of settled.seats.items) × (other.service ≡ view)).
+            (one.0, one.1, one.3, one.4));
+        stood = is.stood;
+        reached = is.reached;
+        leads = ∥∥₁_map account (λ (one : (other : World) × IsOwned other × IsLed setup marks other × (other.writers ≡ views_of settled.seats.items) × (other.service ≡ view)).
+            (one.0, one.2.marked is.number is.stood is.marked, one.3, one.4));
+        completed = completed_here;
         writers = done_here;
         taken = taken_here;
         order = order_here;

@@ -24,7 +24,7 @@ use Rattle.run_model.specs.Reads.{GoesByReads}
 use Rattle.run_model.specs.Settled.{ClosesTo, HasClosedAll}
 use Rattle.thread_service.specs.declared.service.Service.{Service}
 use Rattle.thread_service.specs.Reading.{GoesUnread, IsKnownWhole}
-use Rattle.thread_service.specs.Serving.{core_of, view_in, Serves}
+use Rattle.thread_service.specs.Serving.{core_of, view_in, desk_in, Serves}
 use Rattle.thread_service.proofs.GoingOn.{goes_adds, goes_unread}
 use Rattle.thread_host.specs.Finishing.{AreClosedTo, HasEnded}
 use Rattle.thread_host.specs.Hosts.{IsSettled}
@@ -100,7 +100,7 @@ module _ (scenario : Parts) (settled : Settled) (is : IsSettled scenario settled
 
     -- ---- once all is taken apart
 
-    module _ (account : IsAccount (views_of settled.seats.items) (view_in final)) (taken : AllTaken (view_in final) (views_of settled.seats.items))
+    module _ (account : IsAccount (setup_in settled.table) (desk_in settled.service).marks (views_of settled.seats.items) (view_in final)) (taken : AllTaken (view_in final) (views_of settled.seats.items))
         (goes : GoesOn (known_by_pass pass) (view_in final)) (known : IsKnownWhole (known_by_pass pass)) where
       -- nothing was read behind the lines, before the end
       pub none_read : GoesUnread (history_of (known_by_pass settled.pass)) (history_of (view_in closed))

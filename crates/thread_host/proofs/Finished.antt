@@ -21,7 +21,7 @@ use Rattle.run_model.specs.Reads.{GoesByReads}
 use Rattle.run_model.specs.Settled.{IsRun}
 use Rattle.thread_service.specs.declared.service.Service.{Service}
 use Rattle.thread_service.specs.Reading.{IsKnownWhole}
-use Rattle.thread_service.specs.Serving.{core_of, view_in}
+use Rattle.thread_service.specs.Serving.{core_of, view_in, desk_in}
 use Rattle.thread_host.specs.Counting as counting
 use Rattle.thread_host.specs.Counting.{packets_in}
 use Rattle.thread_host.specs.Ending.{no_counts}
@@ -69,7 +69,7 @@ module _ (scenario : Parts) (settled : Settled) (is : IsSettled scenario settled
 
   -- ---- once all is taken apart
 
-  module _ (account : IsAccount (views_of settled.seats.items) (view_in final)) (taken : AllTaken (view_in final) (views_of settled.seats.items))
+  module _ (account : IsAccount (setup_in settled.table) (desk_in settled.service).marks (views_of settled.seats.items) (view_in final)) (taken : AllTaken (view_in final) (views_of settled.seats.items))
       (goes : GoesOn (known_by_pass pass) (view_in final)) (known : IsKnownWhole (known_by_pass pass)) where
     -- the scenario was run
     run_is : GoesByReads (setup_in settled.table) (buffers_of scenario (setup_in settled.table)) scenario.lines [] (history_of (known_by_pass settled.pass))

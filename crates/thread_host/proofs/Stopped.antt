@@ -17,7 +17,7 @@ use Rattle.run_model.specs.Reads.{GoesByReads}
 use Rattle.run_model.specs.Stopped.{StopsInEnd}
 use Rattle.thread_service.specs.declared.service.Service.{Service}
 use Rattle.thread_service.specs.Reading.{IsKnownWhole}
-use Rattle.thread_service.specs.Serving.{core_of, view_in}
+use Rattle.thread_service.specs.Serving.{core_of, view_in, desk_in}
 use Rattle.thread_service.proofs.GoingOn.{goes_unread}
 use Rattle.thread_host.specs.Finishing.{FailsOut, HasFailed, HasLetGo}
 use Rattle.thread_host.specs.Hosts.{IsSettled}
@@ -66,7 +66,7 @@ module _ (scenario : Parts) (settled : Settled) (is : IsSettled scenario settled
   seats_back = ended_seats scenario settled is closed final ending pass only
 
   -- once all is taken apart
-  module _ (account : IsAccount (views_of settled.seats.items) (view_in final)) (taken : AllTaken (view_in final) (views_of settled.seats.items))
+  module _ (account : IsAccount (setup_in settled.table) (desk_in settled.service).marks (views_of settled.seats.items) (view_in final)) (taken : AllTaken (view_in final) (views_of settled.seats.items))
       (goes : GoesOn (known_by_pass pass) (view_in final)) (known : IsKnownWhole (known_by_pass pass)) where
     stops_in_end : GoesByReads (setup_in settled.table) (buffers_of scenario (setup_in settled.table)) scenario.lines [] (history_of (known_by_pass settled.pass))
         → StopsInEnd scenario (setup_in settled.table) (record { chunks = []; writers = views_of settled.seats.items; service = view_in final }) fails_out.next
@@ -90,7 +90,7 @@ module _ (scenario : Parts) (settled : Settled) (is : IsSettled scenario settled
   pub settled_seats : HasAllSeats settled.table (view_in settled.service) settled.seats.items
   settled_seats = all_seats scenario settled is settled.service is.served.serves same_count is.served.own (λ sequence. refl)
 
-  pub has_let_go : IsAccount (views_of settled.seats.items) (view_in settled.service) → AllTaken (view_in settled.service) (views_of settled.seats.items)
+  pub has_let_go : IsAccount (setup_in settled.table) (desk_in settled.service).marks (views_of settled.seats.items) (view_in settled.service) → AllTaken (view_in settled.service) (views_of settled.seats.items)
       → GoesOn (known_by_pass settled.pass) (view_in settled.service) → HasLetGo scenario settled
   has_let_go account taken goes = record {
     world = record { chunks = []; writers = views_of settled.seats.items; service = view_in settled.service };

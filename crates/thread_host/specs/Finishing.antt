@@ -27,7 +27,7 @@ use Rattle.run_model.specs.Settled.{HasDoneAll, IsRun, ClosesTo, ReadsTo}
 use Rattle.run_model.specs.Stopped.{ReadsSomeTo, StopsInEnd}
 use Rattle.thread_service.specs.Reading.{GoesUnread}
 use Rattle.thread_service.specs.declared.service.Service.{Service}
-use Rattle.thread_service.specs.Serving.{core_of, view_in}
+use Rattle.thread_service.specs.Serving.{core_of, view_in, desk_in}
 use Rattle.thread_host.specs.Jobs.{TellsReads, TellsUpTo}
 use Rattle.thread_host.specs.declared.settled.Settled.{Settled}
 
@@ -64,7 +64,7 @@ pub record FailsOut (setup : Setup) (first : List Buffer) (number : ℕ) (old ne
 pub record HasEnded (scenario : Parts) (settled : Settled) : Type 0 where
   pub world : World
   pub writers : world.writers ≡ views_of settled.seats.items
-  pub account : IsAccount world.writers world.service
+  pub account : IsAccount (setup_in settled.table) (desk_in settled.service).marks world.writers world.service
   pub closed : ServiceView
   pub closes : ClosesTo (setup_in settled.table) settled.producers (view_in settled.service) closed
   pub more : List Delivered
@@ -107,9 +107,9 @@ pub record HasLetGo (scenario : Parts) (settled : Settled) : Type 0 where
   pub world : World
   pub writers : world.writers ≡ views_of settled.seats.items
   pub service : world.service ≡ view_in settled.service
-  pub account : IsAccount world.writers world.service
+  pub account : IsAccount (setup_in settled.table) (desk_in settled.service).marks world.writers world.service
   pub done : HasDoneAll scenario (setup_in settled.table) world false
-  pub taken_by : IsTakenBy (setup_in settled.table) scenario.lines world.service
+  pub taken_by : IsTakenBy (setup_in settled.table) scenario.lines done.stood.service world.service
   pub goes : GoesUnread (history_of (known_by_pass settled.pass)) (history_of world.service)
 
 -- the scenario was run, and these are the counts of its report

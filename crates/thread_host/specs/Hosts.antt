@@ -2,9 +2,14 @@
 use Rattle.std.specs.Prelude.{◌≡◌, ℕ, suc, ◌+◌, ◌^◌, ◌<◌, ◌≤◌, false, List, [], ◌∷◌, ◌++◌, length, Some, IsSomeAnd, slice_get, slice_index_or, vec_len, vec_capacity}
 use Rattle.trace_base.specs.declared.limits.TheConstants.{MAX_BUFFERS}
 use Rattle.trace_model.specs.Calls.{Flushed}
-use Rattle.chunk_plain.specs.Views.{newcomer}
+use Rattle.chunk_plain.specs.Views.{At, newcomer}
+use Rattle.chunk_plain.specs.World.{World, writer}
+use Rattle.chunk_plain.specs.Plain.{first_world}
+use Rattle.chunk_schedules.specs.Schedules.{Leads}
 use Rattle.chunk_words.specs.declared.host.HostTable.{HostTable}
-use Rattle.chunk_words.specs.Sits.{Passes, setup_in, known_by_pass}
+use Rattle.chunk_words.specs.declared.seats.WriterSeat.{WriterSeat}
+use Rattle.chunk_words.specs.Sits.{Passes, setup_in, known_by, known_by_pass}
+use Rattle.chunk_words.specs.Told.{StaysCompleted}
 use Rattle.world_model.specs.FirstBuffers.{payload_at}
 use Rattle.trace_writer.specs.Core.{in_packet, holds_chunk, is_stalled}
 use Rattle.scenario_text.specs.declared.scenario.NumberedLine.{NumberedLine}
@@ -102,7 +107,8 @@ pub record IsHost (scenario : Parts) (host : Host) : Type 0 where
 
 -- ---- all settled
 
--- The writers have done their lines, and all that they completed was taken: while the threads ran only where somebody may have the producer
+-- The writers have done their lines, and there is a world in which they were done: a schedule of steps leads to it from a table as it is made,
+-- and it is among those that the service marked. All that they completed was taken: while the threads ran only where somebody may have the producer
 -- collected, and what was left then producer by producer in rising number. Their seats are there, in their order, and with each what its writer counted.
 pub record IsSettled (scenario : Parts) (settled : Settled) : Type 0 where
   pub laid : IsSetupOf scenario (setup_in settled.table)
@@ -111,7 +117,14 @@ pub record IsSettled (scenario : Parts) (settled : Settled) : Type 0 where
   pub many : length settled.seats.items ≡ length (setup_in settled.table).writers
   pub done : AreDoneSeats scenario.lines settled.table settled.seats.items settled.counts.sequences.items
   pub taken : AreTakenOut (serving.view_in settled.service) settled.seats.items
-  pub taken_by : IsTakenBy (setup_in settled.table) scenario.lines (serving.view_in settled.service)
+  -- the world once the writers were done, which the service marked
+  pub stood : World
+  pub number : ℕ
+  pub marked : At (serving.desk_in settled.service).marks number stood
+  pub reached : Leads (first_world (setup_in settled.table)) stood
+  pub completed : (place : ℕ) (seat : WriterSeat) → slice_get settled.seats.items place ≡ Some seat
+      → StaysCompleted (known_by seat).begun (writer stood place).begun
+  pub taken_by : IsTakenBy (setup_in settled.table) scenario.lines stood.service (serving.view_in settled.service)
   pub pass : Passes settled.table settled.pass
   pub known : IsKnownWhole (known_by_pass settled.pass)
   pub few_buffers : length scenario.buffers ≤ MAX_BUFFERS

@@ -11,7 +11,7 @@ ghost use Rattle.scenario_text.specs.Scenario.{Parts};
 ghost use Rattle.service_core.specs.Agreement.{KeepsRest, first_of};
 ghost use Rattle.run_model.specs.Settled.{ClosesTo};
 ghost use Rattle.thread_service.specs.Reading.{IsKnownWhole};
-ghost use Rattle.thread_service.specs.Serving.{core_of, view_in, Serves, IsServing};
+ghost use Rattle.thread_service.specs.Serving.{core_of, view_in, desk_in, Serves, IsServing};
 ghost use Rattle.thread_host.specs.Counting.{buffers_in, packets_in};
 ghost use Rattle.thread_host.specs.Ending.{no_counts};
 ghost use Rattle.thread_host.specs.Finishing.{AreClosedTo, ReadsOut, FailsOut, HasFinished, HasFailed, HasLetGo};
@@ -92,6 +92,7 @@ fn close_all(service: &mut Service, table: &HostTable, producers: u16)
     ensures first { first_of (setup_in table.now) (core_of service.new) ≡ first_of (setup_in table.now) (core_of service.old) }
     ensures closes { ClosesTo (setup_in table.now) producers (view_in service.old) (view_in service.new) }
     ensures closed { AreClosedTo (setup_in table.now) producers service.new }
+    ensures desk { desk_in service.new ≡ desk_in service.old }
 {
     let _stopped = service.stop();
     'producers: for index in 0..producers {
@@ -115,6 +116,7 @@ fn read_all<T: Sink>(
     ensures pass { Passes table.now pass.new }
     ensures known { IsKnownWhole (known_by_pass pass.new) }
     ensures keeps { KeepsRest (setup_in table.now) (core_of service.old) (core_of service.new) }
+    ensures marks { (desk_in service.new).marks ≡ (desk_in service.old).marks }
     ensures reads { IfOk result (λ _. ReadsOut (setup_in table.now) (first_of (setup_in table.now) (core_of service.old)) buffers
         (view_in service.old) (view_in service.new) (known_by_pass pass.old) (known_by_pass pass.new) (T.taken out.old) (T.taken out.new)) }
     ensures fails { OnErr result (FailsOut (setup_in table.now) (first_of (setup_in table.now) (core_of service.old)) buffers
@@ -162,7 +164,7 @@ fn take_apart(table: HostTable, service: Service, pass: ReadPass, seats: Vec<Wri
     requires serves { Serves table service }
     requires pass { Passes table pass }
     requires seats { HasAllSeats table (view_in service) seats.items }
-    ensures account { IsAccount (views_of seats.items) (view_in service) }
+    ensures account { IsAccount (setup_in table) (desk_in service).marks (views_of seats.items) (view_in service) }
     ensures taken { AllTaken (view_in service) (views_of seats.items) }
     ensures goes_on { GoesOn (known_by_pass pass) (view_in service) }
 {

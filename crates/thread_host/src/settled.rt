@@ -36,8 +36,9 @@ pub struct Settled {
 }
 
 impl Host {
-    /// Has all taken that the writers completed. Their seats know what they knew. What the service knows
-    /// grows by rounds that take complete chunks, producer by producer in rising number, and by nothing else.
+    /// Marks the world in which the writers are done, and has all taken that they completed. Their
+    /// seats know what they knew. What the service knows grows by rounds that take complete chunks,
+    /// producer by producer in rising number, and by nothing else.
     pub fn settle(self, writers: Vec<TraceWriter>) -> Settled
         requires played { (scenario : Parts) × IsHost scenario self × HavePlayed scenario.lines self.table writers.items }
         ensures settled { (scenario : Parts) → IsHost scenario self → HavePlayed scenario.lines self.table writers.items
@@ -70,6 +71,7 @@ impl Host {
             &mut seats,
             &mut counts.sequences,
         );
+        service.mark(&table);
         service.settle(&table, producers);
         Settled {
             table,

@@ -3,7 +3,7 @@ use Rattle.std.proofs.Common.{◌≡◌, ◌∙◌, ℕ, suc, ◌+◌, ◌⊎◌
 use Rattle.std.proofs.lemmas.Bool.{cases_eq}
 use Rattle.chunk_plain.specs.Setup.{Setup, producer_of, sequence_of}
 use Rattle.chunk_plain.specs.Views.{ServiceView}
-use Rattle.chunk_words.specs.Sits.{setup_in, known_by_service}
+use Rattle.chunk_words.specs.Sits.{setup_in, known_by_service, desk_by_service}
 use Rattle.trace_buffer.specs.declared.answers.BufferSpec.{BufferSpec}
 use Rattle.world_model.specs.FirstBuffers as first
 use Rattle.service_core.specs.Agreement.{is_closed, buffer_of, spec_value}
@@ -28,6 +28,7 @@ producers-init c =
       serves = c.stop-stopped.ensures.serves c.args.table.now c.requires.serves;
       first = ap (λ (specs : List BufferSpec). first.first_buffers setup 1 (map spec_value specs)) keeps.specs;
       closes = ap known_by_service keeps.seat;
+      desk = ap desk_by_service keeps.seat;
       closed = λ place inside none.
           let least = (c.requires.serves.agrees.routed.producers place inside).least in
           absurd (omega (arith, least, none));
@@ -64,6 +65,7 @@ producers-preserved c =
       serves = c.close_producer-taken.ensures.serves;
       first = first_stays setup (core_of mid) (core_of new) closes.fields ∙ i.first;
       closes = closes_next setup index (view_in c.args.service.now) mid new closes c.close_producer-taken.result i.closes c.close_producer-taken.ensures.takes;
+      desk = c.close_producer-taken.ensures.desk ∙ i.desk;
       closed = closed_next setup index (view_in c.args.service.now) mid new closes i.closed;
       opened = λ place inside above.
           closes.others place inside (λ same. absurd (omega (arith, same, above))) ∙ i.opened place inside (omega (arith, above));

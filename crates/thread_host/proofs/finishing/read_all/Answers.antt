@@ -1,5 +1,6 @@
 -- One buffer is read behind another.
-use Rattle.std.proofs.Common.{◌≡◌, ◌∙◌, suc, ◌+◌, refl, arith}
+use Rattle.std.proofs.Common.{◌≡◌, ◌∙◌, suc, ◌+◌, refl, ap, arith}
+use Rattle.chunk_words.specs.Knows.{Desk}
 use Rattle.chunk_words.specs.Sits.{setup_in, known_by_pass}
 use Rattle.service_core.specs.Agreement.{first_of}
 use Rattle.service_core.proofs.AgreeLemmas.{first_stays, keeps_same, keeps_both}
@@ -17,6 +18,7 @@ buffers-init g c =
       pass = c.requires.pass;
       known = c.requires.known;
       keeps = keeps_same setup (core_of c.args.service.now);
+      marks = refl;
       reads = out_none setup (first_of setup (core_of c.args.service.now)) (view_in c.args.service.now) (known_by_pass c.args.pass.now) (g.T.Sink.taken c.args.out.now);
       stands = refl;
       steady = refl;
@@ -34,6 +36,7 @@ buffers-preserved g c =
       pass = ok.pass;
       known = ok.known;
       keeps = keeps_both setup start core (core_of c.read_passing.new.self) i.keeps ok.keeps;
+      marks = ap (λ (d : Desk). d.marks) ok.desk ∙ i.marks;
       reads = out_more setup core (first_of setup start) c.buffers.index (c.buffers.index + 1) _ (view_in c.args.service.now) (view_in c.buffers.service)
           (view_in c.read_passing.new.self) (known_by_pass c.args.pass.now) (known_by_pass c.buffers.pass) (known_by_pass c.read_passing.new.pass)
           (g.T.Sink.taken c.args.out.now) (g.T.Sink.taken c.buffers.out) (g.T.Sink.taken c.read_passing.new.out)
@@ -56,3 +59,6 @@ returns-in_err-read_passing-clause-fails g c =
     (g.T.Sink.taken c.args.out.now) (g.T.Sink.taken c.buffers.out) (g.T.Sink.taken c.read_passing.new.out)
     (let more : c.buffers.index + 1 ≡ suc c.buffers.index = omega arith in more) c.buffers-test.true
     (first_stays setup start core i.keeps.fields) i.serves.agrees.buffers i.reads failed.fails failed.passes)
+
+pub returns-in_err-read_passing-clause-marks : goal.returns-in_err-read_passing-clause-marks
+returns-in_err-read_passing-clause-marks g c = ap (λ (d : Desk). d.marks) c.in_err-read_passing.ensures.desk ∙ c.buffers.invariant.marks

@@ -1,19 +1,24 @@
 -- The end of a settled run is a run of the scenario.
-use Rattle.std.proofs.Common.{◌≡◌, ◌∙◌, List, length, sym, ap, arith}
+use Rattle.std.proofs.Common.{◌≡◌, ◌∙◌, List, length, sym, ap, subst, arith}
 use Rattle.std.specs.Prelude.{slice_index_or}
 use Rattle.std.specs.Vec.{with_items}
 use Rattle.std.proofs.lemmas.List.{length-map, with_items_is}
 use Rattle.trace_buffer.specs.Answers as answers
 use Rattle.trace_buffer.specs.declared.answers.BufferCounts.{BufferCounts}
 use Rattle.trace_base.specs.declared.policy.WriterSpec.{WriterSpec}
+use Rattle.chunk_plain.specs.World.{World}
+use Rattle.chunk_words.specs.Closed.{IsAccount, views_of}
+use Rattle.chunk_words.specs.Knows.{Desk}
 use Rattle.chunk_words.specs.Sits.{setup_in}
 use Rattle.loss_report.specs.declared.counts.SequenceCounts.{SequenceCounts}
 use Rattle.service_core.proofs.AgreeLemmas.{first_stays}
 use Rattle.replay_host.proofs.CountingLemmas.{specs_many}
 use Rattle.replay_model.proofs.PlayedLemmas.{setup_writers}
-use Rattle.thread_service.specs.Serving.{core_of}
+use Rattle.thread_service.specs.declared.service.Service.{Service}
+use Rattle.thread_service.specs.Serving.{core_of, view_in, desk_in}
 use Rattle.thread_host.specs.Counting.{buffers_in, packets_in}
 use Rattle.thread_host.specs.Ending.{no_counts}
+use Rattle.thread_host.specs.declared.settled.Settled.{Settled}
 use Rattle.thread_host.proofs.Finished.{has_all_seats, has_finished}
 use Rattle.thread_host.proofs.Stopped.{has_failed, seats_back}
 use Rattle.thread_host.proofs.Tallying.{buffers_long}
@@ -56,6 +61,12 @@ take_apart-requires-clause-seats g c =
     (record { closes = closing.closes; all_closed = closing.closed; first = closing.first; keeps = c.in-Ok.ensures.keeps; serves = c.in-Ok.ensures.serves })
     c.read_all.new.pass (g.T.Sink.taken c.args.out.now) (g.T.Sink.taken c.read_all.new.out) c.len.result (c.len.ensures ∙ is.buffers) c.in-Ok.ensures.reads
 
+-- the worlds that were marked are those that were when all was settled
+settled_account : (settled : Settled) (final : Service) → (desk_in final).marks ≡ (desk_in settled.service).marks
+    → IsAccount (setup_in settled.table) (desk_in final).marks (views_of settled.seats.items) (view_in final)
+    → IsAccount (setup_in settled.table) (desk_in settled.service).marks (views_of settled.seats.items) (view_in final)
+settled_account settled final same account = subst (λ (marks : List World). IsAccount (setup_in settled.table) marks (views_of settled.seats.items) (view_in final)) same account
+
 pub returns-in-Ok-clause-done : goal.returns-in-Ok-clause-done
 returns-in-Ok-clause-done g c scenario is =
     let table = c.args.self.table in
@@ -79,7 +90,7 @@ returns-in-Ok-clause-done g c scenario is =
     has_finished scenario c.args.self is c.close_all.new.service final
     (record { closes = closing.closes; all_closed = closing.closed; first = closing.first; keeps = c.in-Ok.ensures.keeps; serves = serves })
     c.read_all.new.pass (g.T.Sink.taken c.args.out.now) (g.T.Sink.taken c.read_all.new.out) c.len.result (c.len.ensures ∙ is.buffers) c.in-Ok.ensures.reads
-    c.take_apart.ensures.account c.take_apart.ensures.taken c.take_apart.ensures.goes_on c.in-Ok.ensures.known
+    (settled_account c.args.self c.read_all.new.service (c.in-Ok.ensures.marks ∙ ap (λ (d : Desk). d.marks) closing.desk) c.take_apart.ensures.account) c.take_apart.ensures.taken c.take_apart.ensures.goes_on c.in-Ok.ensures.known
     (record { buffers = with_items counts.buffers buffers; sequences = with_items counts.sequences sequences; flushes = counts.flushes })
     (with_items_is counts.buffers buffers (counted ∙ sym is.buffers) ∙ c.count_buffers.ensures table serves)
     (ap (λ (xs : List SequenceCounts). length xs) same ∙ wide)
@@ -103,4 +114,4 @@ returns-in-Err-clause-fails g c scenario is =
     has_failed scenario c.args.self is c.close_all.new.service c.read_all.new.service
     (record { closes = closing.closes; all_closed = closing.closed; first = closing.first; keeps = c.in-Err.ensures.keeps; serves = c.in-Err.ensures.serves })
     c.read_all.new.pass (g.T.Sink.taken c.args.out.now) (g.T.Sink.taken c.read_all.new.out) c.len.result (c.len.ensures ∙ is.buffers) c.in-Err.ensures.fails
-    c.take_apart-in-Err.ensures.account c.take_apart-in-Err.ensures.taken c.take_apart-in-Err.ensures.goes_on c.in-Err.ensures.known
+    (settled_account c.args.self c.read_all.new.service (c.in-Err.ensures.marks ∙ ap (λ (d : Desk). d.marks) closing.desk) c.take_apart-in-Err.ensures.account) c.take_apart-in-Err.ensures.taken c.take_apart-in-Err.ensures.goes_on c.in-Err.ensures.known
