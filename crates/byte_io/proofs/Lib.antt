@@ -1,2 +1,3 @@
+mod Known
 pub mod Lent
 pub mod Told

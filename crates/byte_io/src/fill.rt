@@ -25,7 +25,8 @@ pub enum FillFault {
 /// it is read up to the first byte too many.
 #[tactic(auto, using(crate::proofs::Told::before_told_again, crate::proofs::Told::gives_at_most, crate::proofs::Told::gives_more, crate::proofs::Told::longer_told, crate::proofs::Told::all_came))]
 pub fn fill_all<S: Source>(alloc: Global, src: &mut S, limit: usize) -> Result<Vec<u8>, FillFault>
-    requires { limit < usize.MAX }
+    requires limit { limit < usize.MAX }
+    requires may { S.may_ask src.old }
     ensures all { IfOk result (λ bytes. IfSome (S.left src.old) (λ left. bytes.items ≡ left)) }
     ensures end { OnOk result (IfSome (S.left src.new) (λ left. left ≡ [])) }
     ensures within { IfOk result (λ bytes. vec_len bytes ≤ limit) }

@@ -1,5 +1,5 @@
 //! A source and a sink in memory, for callers that have their bytes there, and for tests.
-ghost use Rattle.std.specs.Prelude.{◌≡◌, ℕ, ◌+◌, ◌-◌, ◌^◌, ◌<◌, ◌≤◌, ◌↔◌, List, [], length, min, take, vec_len, vec_capacity, Some, Ok, IfOk, OnErr, IfSome, IsErr};
+ghost use Rattle.std.specs.Prelude.{⊤, ◌≡◌, ℕ, ◌+◌, ◌-◌, ◌^◌, ◌<◌, ◌≤◌, ◌↔◌, List, [], length, min, take, vec_len, vec_capacity, Some, Ok, IfOk, OnErr, IfSome, IsErr};
 ghost use Rattle.byte_io.specs.Bytes.{Intake, told, before_told, after_told, CountsFaults};
 ghost use Rattle.std.proofs.Common.{lit<};
 
@@ -31,6 +31,8 @@ impl Source for MemSource {
     ghost left = { λ source. Some (mem_source_left source) };
 
     ghost faults = { λ _. 0 };
+
+    ghost may_ask = { λ _. ⊤ };
 
     ghost count_fits = { λ _. lit< tt };
 

@@ -1,5 +1,5 @@
 //! A source and a sink that fail at listed calls, to test what a caller does about a fault.
-ghost use Rattle.std.specs.Prelude.{◌≡◌, ℕ, ◌+◌, ◌-◌, ◌^◌, ◌<◌, ◌≤◌, ◌↔◌, ◌⊎◌, List, [], length, min, take, Some, IfOk, OnErr, IsErr, IsTrue};
+ghost use Rattle.std.specs.Prelude.{⊤, ◌≡◌, ℕ, ◌+◌, ◌-◌, ◌^◌, ◌<◌, ◌≤◌, ◌↔◌, ◌⊎◌, List, [], length, min, take, Some, IfOk, OnErr, IsErr, IsTrue};
 ghost use Rattle.byte_io.specs.Bytes.{Intake, told, before_told, after_told, CountsFaults};
 ghost use Rattle.byte_io.specs.Calls.{FailsNext, calls_after};
 
@@ -77,6 +77,8 @@ impl Source for ScriptSource {
     ghost left = { λ source. Some (script_source_left source) };
 
     ghost faults = { λ source. script_source_faults source };
+
+    ghost may_ask = { λ _. ⊤ };
 
     ghost count_fits = { λ source. source.count_fits };
 

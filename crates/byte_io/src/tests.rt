@@ -62,15 +62,15 @@ fn put_both<O: Sink>(out: &mut O, first: &[u8], second: &[u8]) -> Result<(), Wri
 
 const LETTERS: &[u8] = b"abcdefgh";
 
-// A reader of the letters that gives three bytes at a time and fails at one of its calls.
+// A reader that gives three bytes at a time and fails at one of its calls.
 #[derive(Drop)]
-struct Trickle {
-    left: &'static [u8],
+struct Trickle<'a> {
+    left: &'a [u8],
     calls: u32,
     fails_at: u32,
 }
 
-impl Read for Trickle {
+impl Read for Trickle<'_> {
     fn read(&mut self, buf: &mut [u8]) -> io::Result<usize> {
         self.calls = self.calls.saturating_add(1);
         if self.calls == self.fails_at {
@@ -165,6 +165,40 @@ fn a_standard_sink_passes_bytes_and_errors_on(rt: HostRuntime) -> Result<(), Fai
             "failing at {fails_at}, stopping at {stops_at}"
         );
     }
+    Ok(())
+}
+
+// The text is longer than what is read at once, and comes and goes in pieces of three bytes, or as long as they fit.
+#[test]
+fn standard_streams_pass_a_long_text_on_whole(rt: HostRuntime) -> Result<(), Fail> {
+    let mut text = Vec::new(rt.alloc());
+    for number in 0..25_000u32 {
+        text.extend_from_slice(&number.to_le_bytes())?;
+    }
+    let mut source = StdSource::new(Trickle {
+        left: text.as_slice(),
+        calls: 0,
+        fails_at: 0,
+    });
+    match fill_all(rt.alloc(), &mut source, 100_000) {
+        Ok(read) => assert!(rt; read.as_slice() == text.as_slice()),
+        Err(fault) => panic!(rt; "{fault}"),
+    }
+    let mut source = StdSource::new(text.as_slice());
+    match fill_all(rt.alloc(), &mut source, 100_000) {
+        Ok(read) => assert!(rt; read.as_slice() == text.as_slice()),
+        Err(fault) => panic!(rt; "{fault}"),
+    }
+    let mut bytes = Vec::new(rt.alloc());
+    let mut sink = StdSink::new(Narrow {
+        bytes: &mut bytes,
+        calls: 0,
+        fails_at: 0,
+        stops_at: 0,
+    });
+    assert_eq!(rt; put_all(&mut sink, &text), Ok(()));
+    drop(sink);
+    assert!(rt; bytes.as_slice() == text.as_slice());
     Ok(())
 }
 

@@ -14,14 +14,20 @@ pub trait Source {
     // How many faults there were. The count never falls, and stays at 2 ^ 64 - 1.
     ghost faults: { Self → ℕ };
 
+    // It may be asked for bytes. Nobody knows so behind its end, which a terminal gives but once,
+    // nor behind a read that failed.
+    ghost may_ask: { Self → Type 0 };
+
     /// Puts bytes into the front of the slice and says how many. 0 on a slice that isn't empty
     /// is the end of the input.
     fn read(&mut self, into: &mut [u8]) -> Result<usize, Failed>
+        requires may { may_ask self.old }
         ensures within { IfOk result (λ count. count ≤ length into.new) }
         ensures bytes { IfOk result (λ count. left self.old ≡ before_told (take count into.new) (left self.new)) }
         ensures end { IfOk result (λ count. count ≡ 0 → 0 < length into.new → IfSome (left self.new) (λ rest. rest ≡ [])) }
         ensures err { OnErr result (left self.new ≡ left self.old) }
-        ensures count { CountsFaults (faults self.old) (faults self.new) result };
+        ensures count { CountsFaults (faults self.old) (faults self.new) result }
+        ensures goes_on { IfOk result (λ count. 0 < count → may_ask self.new) };
 
     ghost count_fits: { (source : Self) → faults source < 2 ^ 64 };
 }

@@ -20,6 +20,7 @@ pub fn take_scenario<S: Source>(
     alloc: Global,
     input: &mut S,
 ) -> Result<Result<Scenario, ScenarioFault>, FillFault>
+    requires { S.may_ask input.old }
     ensures all { IfOk result (λ said. IsReadOf (S.left input.old) said) }
     ensures end { OnOk result (IfSome (S.left input.new) (λ left. left ≡ [])) }
     ensures steady { OnOk result (S.faults input.new ≡ S.faults input.old) }

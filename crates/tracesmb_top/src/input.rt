@@ -27,6 +27,7 @@ pub fn take_input<S: Source>(
     command: Command,
     input: &mut S,
 ) -> Result<Given, FillFault>
+    requires { S.may_ask input.old }
     ensures given { IfOk result (λ given. IsTaken command (S.left input.old) given) }
     ensures suits { IfOk result (λ given. Suits command given) }
     ensures end { OnOk result (ReadsInput command → IfSome (S.left input.new) (λ left. left ≡ [])) }

@@ -45,6 +45,9 @@ pub fn trace_top<R: Threads + Wait + Sync, S: Source, T: Sink + Send, O: Sink, G
     text: &mut O,
     gate: &G,
 ) -> u8
+    // The input may be asked; behind its end, or a read that failed, it isn't asked again.
+    requires { S.may_ask input.old }
+
     ensures known { result ≤ 7 }
 
     // Status 0: the trace took what the command writes for what it was given, and the text its report; the input was read

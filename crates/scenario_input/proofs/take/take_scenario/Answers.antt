@@ -77,4 +77,5 @@ pieces-preserved g c =
           (piece_came _ _ _ c.pieces.count c.pieces.reader c.take.new.self piece c.pieces.invariant.0 c.in-Ok.ensures.bytes c.in-Ok-take.ensures.goes_on bound),
       c.in-Ok.ensures.count ∙ c.pieces.invariant.1,
       omega (arith, c.if-more-count.false, c.pieces.invariant.2),
+      c.in-Ok.ensures.goes_on (search rules),
     )
