@@ -1,10 +1,10 @@
 -- Takings one after another, and behind looks.
-use Rattle.std.proofs.Common.{◌≡◌, ◌≢◌, ◌∙◌, ℕ, suc, ◌+◌, ◌<◌, Bool, true, false, List, [], ◌∷◌, ◌++◌, length, set, take, refl, sym, ap, subst, arith, append-nil, append_assoc, length-append, length-take-le, inl, inr}
+use Rattle.std.proofs.Common.{◌≡◌, ◌≤◌, ◌≢◌, ◌∙◌, ℕ, suc, ◌+◌, ◌<◌, Bool, true, false, List, [], ◌∷◌, ◌++◌, length, set, take, refl, sym, ap, subst, arith, append-nil, append_assoc, length-append, length-take-le, inl, inr}
 use Rattle.std.specs.Prelude.{cond, ◌==◌}
 use Rattle.std.proofs.lemmas.List.{set-set, set-get_or, take_more}
 use Rattle.std.proofs.lemmas.Bool.{eq-eqb, ne_eqb}
 use Rattle.trace_base.specs.declared.policy.WriterSpec.{WriterSpec}
-use Rattle.chunk_plain.specs.Setup.{Setup}
+use Rattle.chunk_plain.specs.Setup.{Setup, range_of, producer_of}
 use Rattle.chunk_plain.specs.Views.{Content, Look, Taken, none_taken, Noted, Arrive, ServiceView, taken_of}
 use Rattle.service_core.specs.Agreement.{spec_at, no_writer}
 use Rattle.service_core.specs.Looking.{looked}
@@ -77,10 +77,12 @@ takes_more place taken old mid new inside some next =
     }
 
 -- it saw none that is next
-pub takes_until : (setup : Setup) (place taken : ℕ) (old mid new : ServiceView) → TakesSome place taken old mid → SeesNone setup place mid new → TakesOf setup place taken old new
-takes_until setup place taken old mid new some none =
+pub takes_until : (setup : Setup) (place taken : ℕ) (old mid new : ServiceView) → TakesSome place taken old mid → SeesNone setup place mid new
+    → taken ≤ (range_of setup (producer_of setup place)).count → TakesOf setup place taken old new
+takes_until setup place taken old mid new some none most =
     let count_is : (taken_of mid place).count ≡ (taken_of new place).count = sym (ap (λ (v : ServiceView). (taken_of v place).count) none.view) in
     record {
+      most = most;
       looks = some.looks ++ none.looks;
       contents = some.contents;
       many = some.many;

@@ -59,8 +59,10 @@ Leaves setup place count taken looks =
     (taken ≡ (range_of setup (producer_of setup place)).count)
     ⊎ (ShowNone setup (producer_of setup place) place count looks ⊎ (ID_LIMIT ≤ count))
 
--- so many complete chunks of the writer at this place were taken
+-- so many complete chunks of the writer at this place were taken, at most as many as its producer has: so a writer that goes on completing
+-- chunks keeps the service busy for one round of them alone
 pub record TakesOf (setup : Setup) (place taken : ℕ) (old new : ServiceView) : Type 0 where
+  pub most : taken ≤ (range_of setup (producer_of setup place)).count
   pub looks : List Look
   pub contents : List Content
   pub many : length contents ≡ taken

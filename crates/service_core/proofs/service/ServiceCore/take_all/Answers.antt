@@ -59,7 +59,11 @@ returns-in-None-clause-takes g c =
     let mid = means.service_view c.loop-taken.table c.loop-taken.self.seat in
     let new = means.service_view c.take_next.new.table c.take_next.new.self.seat in
     let none = c.take_next.ensures.none (search rules) in
-    takes_until setup place c.loop-taken.taken old mid new i.some (subst (λ (s : Setup). SeesNone s place mid new) i.step.setup_stays none)
+    let range : IsRange (range_of setup (producer_of setup place)) c.chunks_of-first.result.0 c.chunks_of-first.result.1 =
+    range_is setup old c.args.self.now place c.requires.agrees c.requires.place c.index.result.now c.chunks_of-first.result c.index.ensures c.chunks_of-first.ensures in
+    let many = range.count_is in
+    let below = c.loop-taken-test.true in
+    takes_until setup place c.loop-taken.taken old mid new i.some (subst (λ (s : Setup). SeesNone s place mid new) i.step.setup_stays none) (omega (arith, many, below))
 
 pub returns-in-None-clause-told : goal.returns-in-None-clause-told
 returns-in-None-clause-told g c world is =
