@@ -12,6 +12,7 @@ is_blank byte = byte == 32 || byte == 9 || byte == 13 || byte == 10
 abbrev pub is_comment_byte : ℕ → Bool
 is_comment_byte byte = nat_lt byte 128 && not (byte == 10)
 
+-- what may stand between two fields: a semicolon or a comma
 abbrev pub is_separator : ℕ → Bool
 is_separator byte = byte == 59 || byte == 44
 
@@ -19,9 +20,11 @@ is_separator byte = byte == 59 || byte == 44
 abbrev pub is_name_start : ℕ → Bool
 is_name_start byte = (nat_le 97 byte && nat_le byte 122) || (nat_le 65 byte && nat_le byte 90) || byte == 95
 
+-- 0 to 9
 abbrev pub is_digit : ℕ → Bool
 is_digit byte = nat_le 48 byte && nat_le byte 57
 
+-- a byte of a name behind its first one
 abbrev pub is_name_byte : ℕ → Bool
 is_name_byte byte = is_name_start byte || is_digit byte
 
