@@ -1,14 +1,14 @@
 -- What is read is what the text says: each step of the machine puts its byte in front of what follows.
-use Rattle.std.proofs.Common.{◌≡◌, ◌∙◌, ℕ, zero, suc, ◌-◌, ◌<◌, nat_lt, Bool, true, false, ◌==◌, ◌&&◌, List, [], ◌∷◌, ◌++◌, ◌⊎◌, inl, inr, Result, Ok, Err, cond, if◌then◌else◌, refl, sym, ap, subst, arith, append_assoc}
+use Rattle.std.proofs.Common.{◌≡◌, ◌∙◌, ℕ, zero, suc, ◌-◌, ◌<◌, nat_lt, Bool, true, false, ◌==◌, ◌&&◌, List, [], ◌∷◌, ◌++◌, inl, inr, Result, Ok, Err, if◌then◌else◌, refl, sym, ap, subst, arith, append_assoc}
 use Rattle.std.proofs.lemmas.List.{append-nil}
 use Rattle.std.proofs.lemmas.Bool.{cond_both, and_parts, eqb-true, ltb-true}
 use Rattle.text_form.specs.Bytes.{is_blank, is_comment_byte, is_separator, is_name_start, is_name_byte, is_word_byte, is_text_byte, AreAll, line_behind}
-use Rattle.text_form.specs.Entries.{Value, Word, Text, Item, Single, Begin, End}
-use Rattle.text_form.specs.Grammar.{Spot, spot, Stands, Gap, NoGap, Blank, Comment, EndsRun, StandsBehindGap, Brace, ColonBrace, IsEnd}
+use Rattle.text_form.specs.Entries.{Word, Text, Item, Single, Begin, End}
+use Rattle.text_form.specs.Grammar.{Spot, spot, Stands, NoGap, Blank, Comment, StandsBehindGap, Brace, ColonBrace}
 use Rattle.text_form.specs.Machine.{Place, Start, Ended, Named, Valued, Mode, Between, InComment, InName, InWord, InQuotes, Step, Moved, Refused, at_field, at_token, between, step, behind_item, at_end, items_from, behind_step, with_item, with_items}
 use Rattle.text_form.proofs.ByteKinds.{differs, same_line}
 use Rattle.text_form.proofs.Again.{with_items-ok}
-use Rattle.text_form.proofs.Before.{Closes, IsRest, FollowsPlace, EndsAt, BytesLeft, LineLeft, QuotesLeft, ItemBefore, ValueBefore, ColonBefore, BlockBefore, Follows, place_longer, separator_before, field_before, close_before, nothing_before}
+use Rattle.text_form.proofs.Before.{IsRest, FollowsPlace, EndsAt, BytesLeft, QuotesLeft, ItemBefore, BlockBefore, Follows, place_longer, separator_before, field_before, close_before, nothing_before}
 
 -- what follows the step follows here with the byte in front, and with the items that end there
 abbrev pub Adds : (List Item → Spot → Type 0) → ℕ → ℕ → List ℕ → Step → Type 0
@@ -64,7 +64,7 @@ comment_adds depth line place rest others (inl left) =
     let whole : rest ≡ left.more ++ 10 ∷ feed.rest = left.text_is ∙ ap (λ (w : List ℕ). left.more ++ w) feed.feed in
     let P : List ℕ → Type 0 = λ w. FollowsPlace depth place others (spot line (35 ∷ w)) in
     subst P (sym whole) (place_longer depth place others (spot (suc line) feed.rest) (spot line (35 ∷ (left.more ++ 10 ∷ feed.rest)))
-        (λ there gap. Comment left.more line feed.rest there left.all gap) feed.behind)
+    (λ there gap. Comment left.more line feed.rest there left.all gap) feed.behind)
 comment_adds depth line place rest others (inr last) = last_comment depth line place rest others last.0 last.1
 
 -- ---- where a field may begin
@@ -73,8 +73,8 @@ name_adds : (depth line : ℕ) (after : Bool) (byte : ℕ) (rest : List ℕ) (it
     → Follows depth (InName line (byte ∷ [])) items (spot line rest) → IsRest depth after items (spot line (byte ∷ rest))
 name_adds depth line after byte rest items is left =
     field_before depth after (byte ∷ left.more) items (spot line (byte ∷ rest)) (spot line left.rest)
-        (record { is_name = (is, left.all); stands = record { same_line = refl; text_is = ap (λ (w : List ℕ). byte ∷ w) left.text_is } })
-        left.behind
+    (record { is_name = (is, left.all); stands = record { same_line = refl; text_is = ap (λ (w : List ℕ). byte ∷ w) left.text_is } })
+    left.behind
 
 close_adds : (depth line : ℕ) (after : Bool) (rest : List ℕ) (items : List Item) → 0 < depth
     → IsRest (depth - 1) true items (spot line rest) → IsRest depth after (End ∷ items) (spot line (125 ∷ rest))
@@ -88,11 +88,11 @@ field_adds : (depth line : ℕ) (after : Bool) (byte : ℕ) (rest : List ℕ) �
 field_adds depth line after byte rest =
     cond_both (is_name_start byte) _ _ (Adds (IsRest depth after) line byte rest)
     (λ is. λ others follows. name_adds depth line after byte rest others is
-        (on_line depth line (InName line (byte ∷ [])) byte rest others (differs is_name_start byte 10 is refl) follows))
+    (on_line depth line (InName line (byte ∷ [])) byte rest others (differs is_name_start byte 10 is refl) follows))
     (λ _. cond_both (byte == 125 && nat_lt 0 depth) _ _ (Adds (IsRest depth after) line byte rest)
     (λ is. let parts = and_parts (byte == 125) (nat_lt 0 depth) is in
-        at_byte (IsRest depth after) line byte 125 rest (Moved (End ∷ []) (depth - 1) (Between Ended)) parts.0
-        (λ others follows. close_adds depth line after rest others (ltb-true 0 depth parts.1) follows))
+    at_byte (IsRest depth after) line byte 125 rest (Moved (End ∷ []) (depth - 1) (Between Ended)) parts.0
+    (λ others follows. close_adds depth line after rest others (ltb-true 0 depth parts.1) follows))
     (λ _. tt))
 
 -- ---- tokens between which a gap may stand
@@ -130,10 +130,13 @@ quotes_adds depth line at name rest items left =
       ended = spot line quotes.rest;
       items_are = before.items_are;
       gap = NoGap _;
-      stands = (left.all, record {
-        same_line = refl;
-        text_is = ap (λ (w : List ℕ). 34 ∷ w) (left.text_is ∙ ap (λ (w : List ℕ). left.more ++ w) quotes.quotes ∙ sym (append_assoc left.more (34 ∷ []) quotes.rest));
-      });
+      stands = (
+        left.all,
+        record {
+          same_line = refl;
+          text_is = ap (λ (w : List ℕ). 34 ∷ w) (left.text_is ∙ ap (λ (w : List ℕ). left.more ++ w) quotes.quotes ∙ sym (append_assoc left.more (34 ∷ []) quotes.rest));
+        },
+      );
       rest = before.rest;
     })
 
@@ -158,7 +161,7 @@ token_adds depth line Start byte rest = field_adds depth line false byte rest
 token_adds depth line Ended byte rest =
     cond_both (is_separator byte) _ _ (Adds (IsRest depth true) line byte rest)
     (λ is. λ others follows. separator_before depth byte others (spot line (byte ∷ rest)) (spot line rest) is (one_byte line byte rest)
-        (on_line depth line (Between Start) byte rest others (differs is_separator byte 10 is refl) follows))
+    (on_line depth line (Between Start) byte rest others (differs is_separator byte 10 is refl) follows))
     (λ _. field_adds depth line true byte rest)
 token_adds depth line (Named at name) byte rest =
     let Here : List Item → Spot → Type 0 = FollowsPlace depth (Named at name) in
@@ -175,7 +178,7 @@ token_adds depth line (Valued at name) byte rest =
     (λ is. at_byte Here line byte 34 rest (Moved [] depth (InQuotes at name [])) is (λ others follows. quotes_adds depth line at name rest others follows))
     (λ _. cond_both (is_word_byte byte) _ _ (Adds Here line byte rest)
     (λ is. λ others follows. word_adds depth line at byte name rest others is
-        (on_line depth line (InWord at name (byte ∷ [])) byte rest others (differs is_word_byte byte 10 is refl) follows))
+    (on_line depth line (InWord at name (byte ∷ [])) byte rest others (differs is_word_byte byte 10 is refl) follows))
     (λ _. tt)))
 
 between_adds : (depth line : ℕ) (place : Place) (byte : ℕ) (rest : List ℕ)
@@ -210,7 +213,7 @@ in_comment_adds depth line place byte rest =
     let Here : List Item → Spot → Type 0 = Follows depth (InComment place) in
     cond_both (byte == 10) _ _ (Adds Here line byte rest)
     (λ is. at_byte Here line byte 10 rest (Moved [] depth (Between place)) is (λ others follows. inl (nothing_more is_comment_byte _ (spot line (10 ∷ rest))
-        (record { rest = rest; feed = refl; behind = follows }))))
+    (record { rest = rest; feed = refl; behind = follows }))))
     (λ feed. cond_both (is_comment_byte byte) _ _ (Adds Here line byte rest)
     (λ is. λ others follows. goes_on is others (on_line depth line (InComment place) byte rest others feed follows))
     (λ _. tt))
@@ -225,9 +228,9 @@ in_name_adds : (depth line at : ℕ) (name : List ℕ) (byte : ℕ) (rest : List
 in_name_adds depth line at name byte rest =
     cond_both (is_name_byte byte) _ _ (Adds (Follows depth (InName at name)) line byte rest)
     (λ is. λ others follows. left_before is_name_byte _ _ line byte rest is
-        (λ more there behind. let P : List ℕ → Type 0 = λ w. FollowsPlace depth (Named at w) others there in
-            subst P (append_assoc name (byte ∷ []) more) behind)
-        (on_line depth line (InName at (name ++ byte ∷ [])) byte rest others (differs is_name_byte byte 10 is refl) follows))
+    (λ more there behind. let P : List ℕ → Type 0 = λ w. FollowsPlace depth (Named at w) others there in
+    subst P (append_assoc name (byte ∷ []) more) behind)
+    (on_line depth line (InName at (name ++ byte ∷ [])) byte rest others (differs is_name_byte byte 10 is refl) follows))
     (λ _. ended (between depth line (Named at name) byte) (between_adds depth line (Named at name) byte rest))
   where
     ended : (to : Step) → Adds (FollowsPlace depth (Named at name)) line byte rest to → Adds (Follows depth (InName at name)) line byte rest to
@@ -241,9 +244,9 @@ in_word_adds : (depth line at : ℕ) (name word : List ℕ) (byte : ℕ) (rest :
 in_word_adds depth line at name word byte rest =
     cond_both (is_word_byte byte) _ _ (Adds (Follows depth (InWord at name word)) line byte rest)
     (λ is. λ others follows. left_before is_word_byte _ _ line byte rest is
-        (λ more there behind. let P : List ℕ → Type 0 = λ w. ItemBefore depth (Single at name (Word w)) others there in
-            (behind.0, subst P (append_assoc word (byte ∷ []) more) behind.1))
-        (on_line depth line (InWord at name (word ++ byte ∷ [])) byte rest others (differs is_word_byte byte 10 is refl) follows))
+    (λ more there behind. let P : List ℕ → Type 0 = λ w. ItemBefore depth (Single at name (Word w)) others there in
+    (behind.0, subst P (append_assoc word (byte ∷ []) more) behind.1))
+    (on_line depth line (InWord at name (word ++ byte ∷ [])) byte rest others (differs is_word_byte byte 10 is refl) follows))
     (λ ends. ended ends (between depth line Ended byte) (between_adds depth line Ended byte rest))
   where
     ended : is_word_byte byte ≡ false → (to : Step) → Adds (IsRest depth true) line byte rest to
@@ -251,7 +254,7 @@ in_word_adds depth line at name word byte rest =
     ended ends Refused adds = tt
     ended ends (Moved items deep mode) adds = λ others follows.
         nothing_more is_word_byte _ (spot line (byte ∷ rest))
-            (ends, record { others = items ++ others; items_are = ap (λ (w : List ℕ). Single at name (Word w) ∷ (items ++ others)) (sym (append-nil word)); rest = adds others follows })
+        (ends, record { others = items ++ others; items_are = ap (λ (w : List ℕ). Single at name (Word w) ∷ (items ++ others)) (sym (append-nil word)); rest = adds others follows })
 
 in_quotes_adds : (depth line at : ℕ) (name text : List ℕ) (byte : ℕ) (rest : List ℕ)
     → Adds (Follows depth (InQuotes at name text)) line byte rest (step depth line (InQuotes at name text) byte)
@@ -259,16 +262,20 @@ in_quotes_adds depth line at name text byte rest =
     let Here : List Item → Spot → Type 0 = Follows depth (InQuotes at name text) in
     cond_both (byte == 34) _ _ (Adds Here line byte rest)
     (λ is. at_byte Here line byte 34 rest (Moved (Single at name (Text text) ∷ []) depth (Between Ended)) is (λ others follows. nothing_more is_text_byte _ (spot line (34 ∷ rest))
-        (record { rest = rest; quotes = refl; behind = record {
-          others = others;
-          items_are = ap (λ (w : List ℕ). Single at name (Text w) ∷ others) (sym (append-nil text));
-          rest = follows;
-        } })))
+    (record {
+      rest = rest;
+      quotes = refl;
+      behind = record {
+        others = others;
+        items_are = ap (λ (w : List ℕ). Single at name (Text w) ∷ others) (sym (append-nil text));
+        rest = follows;
+      };
+    })))
     (λ _. cond_both (is_text_byte byte) _ _ (Adds Here line byte rest)
     (λ is. λ others follows. left_before is_text_byte _ _ line byte rest is
-        (λ more there behind. let P : List ℕ → Type 0 = λ w. QuotesLeft (λ next. ItemBefore depth (Single at name (Text w)) others next) there in
-            subst P (append_assoc text (byte ∷ []) more) behind)
-        (on_line depth line (InQuotes at name (text ++ byte ∷ [])) byte rest others (differs is_text_byte byte 10 is refl) follows))
+    (λ more there behind. let P : List ℕ → Type 0 = λ w. QuotesLeft (λ next. ItemBefore depth (Single at name (Text w)) others next) there in
+    subst P (append_assoc text (byte ∷ []) more) behind)
+    (on_line depth line (InQuotes at name (text ++ byte ∷ [])) byte rest others (differs is_text_byte byte 10 is refl) follows))
     (λ _. tt))
 
 step_adds : (depth line : ℕ) (mode : Mode) (byte : ℕ) (rest : List ℕ) → Adds (Follows depth mode) line byte rest (step depth line mode byte)
@@ -304,11 +311,14 @@ ends depth line (InComment (Named at name)) = tt
 ends depth line (InComment (Valued at name)) = tt
 ends depth line (InName at name) = tt
 ends depth line (InWord at name word) = end_follows depth line (InWord at name word) (Single at name (Word word) ∷ [])
-    (nothing_more is_word_byte _ (spot line []) (tt, record {
-      others = [];
-      items_are = ap (λ (w : List ℕ). Single at name (Word w) ∷ []) (sym (append-nil word));
-      rest = nothing_before true (spot line []) (inl refl);
-    }))
+    (nothing_more is_word_byte _ (spot line []) (
+      tt,
+      record {
+        others = [];
+        items_are = ap (λ (w : List ℕ). Single at name (Word w) ∷ []) (sym (append-nil word));
+        rest = nothing_before true (spot line []) (inl refl);
+      },
+    ))
 ends depth line (InQuotes at name text) = tt
 
 pub with_items-err : (items : List Item) (line : ℕ) → with_items items (Err line) ≡ Err line
@@ -329,6 +339,7 @@ accepted depth line mode (byte ∷ rest) =
     joined deep to items adds (Err bad) follows =
         let P : Result (List Item) ℕ → Type 0 = AreHere depth mode (spot line (byte ∷ rest)) in
         subst P (sym (with_items-err items bad)) tt
+
     behind : ((deep : ℕ) (to : Mode) → AreHere deep to (spot (line_behind line byte) rest) (items_from deep (line_behind line byte) to rest))
         → (to : Step) → Adds (Follows depth mode) line byte rest to
         → AreHere depth mode (spot line (byte ∷ rest)) (behind_step line (λ deep mode. items_from deep (line_behind line byte) mode rest) to)

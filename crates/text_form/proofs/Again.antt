@@ -1,9 +1,9 @@
 -- What a text says is read: each part of the grammar takes the machine from one spot to the other.
-use Rattle.std.proofs.Common.{◌≡◌, ◌∙◌, ℕ, suc, Bool, true, false, ◌==◌, List, [], ◌∷◌, ◌++◌, Result, Ok, Err, refl, sym, ap, subst, arith, append_assoc, inl, inr}
+use Rattle.std.proofs.Common.{◌≡◌, ◌∙◌, ℕ, suc, Bool, true, false, List, [], ◌∷◌, ◌++◌, Result, Ok, refl, sym, ap, subst, append_assoc, inl, inr}
 use Rattle.std.proofs.lemmas.List.{append-nil}
-use Rattle.text_form.specs.Bytes.{is_blank, is_comment_byte, is_separator, is_name_start, is_name_byte, is_word_byte, is_text_byte, AreAll, line_behind}
-use Rattle.text_form.specs.Entries.{Value, Word, Text, Entries, NoEntries, ValueEntry, BlockEntry, Item, Single, Begin, End, items_of}
-use Rattle.text_form.specs.Grammar.{Spot, spot, Stands, Gap, NoGap, Blank, Comment, Lead, Plain, Separated, EndsRun, StandsName, StandsValue, StandsBehindGap, Opens, Brace, ColonBrace, Fields, NoField, ValueField, BlockField, IsEnd, IsTextOf}
+use Rattle.text_form.specs.Bytes.{is_blank, is_name_byte, line_behind}
+use Rattle.text_form.specs.Entries.{Value, Word, Text, Entries, Item, Single, Begin, End, items_of}
+use Rattle.text_form.specs.Grammar.{Spot, spot, Stands, Gap, NoGap, Blank, Comment, Lead, Plain, Separated, EndsRun, StandsName, StandsValue, StandsBehindGap, Opens, Brace, ColonBrace, Fields, NoField, ValueField, BlockField, IsEnd}
 use Rattle.text_form.specs.Machine.{Place, Start, Ended, Named, Valued, Mode, Between, InComment, items_from, items_or_line, with_item, with_items}
 use Rattle.text_form.specs.Walking.{place_before}
 use Rattle.text_form.specs.Laws.{FieldsAreRead}
@@ -56,7 +56,7 @@ ends_before : (byte : ℕ) (here there : Spot) → is_name_byte byte ≡ false �
 ends_before byte here there other token =
     let P : List ℕ → Type 0 = λ rest. EndsRun is_name_byte rest in
     gap_ends is_name_byte here token.before (λ b is. blank_is_none is_name_byte b is refl refl refl refl) refl token.gap
-        (subst P (sym token.token.text_is) other)
+    (subst P (sym token.token.text_is) other)
 
 ends_before_block : (here there : Spot) → Opens here there → EndsRun is_name_byte here.rest
 ends_before_block _ _ (Brace here there brace) = ends_before 123 here there refl brace
@@ -78,7 +78,7 @@ token_reads depth place byte here there token =
 
 value_reads : (depth line : ℕ) (name : List ℕ) (value : Value) (here there : Spot) → StandsValue value here there
     → items_from depth here.line (Between (Valued line name)) here.rest
-        ≡ with_item (Single line name value) (items_from depth there.line (Between Ended) there.rest)
+    ≡ with_item (Single line name value) (items_from depth there.line (Between Ended) there.rest)
 value_reads depth line name (Word bytes) here there is =
     stands_reads depth (Between (Valued line name)) bytes here there is.1 ∙ reads_word depth there.line line name bytes there.rest is.0 is.2
 value_reads depth line name (Text bytes) here there is =
@@ -88,7 +88,7 @@ value_reads depth line name (Text bytes) here there is =
 
 opens_reads : (depth line : ℕ) (name : List ℕ) (here there : Spot) → Opens here there
     → items_from depth here.line (Between (Named line name)) here.rest
-        ≡ with_item (Begin line name) (items_from (suc depth) there.line (Between Start) there.rest)
+    ≡ with_item (Begin line name) (items_from (suc depth) there.line (Between Start) there.rest)
 opens_reads depth line name _ _ (Brace here there brace) = token_reads depth (Named line name) 123 here there brace
 opens_reads depth line name _ _ (ColonBrace here behind there colon brace) =
     token_reads depth (Named line name) 58 here behind colon ∙ token_reads depth (Valued line name) 123 behind there brace
@@ -123,15 +123,15 @@ fields_reach depth _ _ _ _ (BlockField after name inner others here at named ins
     let block = fields_reach (suc depth) false inner inside last within in
     let tail = fields_reach depth true others ended there later in
     let closed = stands_reads (suc depth) (Between (place_before block.behind)) (125 ∷ []) last ended close
-        ∙ reads_close depth ended.line block.behind ended.rest
-        ∙ ap (λ (r : Result (List Item) ℕ). with_item End r) tail.same in
+    ∙ reads_close depth ended.line block.behind ended.rest
+    ∙ ap (λ (r : Result (List Item) ℕ). with_item End r) tail.same in
     record {
       behind = tail.behind;
       same = led.same
           ∙ name_reads depth led.behind name at named stands (ends_before_block named inside opens)
           ∙ opens_reads depth at.line name named inside opens
           ∙ ap (λ (r : Result (List Item) ℕ). with_item (Begin at.line name) r)
-              (block.same ∙ ap (with_items (items_of inner)) closed ∙ sym (with_items-append (items_of inner) (End ∷ items_of others) _));
+          (block.same ∙ ap (with_items (items_of inner)) closed ∙ sym (with_items-append (items_of inner) (End ∷ items_of others) _));
     }
 
 -- ---- the end
@@ -150,6 +150,7 @@ nothing_left line after rest (inr last) =
   where
     opened : (behind : Bool) → items_from 0 line (Between (place_before behind)) (35 ∷ (last.0 ++ [])) ≡ items_from 0 line (InComment (place_before behind)) (last.0 ++ [])
     opened behind = refl
+
     ended : (behind : Bool) → items_from 0 line (InComment (place_before behind)) [] ≡ Ok []
     ended true = refl
     ended false = refl

@@ -1,6 +1,6 @@
 -- What follows where a reading stands, in the words of the grammar, and that a token or a gap may be put before it.
-use Rattle.std.proofs.Common.{◌≡◌, ◌∙◌, ℕ, zero, suc, Bool, true, false, List, [], ◌∷◌, ◌++◌, ◌⊎◌, inl, inr, refl, sym, ap, subst, append_assoc}
-use Rattle.text_form.specs.Bytes.{is_comment_byte, is_separator, is_name_byte, is_word_byte, is_text_byte, AreAll, line_behind}
+use Rattle.std.proofs.Common.{◌≡◌, ◌∙◌, ℕ, zero, suc, Bool, true, false, List, [], ◌∷◌, ◌++◌, ◌⊎◌, inl, inr, refl, sym, ap, append_assoc}
+use Rattle.text_form.specs.Bytes.{is_comment_byte, is_separator, is_name_byte, is_word_byte, is_text_byte, AreAll}
 use Rattle.text_form.specs.Entries.{Value, Word, Text, Entries, NoEntries, ValueEntry, BlockEntry, Item, Single, Begin, End, items_of}
 use Rattle.text_form.specs.Grammar.{Spot, spot, Stands, Gap, NoGap, Lead, Plain, Separated, EndsRun, StandsName, StandsValue, StandsBehindGap, Opens, Brace, ColonBrace, Fields, NoField, ValueField, BlockField, IsEnd}
 use Rattle.text_form.specs.Machine.{Place, Start, Ended, Named, Valued, Mode, Between, InComment, InName, InWord, InQuotes}

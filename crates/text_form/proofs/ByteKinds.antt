@@ -1,7 +1,7 @@
 -- A byte of one kind is of no other, as far as the reading tells them apart.
-use Rattle.std.proofs.Common.{◌≡◌, ◌∙◌, ℕ, Bool, true, false, ◌==◌, ◌||◌, cond, refl, sym, ap, subst}
-use Rattle.std.proofs.lemmas.Bool.{ne_eqb, cond_both}
-use Rattle.text_form.specs.Bytes.{is_blank, is_comment_byte, is_separator, is_name_start, is_digit, is_name_byte, is_word_byte, is_text_byte, line_behind}
+use Rattle.std.proofs.Common.{◌≡◌, ◌∙◌, ℕ, Bool, true, false, ◌==◌, ◌||◌, refl, sym, ap}
+use Rattle.std.proofs.lemmas.Bool.{ne_eqb}
+use Rattle.text_form.specs.Bytes.{is_blank, is_separator, is_name_start, is_name_byte, is_word_byte, line_behind}
 use Rattle.text_form.specs.Walking.{begins_gap}
 
 -- one that passes a test isn't one that doesn't

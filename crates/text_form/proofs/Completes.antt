@@ -1,5 +1,5 @@
 -- Wherever the reading stands, some text goes on from there to its end.
-use Rattle.std.proofs.Common.{◌≡◌, ◌∙◌, ℕ, zero, suc, Bool, true, false, List, [], ◌∷◌, ◌++◌, Result, Ok, Err, refl, sym, ap}
+use Rattle.std.proofs.Common.{◌≡◌, ◌∙◌, ℕ, zero, suc, Bool, true, false, List, [], ◌∷◌, Result, Ok, refl, ap}
 use Rattle.text_form.specs.Bytes.{is_word_byte}
 use Rattle.text_form.specs.Entries.{Word, Text, Item, Single, Begin, End}
 use Rattle.text_form.specs.Grammar.{EndsRun}

@@ -1,16 +1,16 @@
 -- Where a text is refused it begins no text of this form any more, and before this byte it does.
-use Rattle.std.proofs.Common.{◌≡◌, ◌∙◌, ℕ, zero, suc, ◌+◌, ◌<◌, ◌≤◌, Bool, true, false, ◌==◌, List, [], ◌∷◌, ◌++◌, length, take, Result, Ok, Err, refl, sym, ap, subst, arith, if◌then◌else◌}
+use Rattle.std.proofs.Common.{◌≡◌, ◌∙◌, ℕ, suc, ◌<◌, ◌≤◌, false, ◌==◌, List, [], ◌∷◌, ◌++◌, length, take, Result, Ok, Err, refl, sym, ap, subst, arith, if◌then◌else◌}
 use Rattle.std.proofs.lemmas.List.{append-nil}
 use Rattle.std.proofs.lemmas.Bool.{cond_both}
 use Rattle.text_form.specs.Bytes.{line_behind, line_at}
-use Rattle.text_form.specs.Entries.{Entries, Item, items_of}
-use Rattle.text_form.specs.Grammar.{Spot, spot, IsTextOf, Begins, IsBadAt}
+use Rattle.text_form.specs.Entries.{Item, items_of}
+use Rattle.text_form.specs.Grammar.{spot, IsBadAt}
 use Rattle.text_form.specs.Machine.{Start, Ended, Named, Valued, Mode, Between, InComment, InName, InWord, InQuotes, Step, Moved, Refused, step, at_end, items_from, items_or_line, behind_step, with_items}
 use Rattle.text_form.specs.Laws.{TextsAreRead, Means}
 use Rattle.text_form.proofs.Again.{with_items-ok, fields_are_read}
 use Rattle.text_form.proofs.Before.{IsRest}
 use Rattle.text_form.proofs.Accepted.{AreHere, accepted, with_items-err}
-use Rattle.text_form.proofs.Completes.{GoesOn, goes_on}
+use Rattle.text_form.proofs.Completes.{goes_on}
 
 -- from where the reading stands, the rest of the text is bad at this line
 record IsBadFrom (depth line : ℕ) (mode : Mode) (text : List ℕ) (bad : ℕ) : Type 0 where
@@ -75,7 +75,7 @@ refused_bad depth line mode byte rest refused =
       before = next.same;
       here = λ low later others is.
           let none : items_from depth line mode (byte ∷ later) ≡ Err line =
-              ap (behind_step line (λ deep to. items_from deep (line_behind line byte) to later)) refused in
+          ap (behind_step line (λ deep to. items_from deep (line_behind line byte) to later)) refused in
           let both : Err line ≡ Ok others = sym none ∙ is in
           cc;
       line_is = refl;
@@ -121,6 +121,7 @@ bad_from depth line mode (byte ∷ rest) =
     joined items deep to moved (Err bad) from =
         let P : Result (List Item) ℕ → Type 0 = IsBadWhere depth line mode (byte ∷ rest) in
         subst P (sym (with_items-err items bad)) (moved_bad depth line mode byte rest items deep to bad moved from)
+
     behind : ((deep : ℕ) (to : Mode) → IsBadWhere deep (line_behind line byte) to rest (items_from deep (line_behind line byte) to rest))
         → (s : Step) → step depth line mode byte ≡ s
         → IsBadWhere depth line mode (byte ∷ rest) (behind_step line (λ deep to. items_from deep (line_behind line byte) to rest) s)

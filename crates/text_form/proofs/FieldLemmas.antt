@@ -1,12 +1,12 @@
 -- What is read of a field, token by token, as the code does it.
-use Rattle.std.proofs.Common.{◌≡◌, ◌∙◌, ℕ, suc, ◌+◌, ◌<◌, ◌≤◌, Bool, true, false, ◌==◌, ◌||◌, List, [], ◌∷◌, ◌++◌, length, Result, Ok, Err, Some, None, refl, sym, ap, subst, arith, length-append}
+use Rattle.std.proofs.Common.{◌≡◌, ◌∙◌, ℕ, Bool, true, false, ◌==◌, ◌||◌, List, [], ◌∷◌, ◌++◌, length, Result, Ok, Err, Some, None, refl, sym, ap, subst, arith, length-append}
 use Rattle.std.specs.Prelude.{IfOk, IfErr}
-use Rattle.std.proofs.lemmas.Bool.{cond-true, cond-false, ne_eqb}
-use Rattle.text_form.specs.Bytes.{is_blank, is_name_start, is_name_byte, is_word_byte, is_text_byte, AreAll}
-use Rattle.text_form.specs.Entries.{Value, Word, Text, Item, Single, Begin, End}
-use Rattle.text_form.specs.Grammar.{EndsRun, IsName, IsWord}
-use Rattle.text_form.specs.Machine.{Place, Start, Ended, Named, Valued, Mode, Between, InQuotes, Refused, items_from, with_item}
-use Rattle.text_form.specs.Walking.{IsRun, BeginsWith, begins_gap, begins_no_value, begins_no_word, place_before, Leaves, PassesGap, RefusesGap, PassesLead, ReadsValue, ReadsItem, depth_behind, place_behind}
+use Rattle.std.proofs.lemmas.Bool.{cond-false, ne_eqb}
+use Rattle.text_form.specs.Bytes.{is_name_start, is_name_byte, is_word_byte, is_text_byte}
+use Rattle.text_form.specs.Entries.{Value, Word, Text, Item, Single, Begin}
+use Rattle.text_form.specs.Grammar.{EndsRun, IsName}
+use Rattle.text_form.specs.Machine.{Start, Named, Valued, Between, InQuotes, Refused, items_from}
+use Rattle.text_form.specs.Walking.{IsRun, BeginsWith, begins_gap, begins_no_value, begins_no_word, place_before, PassesGap, RefusesGap, PassesLead, ReadsValue, ReadsItem}
 use Rattle.text_form.proofs.ByteKinds.{either_false, gap_parts, start_in_name}
 use Rattle.text_form.proofs.Walks.{goes, token_byte, over_text, reads_name, reads_word, reads_text}
 use Rattle.text_form.proofs.GapLemmas.{run_length}
@@ -37,7 +37,7 @@ pub text_refused : (behind front left : List ℕ) (byte : ℕ) (more : List ℕ)
 text_refused behind front left byte more run is quotes line = λ depth at name.
     quotes_run depth line at name behind front left run ∙ ap (items_from depth line (InQuotes at name front)) is
     ∙ goes depth line (InQuotes at name front) byte more Refused
-        (cond-false (byte == 34) _ _ (ne_eqb byte 34 quotes) ∙ cond-false (is_text_byte byte) _ _ other)
+    (cond-false (byte == 34) _ _ (ne_eqb byte 34 quotes) ∙ cond-false (is_text_byte byte) _ _ other)
   where
     other : is_text_byte byte ≡ false
     other = let P : List ℕ → Type 0 = λ l. EndsRun is_text_byte l in subst P is run.ends
@@ -47,10 +47,11 @@ pub text_read : (behind front left : List ℕ) (byte : ℕ) (more : List ℕ) �
 text_read behind front left byte more run is quotes line =
     let whole : behind ≡ front ++ 34 ∷ more = run.whole ∙ ap (λ (l : List ℕ). front ++ l) (is ∙ ap (λ (b : ℕ). b ∷ more) quotes) in
     let long = ap length is in
-    let short = run_length is_text_byte behind front left run in
-    (omega (arith, long, short),
-    λ depth at name. ap (λ (l : List ℕ). items_from depth line (Between (Valued at name)) (34 ∷ l)) whole
-        ∙ reads_text depth line at name front more run.all)
+    let short = run_length is_text_byte behind front left run in (
+      omega (arith, long, short),
+      λ depth at name. ap (λ (l : List ℕ). items_from depth line (Between (Valued at name)) (34 ∷ l)) whole
+          ∙ reads_text depth line at name front more run.all,
+    )
 
 -- ---- words
 
@@ -59,10 +60,11 @@ pub word_read : (rest front left : List ℕ) → IsRun is_word_byte rest front l
 word_read rest [] left run some line = absurd (cc)
 word_read rest (byte ∷ front) left run some line =
     let whole = ap length run.whole in
-    let sum = length-append front left in
-    (omega (arith, whole, sum),
-    λ depth at name. ap (items_from depth line (Between (Valued at name))) run.whole
-        ∙ reads_word depth line at name (byte ∷ front) left run.all run.ends)
+    let sum = length-append front left in (
+      omega (arith, whole, sum),
+      λ depth at name. ap (items_from depth line (Between (Valued at name))) run.whole
+          ∙ reads_word depth line at name (byte ∷ front) left run.all run.ends,
+    )
 
 pub word_refused : (rest front left : List ℕ) → IsRun is_word_byte rest front left → length front ≡ 0 → EndsRun begins_no_word rest
     → (line : ℕ) → ReadsValue line rest None
@@ -75,8 +77,8 @@ word_refused (byte ∷ rest) [] left run none other line = λ depth at name.
     let P : List ℕ → Type 0 = λ l. EndsRun is_word_byte l in
     let word : is_word_byte byte ≡ false = subst P (sym run.whole) run.ends in
     goes depth line (Between (Valued at name)) byte rest Refused
-        (token_byte depth line (Valued at name) byte gap.0 gap.1
-        ∙ cond-false (byte == 123) _ _ no_block.1 ∙ cond-false (byte == 34) _ _ no_text.1 ∙ cond-false (is_word_byte byte) _ _ word)
+    (token_byte depth line (Valued at name) byte gap.0 gap.1
+    ∙ cond-false (byte == 123) _ _ no_block.1 ∙ cond-false (byte == 34) _ _ no_text.1 ∙ cond-false (is_word_byte byte) _ _ word)
 
 -- ---- values
 
@@ -197,8 +199,8 @@ field_other line rest front left there more byte behind begins run passes ends i
     let gap = gap_parts byte (subst P is ends) in
     named line rest front left there more begins run passes depth ∙ ap (items_from depth there (Between (Named line front))) is
     ∙ goes depth there (Between (Named line front)) byte behind Refused
-        (token_byte depth there (Named line front) byte gap.0 gap.1
-        ∙ cond-false (byte == 58) _ _ (ne_eqb byte 58 colon) ∙ cond-false (byte == 123) _ _ (ne_eqb byte 123 brace))
+    (token_byte depth there (Named line front) byte gap.0 gap.1
+    ∙ cond-false (byte == 58) _ _ (ne_eqb byte 58 colon) ∙ cond-false (byte == 123) _ _ (ne_eqb byte 123 brace))
 
 over_colon : (line : ℕ) (rest front left : List ℕ) (there : ℕ) (more : List ℕ) (byte : ℕ) (behind : List ℕ)
     → BeginsWith is_name_start rest → IsRun is_name_byte rest front left → PassesGap line left there more → more ≡ byte ∷ behind → byte ≡ 58

@@ -1,8 +1,7 @@
 -- What is passed between two tokens, byte by byte and comment by comment, as the code does it.
-use Rattle.std.proofs.Common.{◌≡◌, ◌∙◌, ℕ, suc, ◌+◌, ◌<◌, ◌≤◌, Bool, true, false, ◌==◌, ◌&&◌, List, [], ◌∷◌, ◌++◌, length, Result, Err, Some, None, refl, sym, ap, subst, arith, length-append, add-one}
-use Rattle.std.proofs.lemmas.Bool.{cond-true, cond-false, ne_eqb}
-use Rattle.text_form.specs.Bytes.{is_blank, is_comment_byte, is_separator, line_behind}
-use Rattle.text_form.specs.Entries.{Item}
+use Rattle.std.proofs.Common.{◌≡◌, ◌∙◌, ℕ, suc, ◌+◌, ◌≤◌, Bool, true, false, ◌==◌, List, [], ◌∷◌, length, Some, None, refl, sym, ap, subst, arith, length-append}
+use Rattle.std.proofs.lemmas.Bool.{cond-false, ne_eqb}
+use Rattle.text_form.specs.Bytes.{is_blank, is_comment_byte, is_separator}
 use Rattle.text_form.specs.Grammar.{EndsRun}
 use Rattle.text_form.specs.Machine.{Place, Start, Ended, Between, InComment, Refused, items_from}
 use Rattle.text_form.specs.Walking.{IsRun, EndsLine, begins_gap, place_before, Leaves, PassesComment, PassesGap, RefusesGap, PassesLead, RefusesLead}
@@ -24,9 +23,10 @@ over_run depth line place rest front left run =
     ap (items_from depth line (InComment place)) run.whole ∙ over_comment depth line place front left run.all
 
 comment_passed : (rest front left : List ℕ) → IsRun is_comment_byte rest front left → EndsLine left → PassesComment rest (Some left)
-comment_passed rest front left run ends =
-    (run_length is_comment_byte rest front left run,
-    λ depth line place. over_run depth line place rest front left run ∙ ends_comment depth line place left ends)
+comment_passed rest front left run ends = (
+  run_length is_comment_byte rest front left run,
+  λ depth line place. over_run depth line place rest front left run ∙ ends_comment depth line place left ends,
+)
 
 pub comment_ended : (rest front left : List ℕ) → IsRun is_comment_byte rest front left → left ≡ [] → PassesComment rest (Some left)
 comment_ended rest front left run is =
@@ -44,7 +44,7 @@ pub comment_refused : (rest front left : List ℕ) (byte : ℕ) (behind : List �
 comment_refused rest front left byte behind run is feed = λ depth line place.
     over_run depth line place rest front left run ∙ ap (items_from depth line (InComment place)) is
     ∙ goes depth line (InComment place) byte behind Refused
-        (cond-false (byte == 10) _ _ (ne_eqb byte 10 feed) ∙ cond-false (is_comment_byte byte) _ _ other)
+    (cond-false (byte == 10) _ _ (ne_eqb byte 10 feed) ∙ cond-false (is_comment_byte byte) _ _ other)
   where
     other : is_comment_byte byte ≡ false
     other = let P : List ℕ → Type 0 = λ l. EndsRun is_comment_byte l in subst P is run.ends

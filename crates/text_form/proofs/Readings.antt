@@ -1,9 +1,9 @@
 -- The laws: what a text is read as is what it says, and nothing else is.
-use Rattle.std.proofs.Common.{◌≡◌, ◌∙◌, ℕ, zero, suc, ◌+◌, ◌<◌, ◌≤◌, List, [], ◌∷◌, ◌++◌, ◌⊎◌, inl, inr, length, take, Result, Ok, Err, refl, sym, ap, subst, arith, append_assoc}
+use Rattle.std.proofs.Common.{◌≡◌, ◌∙◌, ℕ, zero, suc, ◌<◌, ◌≤◌, List, [], ◌∷◌, ◌++◌, ◌⊎◌, inl, inr, length, take, Result, Ok, Err, refl, sym, ap, subst, arith, append_assoc}
 use Rattle.std.proofs.lemmas.List.{append-nil}
 use Rattle.std.proofs.lemmas.Bool.{cases_lt, cases_order}
 use Rattle.text_form.specs.Bytes.{line_at}
-use Rattle.text_form.specs.Entries.{Value, Entries, NoEntries, ValueEntry, BlockEntry, Item, Single, Begin, End, items_of}
+use Rattle.text_form.specs.Entries.{Entries, NoEntries, ValueEntry, BlockEntry, Item, End, items_of}
 use Rattle.text_form.specs.Grammar.{IsTextOf, Begins, IsBadAt}
 use Rattle.text_form.specs.Machine.{items_or_line}
 use Rattle.text_form.specs.Laws.{TextsAreRead, FieldsAreRead, BadLinesAreFound, ItemsTellTheFields, Means}
@@ -51,6 +51,7 @@ not_bad text line entries is bad = split (cases_lt bad.place (length text))
     whole =
         let P : List ℕ → Type 0 = λ l. IsTextOf entries l in
         record { entries = entries; more = []; whole = subst P (sym (append-nil (take (length text) text) ∙ take-all (length text) text (omega arith))) is }
+
     split : (bad.place < length text) ⊎ (length text ≤ bad.place) → ⊥
     split (inl low) = bad.here low (begins_sooner (suc bad.place) (length text) text (omega (arith, low)) whole)
     split (inr high) = bad.at_end (let low = bad.inside in omega (arith, high)) entries is
@@ -75,7 +76,7 @@ bad_lines_are_found text line bad = means (items_or_line text) (texts_are_read t
     means (Ok items) says = absurd (not_bad text line says.entries says.text_of bad)
     means (Err other) same =
         ap (λ (l : ℕ). Err l)
-            (same.line_is ∙ ap (λ (place : ℕ). line_at 1 (take place text)) (one_place text other line same bad) ∙ sym bad.line_is)
+        (same.line_is ∙ ap (λ (place : ℕ). line_at 1 (take place text)) (one_place text other line same bad) ∙ sym bad.line_is)
 
 -- ---- items tell the fields
 

@@ -1,11 +1,9 @@
 -- The longest front of bytes of a kind ends at the first byte of no such kind.
-use Rattle.std.proofs.Common.{◌≡◌, ◌∙◌, ℕ, zero, suc, ◌+◌, ◌<◌, ◌≤◌, nat_lt, Bool, true, false, cond, List, [], ◌∷◌, ◌++◌, length, take, drop, Option, Some, None, ◌⊎◌, inl, inr, refl, sym, ap, subst, arith}
+use Rattle.std.proofs.Common.{◌≡◌, ◌∙◌, ℕ, suc, ◌+◌, ◌≤◌, nat_lt, Bool, true, false, cond, List, [], ◌∷◌, length, take, drop, Option, Some, None, ◌⊎◌, inl, inr, refl, sym, ap, subst, arith}
 use Rattle.std.specs.Prelude.{not, unwrap_or}
 use Rattle.std.specs.List.{position, position_or_len}
 use Rattle.std.proofs.lemmas.Bool.{cond_both, cases_Bool, ltb-true, ltb-false}
 use Rattle.std.specs.Option.{ForSome}
-use Rattle.text_form.specs.Bytes.{AreAll}
-use Rattle.text_form.specs.Grammar.{EndsRun}
 use Rattle.text_form.specs.Walking.{IsRun}
 
 -- a run with one byte more in front
@@ -27,6 +25,7 @@ run_at kind (byte ∷ bytes) = either (run_at kind bytes) (cases_Bool (kind byte
   where
     later : ℕ
     later = position_or_len (λ other. not (kind other)) bytes
+
     either : RunAt kind bytes → (kind byte ≡ true) ⊎ (kind byte ≡ false) → RunAt kind (byte ∷ bytes)
     either next (inl is) =
         let first : cond (not (not (kind byte))) (1 + position_or_len (λ other. not (kind other)) bytes) 0 ≡ 1 + position_or_len (λ other. not (kind other)) bytes = rw is refl in
@@ -44,15 +43,15 @@ run_at kind (byte ∷ bytes) = either (run_at kind bytes) (cases_Bool (kind byte
 -- up to the first byte of no such kind, or to the end
 pub run_before : (kind : ℕ → Bool) (bytes : List ℕ)
     → IsRun kind bytes (take (unwrap_or (position (λ byte. not (kind byte)) bytes) (length bytes)) bytes)
-        (drop (unwrap_or (position (λ byte. not (kind byte)) bytes) (length bytes)) bytes)
+    (drop (unwrap_or (position (λ byte. not (kind byte)) bytes) (length bytes)) bytes)
 run_before kind bytes =
     let at = run_at kind bytes in
     let P : ℕ → Type 0 = λ n. IsRun kind bytes (take n bytes) (drop n bytes) in
     let place : ℕ = position_or_len (λ byte. not (kind byte)) bytes in
     let same = at.place in
     subst P (sym (cond_both (nat_lt place (length bytes)) (Some place) None (λ (o : Option ℕ). unwrap_or o (length bytes) ≡ at.len)
-        (λ _. same)
-        (λ isnt. let high : length bytes ≤ place = ltb-false place (length bytes) isnt in let low = at.within in omega arith))) at.run
+    (λ _. same)
+    (λ isnt. let high : length bytes ≤ place = ltb-false place (length bytes) isnt in let low = at.within in omega arith))) at.run
 
 -- the place of the first byte of no such kind lies in them
 pub position_in : (kind : ℕ → Bool) (bytes : List ℕ) → ForSome (position kind bytes) (λ n. n ≤ length bytes)

@@ -1,9 +1,9 @@
 -- What the machine does over a run of bytes, a token or the bytes between two tokens: one equation each.
-use Rattle.std.proofs.Common.{◌≡◌, ◌∙◌, ℕ, suc, ◌-◌, ◌<◌, nat_lt, Bool, true, false, ◌==◌, ◌&&◌, ◌||◌, List, [], ◌∷◌, ◌++◌, Result, Ok, Err, cond, refl, sym, ap, subst, arith, append_assoc}
+use Rattle.std.proofs.Common.{◌≡◌, ◌∙◌, ℕ, suc, ◌-◌, nat_lt, Bool, true, false, ◌==◌, List, [], ◌∷◌, ◌++◌, Result, Ok, Err, refl, sym, ap, subst, arith, append_assoc}
 use Rattle.std.proofs.lemmas.List.{append-nil}
 use Rattle.std.proofs.lemmas.Bool.{cond-true, cond-false, cond_both, lt-ltb}
 use Rattle.text_form.specs.Bytes.{is_blank, is_comment_byte, is_separator, is_name_start, is_name_byte, is_word_byte, is_text_byte, AreAll, line_behind}
-use Rattle.text_form.specs.Entries.{Word, Text, Item, Single, Begin, End}
+use Rattle.text_form.specs.Entries.{Word, Text, Item, Single, End}
 use Rattle.text_form.specs.Grammar.{EndsRun, IsName, IsWord}
 use Rattle.text_form.specs.Machine.{Place, Start, Ended, Named, Valued, Mode, Between, InComment, InName, InWord, InQuotes, Step, Moved, Refused, at_field, at_token, between, step, behind_item, items_from, behind_step, with_item}
 use Rattle.text_form.specs.Walking.{begins_gap, place_before, EndsLine}
@@ -40,7 +40,7 @@ over_comment depth line place [] rest all = refl
 over_comment depth line place (byte ∷ bytes) rest all =
     let plain = differs is_comment_byte byte 10 all.0 refl in
     stays depth line (InComment place) byte (bytes ++ rest) _ plain
-        (cond-false (byte == 10) _ _ plain ∙ cond-true (is_comment_byte byte) _ _ all.0)
+    (cond-false (byte == 10) _ _ plain ∙ cond-true (is_comment_byte byte) _ _ all.0)
     ∙ over_comment depth line place bytes rest all.1
 
 -- the end of the text or a line feed ends a comment
@@ -60,11 +60,12 @@ pub begins_name : (depth line : ℕ) (after : Bool) (byte : ℕ) (rest : List �
     → items_from depth line (Between (place_before after)) (byte ∷ rest) ≡ items_from depth line (InName line (byte ∷ [])) rest
 begins_name depth line after byte rest is =
     stays depth line (Between (place_before after)) byte rest (Moved [] depth (InName line (byte ∷ []))) (differs is_name_start byte 10 is refl)
-        (token_byte depth line (place_before after) byte (not_blank is_name_start byte is refl refl refl refl) (differs is_name_start byte 35 is refl)
-        ∙ token after)
+    (token_byte depth line (place_before after) byte (not_blank is_name_start byte is refl refl refl refl) (differs is_name_start byte 35 is refl)
+    ∙ token after)
   where
     field : at_field depth line byte ≡ Moved [] depth (InName line (byte ∷ []))
     field = cond-true (is_name_start byte) _ _ is
+
     token : (behind : Bool) → at_token depth line (place_before behind) byte ≡ Moved [] depth (InName line (byte ∷ []))
     token true = cond-false (is_separator byte) _ _ (not_separator is_name_start byte is refl refl) ∙ field
     token false = field
@@ -74,7 +75,7 @@ pub over_name : (depth line at : ℕ) (name bytes rest : List ℕ) → AreAll is
 over_name depth line at name [] rest all = ap (λ (w : List ℕ). items_from depth line (InName at w) rest) (sym (append-nil name))
 over_name depth line at name (byte ∷ bytes) rest all =
     stays depth line (InName at name) byte (bytes ++ rest) _ (differs is_name_byte byte 10 all.0 refl)
-        (cond-true (is_name_byte byte) _ _ all.0)
+    (cond-true (is_name_byte byte) _ _ all.0)
     ∙ over_name depth line at (name ++ byte ∷ []) bytes rest all.1
     ∙ ap (λ (w : List ℕ). items_from depth line (InName at w) rest) (append_assoc name (byte ∷ []) bytes)
 
@@ -105,7 +106,7 @@ pub over_word : (depth line at : ℕ) (name word bytes rest : List ℕ) → AreA
 over_word depth line at name word [] rest all = ap (λ (w : List ℕ). items_from depth line (InWord at name w) rest) (sym (append-nil word))
 over_word depth line at name word (byte ∷ bytes) rest all =
     stays depth line (InWord at name word) byte (bytes ++ rest) _ (differs is_word_byte byte 10 all.0 refl)
-        (cond-true (is_word_byte byte) _ _ all.0)
+    (cond-true (is_word_byte byte) _ _ all.0)
     ∙ over_word depth line at name (word ++ byte ∷ []) bytes rest all.1
     ∙ ap (λ (w : List ℕ). items_from depth line (InWord at name w) rest) (append_assoc word (byte ∷ []) bytes)
 
@@ -113,8 +114,8 @@ pub ends_word : (depth line at : ℕ) (name word rest : List ℕ) → EndsRun is
     → items_from depth line (InWord at name word) rest ≡ with_item (Single at name (Word word)) (items_from depth line (Between Ended) rest)
 ends_word depth line at name word [] ends =
     cond_both (depth == 0) (Ok []) (Err line)
-        (λ (r : Result (List Item) ℕ). items_from depth line (InWord at name word) [] ≡ with_item (Single at name (Word word)) r)
-        (λ is. cond-true (depth == 0) _ _ is) (λ isnt. cond-false (depth == 0) _ _ isnt)
+    (λ (r : Result (List Item) ℕ). items_from depth line (InWord at name word) [] ≡ with_item (Single at name (Word word)) r)
+    (λ is. cond-true (depth == 0) _ _ is) (λ isnt. cond-false (depth == 0) _ _ isnt)
 ends_word depth line at name word (byte ∷ rest) ends =
     goes depth line (InWord at name word) byte rest _ (cond-false (is_word_byte byte) _ _ ends)
     ∙ item_first line _ (Single at name (Word word)) (between depth line Ended byte)
@@ -122,14 +123,14 @@ ends_word depth line at name word (byte ∷ rest) ends =
 -- a whole word
 pub reads_word : (depth line at : ℕ) (name word rest : List ℕ) → IsWord word → EndsRun is_word_byte rest
     → items_from depth line (Between (Valued at name)) (word ++ rest)
-        ≡ with_item (Single at name (Word word)) (items_from depth line (Between Ended) rest)
+    ≡ with_item (Single at name (Word word)) (items_from depth line (Between Ended) rest)
 reads_word depth line at name [] rest is ends = absurd is
 reads_word depth line at name (byte ∷ bytes) rest is ends =
     stays depth line (Between (Valued at name)) byte (bytes ++ rest) (Moved [] depth (InWord at name (byte ∷ []))) (differs is_word_byte byte 10 is.0 refl)
-        (token_byte depth line (Valued at name) byte (not_blank is_word_byte byte is.0 refl refl refl refl) (differs is_word_byte byte 35 is.0 refl)
-        ∙ cond-false (byte == 123) _ _ (differs is_word_byte byte 123 is.0 refl)
-        ∙ cond-false (byte == 34) _ _ (differs is_word_byte byte 34 is.0 refl)
-        ∙ cond-true (is_word_byte byte) _ _ is.0)
+    (token_byte depth line (Valued at name) byte (not_blank is_word_byte byte is.0 refl refl refl refl) (differs is_word_byte byte 35 is.0 refl)
+    ∙ cond-false (byte == 123) _ _ (differs is_word_byte byte 123 is.0 refl)
+    ∙ cond-false (byte == 34) _ _ (differs is_word_byte byte 34 is.0 refl)
+    ∙ cond-true (is_word_byte byte) _ _ is.0)
     ∙ over_word depth line at name (byte ∷ []) bytes rest is.1
     ∙ ends_word depth line at name (byte ∷ bytes) rest ends
 
@@ -140,14 +141,14 @@ pub over_text : (depth line at : ℕ) (name text bytes rest : List ℕ) → AreA
 over_text depth line at name text [] rest all = ap (λ (w : List ℕ). items_from depth line (InQuotes at name w) rest) (sym (append-nil text))
 over_text depth line at name text (byte ∷ bytes) rest all =
     stays depth line (InQuotes at name text) byte (bytes ++ rest) _ (differs is_text_byte byte 10 all.0 refl)
-        (cond-false (byte == 34) _ _ (differs is_text_byte byte 34 all.0 refl) ∙ cond-true (is_text_byte byte) _ _ all.0)
+    (cond-false (byte == 34) _ _ (differs is_text_byte byte 34 all.0 refl) ∙ cond-true (is_text_byte byte) _ _ all.0)
     ∙ over_text depth line at name (text ++ byte ∷ []) bytes rest all.1
     ∙ ap (λ (w : List ℕ). items_from depth line (InQuotes at name w) rest) (append_assoc text (byte ∷ []) bytes)
 
 -- a whole text
 pub reads_text : (depth line at : ℕ) (name text rest : List ℕ) → AreAll is_text_byte text
     → items_from depth line (Between (Valued at name)) (34 ∷ (text ++ 34 ∷ rest))
-        ≡ with_item (Single at name (Text text)) (items_from depth line (Between Ended) rest)
+    ≡ with_item (Single at name (Text text)) (items_from depth line (Between Ended) rest)
 reads_text depth line at name text rest all = over_text depth line at name [] text (34 ∷ rest) all
 
 -- ---- separators and braces
@@ -156,8 +157,8 @@ pub over_separator : (depth line byte : ℕ) (rest : List ℕ) → is_separator 
     → items_from depth line (Between Ended) (byte ∷ rest) ≡ items_from depth line (Between Start) rest
 over_separator depth line byte rest is =
     stays depth line (Between Ended) byte rest (Moved [] depth (Between Start)) (differs is_separator byte 10 is refl)
-        (token_byte depth line Ended byte (not_blank is_separator byte is refl refl refl refl) (differs is_separator byte 35 is refl)
-        ∙ cond-true (is_separator byte) _ _ is)
+    (token_byte depth line Ended byte (not_blank is_separator byte is refl refl refl refl) (differs is_separator byte 35 is refl)
+    ∙ cond-true (is_separator byte) _ _ is)
 
 pub reads_close : (depth line : ℕ) (after : Bool) (rest : List ℕ)
     → items_from (suc depth) line (Between (place_before after)) (125 ∷ rest) ≡ with_item End (items_from depth line (Between Ended) rest)
@@ -166,6 +167,7 @@ reads_close depth line after rest = goes (suc depth) line (Between (place_before
     field : at_field (suc depth) line 125 ≡ Moved (End ∷ []) depth (Between Ended)
     field = cond-true (nat_lt 0 (suc depth)) (Moved (End ∷ []) (suc depth - 1) (Between Ended)) Refused (lt-ltb 0 (suc depth) (omega arith))
         ∙ ap (λ (n : ℕ). Moved (End ∷ []) n (Between Ended)) (omega arith)
+
     closes : (behind : Bool) → at_token (suc depth) line (place_before behind) 125 ≡ Moved (End ∷ []) depth (Between Ended)
     closes true = field
     closes false = field
@@ -177,5 +179,5 @@ ended_starts depth line [] gap ends = refl
 ended_starts depth line (byte ∷ rest) gap ends =
     let parts = gap_parts byte gap in
     goes depth line (Between Ended) byte rest (between depth line Start byte)
-        (token_byte depth line Ended byte parts.0 parts.1 ∙ cond-false (is_separator byte) _ _ ends
-        ∙ sym (token_byte depth line Start byte parts.0 parts.1))
+    (token_byte depth line Ended byte parts.0 parts.1 ∙ cond-false (is_separator byte) _ _ ends
+    ∙ sym (token_byte depth line Start byte parts.0 parts.1))

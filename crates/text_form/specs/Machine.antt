@@ -1,8 +1,8 @@
 -- Reading byte by byte, without a stack: where the reading stands and what a byte does there. What it means is said by the
 -- grammar alone; the laws tie the two together.
-use Rattle.std.specs.Prelude.{ℕ, suc, ◌-◌, List, [], ◌∷◌, ◌++◌, Bool, true, false, nat_lt, ◌==◌, ◌&&◌, if◌then◌else◌, Result, Ok, Err}
+use Rattle.std.specs.Prelude.{ℕ, suc, ◌-◌, List, [], ◌∷◌, ◌++◌, nat_lt, ◌==◌, ◌&&◌, if◌then◌else◌, Result, Ok, Err}
 use Rattle.text_form.specs.Bytes.{is_blank, is_comment_byte, is_separator, is_name_start, is_name_byte, is_word_byte, is_text_byte, line_behind}
-use Rattle.text_form.specs.Entries.{Value, Word, Text, Item, Single, Begin, End}
+use Rattle.text_form.specs.Entries.{Word, Text, Item, Single, Begin, End}
 
 -- between which tokens: before a field, behind one, behind a name, and behind the colon of a name
 pub data Place : Type 0 where

@@ -1,13 +1,9 @@
 -- What the private calls say of the machine: a part of a text is passed, and the rest is read as if the reading stood there.
-use Rattle.std.specs.Prelude.{◌≡◌, ℕ, suc, ◌+◌, ◌-◌, ◌≤◌, ◌<◌, ◌==◌, ◌||◌, List, [], ◌∷◌, ◌++◌, Bool, true, false, length, Result, Err, Option, Some, None, if◌then◌else◌}
-use Rattle.text_form.specs.Bytes.{is_blank, is_separator, AreAll}
+use Rattle.std.specs.Prelude.{◌≡◌, ℕ, suc, ◌+◌, ◌-◌, ◌≤◌, ◌<◌, ◌==◌, ◌||◌, List, [], ◌∷◌, ◌++◌, Bool, true, false, length, Err, Option, Some, None}
+use Rattle.text_form.specs.Bytes.{is_blank, AreAll}
 use Rattle.text_form.specs.Entries.{Value, Item, Single, Begin, End}
 use Rattle.text_form.specs.Grammar.{EndsRun}
 use Rattle.text_form.specs.Machine.{Place, Start, Ended, Valued, Between, InComment, items_from, with_item}
-use Rattle.text_form.specs.Reading.{value_of, item_of}
-use Rattle.text_form.specs.declared.item.TextItem.{TextItem}
-use Rattle.text_form.specs.declared.item.TextItem.TheVariants as text_items
-use Rattle.text_form.specs.declared.item.TextValue.{TextValue}
 
 -- the longest front of bytes of a kind
 pub record IsRun (kind : ℕ → Bool) (bytes front left : List ℕ) : Type 0 where
@@ -77,7 +73,7 @@ abbrev pub ReadsValue : ℕ → List ℕ → Option (Value × List ℕ) → Type
 ReadsValue line rest None = (depth at : ℕ) (name : List ℕ) → items_from depth line (Between (Valued at name)) rest ≡ Err line
 ReadsValue line rest (Some (value, left)) = (length left < length rest)
     × ((depth at : ℕ) (name : List ℕ) → items_from depth line (Between (Valued at name)) rest
-        ≡ with_item (Single at name value) (items_from depth line (Between Ended) left))
+    ≡ with_item (Single at name value) (items_from depth line (Between Ended) left))
 
 -- how many blocks are open behind an item
 abbrev pub depth_behind : Item → ℕ → ℕ

@@ -39,11 +39,7 @@ fn ends_field(item: TextItem<'_>) -> bool
 
 /// The first item of the part of a text, inside so many blocks.
 #[inline(always)]
-fn first_item<'a>(
-    depth: u32,
-    after: bool,
-    here: Spot<'a>,
-) -> Result<Option<Found<'a>>, BadText>
+fn first_item<'a>(depth: u32, after: bool, here: Spot<'a>) -> Result<Option<Found<'a>>, BadText>
     requires { here.line + length here.rest.now < 2 ^ 32 }
     ensures read { IfOk result (λ found. IfSome found (λ found. ReadsItem depth here.entry.line (place_before after) here.entry.rest.now
         (item_of found.item) found.there.line found.there.rest.now)) }
@@ -90,8 +86,8 @@ impl<'a> Model for TextReader<'a> {
     ghost Value = { Unread };
 
     ghost view = { λ reader. record {
-        coming = items_from reader.depth reader.line (Between (place_before reader.after)) reader.rest.now;
-        left = length reader.rest.now
+      coming = items_from reader.depth reader.line (Between (place_before reader.after)) reader.rest.now;
+      left = length reader.rest.now;
     } };
 
     ghost invariant = { λ reader. (reader.line + length reader.rest.now < 2 ^ 32) × (reader.depth + length reader.rest.now < 2 ^ 32) };

@@ -1,4 +1,6 @@
 //! Texts with what is read of them, up to the line of the first fault.
+ghost use Rattle.std.specs.Prelude.{◌<◌, length};
+
 use super::*;
 use std::alloc::{AllocError, Global};
 use std::test::Fail;
@@ -38,10 +40,12 @@ fn put_item(shown: &mut Vec<u8>, item: TextItem) -> Result<(), AllocError> {
 }
 
 /// The items with their lines, and a '!' with the line of a fault.
-fn shown(alloc: Global, text: &[u8]) -> Result<Vec<u8>, AllocError> {
+fn shown(alloc: Global, text: &[u8]) -> Result<Vec<u8>, AllocError>
+    requires { length text.now < u32.MAX }
+{
     let mut shown = Vec::new(alloc);
     let mut reader = TextReader::new(text);
-    loop {
+    'items: loop {
         match reader.next() {
             Ok(Some(item)) => put_item(&mut shown, item)?,
             Ok(None) => return Ok(shown),
@@ -119,6 +123,7 @@ const TEXTS: [(&[u8], &[u8]); 60] = [
 #[test]
 fn reads_texts(rt: HostRuntime) -> Result<(), Fail> {
     for (text, wanted) in TEXTS {
+        assert!(rt; text.len() < 100);
         let got = shown(rt.alloc(), text)?;
         assert_eq!(rt; got.as_slice(), wanted);
     }

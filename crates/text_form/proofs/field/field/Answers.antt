@@ -14,19 +14,19 @@ returns-in_default-clause-refused c =
 pub returns-then-byte-eq58-clause-read : goal.returns-then-byte-eq58-clause-read
 returns-then-byte-eq58-clause-read c =
     if_ok c.behind_colon.result _ _ (λ found reads. colon_field _ _ _ _ _ _ _ _ c.requires.name c.name_run-run.ensures c.in_ok-there.ensures.passes
-        c.in-Some.ensures c.if-byte-eq58.true _ _ _ reads) c.behind_colon.ensures.read
+    c.in-Some.ensures c.if-byte-eq58.true _ _ _ reads) c.behind_colon.ensures.read
 
 pub returns-then-byte-eq58-clause-refused : goal.returns-then-byte-eq58-clause-refused
 returns-then-byte-eq58-clause-refused c =
     if_err c.behind_colon.result _ _ (λ bad refuses. colon_bad _ _ _ _ _ _ _ _ c.requires.name c.name_run-run.ensures c.in_ok-there.ensures.passes
-        c.in-Some.ensures c.if-byte-eq58.true _ refuses) c.behind_colon.ensures.refused
+    c.in-Some.ensures c.if-byte-eq58.true _ refuses) c.behind_colon.ensures.refused
 
 pub returns-then-byte-eq123-clause-read : goal.returns-then-byte-eq123-clause-read
 returns-then-byte-eq123-clause-read c =
     block_field _ _ _ _ _ _ _ _ _ _ _ c.requires.name c.name_run-run.ensures c.in_ok-there.ensures.passes c.in-Some.ensures c.if-byte-eq123.true
-        c.begin.ensures.item c.begin.ensures.there.0 c.begin.ensures.there.1
+    c.begin.ensures.item c.begin.ensures.there.0 c.begin.ensures.there.1
 
 pub returns-clause-refused : goal.returns-clause-refused
 returns-clause-refused c =
     field_other _ _ _ _ _ _ _ _ c.requires.name c.name_run-run.ensures c.in_ok-there.ensures.passes c.in_ok-there.ensures.ends c.in-Some.ensures
-        c.if-byte-eq58.false c.if-byte-eq123.false
+    c.if-byte-eq58.false c.if-byte-eq123.false
