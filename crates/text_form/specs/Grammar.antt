@@ -9,6 +9,7 @@ pub record Spot : Type 0 where
   pub line : ℕ
   pub rest : List ℕ
 
+-- the spot on this line, before these bytes
 abbrev pub spot : ℕ → List ℕ → Spot
 spot line rest = record { line = line; rest = rest }
 
