@@ -21,5 +21,8 @@ mod users;
 
 pub use seats::{CollectSeat, TuneSeat};
 pub use steps::{Knowledge, TuneRule};
-pub use table::{Shape, TuneTable};
+pub use table::{
+    LAST_GENERATION, MAX_TUNE_PAGES, MAX_USERS, Shape, TuneTable, chunk_count, generation_of,
+    layout_of,
+};
 pub use tokens::{TuneClaimed, TuneFault, TuneHeld, TunePage};

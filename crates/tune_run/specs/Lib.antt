@@ -1,0 +1,4 @@
+pub mod Counts
+pub mod Turns
+pub mod Jobs
+pub mod Told
