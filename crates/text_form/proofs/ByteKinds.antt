@@ -1,23 +1,20 @@
 -- A byte of one kind is of no other, as far as the reading tells them apart.
-use Rattle.std.proofs.Common.{◌≡◌, ◌∙◌, ℕ, Bool, true, false, ◌==◌, ◌||◌, refl, sym, ap}
-use Rattle.std.proofs.lemmas.Bool.{ne_eqb}
-use Rattle.text_form.specs.Bytes.{is_blank, is_separator, is_name_start, is_name_byte, is_word_byte, line_behind}
+use Rattle.std.proofs.Common.{◌≡◌, ◌∙◌, ℕ, Bool, true, false, ◌==◌, refl, sym, ap}
+use Rattle.std.proofs.lemmas.Bool.{ne_eqb, or_from, or_parts}
+use Rattle.text_form.specs.Bytes.{is_blank, is_separator, is_name_start, is_name_byte, line_behind}
 use Rattle.text_form.specs.Walking.{begins_gap}
 
 -- one that passes a test isn't one that doesn't
 pub differs : (kind : ℕ → Bool) (byte other : ℕ) → kind byte ≡ true → kind other ≡ false → (byte == other) ≡ false
 differs kind byte other is isnt = ne_eqb byte other (λ same. let both : kind byte ≡ false = ap kind same ∙ isnt in cc)
 
-both_false : (a b : Bool) → a ≡ false → b ≡ false → (a || b) ≡ false
-both_false a b fst snd = rw (fst, snd) refl
-
 pub not_blank : (kind : ℕ → Bool) (byte : ℕ) → kind byte ≡ true → kind 32 ≡ false → kind 9 ≡ false → kind 13 ≡ false → kind 10 ≡ false
     → is_blank byte ≡ false
 not_blank kind byte is space tab return feed =
-    both_false _ _ (both_false _ _ (both_false _ _ (differs kind byte 32 is space) (differs kind byte 9 is tab)) (differs kind byte 13 is return)) (differs kind byte 10 is feed)
+    or_from _ _ (or_from _ _ (or_from _ _ (differs kind byte 32 is space) (differs kind byte 9 is tab)) (differs kind byte 13 is return)) (differs kind byte 10 is feed)
 
 pub not_separator : (kind : ℕ → Bool) (byte : ℕ) → kind byte ≡ true → kind 59 ≡ false → kind 44 ≡ false → is_separator byte ≡ false
-not_separator kind byte is semicolon comma = both_false _ _ (differs kind byte 59 is semicolon) (differs kind byte 44 is comma)
+not_separator kind byte is semicolon comma = or_from _ _ (differs kind byte 59 is semicolon) (differs kind byte 44 is comma)
 
 -- no blank is of a kind that has none of them
 pub blank_is_none : (kind : ℕ → Bool) (byte : ℕ) → is_blank byte ≡ true → kind 32 ≡ false → kind 9 ≡ false → kind 13 ≡ false → kind 10 ≡ false
@@ -31,24 +28,12 @@ blank_is_none kind byte blank space tab return feed = unless_true (kind byte) (�
     unless_true true no_way = absurd (no_way refl)
     unless_true false no_way = refl
 
--- what isn't a blank and no '#' is no gap
-pub no_gap : (byte : ℕ) → is_blank byte ≡ false → (byte == 35) ≡ false → begins_gap byte ≡ false
-no_gap byte blank sharp = both_false _ _ blank sharp
-
-pub either_false : (a b : Bool) → (a || b) ≡ false → (a ≡ false) × (b ≡ false)
-either_false true b is = absurd (cc)
-either_false false b is = (refl, is)
-
 pub gap_parts : (byte : ℕ) → begins_gap byte ≡ false → (is_blank byte ≡ false) × ((byte == 35) ≡ false)
-gap_parts byte is = either_false (is_blank byte) (byte == 35) is
+gap_parts byte is = or_parts (is_blank byte) (byte == 35) is
 
 -- a byte that isn't a line feed stays on its line
 pub same_line : (line byte : ℕ) → (byte == 10) ≡ false → line_behind line byte ≡ line
 same_line line byte is = rw is refl
-
--- a byte of a name is one of a word
-pub name_in_word : (byte : ℕ) → is_name_byte byte ≡ true → is_word_byte byte ≡ true
-name_in_word byte is = rw is refl
 
 pub start_in_name : (byte : ℕ) → is_name_start byte ≡ true → is_name_byte byte ≡ true
 start_in_name byte is = rw is refl

@@ -1,13 +1,13 @@
 -- What is read of a field, token by token, as the code does it.
-use Rattle.std.proofs.Common.{◌≡◌, ◌∙◌, ℕ, Bool, true, false, ◌==◌, ◌||◌, List, [], ◌∷◌, ◌++◌, length, Result, Ok, Err, Some, None, refl, sym, ap, subst, arith, length-append}
+use Rattle.std.proofs.Common.{◌≡◌, ◌∙◌, ℕ, Bool, true, false, ◌==◌, List, [], ◌∷◌, ◌++◌, length, Result, Ok, Err, Some, None, sym, ap, subst, arith, length-append}
 use Rattle.std.specs.Prelude.{IfOk, IfErr}
 use Rattle.std.proofs.lemmas.Bool.{cond-false, ne_eqb}
 use Rattle.text_form.specs.Bytes.{is_name_start, is_name_byte, is_word_byte, is_text_byte}
 use Rattle.text_form.specs.Entries.{Value, Word, Text, Item, Single, Begin}
 use Rattle.text_form.specs.Grammar.{EndsRun, IsName}
 use Rattle.text_form.specs.Machine.{Start, Named, Valued, Between, InQuotes, Refused, items_from}
-use Rattle.text_form.specs.Walking.{IsRun, BeginsWith, begins_gap, begins_no_value, begins_no_word, place_before, PassesGap, RefusesGap, PassesLead, ReadsValue, ReadsItem}
-use Rattle.text_form.proofs.ByteKinds.{either_false, gap_parts, start_in_name}
+use Rattle.text_form.specs.Walking.{IsRun, BeginsWith, begins_gap, place_before, PassesGap, RefusesGap, PassesLead, ReadsValue, ReadsItem}
+use Rattle.text_form.proofs.ByteKinds.{gap_parts, start_in_name}
 use Rattle.text_form.proofs.Walks.{goes, token_byte, over_text, reads_name, reads_word, reads_text}
 use Rattle.text_form.proofs.GapLemmas.{run_length}
 
@@ -66,24 +66,7 @@ word_read rest (byte ∷ front) left run some line =
           ∙ reads_word depth line at name (byte ∷ front) left run.all run.ends,
     )
 
-pub word_refused : (rest front left : List ℕ) → IsRun is_word_byte rest front left → length front ≡ 0 → EndsRun begins_no_word rest
-    → (line : ℕ) → ReadsValue line rest None
-word_refused rest (byte ∷ front) left run none other line = absurd (omega (arith, none))
-word_refused [] [] left run none other line = λ depth at name. refl
-word_refused (byte ∷ rest) [] left run none other line = λ depth at name.
-    let no_text = either_false (begins_no_value byte) (byte == 34) other in
-    let no_block = either_false (begins_gap byte) (byte == 123) no_text.0 in
-    let gap = gap_parts byte no_block.0 in
-    let P : List ℕ → Type 0 = λ l. EndsRun is_word_byte l in
-    let word : is_word_byte byte ≡ false = subst P (sym run.whole) run.ends in
-    goes depth line (Between (Valued at name)) byte rest Refused
-    (token_byte depth line (Valued at name) byte gap.0 gap.1
-    ∙ cond-false (byte == 123) _ _ no_block.1 ∙ cond-false (byte == 34) _ _ no_text.1 ∙ cond-false (is_word_byte byte) _ _ word)
-
 -- ---- values
-
-pub nothing_there : (rest : List ℕ) → rest ≡ [] → (line : ℕ) → ReadsValue line rest None
-nothing_there rest is line = λ depth at name. ap (items_from depth line (Between (Valued at name))) is
 
 pub quoted_there : (rest : List ℕ) (byte : ℕ) (behind : List ℕ) (found : _) → rest ≡ byte ∷ behind → byte ≡ 34
     → ((line : ℕ) → ReadsValue line (34 ∷ behind) found) → (line : ℕ) → ReadsValue line rest found
@@ -91,34 +74,7 @@ quoted_there rest byte behind found is quotes reads line =
     let P : List ℕ → Type 0 = λ l. ReadsValue line l found in
     subst P (sym (is ∙ ap (λ (b : ℕ). b ∷ behind) quotes)) (reads line)
 
-either_is : (a b : Bool) → a ≡ false → b ≡ false → (a || b) ≡ false
-either_is a b fst snd = rw (fst, snd) refl
-
--- neither a gap nor a brace, or nor quotes
-pub no_value_begins : (rest : List ℕ) (byte : ℕ) (behind : List ℕ) → EndsRun begins_gap rest → rest ≡ byte ∷ behind → (byte ≡ 123 → ⊥)
-    → EndsRun begins_no_value rest
-no_value_begins rest byte behind ends is brace =
-    let P : List ℕ → Type 0 = λ l. EndsRun begins_gap l in
-    let Q : List ℕ → Type 0 = λ l. EndsRun begins_no_value l in
-    subst Q (sym is) (either_is (begins_gap byte) (byte == 123) (subst P is ends) (ne_eqb byte 123 brace))
-
-pub no_word_begins : (rest : List ℕ) (byte : ℕ) (behind : List ℕ) → EndsRun begins_no_value rest → rest ≡ byte ∷ behind → (byte ≡ 34 → ⊥)
-    → EndsRun begins_no_word rest
-no_word_begins rest byte behind ends is quotes =
-    let P : List ℕ → Type 0 = λ l. EndsRun begins_no_value l in
-    let Q : List ℕ → Type 0 = λ l. EndsRun begins_no_word l in
-    subst Q (sym is) (either_is (begins_no_value byte) (byte == 34) (subst P is ends) (ne_eqb byte 34 quotes))
-
 -- ---- behind a colon
-
-pub colon_ended : (line at : ℕ) (name rest : List ℕ) (there : ℕ) (left : List ℕ) → PassesGap line rest there left → left ≡ []
-    → (depth : ℕ) → items_from depth line (Between (Valued at name)) rest ≡ Err there
-colon_ended line at name rest there left passes is depth =
-    passes.same depth (Valued at name) ∙ ap (items_from depth there (Between (Valued at name))) is
-
-pub colon_refused : (line at : ℕ) (name rest : List ℕ) (there : ℕ) (left : List ℕ) → PassesGap line rest there left
-    → ((line : ℕ) → ReadsValue line left None) → (depth : ℕ) → items_from depth line (Between (Valued at name)) rest ≡ Err there
-colon_refused line at name rest there left passes none depth = passes.same depth (Valued at name) ∙ none there depth at name
 
 pub colon_value : (line at : ℕ) (name rest : List ℕ) (there : ℕ) (left : List ℕ) (value : Value) (more : List ℕ) → PassesGap line rest there left
     → ((line : ℕ) → ReadsValue line left (Some (value, more))) → (depth : ℕ) → ReadsItem depth line (Valued at name) rest (Single at name value) there more
@@ -133,24 +89,6 @@ colon_value line at name rest there left value more passes reads depth =
       closes = λ is. absurd (cc);
       same = passes.same depth (Valued at name) ∙ read.1 depth at name;
     }
-
-pub colon_block : (line at : ℕ) (name rest : List ℕ) (there : ℕ) (left : List ℕ) (byte : ℕ) (behind : List ℕ) (item : Item) (last : ℕ) (more : List ℕ)
-    → PassesGap line rest there left → left ≡ byte ∷ behind → byte ≡ 123 → item ≡ Begin at name → last ≡ there → more ≡ behind
-    → (depth : ℕ) → ReadsItem depth line (Valued at name) rest item last more
-colon_block line at name rest there left byte behind item last more passes is brace item_is last_is more_is depth =
-    let one : left ≡ 123 ∷ behind = is ∙ ap (λ (b : ℕ). b ∷ behind) brace in
-    let long = ap length one in
-    let shorter = passes.leaves.shorter in
-    let lines = passes.leaves.lines in
-    let P : Item → Type 0 = λ i. ReadsItem depth line (Valued at name) rest i last more in
-    let Q : ℕ → Type 0 = λ l. ReadsItem depth line (Valued at name) rest (Begin at name) l more in
-    let R : List ℕ → Type 0 = λ l. ReadsItem depth line (Valued at name) rest (Begin at name) there l in
-    subst P (sym item_is) (subst Q (sym last_is) (subst R (sym more_is) (record {
-      shorter = omega (arith, long);
-      lines = omega (arith, long);
-      closes = λ same. absurd (cc);
-      same = passes.same depth (Valued at name) ∙ ap (items_from depth there (Between (Valued at name))) one;
-    })))
 
 -- ---- behind a name
 

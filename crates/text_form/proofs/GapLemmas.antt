@@ -1,12 +1,12 @@
 -- What is passed between two tokens, byte by byte and comment by comment, as the code does it.
 use Rattle.std.proofs.Common.{◌≡◌, ◌∙◌, ℕ, suc, ◌+◌, ◌≤◌, Bool, true, false, ◌==◌, List, [], ◌∷◌, length, Some, None, refl, sym, ap, subst, arith, length-append}
 use Rattle.std.proofs.lemmas.Bool.{cond-false, ne_eqb}
-use Rattle.text_form.specs.Bytes.{is_blank, is_comment_byte, is_separator}
+use Rattle.text_form.specs.Bytes.{is_blank, is_comment_byte}
 use Rattle.text_form.specs.Grammar.{EndsRun}
-use Rattle.text_form.specs.Machine.{Place, Start, Ended, Between, InComment, Refused, items_from}
-use Rattle.text_form.specs.Walking.{IsRun, EndsLine, begins_gap, place_before, Leaves, PassesComment, PassesGap, RefusesGap, PassesLead, RefusesLead}
+use Rattle.text_form.specs.Machine.{Place, Between, InComment, Refused, items_from}
+use Rattle.text_form.specs.Walking.{IsRun, EndsLine, Leaves, PassesComment, PassesGap, RefusesGap}
 use Rattle.text_form.proofs.ByteKinds.{same_line}
-use Rattle.text_form.proofs.Walks.{goes, over_blank, over_comment, ends_comment, over_separator, ended_starts}
+use Rattle.text_form.proofs.Walks.{goes, over_blank, over_comment, ends_comment}
 
 -- ---- comments
 
@@ -104,53 +104,3 @@ pub gap_refused : (line : ℕ) (rest : List ℕ) (there byte : ℕ) (left behind
     → byte ≡ 35 → PassesComment behind None → RefusesGap line rest there
 gap_refused line rest there byte left behind passes is sharp comment = λ depth place.
     passes.same depth place ∙ ap (items_from depth there (Between place)) (is ∙ ap (λ (b : ℕ). b ∷ behind) sharp) ∙ comment depth there place
-
--- ---- what stands before a field
-
--- another part of the text is passed behind the first
-pub leaves_more : (line : ℕ) (rest : List ℕ) (near : ℕ) (left : List ℕ) (byte : ℕ) (behind : List ℕ) (there : ℕ) (more : List ℕ)
-    → Leaves line rest near left → left ≡ byte ∷ behind → Leaves near behind there more → Leaves line rest there more
-leaves_more line rest near left byte behind there more first is second =
-    let long = ap length is in
-    let shorter = first.shorter in
-    let lines = first.lines in
-    let short = second.shorter in
-    let low = second.lines in
-    record { shorter = omega (arith, long); lines = omega (arith, long) }
-
-pub lead_passed : (after : Bool) (line : ℕ) (rest : List ℕ) (there : ℕ) (left : List ℕ) → PassesGap line rest there left → EndsRun begins_gap left
-    → (after ≡ true → EndsRun is_separator left) → PassesLead after line rest there left
-lead_passed true line rest there left passes ends none = record {
-  leaves = passes.leaves;
-  same = λ depth. passes.same depth Ended ∙ ended_starts depth there left ends (none refl);
-  ends = ends;
-}
-lead_passed false line rest there left passes ends none =
-    record { leaves = passes.leaves; same = λ depth. passes.same depth Start; ends = ends }
-
--- a separator in the gap
-pub over_separated : (depth line : ℕ) (rest : List ℕ) (near : ℕ) (left : List ℕ) (byte : ℕ) (behind : List ℕ)
-    → PassesGap line rest near left → left ≡ byte ∷ behind → is_separator byte ≡ true
-    → items_from depth line (Between Ended) rest ≡ items_from depth near (Between Start) behind
-over_separated depth line rest near left byte behind passes is separator =
-    passes.same depth Ended ∙ ap (items_from depth near (Between Ended)) is ∙ over_separator depth near byte behind separator
-
-pub lead_separated : (after : Bool) (line : ℕ) (rest : List ℕ) (near : ℕ) (left : List ℕ) (byte : ℕ) (behind : List ℕ) (there : ℕ) (more : List ℕ)
-    → after ≡ true → PassesGap line rest near left → left ≡ byte ∷ behind → is_separator byte ≡ true
-    → PassesGap near behind there more → EndsRun begins_gap more → PassesLead after line rest there more
-lead_separated true line rest near left byte behind there more was passes is separator later ends = record {
-  leaves = leaves_more line rest near left byte behind there more passes.leaves is later.leaves;
-  same = λ depth. over_separated depth line rest near left byte behind passes is separator ∙ later.same depth Start;
-  ends = ends;
-}
-lead_separated false line rest near left byte behind there more was passes is separator later ends = absurd (cc)
-
-pub lead_refused : (after : Bool) (line : ℕ) (rest : List ℕ) (bad : ℕ) → RefusesGap line rest bad → RefusesLead after line rest bad
-lead_refused after line rest bad refuses = λ depth. refuses depth (place_before after)
-
-pub lead_refused_later : (after : Bool) (line : ℕ) (rest : List ℕ) (near : ℕ) (left : List ℕ) (byte : ℕ) (behind : List ℕ) (bad : ℕ)
-    → after ≡ true → PassesGap line rest near left → left ≡ byte ∷ behind → is_separator byte ≡ true
-    → RefusesGap near behind bad → RefusesLead after line rest bad
-lead_refused_later true line rest near left byte behind bad was passes is separator later = λ depth.
-    over_separated depth line rest near left byte behind passes is separator ∙ later depth Start
-lead_refused_later false line rest near left byte behind bad was passes is separator later = absurd (cc)

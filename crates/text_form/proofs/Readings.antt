@@ -1,6 +1,7 @@
 -- The laws: what a text is read as is what it says, and nothing else is.
 use Rattle.std.proofs.Common.{◌≡◌, ◌∙◌, ℕ, zero, suc, ◌<◌, ◌≤◌, List, [], ◌∷◌, ◌++◌, ◌⊎◌, inl, inr, length, take, Result, Ok, Err, refl, sym, ap, subst, arith, append_assoc}
 use Rattle.std.proofs.lemmas.List.{append-nil}
+use Rattle.std.proofs.Math.Seq.{take-length}
 use Rattle.std.proofs.lemmas.Bool.{cases_lt, cases_order}
 use Rattle.text_form.specs.Bytes.{line_at}
 use Rattle.text_form.specs.Entries.{Entries, NoEntries, ValueEntry, BlockEntry, Item, End, items_of}
@@ -37,12 +38,6 @@ begins_sooner few many text low begun =
       whole = subst P (ap (λ (l : List ℕ). l ++ begun.more) cut.1 ∙ append_assoc (take few text) cut.0 begun.more) begun.whole;
     }
 
-take-all : (many : ℕ) (text : List ℕ) → length text ≤ many → take many text ≡ text
-take-all zero [] low = refl
-take-all zero (byte ∷ text) low = absurd (omega (arith, low))
-take-all (suc many) [] low = refl
-take-all (suc many) (byte ∷ text) low = ap (λ (l : List ℕ). byte ∷ l) (take-all many text (omega (arith, low)))
-
 -- a text that says something is bad nowhere
 not_bad : (text : List ℕ) (line : ℕ) (entries : Entries) → IsTextOf entries text → IsBadAt text line → ⊥
 not_bad text line entries is bad = split (cases_lt bad.place (length text))
@@ -50,7 +45,7 @@ not_bad text line entries is bad = split (cases_lt bad.place (length text))
     whole : Begins (take (length text) text)
     whole =
         let P : List ℕ → Type 0 = λ l. IsTextOf entries l in
-        record { entries = entries; more = []; whole = subst P (sym (append-nil (take (length text) text) ∙ take-all (length text) text (omega arith))) is }
+        record { entries = entries; more = []; whole = subst P (sym (append-nil (take (length text) text) ∙ take-length text)) is }
 
     split : (bad.place < length text) ⊎ (length text ≤ bad.place) → ⊥
     split (inl low) = bad.here low (begins_sooner (suc bad.place) (length text) text (omega (arith, low)) whole)

@@ -2,8 +2,7 @@
 use Rattle.std.proofs.Common.{◌≡◌, ◌∙◌, ℕ, suc, ◌+◌, ◌≤◌, nat_lt, Bool, true, false, cond, List, [], ◌∷◌, length, take, drop, Option, Some, None, ◌⊎◌, inl, inr, refl, sym, ap, subst, arith}
 use Rattle.std.specs.Prelude.{not, unwrap_or}
 use Rattle.std.specs.List.{position, position_or_len}
-use Rattle.std.proofs.lemmas.Bool.{cond_both, cases_Bool, ltb-true, ltb-false}
-use Rattle.std.specs.Option.{ForSome}
+use Rattle.std.proofs.lemmas.Bool.{cond_both, cases_Bool, ltb-false}
 use Rattle.text_form.specs.Walking.{IsRun}
 
 -- a run with one byte more in front
@@ -52,13 +51,6 @@ run_before kind bytes =
     subst P (sym (cond_both (nat_lt place (length bytes)) (Some place) None (λ (o : Option ℕ). unwrap_or o (length bytes) ≡ at.len)
     (λ _. same)
     (λ isnt. let high : length bytes ≤ place = ltb-false place (length bytes) isnt in let low = at.within in omega arith))) at.run
-
--- the place of the first byte of no such kind lies in them
-pub position_in : (kind : ℕ → Bool) (bytes : List ℕ) → ForSome (position kind bytes) (λ n. n ≤ length bytes)
-position_in kind bytes =
-    cond_both (nat_lt (position_or_len kind bytes) (length bytes)) (Some (position_or_len kind bytes)) None (λ (o : Option ℕ). ForSome o (λ n. n ≤ length bytes))
-    (λ is. λ n some. let low = ltb-true (position_or_len kind bytes) (length bytes) is in let same : position_or_len kind bytes ≡ n = cc in omega arith)
-    (λ _. λ n none. absurd (cc))
 
 -- what is cut there
 pub cut_run : (kind : ℕ → Bool) (bytes : List ℕ) (place : Option ℕ) (len : ℕ) (front left : List ℕ) → place ≡ position (λ byte. not (kind byte)) bytes
