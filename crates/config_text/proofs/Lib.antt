@@ -1,0 +1,17 @@
+pub mod CollectingLemmas
+pub mod DecimalLemmas
+pub mod FindingLemmas
+pub mod JudgeLemmas
+pub mod KeptLemmas
+pub mod LookUpLemmas
+pub mod NumeralLemmas
+pub mod OneLemmas
+pub mod PassedLemmas
+pub mod PutLemmas
+pub mod QuotedLemmas
+pub mod RangeLemmas
+pub mod ReadLemmas
+pub mod WritableLemmas
+pub mod WrittenBlocks
+pub mod WrittenEntries
+pub mod WrittenLemmas

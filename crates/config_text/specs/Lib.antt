@@ -1,0 +1,16 @@
+pub mod Answers
+pub mod Blocks
+pub mod Collecting
+pub mod Collectors
+pub mod Configs
+pub mod Grammar
+pub mod Judging
+pub mod Kept
+pub mod Laws
+pub mod Looking
+pub mod Narrow
+pub mod Numerals
+pub mod Ranges
+pub mod Reasons
+pub mod Wanted
+pub mod Writing
