@@ -6,7 +6,6 @@ use Rattle.layout_tuner.specs.PageWords.{spot, chunks_of}
 use Rattle.layout_tuner.specs.Knows.{UserView, is_of, elsewhere, first_spots}
 use Rattle.layout_tuner.specs.Retiling.{Partitions}
 use Rattle.layout_tuner.proofs.Spots.{is_of-here}
-use Rattle.tune_run.specs.Turns.{IsFree}
 
 pub length-first_spots : (page n : ℕ) → length (first_spots page n) ≡ n
 length-first_spots page zero = refl
@@ -42,9 +41,9 @@ few_at (suc (suc (suc (suc zero)))) = omega arith
 few_at (suc (suc (suc (suc (suc k))))) = omega arith
 
 -- a user that had nothing has just the chunks of the page that it partitioned anew
-pub partitioned_claims : (page layout : ℕ) (old new : UserView) → IsFree old → Partitions page layout old new → new.claimed ≡ first_spots page (chunks_of layout)
-partitioned_claims page layout old new free one =
+pub partitioned_claims : (page layout : ℕ) (old new : UserView) → old.claimed ≡ [] → Partitions page layout old new → new.claimed ≡ first_spots page (chunks_of layout)
+partitioned_claims page layout old new none one =
     let few : chunks_of one.old_layout ≤ 14 = few_at (one.old_layout - 1) in
-    let before = one.wins.claimed ∙ ap (λ l. l ++ first_spots page (chunks_of one.old_layout)) free.claimed in
+    let before = one.wins.claimed ∙ ap (λ l. l ++ first_spots page (chunks_of one.old_layout)) none in
     ap (λ (v : UserView). v.claimed) one.new_is
     ∙ ap (λ l. l ++ first_spots page (chunks_of layout)) (ap (elsewhere page) before ∙ elsewhere-first_spots page (chunks_of one.old_layout) few)

@@ -7,6 +7,7 @@ ghost use Rattle.tune_run.specs.Turns.{IsFree, TakesTurns};
 
 use crate::counts::UserCounts;
 use crate::turns::tune_turns;
+use byte_io::traits::Gate;
 use layout_tuner::{CollectSeat, TuneSeat, TuneTable};
 use std::marker::Brand;
 use std::sync::ledger::{Blank, Ledger};
@@ -47,8 +48,8 @@ fn counted_turns<L: Ledger>(
     tune_turns(table, seat, user, turns, &mut steps)
 }
 
-/// The job of one user.
-fn play_user(table: &TuneTable, job: &mut UserJob, turns: u32)
+/// The job of one user. It passes the gate before its first turn.
+fn play_user<G: Gate>(gate: &G, table: &TuneTable, job: &mut UserJob, turns: u32)
     requires table { table.now.shape.pages ≡ 4 }
     requires ready { IsReady table.now job.old.seat.number job.old }
     requires some_turn { 1 ≤ turns }
@@ -56,11 +57,18 @@ fn play_user(table: &TuneTable, job: &mut UserJob, turns: u32)
     ensures { IsPlayed table.now turns job.old.seat.number job.new }
 {
     let user = job.seat.number + 1;
+    gate.pass(u16::from(user), 1);
     job.counts = counted_turns::<Brand>(table, &mut job.seat, user, turns, Blank::new(1));
 }
 
 /// The jobs of all users, each on a thread of its own.
-fn play_users<R: Threads + Sync>(rt: &R, table: &TuneTable, jobs: &mut [UserJob], turns: u32)
+fn play_users<R: Threads + Sync, G: Gate + Sync>(
+    rt: &R,
+    gate: &G,
+    table: &TuneTable,
+    jobs: &mut [UserJob],
+    turns: u32,
+)
     requires table { table.now.shape.pages ≡ 4 }
     requires some { 0 < length jobs.old }
     requires ready { AreReady table.now jobs.old }
@@ -79,13 +87,18 @@ fn play_users<R: Threads + Sync>(rt: &R, table: &TuneTable, jobs: &mut [UserJob]
         {
             // The place is the number of the job's seat.
             let _ = user;
-            play_user(table, job, turns)
+            play_user(gate, table, job, turns)
         },
     );
 }
 
-/// Rounds of the collector; answers how many chunks it took.
-fn collect_rounds(table: &TuneTable, collect: &mut CollectSeat, rounds: u32) -> u64
+/// Rounds of the collector, which passes the gate before each; answers how many chunks it took.
+fn collect_rounds<G: Gate>(
+    gate: &G,
+    table: &TuneTable,
+    collect: &mut CollectSeat,
+    rounds: u32,
+) -> u64
     requires table { table.now.shape.pages ≡ 4 }
     requires collect { Attends table.now collect.old }
     requires rounds { rounds ≤ MAX_TURNS }
@@ -94,15 +107,17 @@ fn collect_rounds(table: &TuneTable, collect: &mut CollectSeat, rounds: u32) -> 
     ensures collect { Attends table.now collect.new }
 {
     let mut taken = 0;
-    for _round in 0..rounds {
+    for round in 0..rounds {
+        gate.pass(0, u64::from(round) + 1);
         taken += u64::from(table.collect(collect));
     }
     taken
 }
 
 /// The users' jobs beside the collector's; answers how many chunks it took.
-pub(crate) fn run_beside<R: Threads + Sync>(
+pub(crate) fn run_beside<R: Threads + Sync, G: Gate + Sync>(
     rt: &R,
+    gate: &G,
     table: &TuneTable,
     collect: &mut CollectSeat,
     jobs: &mut [UserJob],
@@ -126,11 +141,11 @@ pub(crate) fn run_beside<R: Threads + Sync>(
             ensures taken { length (known_by_collector collect.exit.now).taken ≡ length (known_by_collector collect.entry.now).taken + result }
             ensures most { result ≤ 56 * turns }
             ensures collect { Attends table.entry.now collect.exit.now }
-        { collect_rounds(table, collect, turns) },
+        { collect_rounds(gate, table, collect, turns) },
         &mut ||
             requires { (table.now.shape.pages ≡ 4) × (0 < length jobs.now) × AreReady table.now jobs.now × (1 ≤ turns) × (turns ≤ MAX_TURNS) }
             ensures { ArePlayed table.entry.now turns jobs.exit.now }
-        { play_users(rt, table, jobs, turns) },
+        { play_users(rt, gate, table, jobs, turns) },
     );
     taken
 }

@@ -12,4 +12,4 @@ mod turns;
 
 pub use counts::{Deed, UserCounts};
 pub use run::{PAGES, TuneReport, run_tune};
-pub use turns::{MAX_TURNS, tune_turns};
+pub use turns::{MAX_TURNS, give_all, tune_turns};

@@ -9,6 +9,7 @@ ghost use Rattle.tune_run.specs.Told.{HaveTold, IsReport};
 
 use crate::counts::UserCounts;
 use crate::jobs::{UserJob, run_beside};
+use byte_io::traits::Gate;
 use layout_tuner::{CollectSeat, MAX_USERS, TuneSeat, TuneTable};
 use std::alloc::{AllocError, Global};
 use std::thread::Threads;
@@ -26,10 +27,12 @@ pub struct TuneReport {
 }
 
 /// So many users take so many turns each, on threads of their own, beside as many rounds of the
-/// collector, which collects once more when all are done. All that takes memory is made before the
+/// collector, which collects once more when all are done. Each job passes the gate before it begins,
+/// users by their numbers from 1 and the collector by 0. All that takes memory is made before the
 /// threads.
-pub fn run_tune<R: Threads + Sync>(
+pub fn run_tune<R: Threads + Sync, G: Gate + Sync>(
     rt: &R,
+    gate: &G,
     alloc: Global,
     users: u8,
     turns: u32,
@@ -47,7 +50,7 @@ pub fn run_tune<R: Threads + Sync>(
         seats: Vec::with_capacity(alloc, users as usize)?,
     };
     let mut jobs = new_jobs(alloc, &table, seats)?;
-    let taken = run_beside(rt, &table, &mut collect, jobs.as_mut_slice(), turns);
+    let taken = run_beside(rt, gate, &table, &mut collect, jobs.as_mut_slice(), turns);
     Ok(report(table, collect, jobs, turns, taken, room))
 }
 

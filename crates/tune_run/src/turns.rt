@@ -31,7 +31,12 @@ fn claim_turn<L: Ledger>(table: &TuneTable, seat: &mut TuneSeat, steps: &mut Ste
 }
 
 /// Gives back all chunks of a page that was partitioned anew, none of which was handed out.
-fn give_all<L: Ledger>(table: &TuneTable, seat: &mut TuneSeat, tile: TunePage, steps: &mut Steps<L>)
+pub fn give_all<L: Ledger>(
+    table: &TuneTable,
+    seat: &mut TuneSeat,
+    tile: TunePage,
+    steps: &mut Steps<L>,
+)
     requires seat { Sits table.now seat.old }
     requires page { tile.page < table.now.shape.pages }
     requires none { tile.handed ≡ 0 }

@@ -4,8 +4,8 @@ use Rattle.tune_run.proofs.jobs.collect_rounds.Given as goal
 
 -- the rounds so far
 abbrev pub invariant-loop-round : goal.invariant-loop-round
-invariant-loop-round l = record {
+invariant-loop-round t l = record {
   collect : Attends l.fn.table l.collect;
   taken : length (known_by_collector l.collect).taken ≡ length (known_by_collector l.fn.collect).taken + l.taken;
-  most : l.taken ≤ 56 * l._round;
+  most : l.taken ≤ 56 * l.round;
 }
