@@ -15,12 +15,15 @@ pub record Collected : Type 0 where
   pub level : Level
   pub skipped : ℕ
 
+-- before the first field
 unfoldable pub nothing_collected : Collected
 nothing_collected = record { blocks = []; level = AtTop; skipped = 0 }
 
+-- these blocks have ended, and the next field stands there
 unfoldable pub at_level : List Block → Level → Collected
 at_level blocks level = record { blocks = blocks; level = level; skipped = 0 }
 
+-- the same within so many blocks that are skipped
 unfoldable pub skipping : List Block → Level → ℕ → Collected
 skipping blocks level skipped = record { blocks = blocks; level = level; skipped = skipped }
 
@@ -60,6 +63,7 @@ item_skipped blocks level skipped (Single line name value) = skipping blocks lev
 item_skipped blocks level skipped (Begin line name) = skipping blocks level (suc (suc skipped))
 item_skipped blocks level skipped End = skipping blocks level skipped
 
+-- an item, wherever it stands
 unfoldable pub item_in : List Block → Level → ℕ → Item → Collected
 item_in blocks level zero item = item_seen blocks level item
 item_in blocks level (suc skipped) item = item_skipped blocks level skipped item
@@ -68,6 +72,7 @@ item_in blocks level (suc skipped) item = item_skipped blocks level skipped item
 unfoldable pub collected_item : Collected → Item → Collected
 collected_item collected item = item_in collected.blocks collected.level collected.skipped item
 
+-- with all items of a text, one after another
 abbrev pub collected_all : Collected → List Item → Collected
 collected_all collected [] = collected
 collected_all collected (item ∷ items) = collected_all (collected_item collected item) items

@@ -19,6 +19,7 @@ use Rattle.config_text.specs.Reasons.{buffers_said, producers_said, sources_said
 unfoldable pub buffer_of : BufferSaid → ConfigBuffer
 buffer_of said = record { size_kb = value (unwrap_or said.size_kb (Fits 0)); policy = said.policy }
 
+-- a producer, with its numbers as they are
 unfoldable pub producer_of : ProducerSaid → ConfigProducer
 producer_of said = record { name = said.name; shm_size_kb = value said.shm_size_kb; page_size_kb = value said.page_size_kb }
 
@@ -26,6 +27,7 @@ producer_of said = record { name = said.name; shm_size_kb = value said.shm_size_
 unfoldable pub source_of : List ProducerSaid → SourceSaid → ConfigSource
 source_of producers said = record { name = said.name; target_buffer = value said.target; producer = producer_place producers said.filters + 1 }
 
+-- the configuration of these blocks: buffers, producers and sources, each in the order of their blocks
 unfoldable pub config_in : List Block → ConfigOf
 config_in blocks = record {
   buffers = map buffer_of (buffers_said blocks);

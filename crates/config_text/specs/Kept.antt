@@ -16,6 +16,7 @@ use Rattle.config_text.specs.Collecting.{Level, AtTop, InBlock, InConfig}
 abbrev pub texts : List (Bor (List ℕ)) → List (List ℕ)
 texts parts = map (λ part. part.now) parts
 
+-- a producer
 abbrev pub producer_kept : KeptProducer → ProducerSaid
 producer_kept producer = record { name = producer.name.now; shm_size_kb = producer.shm_size_kb; page_size_kb = producer.page_size_kb }
 
@@ -23,17 +24,21 @@ producer_kept producer = record { name = producer.name.now; shm_size_kb = produc
 abbrev pub source_kept : List (Bor (List ℕ)) → KeptSource → SourceSaid
 source_kept entries source = record { name = source.name.now; target = source.target; filters = texts (slice_range entries source.from source.to) }
 
+-- what a block says
 abbrev pub what_kept : List (Bor (List ℕ)) → KeptWhat → What
 what_kept entries (kept.Buffer said) = Buffer said
 what_kept entries (kept.Producer producer) = Producer (producer_kept producer)
 what_kept entries (kept.Source source) = Source (source_kept entries source)
 
+-- a block
 abbrev pub block_kept : List (Bor (List ℕ)) → KeptBlock → Block
 block_kept entries block = record { line = block.line; fits = block.fits; what = what_kept entries block.what }
 
+-- all blocks that have ended
 abbrev pub blocks_kept : List (Bor (List ℕ)) → List KeptBlock → List Block
 blocks_kept entries blocks = map (block_kept entries) blocks
 
+-- where the next field stands
 abbrev pub level_kept : List (Bor (List ℕ)) → KeptLevel → Level
 level_kept entries levels.Top = AtTop
 level_kept entries (levels.Block block) = InBlock (block_kept entries block)

@@ -4,5 +4,6 @@ use Rattle.config_text.specs.declared.look_ups.LookUps.{LookUps}
 use Rattle.config_text.specs.Kept.{producer_kept}
 use Rattle.config_text.specs.Reasons.{Known}
 
+-- what look-ups of sources are made by
 abbrev pub known_of : LookUps → Known
 known_of look = record { sizes = look.sizes.items; producers = map producer_kept look.producers.items; fit = look.fit }

@@ -25,6 +25,7 @@ policy_end policy = policy_word policy ++ codes " }\n"
 unfoldable pub numbered : List ℕ → ℕ → List ℕ → List ℕ
 numbered before number behind = before ++ (decimal number ++ behind)
 
+-- the line of a buffer
 abbrev pub buffer_line : ConfigBuffer → List ℕ
 buffer_line buffer = numbered (codes "buffers { size_kb: ") buffer.size_kb (codes " fill_policy: ") ++ policy_end buffer.policy
 
@@ -37,6 +38,7 @@ producer_rest producer =
 unfoldable pub producer_head : List ℕ
 producer_head = codes "producers { producer_name: \""
 
+-- the line of a producer
 abbrev pub producer_line : ConfigProducer → List ℕ
 producer_line producer = producer_head ++ (producer.name ++ producer_rest producer)
 
@@ -56,10 +58,12 @@ source_middle source = numbered (codes "\" target_buffer: ") source.target_buffe
 unfoldable pub source_head : List ℕ
 source_head = codes "data_sources { config { name: \""
 
+-- the line of a source, which names its producer by its filter
 abbrev pub source_line : List ConfigProducer → ConfigSource → List ℕ
 source_line producers source =
     source_head ++ (source.name ++ (source_middle source ++ (name_of producers source.producer ++ codes "\" }\n")))
 
+-- all lines: buffers, producers, sources
 abbrev pub written_config : ConfigOf → List ℕ
 written_config config =
     flat_map buffer_line config.buffers ++ (flat_map producer_line config.producers ++ flat_map (source_line config.producers) config.sources)
@@ -70,6 +74,7 @@ written_config config =
 abbrev pub IsQuotable : List ℕ → Type 0
 IsQuotable name = AreAll is_text_byte name
 
+-- the size is one that a buffer may have
 abbrev pub IsBuffer : ConfigBuffer → Type 0
 IsBuffer buffer = (MIN_BUFFER_KB ≤ buffer.size_kb) × (buffer.size_kb ≤ MAX_BUFFER_KB)
 
