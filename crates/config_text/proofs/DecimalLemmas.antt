@@ -3,7 +3,6 @@ use Rattle.std.proofs.Common.{◌≡◌, ℕ, ◌+◌, ◌-◌, ◌*◌, ◌/◌
 use Rattle.std.specs.Char.{is_ascii_digit}
 use Rattle.std.specs.Fmt.{decimal}
 use Rattle.std.specs.Prelude.{nat_le, ◌||◌}
-use Rattle.std.specs.List.{AllByRecursion}
 use Rattle.std.proofs.lemmas.Bool.{lt-ltb, ne_eqb, le-leb, and_from, or_left, or_right}
 use Rattle.text_form.specs.Bytes.{is_name_start, is_digit, is_name_byte, is_word_byte, AreAll}
 use Rattle.text_form.specs.Grammar.{IsWord}

@@ -1,23 +1,20 @@
 -- The first block that is refused, block by block.
-use Rattle.std.proofs.Common.{◌≡◌, ◌∙◌, ℕ, ◌+◌, ◌<◌, ◌≤◌, Bool, true, false, ◌&&◌, List, [], ◌∷◌, ◌++◌, length, take, drop, get_or, map, Option, Some, None, refl, sym, ap, subst, arith, length-append}
+use Rattle.std.proofs.Common.{◌≡◌, ◌∙◌, ℕ, ◌+◌, ◌<◌, ◌≤◌, Bool, true, false, List, [], ◌∷◌, ◌++◌, length, take, drop, get_or, map, Option, Some, None, refl, sym, ap, arith, length-append}
 use Rattle.std.specs.Prelude.{slice_get, option_map}
 use Rattle.std.specs.Borrow.{Bor}
-use Rattle.std.specs.List.{filter_map}
-use Rattle.std.proofs.lemmas.List.{map_more, drop_more, drop_all, append-nil}
+use Rattle.std.proofs.lemmas.List.{map_more, drop_more, drop_all}
 use Rattle.std.proofs.lemmas.Option.{slice_get-map}
 use Rattle.config_text.specs.declared.judging.Counts.{Counts}
 use Rattle.config_text.specs.declared.kept.KeptProducer.{KeptProducer}
 use Rattle.config_text.specs.declared.kept.KeptBlock.{KeptBlock}
 use Rattle.config_text.specs.declared.kept.KeptWhat.{KeptWhat}
 use Rattle.config_text.specs.declared.kept.KeptWhat.TheVariants as kept
-use Rattle.config_text.specs.declared.numeral.Numeral.{Numeral}
 use Rattle.config_text.specs.declared.reason.ConfigReason.{ConfigReason}
 use Rattle.config_text.specs.declared.reason.ConfigReason.TheVariants.{WrongKind}
-use Rattle.config_text.specs.Blocks.{Block, What, ProducerSaid, begun}
+use Rattle.config_text.specs.Blocks.{Block, begun}
 use Rattle.config_text.specs.Judging.{HasCounts, counts_with}
-use Rattle.config_text.specs.Kept.{texts, producer_kept, source_kept, what_kept, block_kept, blocks_kept}
-use Rattle.config_text.specs.Looking.{known_of}
-use Rattle.config_text.specs.Reasons.{Known, producer_of, producer_place, is_larger_for, refusal_of, or_later, first_refusal, buffer_in, producer_in, source_in, buffers_said, producers_said, sources_said}
+use Rattle.config_text.specs.Kept.{producer_kept, source_kept, what_kept, block_kept, blocks_kept}
+use Rattle.config_text.specs.Reasons.{Known, refusal_of, or_later, first_refusal, buffer_in, producer_in, source_in, buffers_said, producers_said, sources_said}
 use Rattle.config_text.proofs.LookUpLemmas.{more_some, more_none}
 
 -- a block with a field that hasn't its kind

@@ -1,9 +1,8 @@
 -- A block that is kept says the same where more entries stand behind those that there were.
-use Rattle.std.proofs.Common.{◌≡◌, ◌∙◌, ℕ, ◌+◌, ◌-◌, ◌<◌, ◌≤◌, List, [], ◌∷◌, ◌++◌, length, take, drop, map, refl, sym, ap, subst, arith, length-append, length-drop}
+use Rattle.std.proofs.Common.{◌≡◌, ◌∙◌, ℕ, ◌+◌, ◌-◌, ◌≤◌, List, [], ◌∷◌, ◌++◌, length, take, drop, refl, sym, ap, subst, arith, length-append, length-drop}
 use Rattle.std.specs.Prelude.{slice_range, Option, Some, None, option_map, IfSome, IfNone, codes, true}
 use Rattle.text_form.specs.Entries.{Value}
 use Rattle.std.specs.Borrow.{Bor}
-use Rattle.std.specs.List.{All}
 use Rattle.std.proofs.lemmas.List.{take-append-le, drop-append-le, take_all, take_rest, map_push}
 use Rattle.std.proofs.lemmas.List.Elements.{All-head, All-tail, All-weaker, All-push}
 use Rattle.config_text.specs.declared.kept.KeptSource.{KeptSource}

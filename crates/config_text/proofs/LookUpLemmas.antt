@@ -1,5 +1,5 @@
 -- What is known of a text, block by block.
-use Rattle.std.proofs.Common.{◌≡◌, ◌∙◌, ℕ, ◌+◌, ◌<◌, ◌≤◌, ◌==◌, Bool, true, false, ◌&&◌, List, [], ◌∷◌, ◌++◌, length, take, get_or, map, Option, Some, None, refl, sym, ap, subst, arith}
+use Rattle.std.proofs.Common.{◌≡◌, ◌∙◌, ℕ, ◌+◌, ◌<◌, ◌≤◌, ◌==◌, Bool, true, false, ◌&&◌, List, [], ◌∷◌, ◌++◌, length, take, get_or, map, Option, Some, None, refl, sym, ap, subst}
 use Rattle.std.specs.Borrow.{Bor}
 use Rattle.std.specs.List.{filter_map, list_all}
 use Rattle.std.proofs.lemmas.List.{map_more, take_all, append-nil, map-append}
@@ -7,15 +7,12 @@ use Rattle.std.proofs.lemmas.List.Elements.{filter_map-append}
 use Rattle.std.proofs.lemmas.List.Folds.{list_all-append}
 use Rattle.std.proofs.lemmas.Bool.{both_ways}
 use Rattle.trace_base.proofs.Choices.{more_isnt_none}
-use Rattle.config_text.specs.declared.kept.BufferSaid.{BufferSaid}
 use Rattle.config_text.specs.declared.kept.KeptProducer.{KeptProducer}
-use Rattle.config_text.specs.declared.kept.KeptSource.{KeptSource}
 use Rattle.config_text.specs.declared.kept.KeptBlock.{KeptBlock}
-use Rattle.config_text.specs.declared.kept.KeptWhat.TheVariants as kept
 use Rattle.config_text.specs.declared.numeral.Numeral.{Numeral}
 use Rattle.config_text.specs.Blocks.{Block, ProducerSaid, no_producer}
-use Rattle.config_text.specs.Kept.{producer_kept, what_kept, block_kept, blocks_kept}
-use Rattle.config_text.specs.Reasons.{Known, counted_size, size_in, sizes_in, producer_in, producers_said, is_fit_producer, or_default, known_in}
+use Rattle.config_text.specs.Kept.{producer_kept, block_kept, blocks_kept}
+use Rattle.config_text.specs.Reasons.{sizes_in, producers_said, is_fit_producer, or_default, known_in}
 
 and_all : (b : Bool) → (b && true) ≡ b
 and_all true = refl

@@ -1,8 +1,7 @@
 -- A text has one answer.
-use Rattle.std.proofs.Common.{◌≡◌, ◌∙◌, ℕ, List, Ok, Err, Result, refl, sym, ap, inl, inr}
+use Rattle.std.proofs.Common.{◌≡◌, ◌∙◌, ℕ, List, Ok, Err, Result, sym, ap, inl, inr}
 use Rattle.text_form.specs.Entries.{Item, Entries, items_of}
 use Rattle.text_form.specs.Grammar.{IsTextOf}
-use Rattle.text_form.specs.Machine.{items_or_line}
 use Rattle.text_form.proofs.Readings.{fields_are_read, bad_lines_are_found, items_tell_the_fields}
 use Rattle.config_text.specs.declared.reason.ConfigReason.{ConfigReason}
 use Rattle.config_text.specs.Blocks.{blocks_of}

@@ -1,5 +1,5 @@
 -- What holds of blocks of which none is refused.
-use Rattle.std.proofs.Common.{◌≡◌, ◌∙◌, ℕ, zero, suc, ◌+◌, ◌-◌, ◌*◌, ◌/◌, ◌%◌, ◌<◌, ◌≤◌, ◌==◌, nat_lt, nat_le, Bool, true, false, cond, not, ◌&&◌, List, [], ◌∷◌, ◌++◌, length, map, Option, Some, None, refl, sym, ap, subst, arith, append_assoc, length-append}
+use Rattle.std.proofs.Common.{◌≡◌, ◌∙◌, ℕ, zero, suc, ◌+◌, ◌/◌, ◌%◌, ◌<◌, ◌≤◌, ◌==◌, Bool, true, false, not, List, [], ◌∷◌, ◌++◌, length, map, Option, Some, None, refl, sym, ap, subst, arith, append_assoc, length-append}
 use Rattle.std.specs.Prelude.{slice_get, unwrap_or, is_none, position}
 use Rattle.std.specs.List.{filter_map, cons_option}
 use Rattle.std.proofs.lemmas.Nat.{mul-le}
@@ -8,12 +8,11 @@ use Rattle.trace_base.specs.declared.policy.FullPolicy.{FullPolicy}
 use Rattle.config_text.specs.declared.config.ConfigBuffer.{ConfigBuffer}
 use Rattle.config_text.specs.declared.config.ConfigProducer.{ConfigProducer}
 use Rattle.config_text.specs.declared.config.ConfigSource.{ConfigSource}
-use Rattle.std.proofs.lemmas.Bool.{and_parts, leb-true, leb-false, eqb-true, lt-ltb, not-false, not-true}
+use Rattle.std.proofs.lemmas.Bool.{and_parts, leb-false, eqb-true, lt-ltb, not-false}
 use Rattle.std.proofs.lemmas.List.{append-nil}
 use Rattle.std.proofs.lemmas.List.Elements.{filter_map-append}
 use Rattle.std.proofs.lemmas.List.Quantifiers.{position-Some}
-use Rattle.std.proofs.lemmas.Option.{slice_get_within}
-use Rattle.trace_base.specs.declared.limits.TheConstants.{MAX_BUFFERS, MAX_BUFFER_KB, MAX_PAGES, MAX_PRODUCERS, MAX_WRITERS, MIN_BUFFER_KB}
+use Rattle.trace_base.specs.declared.limits.TheConstants.{MAX_BUFFERS, MAX_BUFFER_KB, MAX_PAGES, MAX_PRODUCERS, MIN_BUFFER_KB}
 use Rattle.config_text.specs.declared.kept.BufferSaid.{BufferSaid}
 use Rattle.config_text.specs.declared.numeral.Numeral.{Numeral}
 use Rattle.config_text.specs.declared.numeral.Numeral.TheVariants.{Fits, TooLarge}
@@ -21,7 +20,6 @@ use Rattle.config_text.specs.declared.reason.ConfigReason.{ConfigReason}
 use Rattle.config_text.specs.declared.reason.ConfigReason.TheVariants as reasons
 use Rattle.config_text.specs.Ranges.{is_between, is_within, is_page_kb, is_whole_pages, is_shared_memory, value}
 use Rattle.config_text.specs.Blocks.{Block, What, Buffer, Producer, Source, ProducerSaid, SourceSaid, no_producer}
-use Rattle.config_text.specs.Configs.{ConfigOf}
 use Rattle.config_text.specs.Reasons.{Known, buffer_in, producer_in, source_in, buffers_said, producers_said, sources_said, size_in, sizes_in, or_default, known_in, lacks_size, is_size_out, is_out_of_range, is_too_many, lacks_buffer, item_at, is_named, producer_place, has_larger_chunks, when, first, refusal_of, or_later, first_refusal}
 use Rattle.config_text.specs.Grammar.{buffer_of, producer_of, source_of, config_in}
 use Rattle.config_text.specs.Narrow.{narrow, narrow_place, buffer_of as narrow_buffer, producer_of as narrow_producer, source_of as narrow_source, config_known}

@@ -1,6 +1,6 @@
 -- What a sink has taken while the lines of a configuration are written in turn.
-use Rattle.std.proofs.Common.{◌≡◌, ◌∙◌, ℕ, ◌+◌, ◌-◌, ◌<◌, ◌≤◌, List, [], ◌∷◌, ◌++◌, length, take, drop, get_or, Option, Some, refl, sym, ap, subst, arith, append_assoc}
-use Rattle.std.specs.Prelude.{slice_get, unwrap_or, option_map}
+use Rattle.std.proofs.Common.{◌≡◌, ◌∙◌, ℕ, ◌+◌, ◌-◌, ◌<◌, List, [], ◌++◌, length, take, drop, get_or, Option, refl, sym, ap, subst, arith}
+use Rattle.std.specs.Prelude.{unwrap_or, option_map}
 use Rattle.std.specs.List.{All, flat_map}
 use Rattle.std.proofs.lemmas.List.{take_more, take-append-drop, flat_map_more}
 use Rattle.std.proofs.lemmas.Grind.{flat_map-append}
@@ -8,9 +8,8 @@ use Rattle.std.proofs.lemmas.Option.{slice_get_read, slice_get_within}
 use Rattle.byte_io.specs.Bytes.{Intake, after_told, TakesPart}
 use Rattle.byte_io.proofs.Told.{after_told_again, part_first, part_second}
 use Rattle.config_text.specs.declared.config.ConfigProducer.{ConfigProducer}
-use Rattle.config_text.specs.declared.config.ConfigSource.{ConfigSource}
 use Rattle.config_text.specs.Configs.{ConfigOf}
-use Rattle.config_text.specs.Writing.{name_of, HasNumber, IsSource, IsWritable}
+use Rattle.config_text.specs.Writing.{name_of, HasNumber, IsWritable}
 
 -- the lines up to one, and that one
 front : {T : Type 0} (line : T → List ℕ) (xs : List T) (i : ℕ) (d : T) → i < length xs

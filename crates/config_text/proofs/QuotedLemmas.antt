@@ -1,13 +1,9 @@
 -- Names that a text says have bytes of a text in quotes alone.
-use Rattle.std.proofs.Common.{◌≡◌, ℕ, Bool, true, false, cond, List, [], ◌∷◌, ◌++◌, Option, Some, None, refl, sym, ap, subst}
+use Rattle.std.proofs.Common.{◌≡◌, ℕ, Bool, true, false, cond, List, [], ◌∷◌, ◌++◌, Option, Some, None, refl, subst}
 use Rattle.std.specs.Prelude.{IfSome, option_map, codes}
-use Rattle.std.specs.List.{filter_map, cons_option}
 use Rattle.std.proofs.lemmas.Bool.{cond_both}
-use Rattle.text_form.specs.Bytes.{is_text_byte, AreAll}
 use Rattle.text_form.specs.Entries.{Value, Word, Text, Entries, NoEntries, ValueEntry, BlockEntry}
 use Rattle.text_form.specs.Grammar.{Spot, StandsValue, Fields, NoField, ValueField, BlockField, IsTextOf}
-use Rattle.config_text.specs.declared.kept.BufferSaid.{BufferSaid}
-use Rattle.config_text.specs.declared.numeral.Numeral.{Numeral}
 use Rattle.config_text.specs.Blocks.{Block, What, Buffer, Producer, Source, ProducerSaid, SourceSaid, is, kind_of, begun, unfit, saying, what_with, what_with_config, with_value, with_config_value, with_block, with_config_block, wants_value, config_wants_value, opens_config, buffer_with, producer_with, source_with, config_with, number_in, text_in, with_producer_name, with_shm_size, with_page_size, with_filter, with_source_name, with_target, no_buffer, no_producer, no_source, config_said, block_said, value_block, top_block, blocks_of}
 use Rattle.config_text.specs.Writing.{IsQuotable}
 use Rattle.config_text.proofs.WrittenEntries.{Each}

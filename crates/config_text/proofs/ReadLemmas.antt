@@ -1,19 +1,18 @@
 -- What is read of a text is what it spells.
-use Rattle.std.proofs.Common.{◌≡◌, ◌∙◌, ℕ, List, [], ◌∷◌, Option, Some, None, Result, Ok, Err, refl, sym, ap, subst, inl, inr}
-use Rattle.text_form.specs.Entries.{Item, Entries, items_of}
+use Rattle.std.proofs.Common.{◌≡◌, ◌∙◌, ℕ, List, [], Option, Some, None, Result, Ok, Err, refl, sym, ap, subst, inl, inr}
+use Rattle.text_form.specs.Entries.{Item, Entries}
 use Rattle.text_form.specs.Grammar.{IsTextOf, IsBadAt}
-use Rattle.text_form.specs.Laws.{Says, Means}
+use Rattle.text_form.specs.Laws.{Means}
 use Rattle.text_form.specs.Machine.{items_or_line, with_item}
 use Rattle.text_form.proofs.Readings.{texts_are_read}
 use Rattle.config_text.specs.declared.reason.ConfigFault.{ConfigFault}
 use Rattle.config_text.specs.declared.reason.ConfigFault.TheVariants.{OutOfMemory, BadConfig}
 use Rattle.config_text.specs.declared.reason.ConfigReason.{ConfigReason}
-use Rattle.config_text.specs.declared.reason.ConfigReason.TheVariants.{BadText}
 use Rattle.config_text.specs.Blocks.{Block, ProducerSaid, blocks_of}
 use Rattle.config_text.specs.Collecting.{Collected, nothing_collected, collected_item, collected_all}
 use Rattle.config_text.specs.Configs.{ConfigOf}
 use Rattle.config_text.specs.Reasons.{Known, known_in, or_default, producers_said, first_refusal}
-use Rattle.config_text.specs.Grammar.{config_in, unless, judged, SpellsConfig, IsRefused, IsNoText, IsFaulty}
+use Rattle.config_text.specs.Grammar.{config_in, unless, judged, SpellsConfig}
 use Rattle.config_text.specs.Answers.{collected_items, Collects, GivesConfig}
 use Rattle.config_text.specs.Judging.{Judges}
 use Rattle.config_text.specs.Writing.{IsWritable}

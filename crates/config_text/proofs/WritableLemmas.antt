@@ -9,25 +9,22 @@ use Rattle.std.proofs.lemmas.List.Elements.{All-nil, All-cons}
 use Rattle.std.proofs.lemmas.List.Quantifiers.{position-Some}
 use Rattle.std.proofs.lemmas.Option.{slice_get-map, slice_get_within, get_or_from_slice_get}
 use Rattle.std.proofs.Math.Nat.{div-add-mod}
-use Rattle.trace_base.specs.declared.limits.TheConstants.{BYTES_PER_KB, MAX_BUFFERS, MAX_CHUNKS_PER_PAGE, MAX_PAGES, MAX_PRODUCERS, MAX_WRITERS}
+use Rattle.trace_base.specs.declared.limits.TheConstants.{BYTES_PER_KB, MAX_CHUNKS_PER_PAGE, MAX_PAGES, MAX_WRITERS}
 use Rattle.trace_base.proofs.Lists.{some_there}
 use Rattle.page_geometry.specs.Sizes.{payload_size, record_size}
-use Rattle.config_text.specs.declared.config.ConfigBuffer.{ConfigBuffer}
 use Rattle.config_text.specs.declared.config.ConfigProducer.{ConfigProducer}
-use Rattle.config_text.specs.declared.config.ConfigSource.{ConfigSource}
 use Rattle.config_text.specs.declared.kept.BufferSaid.{BufferSaid}
 use Rattle.config_text.specs.declared.numeral.Numeral.{Numeral}
 use Rattle.config_text.specs.declared.numeral.Numeral.TheVariants.{Fits}
 use Rattle.config_text.specs.Ranges.{is_between, is_page_kb, is_whole_pages, is_shared_memory, value}
 use Rattle.config_text.specs.Blocks.{Block, What, Buffer, Producer, Source, ProducerSaid, SourceSaid, no_producer}
-use Rattle.config_text.specs.Configs.{ConfigOf}
 use Rattle.config_text.specs.Reasons.{Known, producer_of as known_producer, buffer_in, producer_in, source_in, buffers_said, producers_said, sources_said, size_in, counted_size, sizes_in, or_default, known_in, is_fit_producer, is_too_many, lacks_buffer, item_at, is_named, producer_place, is_larger, is_larger_for, has_larger_chunks, first_refusal}
 use Rattle.config_text.specs.Grammar.{buffer_of, producer_of, source_of, config_in}
 use Rattle.config_text.specs.Writing.{IsQuotable, IsBuffer, IsProducer, IsSource, IsWritable}
 use Rattle.config_text.proofs.RangeLemmas.{between_means, page_means}
 use Rattle.config_text.proofs.WrittenEntries.{Each}
 use Rattle.config_text.proofs.QuotedLemmas.{IsNamed, NamedBlock}
-use Rattle.config_text.proofs.PassedLemmas.{IsPassed, ArePassed, all_passed, cons_each, each_said, few_said, IsSized, buffers_sized, buffers_few, IsPaged, paged_by, producers_paged, producers_few, HasTarget, source_by, as_many_sizes, place_inside, some_default}
+use Rattle.config_text.proofs.PassedLemmas.{ArePassed, all_passed, cons_each, each_said, few_said, IsSized, buffers_sized, buffers_few, IsPaged, producers_paged, producers_few, HasTarget, source_by, as_many_sizes, place_inside, some_default}
 
 -- ---- each of a list
 

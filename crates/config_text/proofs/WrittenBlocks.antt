@@ -1,12 +1,11 @@
 -- The blocks that the lines of a configuration say, none of which is refused.
-use Rattle.std.proofs.Common.{◌≡◌, ◌∙◌, ℕ, zero, suc, ◌+◌, ◌-◌, ◌*◌, ◌/◌, ◌%◌, ◌^◌, ◌<◌, ◌≤◌, ◌==◌, nat_lt, nat_le, Bool, true, false, not, ◌&&◌, ◌||◌, List, [], ◌∷◌, ◌++◌, length, get_or, map, Option, Some, None, refl, sym, ap, subst, arith, append_assoc, length-append}
+use Rattle.std.proofs.Common.{◌≡◌, ◌∙◌, ℕ, suc, ◌+◌, ◌-◌, ◌*◌, ◌/◌, ◌%◌, ◌^◌, ◌<◌, ◌≤◌, ◌==◌, nat_lt, nat_le, Bool, true, false, not, ◌&&◌, ◌||◌, List, [], ◌∷◌, ◌++◌, length, get_or, map, Option, Some, None, refl, sym, ap, subst, arith, append_assoc}
 use Rattle.std.specs.Prelude.{codes, decimal, slice_get, option_map, unwrap_or, ◌≢◌}
-use Rattle.std.specs.List.{filter_map, list_all, list_any}
+use Rattle.std.specs.List.{filter_map, list_all}
 use Rattle.std.specs.Str.{bytes_eq}
 use Rattle.std.proofs.lemmas.Bool.{and_from, and_right, le-leb, lt-leb, le-ltb, eq-eqb, not_from_true, false_from_ne_true}
 use Rattle.std.proofs.lemmas.List.{append-nil, get_or-map, length-map}
 use Rattle.std.proofs.lemmas.List.Elements.{filter_map-append}
-use Rattle.std.proofs.lemmas.List.Folds.{list_all-append}
 use Rattle.std.proofs.lemmas.Option.{slice_get-map, slice_get_within, get_or_from_slice_get}
 use Rattle.std.proofs.lemmas.Slice.Eq.{bytes_eq-Decides}
 use Rattle.std.proofs.Math.Nat.{mul-mod_left, mul-div_cancel}
@@ -15,19 +14,17 @@ use Rattle.trace_base.specs.declared.policy.FullPolicy.{FullPolicy}
 use Rattle.trace_base.specs.declared.policy.FullPolicy.TheVariants.{Ring, Discard}
 use Rattle.trace_base.proofs.Choices.{more_isnt_none}
 use Rattle.page_geometry.specs.Sizes.{payload_size, record_size}
-use Rattle.text_form.specs.Entries.{Word, Entries, NoEntries, ValueEntry, BlockEntry}
+use Rattle.text_form.specs.Entries.{Word, Entries, NoEntries, ValueEntry}
 use Rattle.config_text.specs.declared.config.ConfigBuffer.{ConfigBuffer}
 use Rattle.config_text.specs.declared.config.ConfigProducer.{ConfigProducer}
 use Rattle.config_text.specs.declared.config.ConfigSource.{ConfigSource}
 use Rattle.config_text.specs.declared.kept.BufferSaid.{BufferSaid}
-use Rattle.config_text.specs.declared.numeral.Numeral.{Numeral}
 use Rattle.config_text.specs.declared.numeral.Numeral.TheVariants.{Fits}
-use Rattle.config_text.specs.declared.reason.ConfigReason.{ConfigReason}
 use Rattle.config_text.specs.Numerals.{numeral_of}
-use Rattle.config_text.specs.Ranges.{is_between, is_within, is_page_kb, is_whole_pages, is_shared_memory, value}
-use Rattle.config_text.specs.Blocks.{Block, What, Buffer, Producer, Source, ProducerSaid, SourceSaid, kind_of, begun, top_block, block_said, config_said, blocks_of, with_value, with_config_value, saying, what_with, what_with_config, buffer_with, producer_with, source_with, config_with, number_in, text_in, policy_in, policy_of, with_size, with_policy, with_producer_name, with_shm_size, with_page_size, with_filter, with_source_name, with_target, no_buffer, no_producer, no_source, opens_config}
+use Rattle.config_text.specs.Ranges.{is_between, is_within, is_page_kb, is_whole_pages, is_shared_memory}
+use Rattle.config_text.specs.Blocks.{Block, Buffer, Producer, Source, ProducerSaid, SourceSaid, kind_of, begun, top_block, blocks_of, with_value, with_config_value, saying, what_with, what_with_config, buffer_with, producer_with, source_with, config_with, number_in, text_in, policy_in, policy_of, with_size, with_policy, with_producer_name, with_shm_size, with_page_size, with_filter, with_source_name, with_target, no_buffer, no_producer, no_source, opens_config}
 use Rattle.config_text.specs.Configs.{ConfigOf}
-use Rattle.config_text.specs.Reasons.{Known, buffer_in, producer_in, source_in, buffers_said, producers_said, sources_said, size_in, counted_size, sizes_in, is_fit_producer, or_default, known_in, lacks_size, is_size_out, is_out_of_range, is_too_many, lacks_buffer, item_at, is_named, producer_place, producer_of, is_larger, is_larger_for, has_larger_chunks, refusal_of, or_later, first_refusal}
+use Rattle.config_text.specs.Reasons.{Known, buffers_said, producers_said, sources_said, lacks_size, is_size_out, is_out_of_range, is_too_many, lacks_buffer, item_at, is_named, producer_place, producer_of, is_larger, is_larger_for, has_larger_chunks, refusal_of, or_later, first_refusal}
 use Rattle.config_text.specs.Writing.{policy_word, name_of, IsBuffer, IsProducer, IsSource}
 use Rattle.config_text.proofs.DecimalLemmas.{numeral_read}
 use Rattle.config_text.proofs.FindingLemmas.{place_found, place_none}

@@ -1,17 +1,16 @@
 -- The fields that the lines of a configuration spell.
-use Rattle.std.proofs.Common.{◌≡◌, ◌∙◌, ℕ, suc, ◌<◌, ◌^◌, Bool, true, false, ◌&&◌, ◌||◌, List, [], ◌∷◌, ◌++◌, length, refl, sym, ap, subst, arith, append_assoc, inl}
+use Rattle.std.proofs.Common.{◌≡◌, ◌∙◌, ℕ, suc, ◌<◌, ◌^◌, Bool, true, false, ◌&&◌, List, [], ◌∷◌, ◌++◌, refl, sym, ap, subst, append_assoc}
 use Rattle.std.specs.Prelude.{codes, decimal}
 use Rattle.std.specs.List.{flat_map, list_all}
 use Rattle.std.proofs.lemmas.Bool.{and_parts}
 use Rattle.trace_base.specs.declared.policy.FullPolicy.{FullPolicy}
 use Rattle.trace_base.specs.declared.policy.FullPolicy.TheVariants.{Ring, Discard}
-use Rattle.text_form.specs.Bytes.{is_name_start, is_name_byte, is_word_byte, is_text_byte, AreAll}
+use Rattle.text_form.specs.Bytes.{is_name_start, is_name_byte, is_word_byte, AreAll}
 use Rattle.text_form.specs.Entries.{Value, Word, Text, Entries, NoEntries, ValueEntry, BlockEntry}
-use Rattle.text_form.specs.Grammar.{Spot, spot, Stands, Gap, NoGap, Blank, Lead, Plain, IsName, IsWord, EndsRun, StandsName, StandsValue, StandsBehindGap, Opens, Brace, Fields, NoField, ValueField, BlockField, IsTextOf}
+use Rattle.text_form.specs.Grammar.{Spot, spot, Stands, Gap, NoGap, Blank, Plain, IsName, IsWord, StandsValue, Brace, Fields, NoField, ValueField, BlockField}
 use Rattle.config_text.specs.declared.config.ConfigBuffer.{ConfigBuffer}
 use Rattle.config_text.specs.declared.config.ConfigProducer.{ConfigProducer}
 use Rattle.config_text.specs.declared.config.ConfigSource.{ConfigSource}
-use Rattle.config_text.specs.Configs.{ConfigOf}
 use Rattle.config_text.specs.Writing.{policy_word, policy_end, buffer_line, producer_rest, producer_line, name_of, numbered, producer_head, source_head, source_middle, source_line, IsQuotable}
 use Rattle.config_text.proofs.DecimalLemmas.{decimal_word}
 

@@ -1,5 +1,5 @@
 -- What a configuration is written as spells it.
-use Rattle.std.proofs.Common.{◌≡◌, ◌∙◌, ℕ, zero, suc, ◌+◌, ◌-◌, ◌*◌, ◌^◌, ◌<◌, ◌≤◌, Bool, true, false, List, [], ◌∷◌, ◌++◌, length, get_or, map, Option, Some, None, Ok, refl, sym, ap, subst, arith, append_assoc, length-append, inl}
+use Rattle.std.proofs.Common.{◌≡◌, ◌∙◌, ℕ, suc, ◌+◌, ◌-◌, ◌*◌, ◌^◌, ◌<◌, ◌≤◌, Bool, true, false, List, [], ◌∷◌, ◌++◌, length, get_or, map, Option, Some, None, Ok, refl, sym, ap, subst, arith, length-append, inl}
 use Rattle.std.specs.Prelude.{codes, slice_get, unwrap_or, option_map}
 use Rattle.std.specs.List.{All, flat_map, filter_map, list_all}
 use Rattle.std.proofs.lemmas.Bool.{and_from}
@@ -10,7 +10,7 @@ use Rattle.std.proofs.lemmas.List.Folds.{list_all-append}
 use Rattle.std.proofs.lemmas.Option.{slice_get_within, slice_get-get_or}
 use Rattle.trace_base.specs.declared.limits.TheConstants.{MAX_BUFFERS, MAX_PRODUCERS, MAX_WRITERS}
 use Rattle.text_form.specs.Entries.{Entries, NoEntries}
-use Rattle.text_form.specs.Grammar.{Spot, spot, Gap, NoGap, Lead, Plain, Fields, NoField, IsTextOf}
+use Rattle.text_form.specs.Grammar.{spot, NoGap, Plain, NoField}
 use Rattle.config_text.specs.declared.config.ConfigBuffer.{ConfigBuffer}
 use Rattle.config_text.specs.declared.config.ConfigProducer.{ConfigProducer}
 use Rattle.config_text.specs.declared.config.ConfigSource.{ConfigSource}
@@ -21,7 +21,7 @@ use Rattle.config_text.specs.Ranges.{value}
 use Rattle.config_text.specs.Blocks.{Block, ProducerSaid, SourceSaid, blocks_of}
 use Rattle.config_text.specs.Configs.{ConfigOf}
 use Rattle.config_text.specs.Reasons.{Known, buffer_in, producer_in, source_in, buffers_said, producers_said, sources_said, size_in, counted_size, sizes_in, is_fit_producer, or_default, known_in, producer_place, first_refusal}
-use Rattle.config_text.specs.Grammar.{SpellsConfig, buffer_of, producer_of, source_of, config_in, unless, judged}
+use Rattle.config_text.specs.Grammar.{buffer_of, producer_of, source_of, config_in, unless, judged}
 use Rattle.config_text.specs.Writing.{name_of, buffer_line, producer_line, source_line, written_config, IsQuotable, IsBuffer, IsProducer, IsSource, IsWritable}
 use Rattle.config_text.specs.Laws.{WrittenIsRead}
 use Rattle.config_text.proofs.WrittenEntries.{Goes, Each, buffer_inner, producer_inner, source_inner, lines_then, line_after, lines_go, buffer_goes, producer_goes, source_goes}

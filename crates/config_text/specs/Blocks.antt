@@ -1,7 +1,7 @@
 -- What the blocks of a configuration text say. A block says what its fields say, one after another: so of a field that is repeated the
 -- last one counts, all fields of repeated `config` blocks count as those of one, and each `producer_name_filter` is one more entry.
 -- Names and values are those of Perfetto's `TraceConfig`; which of its fields count is this project's profile.
-use Rattle.std.specs.Prelude.{ℕ, Bool, true, false, Option, Some, None, is_some, option_map, List, [], ◌∷◌, ◌++◌, codes, if◌then◌else◌, ◌||◌, ◌&&◌}
+use Rattle.std.specs.Prelude.{ℕ, Bool, true, false, Option, Some, None, option_map, List, [], ◌∷◌, ◌++◌, codes, if◌then◌else◌, ◌||◌}
 use Rattle.std.specs.Str.{bytes_eq}
 use Rattle.trace_base.specs.declared.policy.FullPolicy.{FullPolicy}
 use Rattle.trace_base.specs.declared.policy.FullPolicy.TheVariants.{Ring, Discard}
@@ -46,11 +46,11 @@ is name word = bytes_eq name word
 unfoldable pub no_buffer : BufferSaid
 no_buffer = record { size_kb = None; policy = Ring }
 
--- the same of a producer
+-- a producer without fields, which is also that of a text without producers
 unfoldable pub no_producer : ProducerSaid
 no_producer = record { name = []; shm_size_kb = Fits 256; page_size_kb = Fits 4 }
 
--- the same of a source
+-- a source without fields
 unfoldable pub no_source : SourceSaid
 no_source = record { name = []; target = Fits 0; filters = [] }
 
@@ -68,7 +68,7 @@ unfoldable pub number_in : Value → Option Numeral
 number_in (Word bytes) = numeral_of bytes
 number_in (Text bytes) = None
 
--- the text that a value is, where it stands in quotes
+-- a text in quotes, without these
 unfoldable pub text_in : Value → Option (List ℕ)
 text_in (Word bytes) = None
 text_in (Text bytes) = Some bytes
@@ -80,7 +80,7 @@ policy_of word =
     else if is word (codes "DISCARD") then Some Discard
     else None
 
--- the policy that a value is, where it is a word without quotes
+-- a word that says it
 unfoldable pub policy_in : Value → Option FullPolicy
 policy_in (Word bytes) = policy_of bytes
 policy_in (Text bytes) = None
@@ -94,7 +94,7 @@ with_size said size = record { size_kb = Some size; policy = said.policy }
 unfoldable pub with_policy : BufferSaid → FullPolicy → BufferSaid
 with_policy said policy = record { size_kb = said.size_kb; policy = policy }
 
--- a field of a `buffers` block
+-- a field of a buffer
 unfoldable pub buffer_with : List ℕ → Value → BufferSaid → Option BufferSaid
 buffer_with name value said =
     if is name (codes "size_kb") then option_map (with_size said) (number_in value)
@@ -105,15 +105,15 @@ buffer_with name value said =
 unfoldable pub with_producer_name : ProducerSaid → List ℕ → ProducerSaid
 with_producer_name said name = record { name = name; shm_size_kb = said.shm_size_kb; page_size_kb = said.page_size_kb }
 
--- with shared memory of another size
+-- with another size of the shared memory
 unfoldable pub with_shm_size : ProducerSaid → Numeral → ProducerSaid
 with_shm_size said size = record { name = said.name; shm_size_kb = size; page_size_kb = said.page_size_kb }
 
--- with pages of another size
+-- with another size of the pages
 unfoldable pub with_page_size : ProducerSaid → Numeral → ProducerSaid
 with_page_size said size = record { name = said.name; shm_size_kb = said.shm_size_kb; page_size_kb = size }
 
--- a field of a `producers` block
+-- a field of a producer
 unfoldable pub producer_with : List ℕ → Value → ProducerSaid → Option ProducerSaid
 producer_with name value said =
     if is name (codes "producer_name") then option_map (with_producer_name said) (text_in value)
@@ -121,11 +121,11 @@ producer_with name value said =
     else if is name (codes "page_size_kb") then option_map (with_page_size said) (number_in value)
     else Some said
 
--- with one more entry of its filter, behind the others
+-- with one more entry of the filter
 unfoldable pub with_filter : SourceSaid → List ℕ → SourceSaid
 with_filter said entry = record { name = said.name; target = said.target; filters = said.filters ++ entry ∷ [] }
 
--- a field of a `data_sources` block; its `config` has to be a block
+-- a field of a source, outside its `config`
 unfoldable pub source_with : List ℕ → Value → SourceSaid → Option SourceSaid
 source_with name value said =
     if is name (codes "producer_name_filter") then option_map (with_filter said) (text_in value)
@@ -140,7 +140,7 @@ with_source_name said name = record { name = name; target = said.target; filters
 unfoldable pub with_target : SourceSaid → Numeral → SourceSaid
 with_target said target = record { name = said.name; target = target; filters = said.filters }
 
--- a field of a source's `config`
+-- a field in the `config` of a source
 unfoldable pub config_with : List ℕ → Value → SourceSaid → Option SourceSaid
 config_with name value said =
     if is name (codes "name") then option_map (with_source_name said) (text_in value)
@@ -164,7 +164,7 @@ what_with name value (Buffer said) = option_map Buffer (buffer_with name value s
 what_with name value (Producer said) = option_map Producer (producer_with name value said)
 what_with name value (Source said) = option_map Source (source_with name value said)
 
--- the block with one more field that has a value
+-- a block with one more field that has a value
 unfoldable pub with_value : List ℕ → Value → Block → Block
 with_value name value block = saying block (what_with name value block.what)
 
@@ -174,7 +174,7 @@ what_with_config name value (Buffer said) = Some (Buffer said)
 what_with_config name value (Producer said) = Some (Producer said)
 what_with_config name value (Source said) = option_map Source (config_with name value said)
 
--- the block with one more such field in its `config`
+-- the same with a field in its `config`
 unfoldable pub with_config_value : List ℕ → Value → Block → Block
 with_config_value name value block = saying block (what_with_config name value block.what)
 
@@ -200,7 +200,7 @@ opens_config name (Source said) = is name (codes "config")
 unfoldable pub with_block : List ℕ → Block → Block
 with_block name block = if wants_value name block.what then unfit block else block
 
--- the same of a block inside its `config`
+-- the same where the block inside stands in its `config`
 unfoldable pub with_config_block : List ℕ → Block → Block
 with_config_block name block = if config_wants_value name then unfit block else block
 

@@ -1,7 +1,7 @@
 -- The same blocks from the fields of a text one after another, without the tree of them.
-use Rattle.std.specs.Prelude.{◌≡◌, ℕ, zero, suc, ◌-◌, ◌==◌, Bool, List, [], ◌∷◌, ◌++◌, Option, Some, None, is_some, fold, if◌then◌else◌}
+use Rattle.std.specs.Prelude.{◌≡◌, ℕ, zero, suc, List, [], ◌∷◌, ◌++◌, Option, Some, None, if◌then◌else◌}
 use Rattle.text_form.specs.Entries.{Value, Item, Single, Begin, End, Entries, items_of}
-use Rattle.config_text.specs.Blocks.{Block, What, kind_of, begun, unfit, with_value, with_config_value, with_block, with_config_block, opens_config, value_block, blocks_of}
+use Rattle.config_text.specs.Blocks.{Block, What, kind_of, begun, with_value, with_config_value, with_block, with_config_block, opens_config, value_block, blocks_of}
 
 -- where the next field stands: at the top, in one of the blocks that count, in its `config`, or in so many blocks that are skipped
 pub data Level : Type 0 where
@@ -15,15 +15,15 @@ pub record Collected : Type 0 where
   pub level : Level
   pub skipped : ℕ
 
--- before the first field
+-- before the first item
 unfoldable pub nothing_collected : Collected
 nothing_collected = record { blocks = []; level = AtTop; skipped = 0 }
 
--- these blocks have ended, and the next field stands there
+-- these blocks have ended, and nothing is skipped
 unfoldable pub at_level : List Block → Level → Collected
 at_level blocks level = record { blocks = blocks; level = level; skipped = 0 }
 
--- the same within so many blocks that are skipped
+-- these blocks have ended, and so many are open that are skipped
 unfoldable pub skipping : List Block → Level → ℕ → Collected
 skipping blocks level skipped = record { blocks = blocks; level = level; skipped = skipped }
 
@@ -63,7 +63,7 @@ item_skipped blocks level skipped (Single line name value) = skipping blocks lev
 item_skipped blocks level skipped (Begin line name) = skipping blocks level (suc (suc skipped))
 item_skipped blocks level skipped End = skipping blocks level skipped
 
--- an item, wherever it stands
+-- any item, where so many blocks are open that are skipped
 unfoldable pub item_in : List Block → Level → ℕ → Item → Collected
 item_in blocks level zero item = item_seen blocks level item
 item_in blocks level (suc skipped) item = item_skipped blocks level skipped item
@@ -72,7 +72,7 @@ item_in blocks level (suc skipped) item = item_skipped blocks level skipped item
 unfoldable pub collected_item : Collected → Item → Collected
 collected_item collected item = item_in collected.blocks collected.level collected.skipped item
 
--- with all items of a text, one after another
+-- with some items more
 abbrev pub collected_all : Collected → List Item → Collected
 collected_all collected [] = collected
 collected_all collected (item ∷ items) = collected_all (collected_item collected item) items

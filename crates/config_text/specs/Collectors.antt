@@ -1,6 +1,5 @@
 -- What a collector has of a text so far.
-use Rattle.std.specs.Prelude.{◌≡◌, ℕ, List, ◌++◌, length}
-use Rattle.std.specs.Borrow.{Bor}
+use Rattle.std.specs.Prelude.{length}
 use Rattle.config_text.specs.declared.collector.Collector.{Collector}
 use Rattle.config_text.specs.Collecting.{Collected}
 use Rattle.config_text.specs.Kept.{blocks_kept, level_kept, AreInside, IsOpen}

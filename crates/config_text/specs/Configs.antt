@@ -1,5 +1,5 @@
 -- A configuration: its buffers, its producers, and the data sources that write for them.
-use Rattle.std.specs.Prelude.{ℕ, List}
+use Rattle.std.specs.Prelude.{List}
 use Rattle.config_text.specs.declared.config.ConfigBuffer.{ConfigBuffer}
 use Rattle.config_text.specs.declared.config.ConfigProducer.{ConfigProducer}
 use Rattle.config_text.specs.declared.config.ConfigSource.{ConfigSource}

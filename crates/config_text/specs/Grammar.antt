@@ -1,5 +1,5 @@
 -- The relation of a text and the configuration that it spells, and of a faulty text and its first fault.
-use Rattle.std.specs.Prelude.{◌≡◌, ℕ, ◌+◌, List, [], ◌∷◌, map, Option, Some, None, unwrap_or, Result, Ok, Err, ◌⊎◌}
+use Rattle.std.specs.Prelude.{◌≡◌, ℕ, ◌+◌, List, [], map, Option, Some, None, unwrap_or, Result, Ok, Err, ◌⊎◌}
 use Rattle.text_form.specs.Entries.{Entries}
 use Rattle.text_form.specs.Grammar.{IsTextOf, IsBadAt}
 use Rattle.config_text.specs.declared.config.ConfigBuffer.{ConfigBuffer}
@@ -19,7 +19,7 @@ use Rattle.config_text.specs.Reasons.{buffers_said, producers_said, sources_said
 unfoldable pub buffer_of : BufferSaid → ConfigBuffer
 buffer_of said = record { size_kb = value (unwrap_or said.size_kb (Fits 0)); policy = said.policy }
 
--- a producer, with its numbers as they are
+-- the producer that was said
 unfoldable pub producer_of : ProducerSaid → ConfigProducer
 producer_of said = record { name = said.name; shm_size_kb = value said.shm_size_kb; page_size_kb = value said.page_size_kb }
 
@@ -27,7 +27,7 @@ producer_of said = record { name = said.name; shm_size_kb = value said.shm_size_
 unfoldable pub source_of : List ProducerSaid → SourceSaid → ConfigSource
 source_of producers said = record { name = said.name; target_buffer = value said.target; producer = producer_place producers said.filters + 1 }
 
--- the configuration of these blocks: buffers, producers and sources, each in the order of their blocks
+-- the buffers, producers and sources of the blocks, in their order
 unfoldable pub config_in : List Block → ConfigOf
 config_in blocks = record {
   buffers = map buffer_of (buffers_said blocks);

@@ -1,5 +1,5 @@
 -- What the code keeps of blocks, in the words of the definitions.
-use Rattle.std.specs.Prelude.{◌≡◌, ℕ, ◌≤◌, List, [], ◌++◌, map, length, slice_range}
+use Rattle.std.specs.Prelude.{◌≡◌, ℕ, ◌≤◌, List, ◌++◌, map, slice_range}
 use Rattle.std.specs.Borrow.{Bor}
 use Rattle.std.specs.List.{All}
 use Rattle.config_text.specs.declared.kept.KeptProducer.{KeptProducer}
@@ -34,7 +34,7 @@ what_kept entries (kept.Source source) = Source (source_kept entries source)
 abbrev pub block_kept : List (Bor (List ℕ)) → KeptBlock → Block
 block_kept entries block = record { line = block.line; fits = block.fits; what = what_kept entries block.what }
 
--- all blocks that have ended
+-- some blocks
 abbrev pub blocks_kept : List (Bor (List ℕ)) → List KeptBlock → List Block
 blocks_kept entries blocks = map (block_kept entries) blocks
 

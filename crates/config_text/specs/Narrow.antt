@@ -19,15 +19,15 @@ narrow limit TooLarge = 0
 unfoldable pub narrow_place : ℕ → ℕ
 narrow_place place = if nat_lt place 65535 then place + 1 else 0
 
--- a buffer
+-- a buffer in such numbers
 unfoldable pub buffer_of : BufferSaid → ConfigBuffer
 buffer_of said = record { size_kb = narrow 4294967296 (unwrap_or said.size_kb (Fits 0)); policy = said.policy }
 
--- a producer
+-- a producer in such numbers
 unfoldable pub producer_of : ProducerSaid → ConfigProducer
 producer_of said = record { name = said.name; shm_size_kb = narrow 4294967296 said.shm_size_kb; page_size_kb = narrow 4294967296 said.page_size_kb }
 
--- a source, among these producers
+-- a source in such numbers
 unfoldable pub source_of : List ProducerSaid → SourceSaid → ConfigSource
 source_of producers said = record {
   name = said.name;

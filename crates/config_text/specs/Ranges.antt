@@ -1,5 +1,5 @@
 -- The ranges of numbers in a configuration text.
-use Rattle.std.specs.Prelude.{ℕ, ◌*◌, ◌/◌, ◌%◌, nat_le, ◌==◌, Bool, true, false, ◌&&◌}
+use Rattle.std.specs.Prelude.{ℕ, ◌/◌, ◌%◌, nat_le, ◌==◌, Bool, false, ◌&&◌}
 use Rattle.trace_base.specs.declared.limits.TheConstants.{MAX_PAGES}
 use Rattle.config_text.specs.declared.numeral.Numeral.{Numeral}
 use Rattle.config_text.specs.declared.numeral.Numeral.TheVariants.{Fits, TooLarge}

@@ -1,5 +1,5 @@
 -- Why a block is refused: a test for each reason, and the reasons in their order.
-use Rattle.std.specs.Prelude.{ℕ, ◌*◌, nat_lt, nat_le, ◌==◌, Bool, true, false, ◌&&◌, ◌||◌, not, List, [], ◌∷◌, ◌++◌, map, length, Option, Some, None, is_none, unwrap_or, position, slice_get, Result, Ok, Err, if◌then◌else◌}
+use Rattle.std.specs.Prelude.{ℕ, ◌*◌, nat_lt, nat_le, ◌==◌, Bool, true, false, ◌&&◌, not, List, [], ◌∷◌, ◌++◌, length, Option, Some, None, is_none, unwrap_or, position, slice_get, if◌then◌else◌}
 use Rattle.std.specs.List.{filter_map, list_any, list_all}
 use Rattle.std.specs.Str.{bytes_eq}
 use Rattle.trace_base.specs.declared.limits.TheConstants.{BYTES_PER_KB, MAX_BUFFERS, MAX_BUFFER_KB, MAX_CHUNKS_PER_PAGE, MAX_PRODUCERS, MAX_WRITERS, MIN_BUFFER_KB}
@@ -19,27 +19,27 @@ buffer_in (Buffer said) = Some said
 buffer_in (Producer said) = None
 buffer_in (Source said) = None
 
--- what a block says of a producer, where it is one of these
+-- what is said of a producer, where the block is one of a producer
 unfoldable pub producer_in : What → Option ProducerSaid
 producer_in (Buffer said) = None
 producer_in (Producer said) = Some said
 producer_in (Source said) = None
 
--- and of a source
+-- what is said of a source, where the block is one of a source
 unfoldable pub source_in : What → Option SourceSaid
 source_in (Buffer said) = None
 source_in (Producer said) = None
 source_in (Source said) = Some said
 
--- what all `buffers` blocks say
+-- what all blocks of buffers say
 abbrev pub buffers_said : List Block → List BufferSaid
 buffers_said blocks = filter_map (λ block. buffer_in block.what) blocks
 
--- what all `producers` blocks say
+-- what all blocks of producers say
 abbrev pub producers_said : List Block → List ProducerSaid
 producers_said blocks = filter_map (λ block. producer_in block.what) blocks
 
--- what all `data_sources` blocks say
+-- what all blocks of sources say
 abbrev pub sources_said : List Block → List SourceSaid
 sources_said blocks = filter_map (λ block. source_in block.what) blocks
 
@@ -51,12 +51,12 @@ lacks_size (Buffer said) = is_none said.size_kb
 lacks_size (Producer said) = false
 lacks_size (Source said) = false
 
--- a size that is said is outside the range of a buffer
+-- a size is there, and isn't one that a buffer can have
 unfoldable pub is_size_out : Option Numeral → Bool
 is_size_out None = false
 is_size_out (Some size) = not (is_within MIN_BUFFER_KB MAX_BUFFER_KB size)
 
--- a number of a block is outside its range: a buffer's size, or a producer's pages and shared memory
+-- a size of the block is outside its range
 unfoldable pub is_out_of_range : What → Bool
 is_out_of_range (Buffer said) = is_size_out said.size_kb
 is_out_of_range (Producer said) = not (is_shared_memory said.shm_size_kb said.page_size_kb)
@@ -75,7 +75,7 @@ is_too_many before (Source said) = nat_le MAX_WRITERS (length (sources_said befo
 unfoldable pub counted_size : Bool → BufferSaid → Option Numeral
 counted_size fits said = if fits then said.size_kb else None
 
--- the size that a block counts with, where it is of a buffer
+-- the size that a block counts with, where it is one of a buffer
 unfoldable pub size_in : Bool → What → Option (Option Numeral)
 size_in fits (Buffer said) = Some (counted_size fits said)
 size_in fits (Producer said) = None
@@ -90,7 +90,7 @@ unfoldable pub item_at : {T : Type 0} → List T → Numeral → Option T
 item_at items (Fits place) = slice_get items place
 item_at items TooLarge = None
 
--- a source's target names no buffer
+-- the target of a source is none of these
 unfoldable pub lacks_buffer : List (Option Numeral) → What → Bool
 lacks_buffer sizes (Buffer said) = false
 lacks_buffer sizes (Producer said) = false
@@ -136,7 +136,7 @@ pub record Known : Type 0 where
   pub producers : List ProducerSaid
   pub fit : Bool
 
--- what the blocks of a text say for these look-ups
+-- of the blocks of a text
 unfoldable pub known_in : List Block → Known
 known_in blocks = record {
   sizes = sizes_in blocks;
@@ -148,7 +148,7 @@ known_in blocks = record {
 unfoldable pub producer_of : Known → List (List ℕ) → Option ProducerSaid
 producer_of known filters = if known.fit then slice_get known.producers (producer_place known.producers filters) else None
 
--- a record of the source's producer is larger than the buffer that it writes into
+-- the chunks of a source are larger than its buffer
 unfoldable pub has_larger_chunks : Known → What → Bool
 has_larger_chunks known (Buffer said) = false
 has_larger_chunks known (Producer said) = false

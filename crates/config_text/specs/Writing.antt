@@ -1,5 +1,5 @@
 -- How a configuration is written, and which one can be: a line for each buffer, producer and source, in the order of the table of blocks.
-use Rattle.std.specs.Prelude.{◌≡◌, ◌≢◌, ℕ, ◌+◌, ◌-◌, ◌*◌, ◌%◌, ◌<◌, ◌≤◌, List, [], ◌++◌, length, codes, decimal, Option, Some, None, unwrap_or, option_map, slice_get}
+use Rattle.std.specs.Prelude.{◌≡◌, ◌≢◌, ℕ, ◌-◌, ◌*◌, ◌%◌, ◌<◌, ◌≤◌, List, [], ◌++◌, length, codes, decimal, Some, unwrap_or, option_map, slice_get}
 use Rattle.std.specs.List.{All, flat_map, slice_index_or}
 use Rattle.trace_base.specs.declared.limits.TheConstants.{BYTES_PER_KB, MAX_BUFFERS, MAX_BUFFER_KB, MAX_CHUNKS_PER_PAGE, MAX_PAGES, MAX_PRODUCERS, MAX_WRITERS, MIN_BUFFER_KB}
 use Rattle.trace_base.specs.declared.policy.FullPolicy.{FullPolicy}
@@ -58,12 +58,12 @@ source_middle source = numbered (codes "\" target_buffer: ") source.target_buffe
 unfoldable pub source_head : List ℕ
 source_head = codes "data_sources { config { name: \""
 
--- the line of a source, which names its producer by its filter
+-- the line of a source
 abbrev pub source_line : List ConfigProducer → ConfigSource → List ℕ
 source_line producers source =
     source_head ++ (source.name ++ (source_middle source ++ (name_of producers source.producer ++ codes "\" }\n")))
 
--- all lines: buffers, producers, sources
+-- the text of a configuration
 abbrev pub written_config : ConfigOf → List ℕ
 written_config config =
     flat_map buffer_line config.buffers ++ (flat_map producer_line config.producers ++ flat_map (source_line config.producers) config.sources)
@@ -74,7 +74,7 @@ written_config config =
 abbrev pub IsQuotable : List ℕ → Type 0
 IsQuotable name = AreAll is_text_byte name
 
--- the size is one that a buffer may have
+-- a buffer can have this size
 abbrev pub IsBuffer : ConfigBuffer → Type 0
 IsBuffer buffer = (MIN_BUFFER_KB ≤ buffer.size_kb) × (buffer.size_kb ≤ MAX_BUFFER_KB)
 

@@ -1,5 +1,5 @@
 -- Before the first item.
-use Rattle.std.proofs.Common.{◌≡◌, ◌∙◌, ℕ, ap, arith}
+use Rattle.std.proofs.Common.{◌≡◌, ◌∙◌, ap, arith}
 use Rattle.config_text.specs.Answers.{collected_items}
 use Rattle.config_text.specs.Collecting.{Collected, nothing_collected}
 use Rattle.config_text.proofs.reading.collected.Goals as goal

@@ -10,7 +10,6 @@ use Rattle.config_text.specs.Kept.{blocks_kept}
 use Rattle.config_text.specs.Looking.{known_of}
 use Rattle.config_text.specs.Narrow.{config_known}
 use Rattle.config_text.specs.Reasons.{known_in, first_refusal}
-use Rattle.config_text.specs.Grammar.{SpellsConfig}
 use Rattle.config_text.proofs.ReadLemmas.{collects_fault, judges_fault, spelled, spelled_is_writable}
 use Rattle.config_text.proofs.reading.read_config.Goals as goal
 

@@ -1,5 +1,5 @@
 -- A block of another name is skipped.
-use Rattle.std.proofs.Common.{sym, ◌∙◌, []}
+use Rattle.std.proofs.Common.{sym, []}
 use Rattle.config_text.specs.Collecting.{skipping}
 use Rattle.config_text.specs.Kept.{blocks_kept}
 use Rattle.config_text.proofs.CollectingLemmas.{begins_other}

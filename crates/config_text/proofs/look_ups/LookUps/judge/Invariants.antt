@@ -1,4 +1,4 @@
-use Rattle.std.proofs.Common.{◌≡◌, ℕ, ◌≤◌, List, [], take, drop}
+use Rattle.std.proofs.Common.{◌≡◌, ◌≤◌, [], take, drop}
 use Rattle.config_text.specs.Judging.{HasCounts}
 use Rattle.config_text.specs.Kept.{blocks_kept}
 use Rattle.config_text.specs.Looking.{known_of}
