@@ -1,0 +1,73 @@
+//! What was written reads back, also in part; blocks as deep as a text is long; many producers.
+use byte_io::memory::MemSink;
+use byte_io::put::WriteFault;
+use config_text::{ConfigFault, ConfigReason, Name, put_config, read_config};
+use std::test::Fail;
+
+const TEXT: &[u8] =
+    b"buffers { size_kb: 4 fill_policy: DISCARD }\nbuffers { size_kb: 65536 fill_policy: RING_BUFFER }\nproducers { producer_name: \"\" shm_size_kb: 4 page_size_kb: 4 }\nproducers { producer_name: \"a #{;} b\" shm_size_kb: 4096 page_size_kb: 64 }\ndata_sources { config { name: \"one\" target_buffer: 1 } producer_name_filter: \"a #{;} b\" }\ndata_sources { config { name: \"\" target_buffer: 0 } producer_name_filter: \"\" }\n";
+
+#[test]
+fn reads_what_was_written(rt: HostRuntime) -> Result<(), Fail> {
+    let read = read_config(rt.alloc(), TEXT).unwrap();
+    assert_eq!(rt; read.buffers[1].size_kb, 65536);
+    assert_eq!(rt; read.producers[1].name.as_bytes(), b"a #{;} b".as_slice());
+    assert_eq!(rt; read.producers[1].page_size_kb, 64);
+    assert_eq!(rt; read.sources[0].producer, 2);
+    assert_eq!(rt; read.sources[1].producer, 1);
+
+    let mut sink = MemSink::with_room(rt.alloc(), 1000)?;
+    put_config(&mut sink, &read)?;
+    assert_eq!(rt; sink.taken(), TEXT);
+    for room in [0, 30, 100, 300] {
+        let mut short = MemSink::with_room(rt.alloc(), room)?;
+        assert_eq!(rt; put_config(&mut short, &read), Err(WriteFault));
+        assert_eq!(rt; short.taken(), &TEXT[..room]);
+    }
+    Ok(())
+}
+
+#[test]
+fn skips_deep_blocks(rt: HostRuntime) -> Result<(), Fail> {
+    let mut text = Vec::new(rt.alloc());
+    for _ in 0..200_000 {
+        text.extend_from_slice(b"a{")?;
+    }
+    let open = read_config(rt.alloc(), &text).err();
+    let line = 1;
+    let reason = ConfigReason::BadText;
+    assert_eq!(rt; open, Some(ConfigFault::BadConfig { line, reason }));
+
+    for _ in 0..200_000 {
+        text.extend_from_slice(b"}")?;
+    }
+    let read = read_config(rt.alloc(), &text).unwrap();
+    assert_eq!(rt; read.producers.len(), 1);
+    assert_eq!(rt; read.sources.len(), 0);
+    Ok(())
+}
+
+#[test]
+fn looks_up_many_producers(rt: HostRuntime) -> Result<(), Fail> {
+    let mut text = Vec::new(rt.alloc());
+    text.extend_from_slice(b"buffers { size_kb: 4 }\ndata_sources {\n")?;
+    for _ in 0..50_000 {
+        text.extend_from_slice(b"producer_name_filter: \"a\"\n")?;
+    }
+    text.extend_from_slice(b"}\n")?;
+    for _ in 0..50_000 {
+        text.extend_from_slice(b"producers { producer_name: \"b\" }\n")?;
+    }
+    let found = read_config(rt.alloc(), &text).err();
+    let line = 50_020;
+    let reason = ConfigReason::TooMany;
+    assert_eq!(rt; found, Some(ConfigFault::BadConfig { line, reason }));
+    Ok(())
+}
+
+#[test]
+fn copies_names(rt: HostRuntime) -> Result<(), Fail> {
+    let name = Name::new(rt.alloc(), b"a name")?;
+    assert_eq!(rt; name.as_bytes(), b"a name".as_slice());
+    Ok(())
+}
