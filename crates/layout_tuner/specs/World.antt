@@ -68,7 +68,7 @@ abbrev pub total : ℕ → (ℕ → ℕ) → ℕ
 total zero f = 0
 total (suc n) f = total n f + f n
 
--- the table as a whole: of each page its layout and generation, who has each place, and what each user and the collector have done
+-- all of that, by the numbers of pages, places and users
 pub record World : Type 0 where
   pub layouts : ℕ → ℕ
   pub generations : ℕ → ℕ

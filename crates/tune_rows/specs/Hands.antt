@@ -4,7 +4,7 @@ use Rattle.layout_tuner.specs.declared.table.TuneTable.{TuneTable}
 use Rattle.layout_tuner.specs.declared.seats.TuneSeat.{TuneSeat}
 use Rattle.layout_tuner.specs.Sits.{Sits, known_by}
 
--- the seat is one of the table, and its user has claimed nothing
+-- a seat of such a table
 pub record HasNone (table : TuneTable) (seat : TuneSeat) : Type 0 where
   pub four : table.shape.pages ≡ 4
   pub sits : Sits table seat

@@ -4,7 +4,7 @@ use Rattle.tune_run.specs.declared.counts.Deed.{Deed}
 use Rattle.tune_run.specs.declared.counts.Deed.TheVariants.{Completed, FoundNone, Partitioned, Refused}
 use Rattle.tune_run.specs.declared.counts.UserCounts.{UserCounts}
 
--- no turn was taken
+-- of no turn
 abbrev pub no_counts : UserCounts
 no_counts = record { claimed = 0; none = 0; retiled = 0; refused = 0 }
 

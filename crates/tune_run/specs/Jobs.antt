@@ -26,7 +26,7 @@ pub record IsPlayed (table : TuneTable) (turns user : ℕ) (job : UserJob) : Typ
 abbrev pub AreReady : TuneTable → List UserJob → Type 0
 AreReady table jobs = (user : ℕ) (d : UserJob) → user < length jobs → IsReady table user (slice_index_or jobs user d)
 
--- the same once each has taken so many turns
+-- and each has taken so many turns
 abbrev pub ArePlayed : TuneTable → (turns : ℕ) → List UserJob → Type 0
 ArePlayed table turns jobs = (user : ℕ) (d : UserJob) → user < length jobs → IsPlayed table turns user (slice_index_or jobs user d)
 
