@@ -1,6 +1,7 @@
 //! Each reason alone, and each pair of them: in one block where one can have both, else in two.
 use config_text::{ConfigFault, ConfigReason, read_config};
 use std::test::Fail;
+use trace_base::limits::MAX_INPUT;
 
 /// A text is so many times one part, and then another.
 struct Row {
@@ -246,6 +247,7 @@ fn refuses_for_the_first_reason(rt: HostRuntime) -> Result<(), Fail> {
             text.extend_from_slice(row.repeated)?;
         }
         text.extend_from_slice(row.last)?;
+        assert!(rt; text.len() <= MAX_INPUT);
         let answer = read_config(rt.alloc(), &text);
         let line = row.line;
         let reason = row.reason;

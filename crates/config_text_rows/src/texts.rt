@@ -93,7 +93,7 @@ fn reads_texts_as_documented(rt: HostRuntime) -> Result<(), Fail> {
     for (text, answer) in TEXTS {
         match answer {
             Answer::Read(written) => {
-                let config = read_config(rt.alloc(), text).unwrap();
+                let config = read_config(rt.alloc(), text).expect(&rt, "a configuration");
                 let mut sink = MemSink::with_room(rt.alloc(), 1000)?;
                 put_config(&mut sink, &config)?;
                 assert_eq!(rt; sink.taken(), written);
