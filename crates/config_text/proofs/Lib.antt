@@ -4,7 +4,6 @@ pub mod FindingLemmas
 pub mod JudgeLemmas
 pub mod KeptLemmas
 pub mod LookUpLemmas
-pub mod NumeralLemmas
 pub mod OneLemmas
 pub mod PassedLemmas
 pub mod PutLemmas

@@ -9,7 +9,7 @@ use Rattle.std.proofs.lemmas.Bool.{both_ways}
 use Rattle.trace_base.proofs.Choices.{more_isnt_none}
 use Rattle.config_text.specs.declared.kept.KeptProducer.{KeptProducer}
 use Rattle.config_text.specs.declared.kept.KeptBlock.{KeptBlock}
-use Rattle.config_text.specs.declared.numeral.Numeral.{Numeral}
+use Rattle.trace_base.specs.declared.numeral.Numeral.{Numeral}
 use Rattle.config_text.specs.Blocks.{Block, ProducerSaid, no_producer}
 use Rattle.config_text.specs.Kept.{producer_kept, block_kept, blocks_kept}
 use Rattle.config_text.specs.Reasons.{sizes_in, producers_said, is_fit_producer, or_default, known_in}

@@ -14,8 +14,8 @@ use Rattle.std.proofs.lemmas.List.Elements.{filter_map-append}
 use Rattle.std.proofs.lemmas.List.Quantifiers.{position-Some}
 use Rattle.trace_base.specs.declared.limits.TheConstants.{MAX_BUFFERS, MAX_BUFFER_KB, MAX_PAGES, MAX_PRODUCERS, MIN_BUFFER_KB}
 use Rattle.config_text.specs.declared.kept.BufferSaid.{BufferSaid}
-use Rattle.config_text.specs.declared.numeral.Numeral.{Numeral}
-use Rattle.config_text.specs.declared.numeral.Numeral.TheVariants.{Fits, TooLarge}
+use Rattle.trace_base.specs.declared.numeral.Numeral.{Numeral}
+use Rattle.trace_base.specs.declared.numeral.Numeral.TheVariants.{Fits, TooLarge}
 use Rattle.config_text.specs.declared.reason.ConfigReason.{ConfigReason}
 use Rattle.config_text.specs.declared.reason.ConfigReason.TheVariants as reasons
 use Rattle.config_text.specs.Ranges.{is_between, is_within, is_page_kb, is_whole_pages, is_shared_memory, value}

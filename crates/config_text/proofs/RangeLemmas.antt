@@ -3,8 +3,8 @@ use Rattle.std.proofs.Common.{◌≡◌, ◌∙◌, ℕ, ◌*◌, ◌%◌, ◌<�
 use Rattle.std.proofs.lemmas.Bool.{and_parts, leb-true, eqb-true, le-ltb}
 use Rattle.trace_base.specs.declared.limits.TheConstants.{BYTES_PER_KB, MAX_CHUNKS_PER_PAGE, MAX_PAGE_SIZE}
 use Rattle.page_geometry.specs.Sizes.{IsPageSize, IsChunkCount}
-use Rattle.config_text.specs.declared.numeral.Numeral.{Numeral}
-use Rattle.config_text.specs.declared.numeral.Numeral.TheVariants.{Fits, TooLarge}
+use Rattle.trace_base.specs.declared.numeral.Numeral.{Numeral}
+use Rattle.trace_base.specs.declared.numeral.Numeral.TheVariants.{Fits, TooLarge}
 use Rattle.config_text.specs.Ranges.{is_between, is_page_kb, is_whole_pages, is_shared_memory}
 
 -- a test of a range means that the number lies there

@@ -14,8 +14,8 @@ use Rattle.trace_base.proofs.Lists.{some_there}
 use Rattle.page_geometry.specs.Sizes.{payload_size, record_size}
 use Rattle.config_text.specs.declared.config.ConfigProducer.{ConfigProducer}
 use Rattle.config_text.specs.declared.kept.BufferSaid.{BufferSaid}
-use Rattle.config_text.specs.declared.numeral.Numeral.{Numeral}
-use Rattle.config_text.specs.declared.numeral.Numeral.TheVariants.{Fits}
+use Rattle.trace_base.specs.declared.numeral.Numeral.{Numeral}
+use Rattle.trace_base.specs.declared.numeral.Numeral.TheVariants.{Fits}
 use Rattle.config_text.specs.Ranges.{is_between, is_page_kb, is_whole_pages, is_shared_memory, value}
 use Rattle.config_text.specs.Blocks.{Block, What, Buffer, Producer, Source, ProducerSaid, SourceSaid, no_producer}
 use Rattle.config_text.specs.Reasons.{Known, producer_of as known_producer, buffer_in, producer_in, source_in, buffers_said, producers_said, sources_said, size_in, counted_size, sizes_in, or_default, known_in, is_fit_producer, is_too_many, lacks_buffer, item_at, is_named, producer_place, is_larger, is_larger_for, has_larger_chunks, first_refusal}

@@ -19,14 +19,14 @@ use Rattle.config_text.specs.declared.config.ConfigBuffer.{ConfigBuffer}
 use Rattle.config_text.specs.declared.config.ConfigProducer.{ConfigProducer}
 use Rattle.config_text.specs.declared.config.ConfigSource.{ConfigSource}
 use Rattle.config_text.specs.declared.kept.BufferSaid.{BufferSaid}
-use Rattle.config_text.specs.declared.numeral.Numeral.TheVariants.{Fits}
-use Rattle.config_text.specs.Numerals.{numeral_of}
+use Rattle.trace_base.specs.declared.numeral.Numeral.TheVariants.{Fits}
+use Rattle.trace_base.specs.Numerals.{numeral_of}
 use Rattle.config_text.specs.Ranges.{is_between, is_within, is_page_kb, is_whole_pages, is_shared_memory}
 use Rattle.config_text.specs.Blocks.{Block, Buffer, Producer, Source, ProducerSaid, SourceSaid, kind_of, begun, top_block, blocks_of, with_value, with_config_value, saying, what_with, what_with_config, buffer_with, producer_with, source_with, config_with, number_in, text_in, policy_in, policy_of, with_size, with_policy, with_producer_name, with_shm_size, with_page_size, with_filter, with_source_name, with_target, no_buffer, no_producer, no_source, opens_config}
 use Rattle.config_text.specs.Configs.{ConfigOf}
 use Rattle.config_text.specs.Reasons.{Known, buffers_said, producers_said, sources_said, lacks_size, is_size_out, is_out_of_range, is_too_many, lacks_buffer, item_at, is_named, producer_place, producer_of, is_larger, is_larger_for, has_larger_chunks, refusal_of, or_later, first_refusal}
 use Rattle.config_text.specs.Writing.{policy_word, name_of, IsBuffer, IsProducer, IsSource}
-use Rattle.config_text.proofs.DecimalLemmas.{numeral_read}
+use Rattle.trace_base.proofs.DecimalLemmas.{numeral_read}
 use Rattle.config_text.proofs.FindingLemmas.{place_found, place_none}
 use Rattle.config_text.proofs.WrittenEntries.{buffer_inner, producer_inner, source_inner, lines_then, line_after, Each}
 

@@ -15,8 +15,8 @@ use Rattle.config_text.specs.declared.config.ConfigBuffer.{ConfigBuffer}
 use Rattle.config_text.specs.declared.config.ConfigProducer.{ConfigProducer}
 use Rattle.config_text.specs.declared.config.ConfigSource.{ConfigSource}
 use Rattle.config_text.specs.declared.kept.BufferSaid.{BufferSaid}
-use Rattle.config_text.specs.declared.numeral.Numeral.{Numeral}
-use Rattle.config_text.specs.declared.numeral.Numeral.TheVariants.{Fits}
+use Rattle.trace_base.specs.declared.numeral.Numeral.{Numeral}
+use Rattle.trace_base.specs.declared.numeral.Numeral.TheVariants.{Fits}
 use Rattle.config_text.specs.Ranges.{value}
 use Rattle.config_text.specs.Blocks.{Block, ProducerSaid, SourceSaid, blocks_of}
 use Rattle.config_text.specs.Configs.{ConfigOf}

@@ -5,7 +5,7 @@ use Rattle.text_form.specs.Grammar.{IsTextOf, IsBadAt}
 use Rattle.config_text.specs.declared.config.ConfigBuffer.{ConfigBuffer}
 use Rattle.config_text.specs.declared.config.ConfigProducer.{ConfigProducer}
 use Rattle.config_text.specs.declared.config.ConfigSource.{ConfigSource}
-use Rattle.config_text.specs.declared.numeral.Numeral.TheVariants.{Fits}
+use Rattle.trace_base.specs.declared.numeral.Numeral.TheVariants.{Fits}
 use Rattle.config_text.specs.declared.reason.ConfigReason.{ConfigReason}
 use Rattle.config_text.specs.declared.reason.ConfigReason.TheVariants.{BadText}
 use Rattle.config_text.specs.Ranges.{value}

@@ -9,7 +9,6 @@ pub mod Kept
 pub mod Laws
 pub mod Looking
 pub mod Narrow
-pub mod Numerals
 pub mod Ranges
 pub mod Reasons
 pub mod Wanted

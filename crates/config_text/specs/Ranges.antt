@@ -1,8 +1,8 @@
 -- The ranges of numbers in a configuration text.
 use Rattle.std.specs.Prelude.{ℕ, ◌/◌, ◌%◌, nat_le, ◌==◌, Bool, false, ◌&&◌}
 use Rattle.trace_base.specs.declared.limits.TheConstants.{MAX_PAGES}
-use Rattle.config_text.specs.declared.numeral.Numeral.{Numeral}
-use Rattle.config_text.specs.declared.numeral.Numeral.TheVariants.{Fits, TooLarge}
+use Rattle.trace_base.specs.declared.numeral.Numeral.{Numeral}
+use Rattle.trace_base.specs.declared.numeral.Numeral.TheVariants.{Fits, TooLarge}
 
 -- a number is one from low to high
 unfoldable pub is_between : ℕ → ℕ → ℕ → Bool

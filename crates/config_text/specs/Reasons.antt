@@ -4,8 +4,8 @@ use Rattle.std.specs.List.{filter_map, list_any, list_all}
 use Rattle.std.specs.Str.{bytes_eq}
 use Rattle.trace_base.specs.declared.limits.TheConstants.{BYTES_PER_KB, MAX_BUFFERS, MAX_BUFFER_KB, MAX_CHUNKS_PER_PAGE, MAX_PRODUCERS, MAX_WRITERS, MIN_BUFFER_KB}
 use Rattle.page_geometry.specs.Sizes.{payload_size, record_size}
-use Rattle.config_text.specs.declared.numeral.Numeral.{Numeral}
-use Rattle.config_text.specs.declared.numeral.Numeral.TheVariants.{Fits, TooLarge}
+use Rattle.trace_base.specs.declared.numeral.Numeral.{Numeral}
+use Rattle.trace_base.specs.declared.numeral.Numeral.TheVariants.{Fits, TooLarge}
 use Rattle.config_text.specs.declared.reason.ConfigReason.{ConfigReason}
 use Rattle.config_text.specs.declared.reason.ConfigReason.TheVariants as reasons
 use Rattle.config_text.specs.Ranges.{is_within, is_shared_memory}

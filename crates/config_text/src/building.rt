@@ -11,8 +11,8 @@ use crate::config::{Config, ConfigBuffer, ConfigProducer, ConfigSource, Name};
 use crate::finding::producer_place;
 use crate::kept::{BufferSaid, KeptBlock, KeptProducer, KeptSource, KeptWhat};
 use crate::look_ups::LookUps;
-use crate::numeral::Numeral;
 use std::alloc::{AllocError, Global};
+use trace_base::numeral::Numeral;
 
 /// A number, where it has 32 bits; each that isn't refused has.
 #[tactic(auto, unfolding(crate::specs::Narrow::narrow))]

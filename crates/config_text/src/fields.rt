@@ -7,9 +7,9 @@ ghost use Rattle.config_text.specs.Blocks as blocks;
 ghost use Rattle.config_text.specs.Kept.{producer_kept, source_kept, what_kept, block_kept, IsNewest};
 
 use crate::kept::{BufferSaid, KeptBlock, KeptProducer, KeptSource, KeptWhat};
-use crate::number::numeral;
-use crate::numeral::Numeral;
 use text_form::TextValue;
+use trace_base::number::numeral;
+use trace_base::numeral::Numeral;
 use trace_base::policy::FullPolicy;
 
 #[tactic(auto, unfolding(crate::specs::Blocks::number_in))]

@@ -12,11 +12,11 @@ ghost use Rattle.config_text.specs.Reasons.{Known, buffers_said, producers_said,
 use crate::finding::producer_place;
 use crate::kept::{BufferSaid, KeptBlock, KeptProducer, KeptSource, KeptWhat};
 use crate::look_ups::LookUps;
-use crate::numeral::Numeral;
 use crate::ranges::{is_larger_for, is_shared_memory, is_within};
 use crate::reason::{ConfigFault, ConfigReason};
 use std::alloc::{AllocError, Global};
 use trace_base::limits::{MAX_BUFFER_KB, MAX_BUFFERS, MAX_PRODUCERS, MAX_WRITERS, MIN_BUFFER_KB};
+use trace_base::numeral::Numeral;
 
 /// How many blocks of each kind stand before one.
 #[derive(Clone, Copy)]

@@ -1,7 +1,7 @@
 //! What is kept of a block while the text is read: names are parts of the text, and the entries of
 //! all filters stand behind one another in one list, of which a source has a part.
 
-use crate::numeral::Numeral;
+use trace_base::numeral::Numeral;
 use trace_base::policy::FullPolicy;
 
 /// What the fields of a buffer have said.

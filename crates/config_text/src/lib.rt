@@ -14,8 +14,6 @@ mod judging;
 mod kept;
 mod laws;
 mod look_ups;
-mod number;
-mod numeral;
 mod putting;
 mod ranges;
 mod reading;

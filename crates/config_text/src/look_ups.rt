@@ -4,8 +4,8 @@ ghost use Rattle.config_text.specs.Reasons as reasons;
 
 use crate::fields::no_producer;
 use crate::kept::{BufferSaid, KeptBlock, KeptProducer, KeptWhat};
-use crate::numeral::Numeral;
 use std::alloc::{AllocError, Global};
+use trace_base::numeral::Numeral;
 
 #[derive(Drop)]
 pub(crate) struct LookUps<'t> {

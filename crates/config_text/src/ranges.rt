@@ -3,14 +3,14 @@ ghost use Rattle.std.specs.Prelude.{◌≡◌, ◌*◌, ◌<◌, ◌≤◌, true
 ghost use Rattle.trace_base.specs.declared.limits.TheConstants.{BYTES_PER_KB, MAX_CHUNKS_PER_PAGE, MAX_PAGE_SIZE};
 ghost use Rattle.page_geometry.specs.Sizes.{payload_size, record_size};
 ghost use Rattle.config_text.specs.Kept.{producer_kept};
-ghost use Rattle.config_text.specs.declared.numeral.Numeral.TheVariants.{Fits};
+ghost use Rattle.trace_base.specs.declared.numeral.Numeral.TheVariants.{Fits};
 ghost use Rattle.config_text.specs.Ranges as ranges;
 ghost use Rattle.config_text.specs.Reasons as reasons;
 
 use crate::kept::KeptProducer;
-use crate::numeral::Numeral;
 use page_geometry::Geometry;
 use trace_base::limits::{BYTES_PER_KB, MAX_CHUNKS_PER_PAGE, MAX_PAGES};
+use trace_base::numeral::Numeral;
 
 /// Sizes of pages, in units of 1,024 bytes.
 const MIN_PAGE_KB: u64 = 4;

@@ -14,8 +14,8 @@ use Rattle.trace_model.specs.Calls.{Call}
 use Rattle.trace_model.specs.Packets.{nothing_yet, noted}
 use Rattle.field_tree.specs.declared.fault.FieldFault.{FieldFault}
 use Rattle.field_tree.specs.Nodes.{Shown}
-use Rattle.scenario_text.specs.declared.numeral.Numeral.{Numeral}
-use Rattle.scenario_text.specs.declared.numeral.Numeral.TheVariants.{Fits, TooLarge}
+use Rattle.trace_base.specs.declared.numeral.Numeral.{Numeral}
+use Rattle.trace_base.specs.declared.numeral.Numeral.TheVariants.{Fits, TooLarge}
 use Rattle.scenario_text.specs.declared.form.Form.{Form}
 use Rattle.scenario_text.specs.declared.form.Form.TheVariants.{Buffer, Producer, Writer, OfWriter, OfProducer, Read, Request}
 use Rattle.scenario_text.specs.declared.form.WriterStep.{WriterStep}

@@ -16,7 +16,7 @@ use Rattle.field_tree.specs.Refusals.{reserved_fault, first_reserved}
 use Rattle.field_tree.specs.Answers.{Means, outcome}
 use Rattle.field_tree.proofs.AnswerLemmas.{outcome_means}
 use Rattle.field_tree.proofs.NodeLaws.{nodes_as_long}
-use Rattle.scenario_text.specs.declared.numeral.Numeral.{Numeral}
+use Rattle.trace_base.specs.declared.numeral.Numeral.{Numeral}
 use Rattle.scenario_text.specs.declared.form.Form.TheVariants.{OfWriter}
 use Rattle.scenario_text.specs.declared.form.WriterStep.{WriterStep}
 use Rattle.scenario_text.specs.declared.form.WriterStep.TheVariants.{Packet, Begin, Add, Nest, Unnest, End, Flush}

@@ -1,4 +1,3 @@
-pub mod NumeralLemmas
 pub mod PieceLemmas
 pub mod FormLemmas
 pub mod SoundLemmas

@@ -10,8 +10,8 @@ use Rattle.trace_base.specs.declared.policy.FullPolicy.{FullPolicy}
 use Rattle.trace_base.specs.declared.policy.WriterPolicy.{WriterPolicy}
 use Rattle.trace_base.specs.declared.policy.WriterSpec.{WriterSpec}
 use Rattle.page_geometry.specs.Sizes.{payload_size, record_size}
-use Rattle.scenario_text.specs.declared.numeral.Numeral.{Numeral}
-use Rattle.scenario_text.specs.declared.numeral.Numeral.TheVariants.{Fits, TooLarge}
+use Rattle.trace_base.specs.declared.numeral.Numeral.{Numeral}
+use Rattle.trace_base.specs.declared.numeral.Numeral.TheVariants.{Fits, TooLarge}
 use Rattle.scenario_text.specs.declared.form.Form.{Form}
 use Rattle.scenario_text.specs.declared.form.Form.TheVariants.{Buffer, Producer, Writer, OfWriter, OfProducer, Read, Request}
 use Rattle.scenario_text.specs.declared.form.ProducerStep.{ProducerStep}

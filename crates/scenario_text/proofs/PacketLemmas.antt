@@ -8,7 +8,7 @@ use Rattle.trace_base.specs.declared.limits.TheConstants.{MAX_PACKET_LEN, MAX_SC
 use Rattle.trace_base.specs.declared.policy.WriterSpec.{WriterSpec}
 use Rattle.field_tree.specs.Answers.{outcome}
 use Rattle.field_tree.specs.Nodes.{Shown}
-use Rattle.scenario_text.specs.declared.numeral.Numeral.TheVariants.{Fits}
+use Rattle.trace_base.specs.declared.numeral.Numeral.TheVariants.{Fits}
 use Rattle.scenario_text.specs.declared.form.Form.TheVariants.{OfWriter}
 use Rattle.scenario_text.specs.declared.form.WriterStep.TheVariants.{Packet}
 use Rattle.scenario_text.specs.declared.open_packet.OpenPacket.{OpenPacket}
@@ -20,7 +20,7 @@ use Rattle.scenario_text.specs.Effects.{packet_after, with_bytes, with_line, wit
 use Rattle.scenario_text.specs.Forms.{long_form, with_number}
 use Rattle.scenario_text.specs.Grammar.{after_form, after_line, says_nothing}
 use Rattle.scenario_text.specs.Items.{item, with_item}
-use Rattle.scenario_text.specs.Numerals.{number_of, numeral_of, sized, sized_value, value_from}
+use Rattle.trace_base.specs.Numerals.{number_of, numeral_of, sized, sized_value, value_from}
 use Rattle.scenario_text.specs.PacketLines.{IsPacketLine}
 use Rattle.scenario_text.specs.Pieces.{pieces, pieces_behind, behind_space, fields_part}
 use Rattle.scenario_text.specs.Ranges.{fits, value}

@@ -11,8 +11,8 @@ use Rattle.trace_base.specs.declared.limits.TheConstants.{MAX_NUMBER}
 use Rattle.trace_base.proofs.Lists.{get_more}
 use Rattle.trace_base.specs.declared.policy.WriterSpec.{WriterSpec}
 use Rattle.field_tree.specs.Nodes.{Shown}
-use Rattle.scenario_text.specs.declared.numeral.Numeral.{Numeral}
-use Rattle.scenario_text.specs.declared.numeral.Numeral.TheVariants.{Fits, TooLarge}
+use Rattle.trace_base.specs.declared.numeral.Numeral.{Numeral}
+use Rattle.trace_base.specs.declared.numeral.Numeral.TheVariants.{Fits, TooLarge}
 use Rattle.scenario_text.specs.declared.form.Form.{Form}
 use Rattle.scenario_text.specs.declared.form.Form.TheVariants.{Buffer, Producer, Writer, OfWriter, OfProducer, Read, Request}
 use Rattle.scenario_text.specs.declared.form.WriterStep.{WriterStep}

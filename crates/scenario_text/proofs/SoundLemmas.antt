@@ -8,8 +8,8 @@ use Rattle.page_geometry.specs.Sizes.{IsPageSize, IsChunkCount}
 use Rattle.page_geometry.specs.declared.geometry.TheConstants.{CHUNK_COUNTS}
 use Rattle.trace_base.specs.declared.limits.TheConstants.{MAX_NESTING, MAX_PAGE_SIZE, PAGE_SIZE_UNIT}
 use Rattle.scenario_text.specs.declared.scenario.ProducerLine.{ProducerLine}
-use Rattle.scenario_text.specs.declared.numeral.Numeral.{Numeral}
-use Rattle.scenario_text.specs.declared.numeral.Numeral.TheVariants.{Fits, TooLarge}
+use Rattle.trace_base.specs.declared.numeral.Numeral.{Numeral}
+use Rattle.trace_base.specs.declared.numeral.Numeral.TheVariants.{Fits, TooLarge}
 use Rattle.scenario_text.specs.Items.{item, with_item}
 use Rattle.scenario_text.specs.Ranges.{is_page_size, is_chunk_count}
 use Rattle.scenario_text.specs.declared.open_packet.OpenPacket.{OpenPacket}

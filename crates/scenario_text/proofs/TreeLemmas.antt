@@ -11,7 +11,7 @@ use Rattle.field_tree.specs.Refusals.{reserved_fault, first_reserved, or_else, w
 use Rattle.field_tree.specs.Answers.{Means, outcome}
 use Rattle.field_tree.proofs.AnswerLemmas.{outcome_means}
 use Rattle.trace_base.specs.declared.limits.TheConstants.{MAX_NESTING, MAX_PACKET_LEN}
-use Rattle.scenario_text.specs.declared.numeral.Numeral.{Numeral}
+use Rattle.trace_base.specs.declared.numeral.Numeral.{Numeral}
 use Rattle.scenario_text.specs.declared.form.Form.{Form}
 use Rattle.scenario_text.specs.declared.form.Form.TheVariants.{Buffer, Producer, Writer, OfWriter, OfProducer, Read, Request}
 use Rattle.scenario_text.specs.declared.form.WriterStep.{WriterStep}

@@ -6,8 +6,8 @@ use Rattle.trace_base.specs.Reserved.{is_reserved}
 use Rattle.field_tree.specs.declared.fault.FieldFault.{FieldFault}
 use Rattle.field_tree.specs.declared.fault.FieldFault.TheVariants as faults
 use Rattle.field_tree.specs.Nodes.{Shown}
-use Rattle.scenario_text.specs.declared.numeral.Numeral.{Numeral}
-use Rattle.scenario_text.specs.declared.numeral.Numeral.TheVariants.{Fits, TooLarge}
+use Rattle.trace_base.specs.declared.numeral.Numeral.{Numeral}
+use Rattle.trace_base.specs.declared.numeral.Numeral.TheVariants.{Fits, TooLarge}
 use Rattle.scenario_text.specs.declared.form.Form.{Form}
 use Rattle.scenario_text.specs.declared.form.Form.TheVariants.{OfWriter}
 use Rattle.scenario_text.specs.declared.form.WriterStep.{WriterStep}

@@ -1,7 +1,7 @@
 -- Things that lines name by their number in the order of their set-up lines, counted from 1.
 use Rattle.std.specs.Prelude.{◌-◌, ◌==◌, List, Option, None, slice_get, slice_set, if◌then◌else◌}
-use Rattle.scenario_text.specs.declared.numeral.Numeral.{Numeral}
-use Rattle.scenario_text.specs.declared.numeral.Numeral.TheVariants.{Fits, TooLarge}
+use Rattle.trace_base.specs.declared.numeral.Numeral.{Numeral}
+use Rattle.trace_base.specs.declared.numeral.Numeral.TheVariants.{Fits, TooLarge}
 
 -- the thing with this number, if there is one
 unfoldable pub item : {X : Type 0} → List X → Numeral → Option X

@@ -1,5 +1,4 @@
 pub mod Pieces
-pub mod Numerals
 pub mod Forms
 pub mod Items
 pub mod Ranges

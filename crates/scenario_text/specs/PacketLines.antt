@@ -1,6 +1,6 @@
 -- Lines `p W FIELDS`, which are read on a short way.
 use Rattle.std.specs.Prelude.{◌≡◌, ℕ, true, false, List, Some}
-use Rattle.scenario_text.specs.declared.numeral.Numeral.TheVariants.{Fits}
+use Rattle.trace_base.specs.declared.numeral.Numeral.TheVariants.{Fits}
 use Rattle.scenario_text.specs.declared.form.Form.TheVariants.{OfWriter}
 use Rattle.scenario_text.specs.declared.form.WriterStep.TheVariants.{Packet}
 use Rattle.scenario_text.specs.Forms.{form_of}

@@ -3,8 +3,8 @@ use Rattle.std.specs.Prelude.{ℕ, ◌%◌, nat_le, ◌==◌, Bool, true, false,
 use Rattle.std.specs.List.{list_any}
 use Rattle.trace_base.specs.declared.limits.TheConstants.{MAX_PAGE_SIZE, PAGE_SIZE_UNIT}
 use Rattle.page_geometry.specs.declared.geometry.TheConstants.{CHUNK_COUNTS}
-use Rattle.scenario_text.specs.declared.numeral.Numeral.{Numeral}
-use Rattle.scenario_text.specs.declared.numeral.Numeral.TheVariants.{Fits, TooLarge}
+use Rattle.trace_base.specs.declared.numeral.Numeral.{Numeral}
+use Rattle.trace_base.specs.declared.numeral.Numeral.TheVariants.{Fits, TooLarge}
 
 -- a number is below 2 ^ 64
 unfoldable pub fits : Numeral → Bool

@@ -3,8 +3,8 @@ use Rattle.std.specs.Prelude.{ℕ, ◌+◌, ◌-◌, ◌*◌, nat_lt, nat_le, �
 use Rattle.trace_base.specs.declared.limits.TheConstants.{BYTES_PER_KB, MAX_BUFFERS, MAX_BUFFER_KB, MAX_FIELD, MAX_NESTING, MAX_PACKET_LEN, MAX_PAGES, MAX_PRODUCERS, MAX_SCENARIO_PACKET_BYTES, MAX_WRITERS, MIN_BUFFER_KB, MAX_NUMBER}
 use Rattle.trace_base.specs.Reserved.{is_reserved}
 use Rattle.page_geometry.specs.Sizes.{payload_size, record_size}
-use Rattle.scenario_text.specs.declared.numeral.Numeral.{Numeral}
-use Rattle.scenario_text.specs.declared.numeral.Numeral.TheVariants.{Fits}
+use Rattle.trace_base.specs.declared.numeral.Numeral.{Numeral}
+use Rattle.trace_base.specs.declared.numeral.Numeral.TheVariants.{Fits}
 use Rattle.scenario_text.specs.declared.form.Form.{Form}
 use Rattle.scenario_text.specs.declared.form.Form.TheVariants.{Buffer, Producer, Writer, OfWriter, OfProducer, Read, Request}
 use Rattle.scenario_text.specs.declared.form.WriterStep.{WriterStep}

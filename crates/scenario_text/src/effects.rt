@@ -5,11 +5,11 @@ ghost use Rattle.scenario_text.specs.State.{nesting_of, len_of};
 ghost use Rattle.scenario_text.specs.Effects.{limit_of, packet_after, producer_kind, writer_kind, FieldFits};
 
 use crate::form::{ProducerStep, WriterStep};
-use crate::numeral::Numeral;
 use crate::open_packet::OpenPacket;
 use crate::scenario::LineKind;
 use field_tree::Fields;
 use trace_base::limits::{MAX_NESTING, MAX_PACKET_LEN};
+use trace_base::numeral::Numeral;
 
 /// A number that is known to be small.
 #[tactic(auto, unfolding(crate::specs::Ranges::value))]

@@ -12,10 +12,10 @@ ghost use Rattle.scenario_text.specs.Additions.{GivesAddition};
 
 use crate::form::WriterStep;
 use crate::line_fault::LineFault;
-use crate::numeral::Numeral;
 use crate::reason::Reason;
 use field_tree::{FieldError, FieldFault, FieldParser, Fields};
 use trace_base::limits::{MAX_FIELD, MAX_INPUT, MAX_NESTING, MAX_PACKET_LEN};
+use trace_base::numeral::Numeral;
 use trace_base::reserved::is_reserved;
 use wire_varint::put_tag;
 

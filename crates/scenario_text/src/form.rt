@@ -1,6 +1,6 @@
 //! The forms of a line, by its words alone.
 
-use crate::numeral::Numeral;
+use trace_base::numeral::Numeral;
 use trace_base::policy::{FullPolicy, WriterPolicy};
 
 /// A line up to its FIELDS, before anything is known of what its numbers name.

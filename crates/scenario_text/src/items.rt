@@ -2,7 +2,7 @@
 ghost use Rattle.std.specs.Prelude.{◌≡◌};
 ghost use Rattle.scenario_text.specs.Items.{item, with_item};
 
-use crate::numeral::Numeral;
+use trace_base::numeral::Numeral;
 
 /// The thing with this number, if there is one.
 #[tactic(auto, unfolding(crate::specs::Items::item))]

@@ -14,8 +14,6 @@ mod line_fault;
 mod line_list;
 pub mod lines;
 mod lines_reader;
-mod number;
-pub mod numeral;
 mod open_packet;
 mod own_lines;
 mod packet_line;

@@ -5,7 +5,6 @@ ghost use Rattle.scenario_text.specs.Grammar.{earlier, says_nothing};
 
 use crate::line_fault::LineFault;
 use crate::lines_reader::LinesReader;
-use crate::numeral::Numeral;
 use crate::open_packet::OpenPacket;
 use crate::packet_line::packet_line;
 use crate::reader::Reader;
@@ -15,6 +14,7 @@ use crate::scenario::Scenario;
 use field_tree::FieldParser;
 use std::alloc::Global;
 use trace_base::limits::MAX_INPUT;
+use trace_base::numeral::Numeral;
 use trace_base::policy::WriterSpec;
 
 /// Whether a line is empty or begins with '#'.

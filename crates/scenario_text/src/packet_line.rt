@@ -8,11 +8,11 @@ ghost use Rattle.scenario_text.specs.PacketLines.{IsPacketLine};
 use crate::fields::{Addition, given_fields};
 use crate::form::{Form, WriterStep};
 use crate::line_fault::LineFault;
-use crate::numeral::Numeral;
 use crate::reader::Reader;
 use crate::reason::Reason;
 use field_tree::FieldParser;
 use trace_base::limits::{MAX_INPUT, MAX_SCENARIO_PACKET_BYTES};
+use trace_base::numeral::Numeral;
 
 /// The writer that such a line names, and its FIELDS.
 #[derive(Clone, Copy)]
@@ -47,7 +47,7 @@ impl Reader {
     ghost use Rattle.scenario_text.specs.declared.form.Form.TheVariants.{OfWriter};
     ghost use Rattle.scenario_text.specs.declared.form.WriterStep.TheVariants.{Packet};
     ghost use Rattle.scenario_text.specs.declared.line_fault.LineFault.TheVariants.{OutOfMemory};
-    ghost use Rattle.scenario_text.specs.declared.numeral.Numeral.TheVariants.{Fits};
+    ghost use Rattle.trace_base.specs.declared.numeral.Numeral.TheVariants.{Fits};
     ghost use Rattle.scenario_text.specs.Answers.{LeadsTo};
     ghost use Rattle.scenario_text.specs.Effects.{written};
     ghost use Rattle.scenario_text.specs.Grammar.{after_form};

@@ -5,7 +5,6 @@ use crate::fields::{Addition, read_addition};
 use crate::form::{Form, ProducerStep, WriterStep};
 use crate::items::put_item;
 use crate::line_fault::LineFault;
-use crate::numeral::Numeral;
 use crate::open_packet::OpenPacket;
 use crate::reader::Reader;
 use crate::reason::Reason;
@@ -13,6 +12,7 @@ use crate::refusals::{len_of, nesting_of};
 use crate::scenario::{BufferLine, LineKind, ProducerLine};
 use field_tree::FieldParser;
 use trace_base::limits::{MAX_INPUT, MAX_NESTING, MAX_PACKET_LEN, MAX_SCENARIO_PACKET_BYTES};
+use trace_base::numeral::Numeral;
 use trace_base::policy::{FullPolicy, WriterPolicy, WriterSpec};
 
 impl Reader {

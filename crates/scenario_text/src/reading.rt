@@ -4,9 +4,9 @@ ghost use Rattle.scenario_text.specs.Pieces.{fields_part, pieces};
 ghost use Rattle.scenario_text.specs.Forms.{buffer_form, form_of, four_words, long_form, more_words, one_word, policy_form, producer_form, service_form, short_form, three_words, two_words, writer_form};
 
 use crate::form::{Form, ProducerStep, WriterStep};
-use crate::number::numeral;
-use crate::numeral::Numeral;
 use crate::pieces::next_piece;
+use trace_base::number::numeral;
+use trace_base::numeral::Numeral;
 use trace_base::policy::{FullPolicy, WriterPolicy};
 
 #[tactic(auto, unfolding(crate::specs::Forms::one_word))]

@@ -9,7 +9,6 @@ ghost use Rattle.scenario_text.specs.Reasons.{is_limit, is_out_of_range, is_prod
 
 use crate::form::{Form, WriterStep};
 use crate::items::item;
-use crate::numeral::Numeral;
 use crate::open_packet::OpenPacket;
 use crate::reader::Reader;
 use crate::reason::Reason;
@@ -19,6 +18,7 @@ use trace_base::limits::{
     BYTES_PER_KB, MAX_BUFFER_KB, MAX_BUFFERS, MAX_NESTING, MAX_PAGE_SIZE, MAX_PAGES, MAX_PRODUCERS,
     MAX_WRITERS, MIN_BUFFER_KB, PAGE_SIZE_UNIT,
 };
+use trace_base::numeral::Numeral;
 use trace_base::policy::WriterSpec;
 
 #[tactic(auto, unfolding(crate::specs::Ranges::fits))]

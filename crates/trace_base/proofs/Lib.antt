@@ -1,2 +1,4 @@
 pub mod Choices
+pub mod DecimalLemmas
 pub mod Lists
+pub mod NumeralLemmas

@@ -2,7 +2,6 @@ pub mod CutLemmas
 pub mod FieldsLemmas
 pub mod LengthLemmas
 pub mod LineLemmas
-pub mod NumeralLemmas
 pub mod PacketLemmas
 pub mod SetUpLemmas
 pub mod TurnLemmas

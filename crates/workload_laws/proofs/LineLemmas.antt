@@ -10,7 +10,7 @@ use Rattle.trace_base.specs.declared.limits.TheConstants.{MAX_GENERATED_PACKETS,
 use Rattle.field_tree.specs.Nodes.{nodes_of}
 use Rattle.field_tree.specs.Judged.{nodes_len}
 use Rattle.field_tree.proofs.NodeLaws.{nodes_len_tree}
-use Rattle.scenario_text.specs.declared.numeral.Numeral.TheVariants.{Fits}
+use Rattle.trace_base.specs.declared.numeral.Numeral.TheVariants.{Fits}
 use Rattle.scenario_text.specs.Items.{item}
 use Rattle.scenario_text.specs.State.{State, is_closed}
 use Rattle.workload_gen.specs.Workload.{packet_line, packet_lines, drawn_of, state_after}

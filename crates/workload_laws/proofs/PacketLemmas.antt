@@ -10,7 +10,7 @@ use Rattle.field_tree.specs.Nodes.{Shown, nodes_of}
 use Rattle.field_tree.specs.Judged.{nodes_len}
 use Rattle.field_tree.specs.Answers.{outcome}
 use Rattle.field_tree.proofs.NodeLaws.{nodes_len_tree}
-use Rattle.scenario_text.specs.declared.numeral.Numeral.TheVariants.{Fits}
+use Rattle.trace_base.specs.declared.numeral.Numeral.TheVariants.{Fits}
 use Rattle.scenario_text.specs.declared.form.Form.TheVariants.{OfWriter}
 use Rattle.scenario_text.specs.declared.form.WriterStep.TheVariants.{Packet}
 use Rattle.scenario_text.specs.declared.scenario.LineKind.TheVariants as kinds
@@ -26,7 +26,7 @@ use Rattle.scenario_text.proofs.FormLemmas.{several_words}
 use Rattle.scenario_text.proofs.WriteLemmas.{taken}
 use Rattle.scenario_text.proofs.PacketLemmas.{front_passed}
 use Rattle.workload_laws.proofs.CutLemmas.{lacks_decimal, pieces-at, behind_space_at}
-use Rattle.workload_laws.proofs.NumeralLemmas.{numeral_read}
+use Rattle.trace_base.proofs.DecimalLemmas.{numeral_read}
 use Rattle.workload_laws.proofs.FieldsLemmas.{packet_tree, fields_text, AreNumbers, packet_read, packet_len_any}
 
 -- ---- its words

@@ -7,11 +7,11 @@ use Rattle.trace_base.specs.declared.limits.TheConstants.{MAX_WRITERS}
 use Rattle.trace_base.specs.declared.policy.FullPolicy.TheVariants.{Ring}
 use Rattle.trace_base.specs.declared.policy.WriterPolicy.TheVariants.{Stalls}
 use Rattle.page_geometry.specs.Sizes.{payload_size, chunk_size}
-use Rattle.scenario_text.specs.declared.numeral.Numeral.TheVariants.{Fits}
+use Rattle.trace_base.specs.declared.numeral.Numeral.TheVariants.{Fits}
 use Rattle.scenario_text.specs.declared.form.Form.{Form}
 use Rattle.scenario_text.specs.declared.form.Form.TheVariants.{Buffer, Producer, Writer}
 use Rattle.scenario_text.specs.declared.open_packet.OpenPacket.{OpenPacket}
-use Rattle.scenario_text.specs.Numerals.{value_from, number_of, sized, sized_value, numeral_of}
+use Rattle.trace_base.specs.Numerals.{value_from, number_of, sized, sized_value, numeral_of}
 use Rattle.scenario_text.specs.Forms.{with_number, three_words, four_words, buffer_form, producer_form, policy_form, writer_form, more_words, long_form, form_of_words, form_of}
 use Rattle.scenario_text.specs.Items.{item}
 use Rattle.scenario_text.specs.Ranges.{fits, value, is_within, is_page_size, is_chunk_count}

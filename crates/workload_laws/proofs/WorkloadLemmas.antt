@@ -4,7 +4,7 @@ use Rattle.std.specs.Prelude.{unwrap_or}
 use Rattle.std.proofs.lemmas.List.{append-nil}
 use Rattle.trace_base.specs.declared.limits.TheConstants.{MAX_GENERATED_PACKETS, MAX_GENERATED_WRITERS}
 use Rattle.trace_base.specs.declared.policy.WriterSpec.{WriterSpec}
-use Rattle.scenario_text.specs.declared.numeral.Numeral.TheVariants.{Fits}
+use Rattle.trace_base.specs.declared.numeral.Numeral.TheVariants.{Fits}
 use Rattle.scenario_text.specs.Pieces.{pieces}
 use Rattle.scenario_text.specs.Items.{item}
 use Rattle.scenario_text.specs.State.{State, beginning, packet_of}

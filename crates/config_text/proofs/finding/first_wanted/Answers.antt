@@ -1,6 +1,6 @@
 use Rattle.std.proofs.Common.{[], arith}
 use Rattle.config_text.specs.declared.kept.KeptProducer.{KeptProducer}
-use Rattle.config_text.specs.declared.numeral.Numeral.TheVariants.{TooLarge}
+use Rattle.trace_base.specs.declared.numeral.Numeral.TheVariants.{TooLarge}
 use Rattle.config_text.specs.Wanted.{is_wanted}
 use Rattle.config_text.proofs.FindingLemmas.{place_none}
 use Rattle.config_text.proofs.finding.first_wanted.Goals as goal

@@ -4,7 +4,7 @@ use Rattle.trace_base.specs.declared.policy.FullPolicy.TheVariants.{Ring}
 use Rattle.std.specs.Prelude.{None}
 use Rattle.config_text.specs.declared.kept.KeptBlock.{KeptBlock}
 use Rattle.config_text.specs.declared.kept.KeptWhat.TheVariants.{Buffer}
-use Rattle.config_text.specs.declared.numeral.Numeral.{Numeral}
+use Rattle.trace_base.specs.declared.numeral.Numeral.{Numeral}
 use Rattle.config_text.specs.Blocks.{Block, ProducerSaid}
 use Rattle.config_text.specs.Kept.{producer_kept, what_kept, block_kept}
 use Rattle.config_text.specs.Reasons.{size_in, sizes_in, producer_in, producers_said, is_fit_producer}

@@ -11,7 +11,7 @@ pub enum Numeral {
 
 impl Numeral {
     ghost use Rattle.std.specs.Prelude.{◌≡◌, ◌<◌};
-    ghost use Rattle.scenario_text.specs.Numerals.{longer};
+    ghost use Rattle.trace_base.specs.Numerals.{longer};
 
     #[tactic(auto, unfolding(crate::specs::Numerals::longer, crate::specs::Numerals::sized))]
     pub fn longer(self, digit: u8) -> Self

@@ -2,11 +2,14 @@
 use Rattle.std.proofs.Common.{◌≡◌, ℕ, ◌+◌, ◌-◌, ◌*◌, ◌/◌, ◌%◌, ◌^◌, ◌<◌, ◌≤◌, ◌==◌, nat_lt, Bool, true, false, cond, Some, None, List, [], ◌∷◌, ◌++◌, refl, ap, ◌∙◌, arith}
 use Rattle.std.specs.Char.{is_ascii_digit}
 use Rattle.std.specs.Fmt.{decimal}
-use Rattle.std.proofs.lemmas.Bool.{lt-ltb, ne_eqb}
+use Rattle.std.specs.Prelude.{nat_le}
+use Rattle.std.proofs.lemmas.Bool.{lt-ltb, ne_eqb, le-leb, and_from}
 use Rattle.std.proofs.lemmas.Fmt.{decimal_by_steps}
-use Rattle.field_tree.proofs.Runs.{digit}
-use Rattle.scenario_text.specs.declared.numeral.Numeral.TheVariants.{Fits}
-use Rattle.scenario_text.specs.Numerals.{value_from, number_of, sized, sized_value, numeral_of}
+use Rattle.trace_base.specs.declared.numeral.Numeral.TheVariants.{Fits}
+use Rattle.trace_base.specs.Numerals.{value_from, number_of, sized, sized_value, numeral_of}
+
+digit : (n : ℕ) → n < 10 → is_ascii_digit (48 + n) ≡ true
+digit n small = and_from (nat_le 48 (48 + n)) (nat_le (48 + n) 57) (le-leb 48 (48 + n) (omega arith)) (le-leb (48 + n) 57 (omega arith))
 
 -- ---- a digit more
 

@@ -1,6 +1,6 @@
 //! Reading a number.
 ghost use Rattle.std.specs.Prelude.{◌≡◌};
-ghost use Rattle.scenario_text.specs.Numerals.{number_of, numeral_of, sized_value, value_from};
+ghost use Rattle.trace_base.specs.Numerals.{number_of, numeral_of, sized_value, value_from};
 
 use crate::numeral::Numeral;
 
