@@ -16,6 +16,8 @@ pub enum WriterPolicy {
     Drops,
     /// It asks its helper to free one, and goes on once it has it.
     Stalls,
+    /// It asks its helper so often to free one, and then drops the packet as one that drops does.
+    StallsThenDrops { tries: u32 },
 }
 
 /// A writer as its set-up line names it. Producers and buffers count from 1.
