@@ -1,7 +1,7 @@
 //! One record more.
 ghost use Rattle.std.specs.Prelude.{◌≡◌, ℕ, ◌<◌, ◌≤◌, [], ◌∷◌, ◌++◌, List, length, true, false};
 ghost use Rattle.trace_model.specs.Delivery.{Delivered, IsFaithful};
-ghost use Rattle.trace_file.specs.Fields.{Spells};
+ghost use Rattle.trace_model.specs.Fields.{Spells};
 ghost use Rattle.trace_file.specs.Traces.{record_field};
 ghost use Rattle.gap_check.specs.Taken.{AllTaken, AreFew};
 ghost use Rattle.gap_check.specs.Verdicts.{AreUnmarked};

@@ -1,21 +1,15 @@
 -- What a reader of one field has found.
-use Rattle.std.proofs.Common.{◌≡◌, ◌≢◌, ℕ, ◌+◌, ◌-◌, ◌*◌, ◌/◌, ◌%◌, ◌<◌, ◌≤◌, List, length, take, drop, sym, subst, arith, inl, inr}
-use Rattle.std.proofs.lemmas.List.{length-take-le, length-drop, take-append-drop, take_rest}
-use Rattle.std.proofs.Math.Seq.{take-add}
+use Rattle.std.proofs.Common.{◌≡◌, ◌≢◌, ℕ, ◌+◌, ◌-◌, ◌/◌, ◌%◌, ◌<◌, ◌≤◌, List, length, take, drop, sym, arith, inl, inr}
+use Rattle.std.proofs.lemmas.List.{take-append-drop, take_rest}
 use Rattle.trace_base.specs.declared.limits.TheConstants.{MAX_FIELD}
 use Rattle.wire_varint.specs.Reading.{IsVarint}
 use Rattle.trace_file.specs.declared.field.FieldFault.{FieldFault}
 use Rattle.trace_file.specs.declared.field.FieldFault.TheVariants.{Group, Malformed, CutShort}
-use Rattle.trace_file.specs.Fields.{FieldValue, Content, wire_of, IsValue, Spells}
+use Rattle.trace_model.specs.Fields.{Content, IsValue}
+use Rattle.trace_model.proofs.FieldLemmas.{content_behind}
 use Rattle.trace_file.specs.Faults.{HasTag, HasTooLittle, IsGroup, IsBadTag, Lacks, LacksValue}
 
--- a length, and so many bytes behind it
-content_behind : (bytes : List ℕ) (width size : ℕ) → IsVarint (take width bytes) size → width ≤ length bytes → width + size ≤ length bytes
-    → IsValue (Content (take size (drop width bytes))) (take (width + size) bytes)
-content_behind bytes width size p low most =
-    let long : length (take size (drop width bytes)) ≡ size = length-take-le size (drop width bytes) (omega (arith, length-drop width bytes)) in
-    (take width bytes, subst (IsVarint (take width bytes)) (sym long) p, take-add width size bytes)
-
+-- a length, and so many bytes behind it, as a slice of a slice
 pub content_is : (bytes : List ℕ) (width size : ℕ) → IsVarint (take width bytes) size → width ≤ length bytes → size ≤ length bytes - width
     → IsValue (Content (take size (take (length bytes - width) (drop width bytes)))) (take (width + size) bytes)
 content_is bytes width size p low most = rw (take_rest bytes width) (content_behind bytes width size p low (omega arith))
@@ -30,20 +24,6 @@ too_little bytes width size p less = record {
   cut = sym (take-append-drop width bytes);
   is_size = p;
   little = less;
-}
-
--- a tag and a value behind it
-pub spells : (bytes : List ℕ) (width tag len : ℕ) (value : FieldValue) → IsVarint (take width bytes) tag → 1 ≤ tag / 8 → tag / 8 ≤ MAX_FIELD
-    → wire_of value ≡ tag % 8 → IsValue value (take len (drop width bytes))
-    → Spells (record { number = tag / 8; value = value }) (take (width + len) bytes)
-spells bytes width tag len value p low most wire is = record {
-  numbered = low;
-  in_range = most;
-  tag = take width bytes;
-  behind = take len (drop width bytes);
-  cut = take-add width len bytes;
-  is_tag = let whole : tag ≡ 8 * (tag / 8) + wire_of value = omega (arith, wire) in subst (IsVarint (take width bytes)) whole p;
-  is_value = is;
 }
 
 pub has_tag : (bytes : List ℕ) (width tag : ℕ) → IsVarint (take width bytes) tag → HasTag bytes tag (drop width bytes)

@@ -9,7 +9,7 @@ use Rattle.wire_varint.proofs.Whole.{whole_some}
 use Rattle.trace_file.specs.declared.field.FieldFault.{FieldFault}
 use Rattle.trace_file.specs.declared.field.FieldFault.TheVariants.{Group, Malformed, CutShort}
 use Rattle.trace_base.specs.declared.limits.TheConstants.{MAX_FIELD}
-use Rattle.trace_file.specs.Fields.{FieldValue, Number, EightBytes, Content, FourBytes, MessageField, wire_of, IsValue, Spells}
+use Rattle.trace_model.specs.Fields.{FieldValue, Number, EightBytes, Content, FourBytes, MessageField, wire_of, IsValue, Spells}
 use Rattle.trace_file.specs.Faults.{HasTooLittle, IsBadTag, IsMalformedValue, IsCutValue, Lacks, LacksTag, LacksBehind}
 
 -- ---- varints

@@ -6,7 +6,7 @@ use Rattle.wire_varint.specs.Varint.{varint}
 use Rattle.wire_varint.proofs.Varints.{varint_is_varint}
 use Rattle.wire_varint.proofs.Whole.{whole_some}
 use Rattle.trace_model.specs.Record.{dropped_mark, mark_where, content_of, record_of}
-use Rattle.trace_file.specs.Fields.{Content, MessageField, Spells}
+use Rattle.trace_model.specs.Fields.{Content, MessageField, Spells}
 use Rattle.trace_file.specs.Apart.{SaysPacket, SaysOnly, SaysNone}
 use Rattle.trace_file.specs.Traces.{record_field}
 use Rattle.trace_file.proofs.OnceLemmas.{spells_once}

@@ -6,7 +6,7 @@ use Rattle.std.proofs.lemmas.List.Elements.{All-nil, All-push}
 use Rattle.std.proofs.Math.Seq.{take-add}
 use Rattle.trace_file.specs.declared.field.FieldFault.{FieldFault}
 use Rattle.wire_varint.proofs.Whole.{whole_some}
-use Rattle.trace_file.specs.Fields.{FieldValue, MessageField, Spells, SpellsAll, number_at, last_number}
+use Rattle.trace_model.specs.Fields.{FieldValue, MessageField, Spells, SpellsAll, number_at, last_number}
 use Rattle.trace_file.specs.Faults.{Lacks}
 use Rattle.trace_file.specs.Readers.{ReadsBehind}
 use Rattle.trace_file.specs.declared.fault.TraceFault.{TraceFault}

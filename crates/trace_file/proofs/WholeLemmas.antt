@@ -5,7 +5,7 @@ use Rattle.std.specs.Prelude.{Bool, not, ◌==◌}
 use Rattle.std.proofs.lemmas.List.Elements.{All-head, All-tail}
 use Rattle.trace_file.specs.declared.field.FieldFault.{FieldFault}
 use Rattle.trace_file.specs.declared.fault.TraceFault.{TraceFault}
-use Rattle.trace_file.specs.Fields.{Content, MessageField, Spells, SpellsAll, last_number}
+use Rattle.trace_model.specs.Fields.{Content, MessageField, Spells, SpellsAll, last_number}
 use Rattle.trace_file.specs.Faults.{Lacks}
 use Rattle.trace_file.specs.Traces.{TracePacket, record_field, SaysNumbers, IsPacketAt, IsOther, IsPassed, StopsInside, top_fault, inner_fault, HasTopFault, HasInnerFault, EndsAt, EndsBehind, IsNext, ReadsFrom, TracesReadOnce}
 use Rattle.trace_file.proofs.OnceLemmas.{spells_once, spells_not_lacks, lacks_once, spells_some}

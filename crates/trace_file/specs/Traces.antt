@@ -6,7 +6,7 @@ use Rattle.trace_file.specs.declared.field.FieldFault.{FieldFault}
 use Rattle.trace_file.specs.declared.field.FieldFault.TheVariants as faults
 use Rattle.trace_file.specs.declared.fault.TraceFault.{TraceFault}
 use Rattle.trace_file.specs.declared.fault.TraceFault.TheVariants.{BadRecord, Group, CutShort}
-use Rattle.trace_file.specs.Fields.{Content, MessageField, Spells, SpellsAll, last_number}
+use Rattle.trace_model.specs.Fields.{Content, MessageField, Spells, SpellsAll, last_number}
 use Rattle.trace_file.specs.Faults.{Lacks}
 
 -- One packet of a trace: the offset of its record and the record's bytes, the content of these, and what two of its

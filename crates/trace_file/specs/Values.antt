@@ -3,7 +3,7 @@ use Rattle.trace_file.specs.declared.field.Field.{Field}
 use Rattle.trace_file.specs.declared.field.Value.{Value}
 use Rattle.trace_file.specs.declared.field.Value.TheVariants as values
 use Rattle.trace_file.specs.declared.packet.Packet.{Packet}
-use Rattle.trace_file.specs.Fields.{FieldValue, Number, EightBytes, Content, FourBytes, MessageField}
+use Rattle.trace_model.specs.Fields.{FieldValue, Number, EightBytes, Content, FourBytes, MessageField}
 use Rattle.trace_file.specs.Traces.{TracePacket}
 
 -- a field's value as the definitions have it

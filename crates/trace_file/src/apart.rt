@@ -2,7 +2,7 @@
 ghost use Rattle.std.specs.Prelude.{◌≡◌, ◌≢◌, ◌↔◌, ℕ, ◌<◌, ◌≤◌, ◌∷◌, ◌++◌, List, Bool, length, true, false, IsTrue, IfNone, IfSome, MatchOption};
 ghost use Rattle.wire_varint.specs.Varint.{varint};
 ghost use Rattle.trace_model.specs.Record.{dropped_mark, mark_where};
-ghost use Rattle.trace_file.specs.Fields.{Spells};
+ghost use Rattle.trace_model.specs.Fields.{Spells};
 ghost use Rattle.trace_file.specs.Apart.{SaysNone, SaysOnly, SaysPacket};
 ghost use Rattle.trace_file.specs.Traces.{record_field};
 

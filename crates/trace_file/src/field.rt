@@ -1,7 +1,7 @@
 //! One field of a protobuf message, as any writer may have spelled it.
 ghost use Rattle.std.specs.Prelude.{◌≡◌, ◌≢◌, ℕ, ◌+◌, ◌/◌, ◌%◌, ◌<◌, ◌≤◌, length, take, drop, IfOk, IfErr};
 ghost use Rattle.wire_varint.specs.Reading.{IsVarint};
-ghost use Rattle.trace_file.specs.Fields.{FieldValue, Content, IsValue, Spells, wire_of};
+ghost use Rattle.trace_model.specs.Fields.{FieldValue, Content, IsValue, Spells, wire_of};
 ghost use Rattle.trace_file.specs.Faults.{IsGroup, Lacks, LacksTag, LacksValue};
 ghost use Rattle.trace_file.specs.Values.{field_of, value_of};
 

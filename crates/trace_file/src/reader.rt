@@ -1,6 +1,6 @@
 //! The packets of a trace, one after another.
 ghost use Rattle.std.specs.Prelude.{◌≡◌, ℕ, ◌+◌, ◌-◌, ◌++◌, ◌^◌, List, None, Some, ◌<◌, ◌≤◌, length, take, drop, IfOk, IfErr, IfSome, IfNone, OnErr};
-ghost use Rattle.trace_file.specs.Fields.{Spells, number_at};
+ghost use Rattle.trace_model.specs.Fields.{Spells, number_at};
 ghost use Rattle.trace_file.specs.Traces.{record_field, inner_fault, top_fault, EndsBehind, HasInnerFault, IsNext, IsOther, IsPacketAt, SaysNumbers, StopsInside};
 ghost use Rattle.trace_file.specs.Values.{packet_of, value_of};
 
@@ -26,7 +26,7 @@ struct Numbers {
 
 impl Numbers {
     ghost use Rattle.std.specs.Prelude.{◌≡◌};
-    ghost use Rattle.trace_file.specs.Fields.{number_at};
+    ghost use Rattle.trace_model.specs.Fields.{number_at};
     ghost use Rattle.trace_file.specs.Values.{value_of};
 
     /// What they say with one field more.
@@ -203,7 +203,7 @@ impl<'a> Model for TraceReader<'a> {
 impl<'a> TraceReader<'a> {
     ghost use Rattle.std.specs.Prelude.{◌≡◌, ℕ, ◌<◌, List, [], ◌∷◌, length, Option, Some, None, IfOk, IfErr, IfSome, IfNone};
     ghost use Rattle.trace_file.specs.declared.fault.TraceFault.{TraceFault};
-    ghost use Rattle.trace_file.specs.Fields.{Spells};
+    ghost use Rattle.trace_model.specs.Fields.{Spells};
     ghost use Rattle.trace_file.specs.Readers.{StillReads};
     ghost use Rattle.trace_file.specs.Traces.{record_field, TracePacket};
     ghost use Rattle.trace_file.specs.Values.{packet_of};

@@ -5,6 +5,7 @@ pub mod CountedLemmas
 pub mod CursorLemmas
 pub mod EncodingLemmas
 pub mod FadingLemmas
+pub mod FieldLemmas
 pub mod FixedLemmas
 pub mod JoinLemmas
 pub mod LiveLemmas

@@ -11,6 +11,7 @@ pub mod Encoding
 pub mod EncodingLaws
 pub mod Enough
 pub mod Fading
+pub mod Fields
 pub mod Fragments
 pub mod History
 pub mod Images
@@ -32,6 +33,7 @@ pub mod Sequences
 pub mod Tells
 pub mod TellsLaws
 pub mod Unread
+pub mod Walks
 pub mod WorkedRounds
 pub mod WorkedRows
 pub mod WorkedWriters

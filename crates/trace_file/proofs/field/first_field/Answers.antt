@@ -2,7 +2,8 @@ use Rattle.std.proofs.Common.{arith, inl, inr}
 use Rattle.std.proofs.lemmas.List.{take_rest}
 use Rattle.trace_file.specs.Faults.{IsGroup, IsBadTag}
 use Rattle.trace_file.specs.Values.{value_of}
-use Rattle.trace_file.proofs.FieldLemmas.{is_group, is_bad, lacks_behind, no_group, good_tag, spells}
+use Rattle.trace_model.proofs.FieldLemmas.{spells}
+use Rattle.trace_file.proofs.FieldLemmas.{is_group, is_bad, lacks_behind, no_group, good_tag}
 use Rattle.trace_file.proofs.field.first_field.Goals as goal
 use Rattle.trace_file.proofs.field.first_field.Goals.{then-wire-eq3-via-then-wire-eq3, then-wire-eq3-via-else-wire-eq3+then-wire-eq4, then-number-eq0-via-then-number-eq0, then-number-eq0-via-else-number-eq0+then-number-from, then-number-eq0-via-else-number-eq0+else-number-from+then-wire-gt5}
 
