@@ -1,0 +1,158 @@
+-- What the check has come to: over whole fields, over some bytes of a piece, and over all of it.
+use Rattle.std.proofs.Common.{◌≡◌, ℕ, ◌+◌, ◌-◌, ◌<◌, ◌≤◌, true, false, List, [], ◌∷◌, length, take, drop, get_or, refl, sym, ap, ◌∙◌, arith, Ok, Err, length-drop, drop-cons}
+use Rattle.std.proofs.lemmas.List.{take-append-drop, length-take-le, take_all}
+use Rattle.std.proofs.Math.Seq.{take-add}
+use Rattle.trace_model.specs.Fields.{MessageField}
+use Rattle.trace_model.specs.Walks.{WalkPart, Between, InContent, Unfit, Refused, Walk, is_refused, packet_start, field_ended, content_left, step, walk_over}
+use Rattle.packet_check.specs.Answers.{answer_of, walk_behind}
+use Rattle.packet_check.specs.Messages.{HasField}
+use Rattle.packet_check.specs.Values as values
+use Rattle.packet_check.specs.declared.walk.Part.{Part}
+use Rattle.packet_check.specs.declared.walk.Walk as code
+use Rattle.packet_check.specs.declared.fault.PacketFault.TheVariants.{ReservedField}
+use Rattle.packet_check.proofs.AnswerLemmas.{IsBetween}
+use Rattle.packet_check.proofs.WalkLemmas.{walk_at, walked_on, content_walk, field_walk, unfit_walk, refused_walk, ended_passed, ended_refused}
+
+long : (bytes : List ℕ) (at len : ℕ) → at + len ≤ length bytes → length (take len (drop at bytes)) ≡ len
+long bytes at len within = length-take-le len (drop at bytes) (omega (arith, length-drop at bytes, within))
+
+-- ---- over some bytes of a piece
+
+-- the walk at another place
+pub moved : (walk next : code.Walk) (at : ℕ) → next.at ≡ at → next.start ≡ walk.start → next.number ≡ walk.number → next.part ≡ walk.part
+    → values.walk_of next ≡ walk_at at walk.start walk.number (values.part_of walk.part)
+moved walk next at place start number part =
+    ap (λ (n : ℕ). walk_at n next.start next.number (values.part_of next.part)) place
+    ∙ ap (λ (n : ℕ). walk_at at n next.number (values.part_of next.part)) start
+    ∙ ap (λ (n : ℕ). walk_at at walk.start n (values.part_of next.part)) number
+    ∙ ap (λ (p : Part). walk_at at walk.start walk.number (values.part_of p)) part
+
+pub one_taken : (walk : Walk) (bytes : List ℕ) (at : ℕ) → at < length bytes → step walk (get_or bytes at 0) ≡ walk_over walk (take 1 (drop at bytes))
+one_taken walk bytes at within = rw (drop-cons bytes at 0) refl
+
+pub field_taken : (bytes : List ℕ) (here number len at start before : ℕ) (part : WalkPart) → part ≡ Between → HasField (drop here bytes) number len
+    → field_ended (walk_at (at + len) at number Between) ≡ walk_over (walk_at at start before part) (take len (drop here bytes))
+field_taken bytes here number len at start before part is h =
+    let field : MessageField = record { number = number; value = h.value } in
+    sym
+    (ap (λ (p : WalkPart). walk_over (walk_at at start before p) (take len (drop here bytes))) is
+    ∙ field_walk (record { number = number; value = h.value }) (take len (drop here bytes)) at start before Between h.spells
+    ∙ ap (λ (n : ℕ). field_ended (walk_at (at + n) at number Between)) (length-take-le len (drop here bytes) h.within))
+
+pub content_taken : (bytes : List ℕ) (here len left at start number : ℕ) (part : WalkPart) → part ≡ InContent left → 1 ≤ left → len ≤ left
+    → here + len ≤ length bytes → content_left (left - len) (walk_at (at + len) start number part) ≡ walk_over (walk_at at start number part) (take len (drop here bytes))
+content_taken bytes here len left at start number part is some most within =
+    let whole : length (take len (drop here bytes)) ≡ len = long bytes here len within in
+    sym
+    (ap (λ (p : WalkPart). walk_over (walk_at at start number p) (take len (drop here bytes))) is
+    ∙ content_walk (take len (drop here bytes)) left at start number part some (omega (arith, whole, most))
+    ∙ ap (λ (n : ℕ). content_left (left - n) (walk_at (at + n) start number part)) whole)
+
+pub unfit_taken : (bytes : List ℕ) (here len at start number : ℕ) (part : WalkPart) → part ≡ Unfit → here + len ≤ length bytes
+    → walk_at (at + len) start number part ≡ walk_over (walk_at at start number part) (take len (drop here bytes))
+unfit_taken bytes here len at start number part is within =
+    ap (walk_at (at + len) start number) is
+    ∙ sym
+    (ap (λ (p : WalkPart). walk_over (walk_at at start number p) (take len (drop here bytes))) is
+    ∙ unfit_walk (take len (drop here bytes)) at start number
+    ∙ ap (λ (n : ℕ). walk_at (at + n) start number Unfit) (long bytes here len within))
+
+pub refused_taken : (bytes : List ℕ) (here len at start number : ℕ) (part : WalkPart) → part ≡ Refused → here + len ≤ length bytes
+    → walk_at (at + len) start number part ≡ walk_over (walk_at at start number part) (take len (drop here bytes))
+refused_taken bytes here len at start number part is within =
+    ap (walk_at (at + len) start number) is
+    ∙ sym
+    (ap (λ (p : WalkPart). walk_over (walk_at at start number p) (take len (drop here bytes))) is
+    ∙ refused_walk (take len (drop here bytes)) at start number
+    ∙ ap (λ (n : ℕ). walk_at (at + n) start number Refused) (long bytes here len within))
+
+-- ---- over a piece
+
+-- the walk has come over so many bytes of the piece
+pub record IsTakenTo (walk there : code.Walk) (piece : List ℕ) (at : ℕ) : Type 0 where
+  pub is : values.walk_of there ≡ walk_over (values.walk_of walk) (take at piece)
+  pub part : values.IsPart there.part
+  pub place : there.at ≡ walk.at + at
+  pub within : at ≤ length piece
+
+pub taken_none : (walk : code.Walk) (piece : List ℕ) → values.IsPart walk.part → IsTakenTo walk walk piece 0
+taken_none walk piece part = record { is = refl; part = part; place = omega arith; within = omega arith }
+
+pub taken_more : (walk there next : code.Walk) (piece : List ℕ) (at taken : ℕ) → IsTakenTo walk there piece at
+    → values.walk_of next ≡ walk_over (values.walk_of there) (take taken (drop at piece)) → values.IsPart next.part
+    → next.at ≡ there.at + taken → at + taken ≤ length piece → IsTakenTo walk next piece (at + taken)
+taken_more walk there next piece at taken h is part place within = record {
+  is =
+      is ∙ ap (λ (w : Walk). walk_over w (take taken (drop at piece))) h.is ∙ sym (walked_on (values.walk_of walk) (take at piece) (take taken (drop at piece)))
+      ∙ ap (walk_over (values.walk_of walk)) (sym (take-add at taken piece));
+  part = part;
+  place = omega (arith, place, h.place);
+  within = within;
+}
+
+pub taken_all : (walk there : code.Walk) (piece : List ℕ) (at : ℕ) → IsTakenTo walk there piece at → length piece ≤ at
+    → values.walk_of there ≡ walk_over (values.walk_of walk) piece
+taken_all walk there piece at h end = h.is ∙ ap (walk_over (values.walk_of walk)) (take_all at piece end)
+
+-- ---- over whole fields
+
+-- so many bytes are fields that pass
+pub record IsWalkedTo (bytes : List ℕ) (at : ℕ) : Type 0 where
+  pub within : at ≤ length bytes
+  pub between : IsBetween at (walk_over packet_start (take at bytes))
+
+pub walked_none : (bytes : List ℕ) → IsWalkedTo bytes 0
+walked_none bytes = record { within = omega arith; between = record { start = 0; number = 0; is = refl } }
+
+-- with one field more
+over_one : (bytes : List ℕ) (at number len : ℕ) → IsWalkedTo bytes at → HasField (drop at bytes) number len
+    → walk_over packet_start (take (at + len) bytes) ≡ field_ended (walk_at (at + len) at number Between)
+over_one bytes at number len h field =
+    ap (walk_over packet_start) (take-add at len bytes)
+    ∙ walked_on packet_start (take at bytes) (take len (drop at bytes))
+    ∙ ap (λ (w : Walk). walk_over w (take len (drop at bytes))) h.between.is
+    ∙ sym (field_taken bytes at number len at h.between.start h.between.number Between refl field)
+
+pub walked_more : (bytes : List ℕ) (at number len : ℕ) → IsWalkedTo bytes at → HasField (drop at bytes) number len → is_refused number ≡ false
+    → IsWalkedTo bytes (at + len)
+walked_more bytes at number len h field free = record {
+  within = omega (arith, field.within, h.within, length-drop at bytes);
+  between = record {
+    start = at;
+    number = number;
+    is = over_one bytes at number len h field ∙ ended_passed (at + len) at number Between free;
+  };
+}
+
+pub refused_is : (bytes : List ℕ) (at number len : ℕ) → IsWalkedTo bytes at → HasField (drop at bytes) number len → is_refused number ≡ true
+    → Err (ReservedField number) ≡ answer_of (walk_over packet_start bytes)
+refused_is bytes at number len h field refused =
+    sym
+    (ap answer_of
+    (ap (walk_over packet_start) (sym (take-append-drop (at + len) bytes))
+    ∙ walked_on packet_start (take (at + len) bytes) (drop (at + len) bytes)
+    ∙ ap (λ (w : Walk). walk_over w (drop (at + len) bytes)) (over_one bytes at number len h field ∙ ended_refused (at + len) at number Between refused)
+    ∙ refused_walk (drop (at + len) bytes) (at + len) at number))
+
+-- what is answered behind a field's end says nothing of the fields before
+behind_is : (bytes : List ℕ) (at start number : ℕ) → answer_of (walk_over (walk_behind at) bytes) ≡ answer_of (walk_over (walk_at at start number Between) bytes)
+behind_is [] at start number = refl
+behind_is (byte ∷ bytes) at start number = refl
+
+over_rest : (bytes : List ℕ) (at : ℕ) (h : IsWalkedTo bytes at)
+    → walk_over (walk_at at h.between.start h.between.number Between) (drop at bytes) ≡ walk_over packet_start bytes
+over_rest bytes at h =
+    ap (λ (w : Walk). walk_over w (drop at bytes)) (sym h.between.is)
+    ∙ sym (walked_on packet_start (take at bytes) (drop at bytes))
+    ∙ ap (walk_over packet_start) (take-append-drop at bytes)
+
+pub rest_is : (bytes : List ℕ) (at : ℕ) → IsWalkedTo bytes at → answer_of (walk_over (walk_behind at) (drop at bytes)) ≡ answer_of (walk_over packet_start bytes)
+rest_is bytes at h = behind_is (drop at bytes) at h.between.start h.between.number ∙ ap answer_of (over_rest bytes at h)
+
+pub whole_is : (bytes : List ℕ) (at : ℕ) → IsWalkedTo bytes at → length bytes ≤ at → Ok tt ≡ answer_of (walk_over packet_start bytes)
+whole_is bytes at h end =
+    sym (ap (λ (xs : List ℕ). answer_of (walk_over packet_start xs)) (sym (take_all at bytes end)) ∙ ap answer_of h.between.is)
+
+pub ruleset piece_steps = (taken_none, taken_more, taken_all)
+
+pub ruleset check_steps = (walked_none, walked_more, refused_is, rest_is, whole_is)

@@ -1,0 +1,7 @@
+pub mod AnswerLemmas
+pub mod CheckLemmas
+pub mod FieldLemmas
+pub mod RiseLemmas
+pub mod SplitLemmas
+pub mod StepLemmas
+pub mod WalkLemmas
