@@ -3,7 +3,10 @@ pub mod Asking
 pub mod DropLaws
 pub mod FewSteps
 pub mod KeepingClaims
+pub mod Losses
 pub mod QuietRows
 pub mod QuietSteps
 pub mod Rounds
+pub mod Trying
+pub mod VainRounds
 pub mod Working

@@ -1,7 +1,7 @@
 -- How the writing of a packet goes on, whichever packet it is: the code that streams bytes doesn't know it.
 use Rattle.std.specs.Prelude.{◌≡◌, ℕ, ◌+◌, ◌<◌, Bool, true, false, List, [], ◌∷◌, ◌++◌, length, vec_len}
 use Rattle.trace_base.specs.declared.policy.WriterPolicy.{WriterPolicy}
-use Rattle.trace_base.specs.declared.policy.WriterPolicy.TheVariants.{Drops, Stalls}
+use Rattle.trace_base.specs.declared.policy.WriterPolicy.TheVariants.{Drops, Stalls, StallsThenDrops}
 use Rattle.trace_model.specs.Packets.{Packet, Account, with_more, given_up_packet, body_of}
 use Rattle.commit_body.specs.Pending.{Pending}
 use Rattle.chunk_plain.specs.Setup.{Setup}
@@ -30,6 +30,7 @@ with_loss packet older = record { packets = given_up_packet packet ∷ older; fl
 abbrev pub StopsAs : WriterPolicy → Site → Packet → List Packet → WriterView → Pending → Type 0
 StopsAs Drops site packet older view pending = IsIdle site (with_loss packet older) view pending
 StopsAs Stalls site packet older view pending = IsStuck site (packet ∷ older) view
+StopsAs (StallsThenDrops tries) site packet older view pending = IsIdle site (with_loss packet older) view pending
 
 -- a packet stopped where no chunk was free: it is given up, or its writer stalled, as the policy says
 abbrev pub IsStopped : Site → Packet → List Packet → WriterView → Pending → Type 0

@@ -1,6 +1,6 @@
 -- Laws on writers that agree with the views of their seats.
-use Rattle.std.specs.Prelude.{◌≡◌, ℕ, ◌+◌, ◌<◌, false, List, [], ◌∷◌, ◌++◌, length}
-use Rattle.trace_base.specs.declared.policy.WriterPolicy.TheVariants.{Drops}
+use Rattle.std.specs.Prelude.{◌≡◌, ◌≢◌, ℕ, ◌+◌, ◌<◌, false, List, [], ◌∷◌, ◌++◌, length}
+use Rattle.trace_base.specs.declared.policy.WriterPolicy.TheVariants.{Stalls}
 use Rattle.trace_model.specs.Images.{Image}
 use Rattle.trace_model.specs.Packets.{account_of, packets_of}
 use Rattle.chunk_plain.specs.Setup.{Setup}
@@ -17,10 +17,10 @@ abbrev pub AgreeingIsCut : Type 0
 AgreeingIsCut = (setup : Setup) (place : ℕ) (view : WriterView) (writer : Writer) → WriterAgrees setup place view writer
     → HasCut writer.route.payload_size (place + 2) view.calls (images_so_far place view writer) (patches_so_far view writer) (held_images place writer.state)
 
--- One that drops packets never stalls.
+-- One that loses packets never stalls.
 abbrev pub DropsNeverStall : Type 0
 DropsNeverStall = (setup : Setup) (place : ℕ) (view : WriterView) (writer : Writer) → WriterAgrees setup place view writer
-    → writer.route.spec.policy ≡ Drops → is_stalled writer.state ≡ false
+    → writer.route.spec.policy ≢ Stalls → is_stalled writer.state ≡ false
 
 -- One that isn't stalled holds its newest chunk exactly where its newest packet isn't lost and no flush came behind it.
 abbrev pub NewestIsHeld : Type 0

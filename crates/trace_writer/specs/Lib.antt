@@ -12,6 +12,7 @@ pub mod Helping
 pub mod Ids
 pub mod InPlace
 pub mod Laws
+pub mod Losing
 pub mod Outcomes
 pub mod OwnSteps
 pub mod Placing

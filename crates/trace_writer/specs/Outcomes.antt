@@ -2,7 +2,7 @@
 use Rattle.std.specs.Prelude.{◌≡◌, ℕ, ◌+◌, ◌-◌, Bool, false, List, [], ◌∷◌, ◌++◌, ⊤}
 use Rattle.wire_varint.specs.Varint.{redundant}
 use Rattle.trace_base.specs.declared.policy.WriterPolicy.{WriterPolicy}
-use Rattle.trace_base.specs.declared.policy.WriterPolicy.TheVariants.{Drops, Stalls}
+use Rattle.trace_base.specs.declared.policy.WriterPolicy.TheVariants.{Drops, Stalls, StallsThenDrops}
 use Rattle.trace_model.specs.Calls.{Call, GivenUp}
 use Rattle.trace_model.specs.Images.{Image, Patch, with_bytes}
 use Rattle.trace_model.specs.Cut.{IsCut, last_runs_on, newest_goes_on}
@@ -28,6 +28,8 @@ abbrev pub StopsBehind : WriterPolicy → Writer → Writer → WriterView → W
 StopsBehind Drops old new before after call next_id =
     (new ≡ record old { state = Dropping next_id }) × (after ≡ notes_call (notes_call before call) GivenUp)
 StopsBehind Stalls old new before after call next_id = (new ≡ record old { state = Stalled next_id }) × (after ≡ notes_call before call)
+StopsBehind (StallsThenDrops tries) old new before after call next_id =
+    (new ≡ record old { state = Dropping next_id }) × (after ≡ notes_call (notes_call before call) GivenUp)
 
 -- a packet begins behind the last one, or stops at its begin
 abbrev pub GoesBehind : Writer → Writer → WriterView → WriterView → Call → Flow → Type 0

@@ -48,9 +48,9 @@ pub record GetsChunk {T W S : Type 0} (means : Meaning T W S) (route : Route) (o
   pub claims : ClaimsInTurn (means.setup old) route.arbiter.first route.arbiter.chunks chunk (means.view old seat) (means.view new after)
   pub frees_none : FreesNone means.told old new
 
--- The writer is out of chunks, and has just found it so: it asked for each chunk of its producer, once each and each in vain,
--- it holds none, and on a table that tells its world none of them is free.
-pub record IsOutNow {T W S : Type 0} (means : Meaning T W S) (route : Route) (old : T) (seat : W) (now : T) (asker : W) : Type 0 where
+-- A full round of claims in vain: the writer asked for each chunk of its producer, once each and each in vain, and noted no call;
+-- on a table that tells its world none of them is free.
+pub record IsInVain {T W S : Type 0} (means : Meaning T W S) (route : Route) (old : T) (seat : W) (now : T) (asker : W) : Type 0 where
   pub step : IsWriterStep means old seat now asker
   -- the page words that its claims found
   pub words : List ℕ
@@ -59,10 +59,15 @@ pub record IsOutNow {T W S : Type 0} (means : Meaning T W S) (route : Route) (ol
   pub asked : (means.view now asker).asked ≡ (means.view old seat).asked ++ lost_asks (length (means.view old seat).calls) route.arbiter.first words
   pub claimed : (means.view now asker).claimed ≡ (means.view old seat).claimed
   pub stamped : (means.view now asker).stamped ≡ (means.view old seat).stamped
+  pub calls : (means.view now asker).calls ≡ (means.view old seat).calls
   pub chunks : KeepsChunks (means.view old seat).begun (means.view now asker).begun
-  pub none_held : NoneHeld (means.view now asker).begun
   pub none_free : (world : World) → means.told old ≡ Some world
       → (next : World) × (means.told now ≡ Some next) × NoneFree next route.arbiter.first (route.arbiter.first + route.arbiter.chunks)
+
+-- The writer is out of chunks, and has just found it so: its last round of claims was in vain, and it holds none.
+pub record IsOutNow {T W S : Type 0} (means : Meaning T W S) (route : Route) (old : T) (seat : W) (now : T) (asker : W) : Type 0 where
+  pub vain : IsInVain means route old seat now asker
+  pub none_held : NoneHeld (means.view now asker).begun
 
 -- One round of claims: the writer gets a chunk, or is out of chunks (true).
 abbrev pub MakesRound : {T W S : Type 0} (means : Meaning T W S) → Route → Bool → T → W → T → W → Type 0

@@ -80,7 +80,7 @@ abbrev pub is_behind : Place → Bool
 is_behind (Behind chunk) = true
 is_behind (Nowhere next_id) = false
 
--- A packet is begun at a place that was found. Where none was it is dropped, by a writer that drops, and one that stalls begins none.
+-- A packet is begun at a place that was found. Where none was it is dropped, by a writer that loses packets, and one that stalls begins none.
 pub record BeginsAt (policy : WriterPolicy) (place : Place) (answer : Result Begun CallFault) (old new : List call.Call) (after : State) : Type 0 where
   pub stops : stops_with answer ≡ not (is_behind place)
   pub calls : new ≡ old ++ begun_as (not (is_behind place)) policy

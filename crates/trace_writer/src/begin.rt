@@ -184,6 +184,10 @@ fn begin_at<W: Words>(
                 put_state(&mut writer.state, State::Stalled { next_id });
                 Err(CallFault::Stalled)
             }
+            WriterPolicy::StallsThenDrops { tries: _ } => {
+                begin_dropped(writer, table, seat, next_id);
+                Ok(Begun::Dropping)
+            }
         },
     }
 }

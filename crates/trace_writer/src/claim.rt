@@ -1,7 +1,8 @@
 //! How a writer gets its next chunk.
 ghost use Rattle.std.specs.Prelude.{◌≡◌, ◌+◌, ◌^◌, ◌-◌, ◌<◌, ◌≤◌, length, not, is_some, IfSome, IfNone};
-ghost use Rattle.chunk_plain.specs.declared.tokens.TheConstants.{ID_LIMIT};
-ghost use Rattle.trace_base.specs.declared.policy.WriterPolicy.TheVariants.{Drops, Stalls};
+ghost use Rattle.chunk_plain.specs.declared.tokens.TheConstants.{ID_LIMIT, MAX_HELD};
+ghost use Rattle.trace_base.specs.declared.policy.WriterPolicy.TheVariants.{Drops, Stalls, StallsThenDrops};
+ghost use Rattle.chunk_plain.specs.Owned.{held_count};
 ghost use Rattle.chunk_plain.specs.Drafts.{IsHolding};
 ghost use Rattle.chunk_plain.specs.Words.{IsBegun};
 ghost use Rattle.trace_writer.specs.Claims.{Wins, FindsNone};
@@ -50,6 +51,41 @@ pub(crate) fn claim_asking<W: Words, L: Ledger, H: HelperOn<W>>(
     }
 }
 
+/// Claims a chunk for a writer that tries so often and then drops: behind each round of claims in
+/// vain but the last it asks the helper, and claims again whatever that answers.
+pub(crate) fn claim_trying<W: Words, L: Ledger, H: HelperOn<W>>(
+    route: &Route,
+    table: &mut W,
+    seat: &mut W::Writer,
+    help: &mut H,
+    tries: u32,
+    next_id: u32,
+    steps: &mut Steps<L>,
+) -> Option<Held>
+    requires seat { W.means.sits table.old seat.old }
+    requires needs { H.needs help.old table.old }
+    requires route { IsRoute (W.means.setup table.old) (W.means.place seat.old) route.now }
+    requires trying { route.now.spec.policy ≡ StallsThenDrops tries }
+    requires id { next_id ≡ length (W.means.view table.old seat.old).begun }
+    requires id_fits { next_id < ID_LIMIT }
+    requires few { held_count (W.means.view table.old seat.old).begun < MAX_HELD }
+    ensures won { IfSome result (λ held. Wins route.now held.chunk (W.means.view table.old seat.old) (W.means.view table.new seat.new)) }
+    ensures begun { IfSome result (λ held. IsBegun (W.means.setup table.old) held.chunk next_id held) }
+    ensures none { IfNone result (FindsNone (W.means.view table.old seat.old) (W.means.view table.new seat.new)) }
+    ensures work { IsWork W.means H.needs H.helps
+        route.now help.old table.old seat.old steps.old (not (is_some result)) help.new table.new seat.new steps.new }
+{
+    let mut left = tries;
+    'tries: while left > 0 {
+        if let Some(held) = claim_over(&route.arbiter, table, seat, next_id, steps) {
+            return Some(held);
+        }
+        let _worth = help.help(table, route.spec.producer);
+        left -= 1;
+    }
+    claim_over(&route.arbiter, table, seat, next_id, steps)
+}
+
 /// Claims the next chunk.
 pub(crate) fn claim_next<W: Words, L: Ledger, H: HelperOn<W>>(
     route: &Route,
@@ -75,5 +111,8 @@ pub(crate) fn claim_next<W: Words, L: Ledger, H: HelperOn<W>>(
     match route.spec.policy {
         WriterPolicy::Drops => claim_over(&route.arbiter, table, seat, next_id, steps),
         WriterPolicy::Stalls => claim_asking(route, table, seat, help, next_id, steps),
+        WriterPolicy::StallsThenDrops { tries } => {
+            claim_trying(route, table, seat, help, tries, next_id, steps)
+        }
     }
 }

@@ -353,6 +353,11 @@ fn go_on<W: Words>(
                 put_state(&mut writer.state, State::Stalled { next_id });
                 Err(CallFault::Stalled)
             }
+            WriterPolicy::StallsThenDrops { tries: _ } => {
+                put_state(&mut writer.state, State::Dropping { next_id });
+                table.note_call(seat, WriterCall::GivenUp);
+                Ok(())
+            }
         },
     }
 }

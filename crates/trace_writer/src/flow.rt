@@ -4,7 +4,7 @@ use crate::fragment::OpenFragment;
 #[derive(Debug)]
 pub(crate) enum Flow {
     Going(OpenFragment),
-    /// No chunk was free: a writer that drops has given the packet up, and one that stalls has no
+    /// No chunk was free: one that loses packets has given its own up, and one that stalls has no
     /// chunk to go on in. The next chunk gets this id.
     Stopped { next_id: u32 },
 }

@@ -1,5 +1,6 @@
-//! Whom a writer that stalls asks where no chunk is free.
-ghost use Rattle.std.specs.Prelude.{◌≡◌, ℕ, ◌<◌, Bool, true, false};
+//! Whom a writer asks where no chunk is free.
+ghost use Rattle.std.specs.Prelude.{◌≡◌, ℕ, ◌<◌, Bool, true, false, refl};
+ghost use Rattle.trace_model.specs.Counts.{raised, last_count};
 ghost use Rattle.chunk_plain.specs.Setup.{HasProducer};
 ghost use Rattle.chunk_plain.specs.Meaning.{IsWriterStep};
 ghost use Rattle.trace_writer.specs.Helping.{LeavesWriters};
@@ -17,6 +18,9 @@ pub trait HelperOn<W: Words> {
     // what one help is: the helper and the table, the producer and the answer, and both behind it
     ghost helps: { Self → W → ℕ → Bool → Self → W → Type 0 };
 
+    // how often it was asked, a count that stands at its last value
+    ghost asked: { Self → ℕ };
+
     /// Frees chunks of a producer; true says that it is worth while to claim again.
     fn help(&mut self, table: &mut W, producer: u16) -> bool
         requires needs { needs self.old table.old }
@@ -25,6 +29,10 @@ pub trait HelperOn<W: Words> {
         ensures needs { needs self.new table.new }
         ensures turns { result ≡ true → turns self.new < turns self.old }
         ensures leaves { LeavesWriters W.means table.old table.new };
+
+    // each help raises the count
+    ghost asked_more: { (helper : Self) (table : W) (producer : ℕ) (answer : Bool) (behind : Self) (left : W)
+        → helps helper table producer answer behind left → asked behind ≡ raised (asked helper) 1 };
 
     // a writer's steps leave what it needs
     ghost needs_stay: { (helper : Self) (old new : W) (seat after : W.Writer) → IsWriterStep W.means old seat new after
@@ -41,6 +49,11 @@ impl<W: Words> HelperOn<W> for NoHelp {
     ghost needs = { λ _ _. Unit {0} };
 
     ghost helps = { λ helper table producer answer after left. (answer ≡ false) × (after ≡ helper) × (left ≡ table) };
+
+    // it counts nothing, so its count stands at its last value
+    ghost asked = { λ _. last_count };
+
+    ghost asked_more = { λ _ _ _ _ _ _ _. refl };
 
     ghost needs_stay = { λ _ _ _ _ _ _ needs. needs };
 

@@ -7,7 +7,7 @@ pub fn agreeing_is_cut()
     ensures { AgreeingIsCut }
 {}
 
-/// A writer that drops packets never stalls.
+/// A writer that loses packets never stalls.
 pub fn drops_never_stall()
     ensures { DropsNeverStall }
 {}

@@ -1,6 +1,6 @@
 //! The bytes of a packet, streamed into chunks: where a chunk ends the packet runs on in the next
 //! one, or stops where none is free.
-ghost use Rattle.std.specs.Prelude.{◌≡◌, ℕ, ◌+◌, ◌-◌, ◌*◌, ◌<◌, ◌≤◌, ◌⊎◌, [], ◌∷◌, ◌++◌, length, vec_len};
+ghost use Rattle.std.specs.Prelude.{◌≡◌, ℕ, ◌+◌, ◌-◌, ◌*◌, ◌<◌, ◌≤◌, ◌⊎◌, true, [], ◌∷◌, ◌++◌, length, vec_len};
 ghost use Rattle.std.specs.List.{repeat};
 ghost use Rattle.trace_base.specs.declared.limits.TheConstants.{MAX_OPEN_HOLES};
 ghost use Rattle.trace_writer.specs.Site.{IsRoute, site_of};
@@ -8,13 +8,13 @@ ghost use Rattle.trace_writer.specs.Filled.{HasByte};
 ghost use Rattle.trace_writer.specs.Ids.{HasIds};
 ghost use Rattle.trace_model.specs.Packets.{Packet, with_more};
 ghost use Rattle.cut_steps.specs.Writing.{with_open};
-ghost use Rattle.trace_base.specs.declared.policy.WriterPolicy.TheVariants.{Drops, Stalls};
-ghost use Rattle.trace_writer.specs.Helping.{IsWork};
+ghost use Rattle.trace_base.specs.declared.policy.WriterPolicy.TheVariants.{Drops, Stalls, StallsThenDrops};
+ghost use Rattle.trace_writer.specs.Helping.{IsWork, loses};
 ghost use Rattle.trace_writer.specs.OwnSteps.{IsQuiet, MakesRound};
 ghost use Rattle.trace_writer.specs.Flows.{Flows, Continues, SetsLength, StopsHere, IsInPacket, Writes, is_stopped};
 
 use crate::chunk::HeldChunk;
-use crate::claim::claim_asking;
+use crate::claim::{claim_asking, claim_trying};
 use crate::flow::Flow;
 use crate::fragment::OpenFragment;
 use crate::helper::HelperOn;
@@ -52,6 +52,9 @@ pub(crate) fn run_on<W: Words, L: Ledger, H: HelperOn<W>>(
     match route.spec.policy {
         WriterPolicy::Drops => run_on_or_drop(route, table, seat, pending, fragment, steps),
         WriterPolicy::Stalls => run_on_or_stall(route, table, seat, help, pending, fragment, steps),
+        WriterPolicy::StallsThenDrops { tries } => {
+            run_on_or_try(route, table, seat, help, pending, fragment, tries, steps)
+        }
     }
 }
 
@@ -79,6 +82,42 @@ fn run_on_or_drop<W: Words, L: Ledger>(
 {
     let next_id = fragment.held.id + 1;
     let Some(next) = claim_over(&route.arbiter, table, seat, next_id, steps) else {
+        give_up(route, table, seat, pending, fragment);
+        return Flow::Stopped { next_id };
+    };
+    fragment
+        .end()
+        .complete(table, seat, pending, route.spec.buffer, true);
+    Flow::Going(HeldChunk::new(next, true).start_fragment(table, seat))
+}
+
+/// Tries for a chunk first, asking the helper while it holds its own, and gives the packet up where
+/// all its tries were in vain.
+fn run_on_or_try<W: Words, L: Ledger, H: HelperOn<W>>(
+    route: &Route,
+    table: &mut W,
+    seat: &mut W::Writer,
+    help: &mut H,
+    pending: &mut PatchList,
+    fragment: OpenFragment,
+    tries: u32,
+    steps: &mut Steps<L>,
+) -> Flow
+    requires seat { W.means.sits table.old seat.old }
+    requires needs { H.needs help.old table.old }
+    requires trying { route.now.spec.policy ≡ StallsThenDrops tries }
+    requires route { IsRoute (W.means.setup table.old) (W.means.place seat.old) route.now }
+    requires inside { IsInPacket (site_of (W.means.setup table.old) (W.means.place seat.old) route.now) (W.means.view table.old seat.old)
+        pending.old fragment }
+    requires filled { vec_len fragment.held.body.payload < fragment.at + 4 }
+    requires ids { HasIds fragment 1 }
+    ensures flow { Continues (W.means.setup table.old) (W.means.place seat.old) route.now (W.means.view table.old seat.old)
+        (W.means.view table.new seat.new) pending.old pending.new fragment result }
+    ensures work { IsWork W.means H.needs H.helps
+        route.now help.old table.old seat.old steps.old (is_stopped result) help.new table.new seat.new steps.new }
+{
+    let next_id = fragment.held.id + 1;
+    let Some(next) = claim_trying(route, table, seat, help, tries, next_id, steps) else {
         give_up(route, table, seat, pending, fragment);
         return Flow::Stopped { next_id };
     };
@@ -129,7 +168,7 @@ fn give_up<W: Words>(
     fragment: OpenFragment,
 )
     requires seat { W.means.sits table.old seat.old }
-    requires drops { route.now.spec.policy ≡ Drops }
+    requires drops { loses route.now.spec.policy ≡ true }
     requires route { IsRoute (W.means.setup table.old) (W.means.place seat.old) route.now }
     requires filled { vec_len fragment.held.body.payload < fragment.at + 4 }
     requires inside { IsInPacket (site_of (W.means.setup table.old) (W.means.place seat.old) route.now) (W.means.view table.old seat.old)

@@ -40,7 +40,8 @@ use trace_base::policy::WriterSpec;
 use trace_base::steps::Steps;
 
 /// A writer: where no chunk is free it drops the packet, or asks its helper and stalls where that
-/// frees none. It is made with its seat, and may hold a chunk, so it has to be ended by `into_seat`.
+/// frees none, or asks so often and then drops the packet. It is made with its seat, and may hold a
+/// chunk, so it has to be ended by `into_seat`.
 #[derive(Debug)]
 pub struct WriterCore<S> {
     seat: S,

@@ -4,7 +4,7 @@ use Rattle.std.proofs.lemmas.Bool.{true≢false}
 use Rattle.std.proofs.lemmas.List.{length-map, length-reverse}
 use Rattle.std.proofs.Math.Bool.{or-true}
 use Rattle.trace_base.specs.declared.policy.WriterPolicy.{WriterPolicy}
-use Rattle.trace_base.specs.declared.policy.WriterPolicy.TheVariants.{Drops, Stalls}
+use Rattle.trace_base.specs.declared.policy.WriterPolicy.TheVariants.{Drops, Stalls, StallsThenDrops}
 use Rattle.trace_model.specs.Calls.{Call, GivenUp}
 use Rattle.trace_model.specs.Packets.{Packet, Text, Account, account_of, noted, on_newest, is_lost, front_of, body_of, given_up_packet, open_places, with_more, newest_is_lost}
 use Rattle.trace_model.specs.Record.{mark_where}
@@ -216,15 +216,15 @@ stuck_seen site packets view new begun stuck = record {
   runs = stuck.runs;
 }
 
--- a call stopped: its writer gave the packet up, or stalls
-agrees_stopped : (policy : WriterPolicy) (setup : Setup) (place : ℕ) (view mid new : WriterView) (before after : Writer) (state : State) (pending : Pending)
+-- a call stopped, and its writer gave the packet up
+agrees_lost : (setup : Setup) (place : ℕ) (view mid new : WriterView) (before after : Writer) (state : State) (pending : Pending)
     (next_id : ℕ) (open_one later_one : OpenPacket) (packet : Packet) (older : List Packet) (count : ℕ) (change : Packet → Packet) (call : Call)
     → Agrees setup place view before → before.packet ≡ Some open_one
     → (account_of view.calls).packets ≡ packet ∷ older → (account_of view.calls).flushed ≡ false → Grows change count
     → IsMeasured later_one (change packet) → ((account : Account) → noted account call ≡ on_newest change account)
-    → mid.calls ≡ view.calls → next_id ≡ length mid.begun → StopsAs policy (site_of setup place before.route) (change packet) older mid pending
-    → StopsBehind policy (record before { state = state; packet = Some later_one; pending = pending }) after mid new call next_id → Agrees setup place new after
-agrees_stopped Drops setup place view mid new before after state pending next_id open_one later_one packet older count change call a packet_is newest unflushed grows measured noted_is calls id stops goes =
+    → mid.calls ≡ view.calls → next_id ≡ length mid.begun → StopsAs Drops (site_of setup place before.route) (change packet) older mid pending
+    → StopsBehind Drops (record before { state = state; packet = Some later_one; pending = pending }) after mid new call next_id → Agrees setup place new after
+agrees_lost setup place view mid new before after state pending next_id open_one later_one packet older count change call a packet_is newest unflushed grows measured noted_is calls id stops goes =
     let site : Site = site_of setup place before.route in
     let is : IsOpen view open_one packet = open_newest setup place view before open_one packet older a packet_is newest in
     let later : Packet = given_up_packet (change packet) in
@@ -247,6 +247,17 @@ agrees_stopped Drops setup place view mid new before after state pending next_id
             (idle_seen site (with_loss (change packet) older) mid new pending begun stops);
       },
     ))
+
+-- a call stopped: its writer gave the packet up, or stalls
+agrees_stopped : (policy : WriterPolicy) (setup : Setup) (place : ℕ) (view mid new : WriterView) (before after : Writer) (state : State) (pending : Pending)
+    (next_id : ℕ) (open_one later_one : OpenPacket) (packet : Packet) (older : List Packet) (count : ℕ) (change : Packet → Packet) (call : Call)
+    → Agrees setup place view before → before.packet ≡ Some open_one
+    → (account_of view.calls).packets ≡ packet ∷ older → (account_of view.calls).flushed ≡ false → Grows change count
+    → IsMeasured later_one (change packet) → ((account : Account) → noted account call ≡ on_newest change account)
+    → mid.calls ≡ view.calls → next_id ≡ length mid.begun → StopsAs policy (site_of setup place before.route) (change packet) older mid pending
+    → StopsBehind policy (record before { state = state; packet = Some later_one; pending = pending }) after mid new call next_id → Agrees setup place new after
+agrees_stopped Drops setup place view mid new before after state pending next_id open_one later_one packet older count change call a packet_is newest unflushed grows measured noted_is calls id stops goes =
+    agrees_lost setup place view mid new before after state pending next_id open_one later_one packet older count change call a packet_is newest unflushed grows measured noted_is calls id stops goes
 agrees_stopped Stalls setup place view mid new before after state pending next_id open_one later_one packet older count change call a packet_is newest unflushed grows measured noted_is calls id stops goes =
     let site : Site = site_of setup place before.route in
     let is : IsOpen view open_one packet = open_newest setup place view before open_one packet older a packet_is newest in
@@ -261,6 +272,8 @@ agrees_stopped Stalls setup place view mid new before after state pending next_i
       id ∙ sym (ap length begun),
       subst (λ (packets : List Packet). IsStuck site packets new) (sym newer) (stuck_seen site (change packet ∷ older) mid new begun stops),
     ))
+agrees_stopped (StallsThenDrops tries) setup place view mid new before after state pending next_id open_one later_one packet older count change call a packet_is newest unflushed grows measured noted_is calls id stops goes =
+    agrees_lost setup place view mid new before after state pending next_id open_one later_one packet older count change call a packet_is newest unflushed grows measured noted_is calls id stops goes
 
 pub agrees_behind : (setup : Setup) (place : ℕ) (view mid new : WriterView) (before after : Writer) (state : State) (pending : Pending) (fragment : OpenFragment)
     (open_one later_one : OpenPacket) (count : ℕ) (change : Packet → Packet) (call : Call) (way : Flow)
@@ -287,17 +300,23 @@ agrees_behind setup place view mid new before after state pending fragment open_
     agrees_stopped before.route.spec.policy setup place view mid new before after state pending next_id open_one later_one w.packet w.older count change call a packet_is
     w.packets w.unflushed grows (measures w.packet is.some is.measured) noted_is writes.0.calls writes.1 (writes.0.stopped w.packet w.older w.inside) goes
 
+noted_lost : (old after : Writer) (mid new : WriterView) (call : Call) (next_id : ℕ) → StopsBehind Drops old after mid new call next_id
+    → (new.calls ≡ mid.calls ++ written_as true Drops call) × (is_stalled after.state ≡ false)
+noted_lost old after mid new call next_id stops =
+    (ap (λ (v : WriterView). v.calls) stops.1 ∙ append_assoc mid.calls (call ∷ []) (GivenUp ∷ []), ap (λ (one : Writer). is_stalled one.state) stops.0)
+
 -- what is noted, and whether the writer stalls
 noted_behind : (policy : WriterPolicy) (old after : Writer) (mid new : WriterView) (call : Call) (way : Flow) → old.route.spec.policy ≡ policy → GoesBehind old after mid new call way
     → (new.calls ≡ mid.calls ++ written_as (is_stopped way) policy call) × (is_stalled after.state ≡ refuses policy (is_stopped way))
 noted_behind policy old after mid new call (flow.Going next) is goes =
     (ap (λ (v : WriterView). v.calls) goes.1, ap (λ (one : Writer). is_stalled one.state) goes.0 ∙ sym (refuses_none policy))
 noted_behind Drops old after mid new call (flow.Stopped next_id) is goes =
-    let stops : StopsBehind Drops old after mid new call next_id = subst (λ (policy : WriterPolicy). StopsBehind policy old after mid new call next_id) is goes in
-    (ap (λ (v : WriterView). v.calls) stops.1 ∙ append_assoc mid.calls (call ∷ []) (GivenUp ∷ []), ap (λ (one : Writer). is_stalled one.state) stops.0)
+    noted_lost old after mid new call next_id (subst (λ (policy : WriterPolicy). StopsBehind policy old after mid new call next_id) is goes)
 noted_behind Stalls old after mid new call (flow.Stopped next_id) is goes =
     let stops : StopsBehind Stalls old after mid new call next_id = subst (λ (policy : WriterPolicy). StopsBehind policy old after mid new call next_id) is goes in
     (ap (λ (v : WriterView). v.calls) stops.1, ap (λ (one : Writer). is_stalled one.state) stops.0)
+noted_behind (StallsThenDrops tries) old after mid new call (flow.Stopped next_id) is goes =
+    noted_lost old after mid new call next_id (subst (λ (policy : WriterPolicy). StopsBehind policy old after mid new call next_id) is goes)
 
 writes_calls : (setup : Setup) (place : ℕ) (route : Route) (view mid : WriterView) (before pending : Pending) (fragment : OpenFragment)
     (count : ℕ) (change : Packet → Packet) (way : Flow) → Writes setup place route view mid before pending fragment count change way → mid.calls ≡ view.calls

@@ -2,11 +2,12 @@
 use Rattle.std.proofs.Common.{◌≡◌, ◌∙◌, ℕ, ◌+◌, ◌<◌, ◌==◌, ◌&&◌, ◌⊎◌, inl, inr, Bool, true, false, not, if◌then◌else◌, List, [], ◌∷◌, ◌++◌, length, filter, fold, refl, sym, ap, subst, arith, append-nil, true≢false}
 use Rattle.std.proofs.lemmas.Bool.{ne_eqb, eq-eqb, and_from, and_parts}
 use Rattle.trace_base.specs.declared.policy.WriterPolicy.{WriterPolicy}
-use Rattle.trace_base.specs.declared.policy.WriterPolicy.TheVariants.{Drops, Stalls}
+use Rattle.trace_base.specs.declared.policy.WriterPolicy.TheVariants.{Drops, Stalls, StallsThenDrops}
 use Rattle.trace_model.specs.Calls.{Call, Begun, Ended, GivenUp, Finished, Flushed}
 use Rattle.trace_model.specs.Packets.{Packet, Account, account_of, packets_of, noted, nothing_yet, on_newest, with_more, with_nested, with_nested_ended, finished_packet, open_places, is_lost, newest_is_lost, is_writing, open_count, newest_is_kept, is_possible, are_possible_after, AreCalls, lost_count}
 use Rattle.chunk_plain.specs.Views.{WriterView}
 use Rattle.trace_writer.specs.Asked.{written_as, begun_as}
+use Rattle.trace_writer.specs.Helping.{loses}
 use Rattle.trace_writer.specs.Core.{in_packet, open_depth, newest_depth}
 use Rattle.trace_writer.proofs.accounts.Accounts.{account_one}
 use Rattle.trace_writer.proofs.accounts.Changes.{newest_open}
@@ -76,21 +77,28 @@ finished_lost (packet ∷ older) flushed =
 account_of_one : (view new : WriterView) (call : Call) → new.calls ≡ view.calls ++ call ∷ [] → account_of new.calls ≡ noted (account_of view.calls) call
 account_of_one view new call is = ap account_of is ∙ account_one view.calls call
 
+possible_lost : (view new : WriterView) (call : Call) (change : Packet → Packet)
+    → ((account : Account) → noted account call ≡ on_newest change account) → KeepsFate change → is_possible (packets_of view.calls) call ≡ true → in_packet view ≡ true
+    → new.calls ≡ view.calls ++ written_as true Drops call → newest_is_lost (packets_of view.calls) ≡ false → AreCalls view.calls → AreCalls new.calls
+possible_lost view new call change is keeps possible writes notes kept calls =
+    possible_two view new call GivenUp notes possible
+    (ap (λ (a : Account). newest_is_kept a.packets) (is (account_of view.calls))
+    ∙ kept_changed change (packets_of view.calls) (account_of view.calls).flushed keeps
+    ∙ and_from (is_writing (packets_of view.calls)) (not (newest_is_lost (packets_of view.calls))) writes (ap not kept))
+    calls
+
 pub field_possible : (view new : WriterView) (call : Call) (change : Packet → Packet) (policy : WriterPolicy) (stopped : Bool)
     → ((account : Account) → noted account call ≡ on_newest change account) → KeepsFate change → is_possible (packets_of view.calls) call ≡ true → in_packet view ≡ true
     → new.calls ≡ view.calls ++ written_as stopped policy call → (stopped ≡ true → newest_is_lost (packets_of view.calls) ≡ false) → AreCalls view.calls → AreCalls new.calls
 field_possible view new call change policy false is keeps possible writes notes kept calls = possible_one view new call notes possible calls
-field_possible view new call change Drops true is keeps possible writes notes kept calls =
-    possible_two view new call GivenUp notes possible
-    (ap (λ (a : Account). newest_is_kept a.packets) (is (account_of view.calls))
-    ∙ kept_changed change (packets_of view.calls) (account_of view.calls).flushed keeps
-    ∙ and_from (is_writing (packets_of view.calls)) (not (newest_is_lost (packets_of view.calls))) writes (ap not (kept refl)))
-    calls
+field_possible view new call change Drops true is keeps possible writes notes kept calls = possible_lost view new call change is keeps possible writes notes (kept refl) calls
 field_possible view new call change Stalls true is keeps possible writes notes kept calls = possible_one view new call notes possible calls
+field_possible view new call change (StallsThenDrops tries) true is keeps possible writes notes kept calls =
+    possible_lost view new call change is keeps possible writes notes (kept refl) calls
 
 pub field_loses : (view new : WriterView) (call : Call) (change : Packet → Packet) (policy : WriterPolicy) (stopped : Bool)
     → ((account : Account) → noted account call ≡ on_newest change account) → KeepsFate change → new.calls ≡ view.calls ++ written_as stopped policy call
-    → (lost_count (packets_of new.calls) ≡ lost_count (packets_of view.calls)) ⊎ ((policy ≡ Drops) × (stopped ≡ true))
+    → (lost_count (packets_of new.calls) ≡ lost_count (packets_of view.calls)) ⊎ ((loses policy ≡ true) × (stopped ≡ true))
 field_loses view new call change policy stopped is keeps notes = by policy stopped notes
   where
     one : new.calls ≡ view.calls ++ call ∷ [] → lost_count (packets_of new.calls) ≡ lost_count (packets_of view.calls)
@@ -98,10 +106,11 @@ field_loses view new call change policy stopped is keeps notes = by policy stopp
         ∙ lost_changed change (packets_of view.calls) (account_of view.calls).flushed keeps
 
     by : (policy : WriterPolicy) (stopped : Bool) → new.calls ≡ view.calls ++ written_as stopped policy call
-        → (lost_count (packets_of new.calls) ≡ lost_count (packets_of view.calls)) ⊎ ((policy ≡ Drops) × (stopped ≡ true))
+        → (lost_count (packets_of new.calls) ≡ lost_count (packets_of view.calls)) ⊎ ((loses policy ≡ true) × (stopped ≡ true))
     by policy false same = inl (one same)
     by Drops true same = inr (refl, refl)
     by Stalls true same = inl (one same)
+    by (StallsThenDrops tries) true same = inr (refl, refl)
 
 -- A packet's begin
 
@@ -110,12 +119,14 @@ pub begin_possible : (view new : WriterView) (policy : WriterPolicy) (stopped : 
 begin_possible view new policy false none notes calls = possible_one view new (Begun true) notes (ap not none) calls
 begin_possible view new Drops true none notes calls = possible_one view new (Begun false) notes (ap not none) calls
 begin_possible view new Stalls true none notes calls = subst AreCalls (sym (notes ∙ append-nil view.calls)) calls
+begin_possible view new (StallsThenDrops tries) true none notes calls = possible_one view new (Begun false) notes (ap not none) calls
 
 pub begin_loses : (view new : WriterView) (policy : WriterPolicy) (stopped : Bool) → new.calls ≡ view.calls ++ begun_as stopped policy
-    → (lost_count (packets_of new.calls) ≡ lost_count (packets_of view.calls)) ⊎ ((policy ≡ Drops) × (stopped ≡ true))
+    → (lost_count (packets_of new.calls) ≡ lost_count (packets_of view.calls)) ⊎ ((loses policy ≡ true) × (stopped ≡ true))
 begin_loses view new policy false notes = inl (ap (λ (a : Account). lost_count a.packets) (account_of_one view new (Begun true) notes))
 begin_loses view new Drops true notes = inr (refl, refl)
 begin_loses view new Stalls true notes = inl (ap (λ (calls : List Call). lost_count (packets_of calls)) (notes ∙ append-nil view.calls))
+begin_loses view new (StallsThenDrops tries) true notes = inr (refl, refl)
 
 -- Calls without a helper
 

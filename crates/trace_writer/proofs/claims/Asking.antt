@@ -11,7 +11,7 @@ use Rattle.chunk_plain.proofs.SeatSteps.{steps_follow}
 use Rattle.claim_arbiter.specs.Claiming.{AsksInVain, ClaimsInTurn, NoneFree, lost_asks}
 use Rattle.trace_writer.specs.declared.route.Route.{Route}
 use Rattle.trace_writer.specs.Claims.{Wins, FindsNone}
-use Rattle.trace_writer.specs.OwnSteps.{KeepsChunks, NoneHeld, IsQuiet, GetsChunk, IsOutNow}
+use Rattle.trace_writer.specs.OwnSteps.{KeepsChunks, NoneHeld, IsQuiet, GetsChunk, IsInVain, IsOutNow}
 use Rattle.trace_writer.proofs.holding.KeptChunks.{keeps_same, frees_moved, writing_used}
 
 pub none_yet : (view : WriterView) → FindsNone view view
@@ -87,12 +87,12 @@ module _ {T W S : Type 0} (means : Meaning T W S) where
         (λ world is. (tells world is).2);
   }
 
-  pub out_now : (route : Route) (old : T) (seat : W) (new : T) (after : W) → IsWriterStep means old seat new after
-      → AsksInVain (means.setup old) route.arbiter.first route.arbiter.chunks (means.view old seat) (means.view new after) → NoneHeld (means.view old seat).begun
+  pub in_vain : (route : Route) (old : T) (seat : W) (new : T) (after : W) → IsWriterStep means old seat new after
+      → AsksInVain (means.setup old) route.arbiter.first route.arbiter.chunks (means.view old seat) (means.view new after)
       → ((world : World) → means.told old ≡ Some world → NoneFree world route.arbiter.first (route.arbiter.first + route.arbiter.chunks)
       × (means.told new ≡ Some (with_writer_view world (means.place seat) (means.view new after))))
-      → IsOutNow means route old seat new after
-  out_now route old seat new after step vain none tells =
+      → IsInVain means route old seat new after
+  in_vain route old seat new after step vain tells =
       let begun : (means.view new after).begun ≡ (means.view old seat).begun = ap (λ (v : WriterView). v.begun) vain.view in
       record {
         step = step;
@@ -102,31 +102,44 @@ module _ {T W S : Type 0} (means : Meaning T W S) where
         asked = ap (λ (v : WriterView). v.asked) vain.view;
         claimed = ap (λ (v : WriterView). v.claimed) vain.view;
         stamped = ap (λ (v : WriterView). v.stamped) vain.view;
+        calls = ap (λ (v : WriterView). v.calls) vain.view;
         chunks = subst (λ (chunks : List BegunChunk). KeepsChunks (means.view old seat).begun chunks) (sym begun) (keeps_same (means.view old seat).begun);
-        none_held = subst NoneHeld (sym begun) none;
         none_free = λ world is. (with_writer_view world (means.place seat) (means.view new after), (tells world is).1, (tells world is).0);
       }
+
+  -- where the writer holds no chunk it is out of chunks
+  pub out_now : (route : Route) (old : T) (seat : W) (new : T) (after : W) → IsWriterStep means old seat new after
+      → AsksInVain (means.setup old) route.arbiter.first route.arbiter.chunks (means.view old seat) (means.view new after) → NoneHeld (means.view old seat).begun
+      → ((world : World) → means.told old ≡ Some world → NoneFree world route.arbiter.first (route.arbiter.first + route.arbiter.chunks)
+      × (means.told new ≡ Some (with_writer_view world (means.place seat) (means.view new after))))
+      → IsOutNow means route old seat new after
+  out_now route old seat new after step vain none tells = record {
+    vain = in_vain route old seat new after step vain tells;
+    none_held = subst NoneHeld (sym (ap (λ (v : WriterView). v.begun) vain.view)) none;
+  }
 
   -- the same where the writer still holds a chunk, and completes it behind the round
   pub out_after : (route : Route) (old : T) (seat : W) (mid : T) (between : W) (new : T) (after : W) → IsWriterStep means old seat mid between
       → AsksInVain (means.setup old) route.arbiter.first route.arbiter.chunks (means.view old seat) (means.view mid between)
       → ((world : World) → means.told old ≡ Some world → NoneFree world route.arbiter.first (route.arbiter.first + route.arbiter.chunks)
       × (means.told mid ≡ Some (with_writer_view world (means.place seat) (means.view mid between))))
-      → IsQuiet means mid between new after → NoneHeld (means.view new after).begun
+      → IsQuiet means mid between new after → (means.view new after).calls ≡ (means.view mid between).calls → NoneHeld (means.view new after).begun
       → IsOutNow means route old seat new after
-  out_after route old seat mid between new after step vain tells quiet none =
-      record {
-        step = steps_follow means old seat mid between new after step quiet.step;
-        words = vain.words;
-        count_is = vain.count_is;
-        all_claimed = vain.claimed;
-        asked = quiet.asked ∙ ap (λ (v : WriterView). v.asked) vain.view;
-        claimed = quiet.claimed ∙ ap (λ (v : WriterView). v.claimed) vain.view;
-        stamped = quiet.stamped ∙ ap (λ (v : WriterView). v.stamped) vain.view;
-        chunks = subst (λ (begun : List BegunChunk). KeepsChunks begun (means.view new after).begun) (ap (λ (v : WriterView). v.begun) vain.view) quiet.chunks;
-        none_held = none;
-        none_free = λ world is.
-            let found = tells world is in
-            let kept = quiet.frees_none (with_writer_view world (means.place seat) (means.view mid between)) found.1 in
-            (kept.0, kept.1, λ chunk least below free. found.0 chunk least below (kept.2 chunk free));
-      }
+  out_after route old seat mid between new after step vain tells quiet calls none = record {
+    vain = record {
+      step = steps_follow means old seat mid between new after step quiet.step;
+      words = vain.words;
+      count_is = vain.count_is;
+      all_claimed = vain.claimed;
+      asked = quiet.asked ∙ ap (λ (v : WriterView). v.asked) vain.view;
+      claimed = quiet.claimed ∙ ap (λ (v : WriterView). v.claimed) vain.view;
+      stamped = quiet.stamped ∙ ap (λ (v : WriterView). v.stamped) vain.view;
+      calls = calls ∙ ap (λ (v : WriterView). v.calls) vain.view;
+      chunks = subst (λ (begun : List BegunChunk). KeepsChunks begun (means.view new after).begun) (ap (λ (v : WriterView). v.begun) vain.view) quiet.chunks;
+      none_free = λ world is.
+          let found = tells world is in
+          let kept = quiet.frees_none (with_writer_view world (means.place seat) (means.view mid between)) found.1 in
+          (kept.0, kept.1, λ chunk least below free. found.0 chunk least below (kept.2 chunk free));
+    };
+    none_held = none;
+  }

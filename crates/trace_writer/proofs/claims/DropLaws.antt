@@ -1,6 +1,6 @@
--- A writer that drops packets never stalls.
-use Rattle.std.proofs.Common.{◌≡◌, false, refl}
-use Rattle.trace_base.specs.declared.policy.WriterPolicy.TheVariants.{Drops}
+-- A writer that loses packets never stalls.
+use Rattle.std.proofs.Common.{◌≡◌, ◌≢◌, false, refl}
+use Rattle.trace_base.specs.declared.policy.WriterPolicy.TheVariants.{Stalls}
 use Rattle.trace_model.specs.Packets.{Account, account_of}
 use Rattle.commit_body.specs.Pending.{Pending}
 use Rattle.chunk_plain.specs.Views.{WriterView}
@@ -12,12 +12,12 @@ use Rattle.trace_writer.specs.Laws.{DropsNeverStall}
 use Rattle.trace_writer.specs.Site.{Site, site_of}
 
 state_goes : (site : Site) (account : Account) (view : WriterView) (pending : Pending) (state : State)
-    → StateAgrees site account view pending state → site.policy ≡ Drops → is_stalled state ≡ false
+    → StateAgrees site account view pending state → site.policy ≢ Stalls → is_stalled state ≡ false
 state_goes site account view pending (Idle next_id) agrees drops = refl
 state_goes site account view pending (Between chunk) agrees drops = refl
 state_goes site account view pending (Writing fragment) agrees drops = refl
 state_goes site account view pending (Dropping next_id) agrees drops = refl
-state_goes site account view pending (Stalled next_id) agrees drops = absurd (cc agrees.1.stalls)
+state_goes site account view pending (Stalled next_id) agrees drops = absurd (drops agrees.1.stalls)
 
 pub drops_never_stall : DropsNeverStall
 drops_never_stall setup place view writer agrees drops =

@@ -1,10 +1,9 @@
 -- What a writer keeps of its claims over a call.
-use Rattle.std.proofs.Common.{◌≡◌, ◌∙◌, ℕ, ◌+◌, ◌<◌, ◌≤◌, ◌⊎◌, inl, inr, Bool, true, None, List, [], ◌∷◌, ◌++◌, length, sym, ap, subst, arith}
+use Rattle.std.proofs.Common.{◌≡◌, ◌∙◌, ℕ, ◌+◌, ◌<◌, ◌≤◌, ◌⊎◌, inl, inr, Bool, true, None, List, [], ◌∷◌, ◌++◌, length, refl, sym, ap, subst, arith}
 use Rattle.std.proofs.lemmas.Bool.{true≢false}
 use native.Mathlib.Decide.{dec_le}
 use mathlib.Core.Logic.{dite}
 use Rattle.trace_base.specs.declared.policy.WriterPolicy.{WriterPolicy}
-use Rattle.trace_base.specs.declared.policy.WriterPolicy.TheVariants.{Drops, Stalls}
 use Rattle.trace_model.specs.Calls.{Call}
 use Rattle.trace_model.specs.Packets.{packets_of, lost_count}
 use Rattle.chunk_plain.specs.Views.{Ask, BegunChunk, Held, Completed, Draft, WriterView, fresh}
@@ -15,8 +14,8 @@ use Rattle.claim_arbiter.specs.Claiming.{ClaimsInTurn, lost_asks, range_in}
 use Rattle.trace_writer.specs.declared.route.Route.{Route}
 use Rattle.trace_writer.specs.Asked.{IsAsked}
 use Rattle.trace_writer.specs.Claims.{AreOwnAsks, AreOwnChunks, HasAsked, KeepsClaims}
-use Rattle.trace_writer.specs.Helping.{LeavesWriters, Works, Done, Silent, Gets, Helped, Refused, Lost}
-use Rattle.trace_writer.specs.OwnSteps.{KeepsChunks, IsQuiet, IsSilent, GetsChunk, IsOutNow}
+use Rattle.trace_writer.specs.Helping.{LeavesWriters, Tries, Gains, Again, Ends, Works, Done, Silent, Gets, Helped, Refused, Lost, Tried, GivesUp, loses}
+use Rattle.trace_writer.specs.OwnSteps.{KeepsChunks, IsQuiet, IsSilent, GetsChunk, IsInVain, IsOutNow}
 
 -- Lists
 
@@ -78,7 +77,13 @@ record KeepsMost (setup : Setup) (producer : ℕ) (view : WriterView) : Type 0 w
 record KeepsOn (policy : WriterPolicy) (setup : Setup) (producer : ℕ) (stopped : Bool) (old new : WriterView) : Type 0 where
   kept : KeepsMost setup producer new
   grown : (chunk : ℕ) → HasAsked old.asked chunk → HasAsked new.asked chunk
-  all : policy ≡ Drops → stopped ≡ true → (chunk : ℕ) → IsChunkOf setup producer chunk → HasAsked new.asked chunk
+  all : loses policy ≡ true → stopped ≡ true → (chunk : ℕ) → IsChunkOf setup producer chunk → HasAsked new.asked chunk
+
+-- and by its tries for one chunk
+record TriesOn (setup : Setup) (producer : ℕ) (stopped : Bool) (old new : WriterView) : Type 0 where
+  kept : KeepsMost setup producer new
+  grown : (chunk : ℕ) → HasAsked old.asked chunk → HasAsked new.asked chunk
+  all : stopped ≡ true → (chunk : ℕ) → IsChunkOf setup producer chunk → HasAsked new.asked chunk
 
 most_gets : (setup now : Setup) (producer chunk : ℕ) (route : Route) (old new : WriterView) → range_of setup producer ≡ range_in route.arbiter
     → ClaimsInTurn now route.arbiter.first route.arbiter.chunks chunk old new → KeepsMost setup producer old
@@ -124,26 +129,26 @@ module _ {T W S : Type 0} (means : Meaning T W S) where
   }
 
   most_out : (there : Setup) (producer : ℕ) (route : Route) (old : T) (seat : W) (new : T) (after : W) → range_of there producer ≡ range_in route.arbiter
-      → IsOutNow means route old seat new after → KeepsMost there producer (means.view old seat)
+      → IsInVain means route old seat new after → KeepsMost there producer (means.view old seat)
       → KeepsMost there producer (means.view new after) × ((other : ℕ) → HasAsked (means.view old seat).asked other → HasAsked (means.view new after).asked other)
       × ((other : ℕ) → IsChunkOf there producer other → HasAsked (means.view new after).asked other)
-  most_out there producer route old seat new after range out kept =
-      let lost : List Ask = lost_asks (length (means.view old seat).calls) route.arbiter.first out.words in
+  most_out there producer route old seat new after range vain kept =
+      let lost : List Ask = lost_asks (length (means.view old seat).calls) route.arbiter.first vain.words in
       let first : (range_of there producer).first ≡ route.arbiter.first = ap (λ (r : ChunkRange). r.first) range in
       let count : (range_of there producer).count ≡ route.arbiter.chunks = ap (λ (r : ChunkRange). r.count) range in (
         record {
-          unclaimed = out.claimed ∙ kept.unclaimed;
-          unstamped = out.stamped ∙ kept.unstamped;
-          own_asks = subst (λ (asks : List Ask). AreOwnAsks there producer asks) (sym out.asked)
+          unclaimed = vain.claimed ∙ kept.unclaimed;
+          unstamped = vain.stamped ∙ kept.unstamped;
+          own_asks = subst (λ (asks : List Ask). AreOwnAsks there producer asks) (sym vain.asked)
               (own_both there producer (means.view old seat).asked lost kept.own_asks
-              (own_lost there producer (length (means.view old seat).calls) route.arbiter.first out.words (omega (arith, first)) (omega (arith, first, count, out.count_is))));
-          own_chunks = chunks_kept there producer (means.view old seat).begun (means.view new after).begun out.chunks kept.own_chunks;
+              (own_lost there producer (length (means.view old seat).calls) route.arbiter.first vain.words (omega (arith, first)) (omega (arith, first, count, vain.count_is))));
+          own_chunks = chunks_kept there producer (means.view old seat).begun (means.view new after).begun vain.chunks kept.own_chunks;
         },
-        λ other has. subst (λ (asks : List Ask). HasAsked asks other) (sym out.asked) (has_before (means.view old seat).asked lost other has),
-        λ other inside. subst (λ (asks : List Ask). HasAsked asks other) (sym out.asked)
+        λ other has. subst (λ (asks : List Ask). HasAsked asks other) (sym vain.asked) (has_before (means.view old seat).asked lost other has),
+        λ other inside. subst (λ (asks : List Ask). HasAsked asks other) (sym vain.asked)
             (has_behind (means.view old seat).asked lost other
             (let least = inside.least in let below = inside.below in
-            has_lost (length (means.view old seat).calls) route.arbiter.first out.words other (omega (arith, first, least)) (omega (arith, first, count, below, out.count_is)))),
+            has_lost (length (means.view old seat).calls) route.arbiter.first vain.words other (omega (arith, first, least)) (omega (arith, first, count, below, vain.count_is)))),
       )
 
   pub claims_quiet : (there : Setup) (at : ℕ) (old : T) (seat : W) (new : T) (after : W) → IsQuiet means old seat new after
@@ -161,10 +166,31 @@ module _ {T W S : Type 0} (means : Meaning T W S) where
       }
 
 module _ {H T W S : Type 0} (means : Meaning T W S) (needs : H → T → Type 0) (helps : H → T → ℕ → Bool → H → T → Type 0) where
+  tries_keep : (there : Setup) (producer : ℕ) (route : Route) {asks : H → T → Bool → H → T → Type 0} {left : ℕ} {helper kept_helper : H} {old new : T} {seat after : W} {stopped : Bool}
+      → range_of there producer ≡ range_in route.arbiter
+      → Tries (GetsChunk means route) (IsInVain means route) (λ asked table answer behind freed. asks asked table answer behind freed × LeavesWriters means table freed)
+      left helper old seat stopped kept_helper new after
+      → KeepsMost there producer (means.view old seat) → TriesOn there producer stopped (means.view old seat) (means.view new after)
+  tries_keep there producer route range (Gains left helper old seat new after gets) kept =
+      let found = most_gets there (means.setup old) producer gets.chunk route (means.view old seat) (means.view new after) range gets.claims kept in
+      record { kept = found.0; grown = found.1; all = λ stops. absurd (true≢false (sym stops)) }
+  tries_keep there producer route range (Again left helper old seat asking asker answer helped freed stopped kept_helper new after vain helps more) kept =
+      let found = most_out means there producer route old seat asking asker range vain kept in
+      let same = (helps.1.writers_stay asker vain.step.seat_stays).1 in
+      let rest = tries_keep there producer route range more (subst (λ (v : WriterView). KeepsMost there producer v) (sym same) found.0) in
+      record {
+        kept = rest.kept;
+        grown = λ chunk has. rest.grown chunk (subst (λ (v : WriterView). HasAsked v.asked chunk) (sym same) (found.1 chunk has));
+        all = rest.all;
+      }
+  tries_keep there producer route range (Ends helper old seat new after vain) kept =
+      let found = most_out means there producer route old seat new after range vain kept in
+      record { kept = found.0; grown = found.1; all = λ stops. found.2 }
+
   works_keep : (there : Setup) (producer : ℕ) (route : Route) {policy : WriterPolicy} {asks : H → T → Bool → H → T → Type 0} {helper left : H} {old new : T} {seat after : W} {stopped : Bool}
       → range_of there producer ≡ range_in route.arbiter
       → Works policy (IsSilent means) (IsQuiet means) (GetsChunk means route)
-      (IsOutNow means route) (λ asked table answer behind freed. asks asked table answer behind freed × LeavesWriters means table freed)
+      (IsInVain means route) (IsOutNow means route) (λ asked table answer behind freed. asks asked table answer behind freed × LeavesWriters means table freed)
       helper old seat stopped left new after
       → KeepsMost there producer (means.view old seat) → KeepsOn policy there producer stopped (means.view old seat) (means.view new after)
   works_keep there producer route range (Done helper old seat new after last) kept = record {
@@ -180,32 +206,41 @@ module _ {H T W S : Type 0} (means : Meaning T W S) (needs : H → T → Type 0)
       let found = most_gets there (means.setup old) producer gets.chunk route (means.view old seat) (means.view next moved) range gets.claims kept in
       keeps_then policy there producer stopped (means.view old seat) (means.view next moved) (means.view new after) found.1 (works_keep there producer route range more found.0)
   works_keep there producer route {policy} range (Helped helper old seat asking asker helped freed stopped left new after stalls out helps_ more) kept =
-      let found = most_out means there producer route old seat asking asker range out kept in
-      let same = (helps_.1.writers_stay asker out.step.seat_stays).1 in
+      let found = most_out means there producer route old seat asking asker range out.vain kept in
+      let same = (helps_.1.writers_stay asker out.vain.step.seat_stays).1 in
       keeps_then policy there producer stopped (means.view old seat) (means.view freed asker) (means.view new after)
       (λ chunk has. subst (λ (v : WriterView). HasAsked v.asked chunk) (sym same) (found.1 chunk has))
       (works_keep there producer route range more (subst (λ (v : WriterView). KeepsMost there producer v) (sym same) found.0))
   works_keep there producer route {policy} range (Refused helper old seat asking asker left kept_table new after stalls out helps_ last) kept =
-      let found = most_out means there producer route old seat asking asker range out kept in
-      let same = (helps_.1.writers_stay asker out.step.seat_stays).1 in
+      let found = most_out means there producer route old seat asking asker range out.vain kept in
+      let same = (helps_.1.writers_stay asker out.vain.step.seat_stays).1 in
       record {
         kept = most_quiet means there producer kept_table asker new after last (subst (λ (v : WriterView). KeepsMost there producer v) (sym same) found.0);
         grown = λ chunk has. subst (λ (asks : List Ask). HasAsked asks chunk) (sym last.asked)
             (subst (λ (v : WriterView). HasAsked v.asked chunk) (sym same) (found.1 chunk has));
-        all = λ drops. absurd (let wrong : Drops ≡ Stalls = sym drops ∙ stalls in cc);
+        all = λ losing. absurd (true≢false (sym losing ∙ ap loses stalls));
       }
   works_keep there producer route range (Lost helper old seat mid between new after drops out last) kept =
-      let found = most_out means there producer route old seat mid between range out kept in record {
+      let found = most_out means there producer route old seat mid between range out.vain kept in record {
         kept = most_quiet means there producer mid between new after last found.0;
         grown = λ chunk has. subst (λ (asks : List Ask). HasAsked asks chunk) (sym last.asked) (found.1 chunk has);
         all = λ is stops chunk inside. subst (λ (asks : List Ask). HasAsked asks chunk) (sym last.asked) (found.2 chunk inside);
+      }
+  works_keep there producer route {policy} range (Tried helper old seat tries kept_helper next moved stopped left new after trying tried more) kept =
+      let found = tries_keep there producer route range tried kept in
+      keeps_then policy there producer stopped (means.view old seat) (means.view next moved) (means.view new after) found.grown (works_keep there producer route range more found.kept)
+  works_keep there producer route range (GivesUp helper old seat tries left mid between new after trying tried last) kept =
+      let found = tries_keep there producer route range tried kept in record {
+        kept = most_quiet means there producer mid between new after last found.kept;
+        grown = λ chunk has. subst (λ (asks : List Ask). HasAsked asks chunk) (sym last.asked) (found.grown chunk has);
+        all = λ is stops chunk inside. subst (λ (asks : List Ask). HasAsked asks chunk) (sym last.asked) (found.all refl chunk inside);
       }
 
   -- the writer keeps what it has of its claims, if the call loses a packet only where it stops
   pub claims_kept : (there : Setup) (at : ℕ) (route : Route) (helper : H) (old : T) (seat : W) (steps : ℕ) (stopped : Bool) (noted : List Call) (stalled : Bool) (left : H) (new : T) (after : W) (later : ℕ)
       → range_of there (producer_of there at) ≡ range_in route.arbiter
       → IsAsked means needs helps route helper old seat steps stopped noted stalled left new after later
-      → (lost_count (packets_of (means.view new after).calls) ≡ lost_count (packets_of (means.view old seat).calls)) ⊎ ((route.spec.policy ≡ Drops) × (stopped ≡ true))
+      → (lost_count (packets_of (means.view new after).calls) ≡ lost_count (packets_of (means.view old seat).calls)) ⊎ ((loses route.spec.policy ≡ true) × (stopped ≡ true))
       → KeepsClaims there at (means.view old seat) → KeepsClaims there at (means.view new after)
   claims_kept there at route helper old seat steps stopped noted stalled left new after later range asked lost claims =
       let on = works_keep there (producer_of there at) route range asked.works

@@ -2,26 +2,27 @@
 use Rattle.std.proofs.Common.{◌≡◌, ◌∙◌, ℕ, ◌+◌, Bool, true, false, length, refl, sym, ap, subst, arith, List, ◌++◌}
 use Rattle.std.proofs.lemmas.Bool.{true≢false}
 use Rattle.trace_base.specs.declared.policy.WriterPolicy.{WriterPolicy}
-use Rattle.trace_base.specs.declared.policy.WriterPolicy.TheVariants.{Drops, Stalls}
+use Rattle.trace_base.specs.declared.policy.WriterPolicy.TheVariants.{Drops, Stalls, StallsThenDrops}
 use Rattle.trace_model.specs.Calls.{Call}
 use Rattle.chunk_plain.specs.Views.{WriterView}
 use Rattle.chunk_plain.specs.Meaning.{Meaning, IsWriterStep}
 use Rattle.chunk_plain.proofs.SeatSteps.{stays, steps_follow}
 use Rattle.trace_writer.specs.declared.route.Route.{Route}
-use Rattle.trace_writer.specs.OwnSteps.{IsQuiet, IsSilent, GetsChunk, IsOutNow}
+use Rattle.trace_writer.specs.OwnSteps.{IsQuiet, IsSilent, GetsChunk, IsInVain, IsOutNow}
 use Rattle.trace_writer.specs.Asked.{IsAsked}
-use Rattle.trace_writer.specs.Helping.{LeavesWriters, LeavesOthers, Works, Done, Silent, Gets, Helped, Refused, Lost, IsWork, refuses}
+use Rattle.trace_writer.specs.Helping.{LeavesWriters, LeavesOthers, Works, Done, Silent, Gets, Helped, Refused, Lost, Tried, GivesUp, IsWork, refuses}
 use Rattle.trace_writer.proofs.claims.FewSteps.{works_few}
+use Rattle.trace_writer.proofs.claims.Losses.{works_lose}
 use Rattle.trace_writer.proofs.holding.KeptChunks.{keeps_long}
 use Rattle.trace_writer.proofs.claims.QuietRows.{quiet_both, silent_none, silent_both}
 
 module _ {H T W S : Type 0} (means : Meaning T W S) (needs : H → T → Type 0) (helps : H → T → ℕ → Bool → H → T → Type 0) where
-  leaves_own : (old : T) (seat : W) (new : T) (after : W) → IsWriterStep means old seat new after
+  pub leaves_own : (old : T) (seat : W) (new : T) (after : W) → IsWriterStep means old seat new after
       → LeavesOthers means old seat new after
   leaves_own old seat new after step =
       record { setup_stays = step.setup_stays; seat_stays = step.seat_stays; place_stays = step.place_stays; writers_stay = step.writers_stay }
 
-  leaves_both : (old : T) (before : W) (mid : T) (between : W) (new : T) (after : W) → LeavesOthers means old before mid between
+  pub leaves_both : (old : T) (before : W) (mid : T) (between : W) (new : T) (after : W) → LeavesOthers means old before mid between
       → LeavesOthers means mid between new after → LeavesOthers means old before new after
   leaves_both old before mid between new after one two = record {
     setup_stays = two.setup_stays ∙ one.setup_stays;
@@ -34,7 +35,7 @@ module _ {H T W S : Type 0} (means : Meaning T W S) (needs : H → T → Type 0)
   }
 
   -- a help leaves the writer's own view too
-  leaves_help : (old : T) (seat : W) (new : T) → means.sits old seat → LeavesWriters means old new → LeavesOthers means old seat new seat
+  pub leaves_help : (old : T) (seat : W) (new : T) → means.sits old seat → LeavesWriters means old new → LeavesOthers means old seat new seat
   leaves_help old seat new there leaves = record {
     setup_stays = leaves.setup_stays;
     seat_stays = (leaves.writers_stay seat there).0;
@@ -46,10 +47,10 @@ module _ {H T W S : Type 0} (means : Meaning T W S) (needs : H → T → Type 0)
 
   module _ (policy : WriterPolicy) (route : Route) (asks : H → T → Bool → H → T → Type 0) where
     works_both : {helper middle : H} {old mid : T} {before between : W} {first : Bool} (stopped : Bool) (left : H) (new : T) (after : W)
-        → Works policy (IsSilent means) (IsSilent means) (GetsChunk means route) (IsOutNow means route) asks helper old before first middle mid between
+        → Works policy (IsSilent means) (IsSilent means) (GetsChunk means route) (IsInVain means route) (IsOutNow means route) asks helper old before first middle mid between
         → first ≡ false
-        → Works policy (IsSilent means) (IsSilent means) (GetsChunk means route) (IsOutNow means route) asks middle mid between stopped left new after
-        → Works policy (IsSilent means) (IsSilent means) (GetsChunk means route) (IsOutNow means route) asks helper old before stopped left new after
+        → Works policy (IsSilent means) (IsSilent means) (GetsChunk means route) (IsInVain means route) (IsOutNow means route) asks middle mid between stopped left new after
+        → Works policy (IsSilent means) (IsSilent means) (GetsChunk means route) (IsInVain means route) (IsOutNow means route) asks helper old before stopped left new after
     works_both stopped left new after (Done helper old before mid between last) none rest = Silent helper old before mid between stopped left new after last rest
     works_both stopped left new after (Silent helper old before next moved first middle mid between silent more) none rest =
         Silent helper old before next moved stopped left new after silent (works_both stopped left new after more none rest)
@@ -59,12 +60,15 @@ module _ {H T W S : Type 0} (means : Meaning T W S) (needs : H → T → Type 0)
         Helped helper old before asking asker helped freed stopped left new after stalls out helps_ (works_both stopped left new after more none rest)
     works_both stopped left new after (Refused helper old before asking asker middle kept mid between stalls out helps_ last) none rest = absurd (true≢false none)
     works_both stopped left new after (Lost helper old before out_table out_seat mid between drops out last) none rest = absurd (true≢false none)
+    works_both stopped left new after (Tried helper old before tries kept next moved first middle mid between trying tried more) none rest =
+        Tried helper old before tries kept next moved stopped left new after trying tried (works_both stopped left new after more none rest)
+    works_both stopped left new after (GivesUp helper old before tries middle out_table out_seat mid between trying tried last) none rest = absurd (true≢false none)
 
     -- silent steps come last
     works_then : {helper left : H} {old mid : T} {before between : W} {stopped : Bool} (new : T) (after : W)
-        → Works policy (IsSilent means) (IsSilent means) (GetsChunk means route) (IsOutNow means route) asks helper old before stopped left mid between
+        → Works policy (IsSilent means) (IsSilent means) (GetsChunk means route) (IsInVain means route) (IsOutNow means route) asks helper old before stopped left mid between
         → IsSilent means mid between new after
-        → Works policy (IsSilent means) (IsSilent means) (GetsChunk means route) (IsOutNow means route) asks helper old before stopped left new after
+        → Works policy (IsSilent means) (IsSilent means) (GetsChunk means route) (IsInVain means route) (IsOutNow means route) asks helper old before stopped left new after
     works_then new after (Done helper old before mid between last) silent =
         Done helper old before new after (silent_both means old before mid between new after last silent)
     works_then new after (Silent helper old before next moved stopped left mid between first more) silent =
@@ -77,12 +81,16 @@ module _ {H T W S : Type 0} (means : Meaning T W S) (needs : H → T → Type 0)
         Refused helper old before asking asker left kept new after stalls out helps_ (silent_both means kept asker mid between new after last silent)
     works_then new after (Lost helper old before out_table out_seat mid between drops out last) silent =
         Lost helper old before out_table out_seat new after drops out (silent_both means out_table out_seat mid between new after last silent)
+    works_then new after (Tried helper old before tries kept next moved stopped left mid between trying tried more) silent =
+        Tried helper old before tries kept next moved stopped left new after trying tried (works_then new after more silent)
+    works_then new after (GivesUp helper old before tries left out_table out_seat mid between trying tried last) silent =
+        GivesUp helper old before tries left out_table out_seat new after trying tried (silent_both means out_table out_seat mid between new after last silent)
 
     -- or those that note the call
     works_last : {helper left : H} {old mid : T} {before between : W} {stopped : Bool} (new : T) (after : W)
-        → Works policy (IsSilent means) (IsSilent means) (GetsChunk means route) (IsOutNow means route) asks helper old before stopped left mid between
+        → Works policy (IsSilent means) (IsSilent means) (GetsChunk means route) (IsInVain means route) (IsOutNow means route) asks helper old before stopped left mid between
         → IsQuiet means mid between new after
-        → Works policy (IsSilent means) (IsQuiet means) (GetsChunk means route) (IsOutNow means route) asks helper old before stopped left new after
+        → Works policy (IsSilent means) (IsQuiet means) (GetsChunk means route) (IsInVain means route) (IsOutNow means route) asks helper old before stopped left new after
     works_last new after (Done helper old before mid between last) quiet =
         Done helper old before new after (quiet_both means old before mid between new after last.quiet quiet)
     works_last new after (Silent helper old before next moved stopped left mid between first more) quiet =
@@ -95,6 +103,10 @@ module _ {H T W S : Type 0} (means : Meaning T W S) (needs : H → T → Type 0)
         Refused helper old before asking asker left kept new after stalls out helps_ (quiet_both means kept asker mid between new after last.quiet quiet)
     works_last new after (Lost helper old before out_table out_seat mid between drops out last) quiet =
         Lost helper old before out_table out_seat new after drops out (quiet_both means out_table out_seat mid between new after last.quiet quiet)
+    works_last new after (Tried helper old before tries kept next moved stopped left mid between trying tried more) quiet =
+        Tried helper old before tries kept next moved stopped left new after trying tried (works_last new after more quiet)
+    works_last new after (GivesUp helper old before tries left out_table out_seat mid between trying tried last) quiet =
+        GivesUp helper old before tries left out_table out_seat new after trying tried (quiet_both means out_table out_seat mid between new after last.quiet quiet)
 
   quiet_counts : (old : T) (seat : W) (new : T) (after : W) → IsQuiet means old seat new after
       → length (means.view new after).asked + length (means.view new after).begun ≡ length (means.view old seat).asked + length (means.view old seat).begun
@@ -169,12 +181,12 @@ module _ {H T W S : Type 0} (means : Meaning T W S) (needs : H → T → Type 0)
       → later + (length (means.view old seat).asked + length (means.view old seat).begun) ≡ steps + (length (means.view asking asker).asked + length (means.view asking asker).begun)
       → IsWork means needs helps route helper old seat steps false helped freed asker later
   work_helped route helper old seat steps asking asker later helped freed stalls out helps_ leaves needed counts = record {
-    others = leaves_both old seat asking asker freed asker (leaves_own old seat asking asker out.step) (leaves_help asking asker freed out.step.seat_stays leaves);
+    others = leaves_both old seat asking asker freed asker (leaves_own old seat asking asker out.vain.step) (leaves_help asking asker freed out.vain.step.seat_stays leaves);
     works = Helped helper old seat asking asker helped freed false helped freed asker stalls out (helps_, leaves)
-        (Done helped freed asker freed asker (silent_none means freed asker (leaves.writers_stay asker out.step.seat_stays).0));
+        (Done helped freed asker freed asker (silent_none means freed asker (leaves.writers_stay asker out.vain.step.seat_stays).0));
     needed = needed;
     counts = subst (λ (v : WriterView). later + (length (means.view old seat).asked + length (means.view old seat).begun) ≡ steps + (length v.asked + length v.begun))
-        (sym (leaves.writers_stay asker out.step.seat_stays).1) counts;
+        (sym (leaves.writers_stay asker out.vain.step.seat_stays).1) counts;
   }
 
   -- or for one that freed none
@@ -184,11 +196,11 @@ module _ {H T W S : Type 0} (means : Meaning T W S) (needs : H → T → Type 0)
       → later + (length (means.view old seat).asked + length (means.view old seat).begun) ≡ steps + (length (means.view asking asker).asked + length (means.view asking asker).begun)
       → IsWork means needs helps route helper old seat steps true left new asker later
   work_refused route helper old seat steps asking asker later left new stalls out helps_ leaves needed counts = record {
-    others = leaves_both old seat asking asker new asker (leaves_own old seat asking asker out.step) (leaves_help asking asker new out.step.seat_stays leaves);
-    works = Refused helper old seat asking asker left new new asker stalls out (helps_, leaves) (silent_none means new asker (leaves.writers_stay asker out.step.seat_stays).0);
+    others = leaves_both old seat asking asker new asker (leaves_own old seat asking asker out.vain.step) (leaves_help asking asker new out.vain.step.seat_stays leaves);
+    works = Refused helper old seat asking asker left new new asker stalls out (helps_, leaves) (silent_none means new asker (leaves.writers_stay asker out.vain.step.seat_stays).0);
     needed = needed;
     counts = subst (λ (v : WriterView). later + (length (means.view old seat).asked + length (means.view old seat).begun) ≡ steps + (length v.asked + length v.begun))
-        (sym (leaves.writers_stay asker out.step.seat_stays).1) counts;
+        (sym (leaves.writers_stay asker out.vain.step.seat_stays).1) counts;
   }
 
   -- a writer that drops has lost its packet
@@ -198,9 +210,9 @@ module _ {H T W S : Type 0} (means : Meaning T W S) (needs : H → T → Type 0)
       → later + (length (means.view old seat).asked + length (means.view old seat).begun) ≡ steps + (length (means.view new after).asked + length (means.view new after).begun)
       → IsWork means needs helps route helper old seat steps true helper new after later
   work_lost route helper old seat steps new after later keeps needed drops out counts = record {
-    others = leaves_own old seat new after out.step;
-    works = Lost helper old seat new after new after drops out (silent_none means new after out.step.seat_stays);
-    needed = keeps helper old new seat after out.step needed;
+    others = leaves_own old seat new after out.vain.step;
+    works = Lost helper old seat new after new after drops out (silent_none means new after out.vain.step.seat_stays);
+    needed = keeps helper old new seat after out.vain.step needed;
     counts = counts;
   }
 
@@ -223,6 +235,7 @@ module _ {H T W S : Type 0} (means : Meaning T W S) (needs : H → T → Type 0)
         counts = omega (arith, first, second);
         notes = notes;
         stalls = stalls;
+        lost = works_lose means route works;
         few_steps = works_few means route.spec.policy route _ helper old before steps stopped left new after later works (omega (arith, first, second));
       }
 
@@ -242,7 +255,7 @@ module _ {H T W S : Type 0} (means : Meaning T W S) (needs : H → T → Type 0)
   asked_drops route helper old seat steps stopped noted stalled left new after later there asked drops = alone there asked.works
     where
       alone : {helper left : H} {old new : T} {seat after : W} {stopped : Bool} → means.sits old seat
-          → Works route.spec.policy (IsSilent means) (IsQuiet means) (GetsChunk means route) (IsOutNow means route)
+          → Works route.spec.policy (IsSilent means) (IsQuiet means) (GetsChunk means route) (IsInVain means route) (IsOutNow means route)
           (λ asked table answer behind freed. helps asked table route.spec.producer answer behind freed × LeavesWriters means table freed)
           helper old seat stopped left new after
           → (left ≡ helper) × IsWriterStep means old seat new after
@@ -256,4 +269,6 @@ module _ {H T W S : Type 0} (means : Meaning T W S) (needs : H → T → Type 0)
       alone there (Helped helper old seat asking asker helped freed stopped left new after stalls out helps_ more) = absurd (let same : Drops ≡ Stalls = sym drops ∙ stalls in cc)
       alone there (Refused helper old seat asking asker left kept new after stalls out helps_ last) = absurd (let same : Drops ≡ Stalls = sym drops ∙ stalls in cc)
       alone there (Lost helper old seat mid between new after lost out last) =
-          (refl, steps_follow means old seat mid between new after out.step last.step)
+          (refl, steps_follow means old seat mid between new after out.vain.step last.step)
+      alone there (Tried helper old seat tries kept next moved stopped left new after trying tried more) = absurd (let same : Drops ≡ StallsThenDrops tries = sym drops ∙ trying in cc)
+      alone there (GivesUp helper old seat tries left mid between new after trying tried last) = absurd (let same : Drops ≡ StallsThenDrops tries = sym drops ∙ trying in cc)

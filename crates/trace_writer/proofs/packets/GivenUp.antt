@@ -42,8 +42,9 @@ use Rattle.trace_writer.specs.Site.{Site}
 use Rattle.trace_writer.specs.Filled.{frames, IsWritten, ShowsPages}
 use Rattle.trace_writer.specs.Drafted.{IsFit}
 use Rattle.trace_base.specs.declared.policy.WriterPolicy.{WriterPolicy}
-use Rattle.trace_base.specs.declared.policy.WriterPolicy.TheVariants.{Drops}
-use Rattle.trace_writer.specs.Flows.{StopsAs, StopsHere}
+use Rattle.trace_base.specs.declared.policy.WriterPolicy.TheVariants.{Drops, Stalls, StallsThenDrops}
+use Rattle.trace_writer.specs.Flows.{StopsAs, StopsHere, with_loss}
+use Rattle.trace_writer.specs.Helping.{loses}
 use Rattle.trace_writer.specs.States.{InFragment, IsIdle}
 use Rattle.trace_writer.proofs.holding.Holes.{outside_here, outside_later}
 use Rattle.trace_writer.proofs.holding.Payloads.{written_moved, written_offset, written_long, written_put, written_dropped, lost_page, full_lost}
@@ -320,22 +321,29 @@ next_among packet level outer levels =
     (ap (λ (b : Bool). b || is_among (length (flat open_length (level ∷ outer))) (open_places (level ∷ outer)))
     (eq-eqb (length (flat open_length (level ∷ outer))) (length (flat open_length (level ∷ outer))) refl))
 
-pub loses_rest : (site : Site) (old new : WriterView) (before after : Pending) (first : OpenFragment) → site.policy ≡ Drops
+-- a writer that loses packets stops by giving its own up
+stops_lost : (policy : WriterPolicy) (site : Site) (packet : Packet) (older : List Packet) (view : WriterView) (pending : Pending) → loses policy ≡ true
+    → IsIdle site (with_loss packet older) view pending → StopsAs policy site packet older view pending
+stops_lost Drops site packet older view pending losing idle = idle
+stops_lost Stalls site packet older view pending losing idle = absurd (false≢true losing)
+stops_lost (StallsThenDrops tries) site packet older view pending losing idle = idle
+
+pub loses_rest : (site : Site) (old new : WriterView) (before after : Pending) (first : OpenFragment) → loses site.policy ≡ true
     → vec_len first.held.body.payload < first.at + 4 → EndsGivenUp site old new before after first → StopsHere site old new before after first
-loses_rest site old new before after first drops filled e = record {
+loses_rest site old new before after first losing filled e = record {
   calls = e.calls;
   full = λ ends packet older rest some w.
-      subst (λ (policy : WriterPolicy). StopsAs policy site (with_more rest packet) older new after) (sym drops)
+      stops_lost site.policy site (with_more rest packet) older new after losing
       (given_idle site packet (given_up_packet (with_more rest packet)) older old new before after first (with_more rest packet).text refl refl refl filled
       (λ less. absurd (omega (arith, ends, less))) w
       (gives_up site.size packet older w.pages first.continues w.done w.now rest before.unsent (reverse before.holes) some w.writing) e);
   full_nested = λ ends packet older rest w.
-      subst (λ (policy : WriterPolicy). StopsAs policy site (with_open (with_more rest packet)) older new after) (sym drops)
+      stops_lost site.policy site (with_open (with_more rest packet)) older new after losing
       (given_idle site packet (given_up_packet (with_open (with_more rest packet))) older old new before after first (with_open (with_more rest packet)).text refl refl refl filled
       (λ less. absurd (omega (arith, ends, less))) w
       (gives_up_nested site.size packet older w.pages first.continues w.done w.now rest before.unsent (reverse before.holes) [] (λ n none. absurd (false≢true none)) w.writing) e);
   length_next = λ packet older w.
-      subst (λ (policy : WriterPolicy). StopsAs policy site (with_open packet) older new after) (sym drops)
+      stops_lost site.policy site (with_open packet) older new after losing
       (given_idle site packet (given_up_packet (with_open packet)) older old new before after first (with_open packet).text refl refl refl filled
       (λ less. next_among packet w.writing.level w.writing.outer w.writing.levels) w
       (subst (λ (p : Packet). GivesUp site.size packet older w.pages first.continues w.done w.now before.unsent (reverse before.holes) (with_open p).text) (with_more-none packet)

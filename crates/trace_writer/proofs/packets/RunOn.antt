@@ -3,7 +3,7 @@ use Rattle.std.proofs.Common.{◌≡◌, ◌∙◌, ℕ, ◌+◌, ◌-◌, ◌<�
 use Rattle.std.specs.Prelude.{◌⊎◌, IsTrue}
 use Rattle.std.proofs.lemmas.Bool.{eq-eqb}
 use Rattle.trace_base.specs.declared.policy.WriterPolicy.{WriterPolicy}
-use Rattle.trace_base.specs.declared.policy.WriterPolicy.TheVariants.{Drops, Stalls}
+use Rattle.trace_base.specs.declared.policy.WriterPolicy.TheVariants.{Drops, Stalls, StallsThenDrops}
 use Rattle.wire_varint.specs.Varint.{redundant}
 use Rattle.trace_model.specs.Images.{with_bytes}
 use Rattle.trace_model.specs.Packets.{Packet, body_of}
@@ -20,7 +20,6 @@ use Rattle.chunk_plain.specs.Setup.{Setup, spot}
 use Rattle.chunk_plain.specs.Views.{BegunChunk, Held, Completed, Head, Draft, fresh, Content, WriterView}
 use Rattle.chunk_plain.specs.Drafts.{MayFollow, head_at}
 use Rattle.chunk_plain.specs.Steps.{redrafts, completes}
-use Rattle.claim_arbiter.specs.Claiming.{AsksInVain}
 use Rattle.cut_steps.specs.RawChains.{current_piece, offset_behind}
 use Rattle.cut_steps.specs.Writing.{IsWriting, with_open}
 use Rattle.cut_steps.proofs.WritingSteps.{writing_coming}
@@ -34,7 +33,7 @@ use Rattle.trace_writer.specs.Filled.{frames, ShowsPages}
 use Rattle.trace_writer.specs.Drafted.{IsDrafted, IsFit, CountsNext}
 use Rattle.trace_writer.specs.States.{InFragment}
 use Rattle.trace_writer.specs.OwnSteps.{NoneHeld}
-use Rattle.trace_writer.specs.Claims.{Wins}
+use Rattle.trace_writer.specs.Claims.{Wins, FindsNone}
 use Rattle.trace_writer.specs.Flows.{RunsOn, StopsHere, StopsAs}
 use Rattle.trace_writer.proofs.holding.KeptChunks.{shown_none_held, none_counted, one_held}
 use Rattle.trace_writer.proofs.holding.Holes.{outside_most, among_reverse, lasts_reverse}
@@ -462,26 +461,27 @@ stops_from site other old mid new before after fragment site_is begun calls othe
     }
 
 pub cannot_run_on : (setup now_setup : Setup) (place now_place : ℕ) (route : Route) (old mid new : WriterView) (before after : Pending) (fragment : OpenFragment)
-    → now_setup ≡ setup → now_place ≡ place → AsksInVain setup route.arbiter.first route.arbiter.chunks old mid
+    → now_setup ≡ setup → now_place ≡ place → FindsNone old mid
     → StopsHere (site_of now_setup now_place route) mid new before after fragment → StopsHere (site_of setup place route) old new before after fragment
-cannot_run_on setup now_setup place now_place route old mid new before after fragment setup_is place_is vain stops =
+cannot_run_on setup now_setup place now_place route old mid new before after fragment setup_is place_is none stops =
     stops_from (site_of setup place route) (site_of now_setup now_place route) old mid new before after fragment
     (ap (λ (x : Setup). site_of x now_place route) setup_is ∙ ap (λ (n : ℕ). site_of setup n route) place_is)
-    (ap (λ (v : WriterView). v.begun) vain.view) (ap (λ (v : WriterView). v.calls) vain.view) stops
+    none.begun none.calls stops
 
 -- where a packet stops its writer holds no chunk
 stopped_as : (policy : WriterPolicy) (site : Site) (packet : Packet) (older : List Packet) (view : WriterView) (pending : Pending) → StopsAs policy site packet older view pending
     → NoneHeld view.begun
 stopped_as Drops site packet older view pending idle = shown_none_held site 0 view.begun idle.pages idle.shown
 stopped_as Stalls site packet older view pending stuck = shown_none_held site 0 view.begun stuck.pages stuck.shown
+stopped_as (StallsThenDrops tries) site packet older view pending idle = shown_none_held site 0 view.begun idle.pages idle.shown
 
 pub stopped_holds_none : (site : Site) (packet : Packet) (older : List Packet) (old new : WriterView) (before after : Pending) (fragment : OpenFragment)
     → InFragment site packet older old before fragment [] → StopsHere site old new before after fragment → NoneHeld new.begun
 stopped_holds_none site packet older old new before after fragment w stops =
     stopped_as site.policy site (with_open packet) older new after (stops.length_next packet older w)
 
-pub next_id_after : (setup : Setup) (first count : ℕ) (site : Site) (packet : Packet) (older : List Packet) (old mid new : WriterView) (pending : Pending) (fragment : OpenFragment)
-    → InFragment site packet older old pending fragment [] → AsksInVain setup first count old mid → length new.begun ≡ length mid.begun
+pub next_id_after : (site : Site) (packet : Packet) (older : List Packet) (old mid new : WriterView) (pending : Pending) (fragment : OpenFragment)
+    → InFragment site packet older old pending fragment [] → FindsNone old mid → length new.begun ≡ length mid.begun
     → fragment.held.id + 1 ≡ length new.begun
-next_id_after setup first count site packet older old mid new pending fragment w vain same =
-    next_id site packet older old pending fragment w ∙ sym (same ∙ ap (λ (v : WriterView). length v.begun) vain.view)
+next_id_after site packet older old mid new pending fragment w none same =
+    next_id site packet older old pending fragment w ∙ sym (same ∙ ap length none.begun)

@@ -4,7 +4,7 @@ use Rattle.std.proofs.lemmas.List.Sums.{fold-append}
 use Rattle.trace_model.specs.Calls.{Call, Begun, Ended, GivenUp, Finished}
 use Rattle.trace_model.specs.Packets.{Packet, Account, account_of, noted, nothing_yet, on_newest, with_more, with_nested_ended, given_up_packet, finished_packet, written, closed_levels, open_places, is_writing}
 use Rattle.trace_base.specs.declared.policy.WriterPolicy.{WriterPolicy}
-use Rattle.trace_base.specs.declared.policy.WriterPolicy.TheVariants.{Drops, Stalls}
+use Rattle.trace_base.specs.declared.policy.WriterPolicy.TheVariants.{Drops, Stalls, StallsThenDrops}
 use Rattle.chunk_plain.specs.Views.{WriterView}
 use Rattle.trace_writer.specs.Asked.{written_as, begun_as}
 use Rattle.trace_writer.specs.Helping.{refuses}
@@ -60,6 +60,7 @@ pub begins_in : (view new : WriterView) (policy : WriterPolicy) (stopped stalled
 begins_in view new policy false stalled notes is goes = begun_in view new true notes
 begins_in view new Drops true stalled notes is goes = begun_in view new false notes
 begins_in view new Stalls true stalled notes is goes = absurd (true≢false (sym is ∙ goes))
+begins_in view new (StallsThenDrops tries) true stalled notes is goes = begun_in view new false notes
 
 -- a field call leaves it begun, whether it is given up or not, and as deep where it opens no message
 written_one : (view new : WriterView) (call : Call) (change : Packet → Packet) → ((account : Account) → noted account call ≡ on_newest change account)
@@ -68,16 +69,21 @@ written_one view new call change is same notes =
     ap (λ (a : Account). is_writing a.packets) (ap account_of notes ∙ account_one view.calls call ∙ is (account_of view.calls))
     ∙ writing_changed change (account_of view.calls).packets (account_of view.calls).flushed same
 
-pub written_in : (view new : WriterView) (call : Call) (change : Packet → Packet) (policy : WriterPolicy) (stopped : Bool)
-    → ((account : Account) → noted account call ≡ on_newest change account) → ((packet : Packet) → (change packet).finished ≡ packet.finished)
-    → new.calls ≡ view.calls ++ written_as stopped policy call → in_packet new ≡ in_packet view
-written_in view new call change policy false is same notes = written_one view new call change is same notes
-written_in view new call change Drops true is same notes =
+written_lost : (view new : WriterView) (call : Call) (change : Packet → Packet) → ((account : Account) → noted account call ≡ on_newest change account)
+    → ((packet : Packet) → (change packet).finished ≡ packet.finished) → new.calls ≡ view.calls ++ written_as true Drops call → in_packet new ≡ in_packet view
+written_lost view new call change is same notes =
     ap (λ (a : Account). is_writing a.packets) (ap account_of notes ∙ account_two view.calls call GivenUp)
     ∙ writing_changed given_up_packet (noted (account_of view.calls) call).packets (noted (account_of view.calls) call).flushed (λ packet. refl)
     ∙ ap (λ (a : Account). is_writing a.packets) (is (account_of view.calls))
     ∙ writing_changed change (account_of view.calls).packets (account_of view.calls).flushed same
+
+pub written_in : (view new : WriterView) (call : Call) (change : Packet → Packet) (policy : WriterPolicy) (stopped : Bool)
+    → ((account : Account) → noted account call ≡ on_newest change account) → ((packet : Packet) → (change packet).finished ≡ packet.finished)
+    → new.calls ≡ view.calls ++ written_as stopped policy call → in_packet new ≡ in_packet view
+written_in view new call change policy false is same notes = written_one view new call change is same notes
+written_in view new call change Drops true is same notes = written_lost view new call change is same notes
 written_in view new call change Stalls true is same notes = written_one view new call change is same notes
+written_in view new call change (StallsThenDrops tries) true is same notes = written_lost view new call change is same notes
 
 deep_one : (view new : WriterView) (call : Call) (change : Packet → Packet) → ((account : Account) → noted account call ≡ on_newest change account) → KeepsOpen change
     → new.calls ≡ view.calls ++ call ∷ [] → open_depth new ≡ open_depth view
@@ -85,16 +91,21 @@ deep_one view new call change is keeps notes =
     ap (λ (a : Account). depth_in a.packets) (ap account_of notes ∙ account_one view.calls call ∙ is (account_of view.calls))
     ∙ depth_changed change (account_of view.calls).packets (account_of view.calls).flushed keeps
 
-pub written_deep : (view new : WriterView) (call : Call) (change : Packet → Packet) (policy : WriterPolicy) (stopped : Bool)
-    → ((account : Account) → noted account call ≡ on_newest change account) → KeepsOpen change
-    → new.calls ≡ view.calls ++ written_as stopped policy call → open_depth new ≡ open_depth view
-written_deep view new call change policy false is keeps notes = deep_one view new call change is keeps notes
-written_deep view new call change Drops true is keeps notes =
+deep_lost : (view new : WriterView) (call : Call) (change : Packet → Packet) → ((account : Account) → noted account call ≡ on_newest change account) → KeepsOpen change
+    → new.calls ≡ view.calls ++ written_as true Drops call → open_depth new ≡ open_depth view
+deep_lost view new call change is keeps notes =
     ap (λ (a : Account). depth_in a.packets) (ap account_of notes ∙ account_two view.calls call GivenUp)
     ∙ depth_changed given_up_packet (noted (account_of view.calls) call).packets (noted (account_of view.calls) call).flushed given_up_keeps
     ∙ ap (λ (a : Account). depth_in a.packets) (is (account_of view.calls))
     ∙ depth_changed change (account_of view.calls).packets (account_of view.calls).flushed keeps
+
+pub written_deep : (view new : WriterView) (call : Call) (change : Packet → Packet) (policy : WriterPolicy) (stopped : Bool)
+    → ((account : Account) → noted account call ≡ on_newest change account) → KeepsOpen change
+    → new.calls ≡ view.calls ++ written_as stopped policy call → open_depth new ≡ open_depth view
+written_deep view new call change policy false is keeps notes = deep_one view new call change is keeps notes
+written_deep view new call change Drops true is keeps notes = deep_lost view new call change is keeps notes
 written_deep view new call change Stalls true is keeps notes = deep_one view new call change is keeps notes
+written_deep view new call change (StallsThenDrops tries) true is keeps notes = deep_lost view new call change is keeps notes
 
 -- the innermost message ends
 ended_depth : (packets : List Packet) (flushed : Bool) → 0 < depth_in packets

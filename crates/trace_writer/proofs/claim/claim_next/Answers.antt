@@ -20,3 +20,8 @@ pub claim_over-requires-clause-few : goal.claim_over-requires-clause-few
 claim_over-requires-clause-few g c =
     let none = none_counted (g.W.Words.means.view c.args.table.now c.args.seat.now).begun c.requires.none_held in
     omega (arith, none)
+
+pub claim_trying-requires-clause-few : goal.claim_trying-requires-clause-few
+claim_trying-requires-clause-few g c =
+    let none = none_counted (g.W.Words.means.view c.args.table.now c.args.seat.now).begun c.requires.none_held in
+    omega (arith, none)

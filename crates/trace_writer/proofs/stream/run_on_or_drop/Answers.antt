@@ -4,7 +4,7 @@ use Rattle.chunk_plain.specs.Views.{WriterView}
 use Rattle.trace_writer.specs.Site.{site_of}
 use Rattle.trace_writer.specs.Drafted.{IsFit}
 use Rattle.trace_writer.specs.Headers.{held_head}
-use Rattle.trace_writer.proofs.claims.Asking.{none_yet, wins_in_turn, won_counts, lost_counts, gets_chunk, out_after}
+use Rattle.trace_writer.proofs.claims.Asking.{none_yet, none_again, wins_in_turn, won_counts, lost_counts, gets_chunk, out_after}
 use Rattle.trace_writer.proofs.holding.KeptChunks.{keeps_long}
 use Rattle.trace_writer.proofs.claims.QuietRows.{silent_both}
 use Rattle.trace_writer.proofs.packets.RunOn.{few_inside, next_id, next_id_after, ends_as, held_behind, ended_fits, ended_head, next_first, run_fits, run_follows, goes_on_in, runs_on, cannot_run_on, stopped_holds_none}
@@ -25,10 +25,10 @@ returns-in_default-clause-flow g c =
     let setup = g.W.Words.means.setup c.args.table.now in let place = g.W.Words.means.place c.args.seat.now in
     let old = g.W.Words.means.view c.args.table.now c.args.seat.now in let mid = g.W.Words.means.view c.claim_over.new.table c.claim_over.new.seat in
     let new = g.W.Words.means.view c.give_up.new.table c.give_up.new.seat in
-    let vain = c.in_default.ensures.lost in let step = c.in_default.ensures.step in let i = c.requires.inside in (
+    let none = none_again setup c.args.route.now old old mid (none_yet old) c.in_default.ensures.lost in let step = c.in_default.ensures.step in let i = c.requires.inside in (
       cannot_run_on setup (g.W.Words.means.setup c.claim_over.new.table) place (g.W.Words.means.place c.claim_over.new.seat) c.args.route.now old mid new
-          c.args.pending.now c.give_up.new.pending c.args.fragment step.setup_stays step.place_stays vain c.give_up.ensures.stops,
-      next_id_after setup _ _ _ i.packet i.older old mid new c.args.pending.now c.args.fragment i.inside vain (keeps_long mid.begun new.begun c.give_up.ensures.quiet.chunks),
+          c.args.pending.now c.give_up.new.pending c.args.fragment step.setup_stays step.place_stays none c.give_up.ensures.stops,
+      next_id_after _ i.packet i.older old mid new c.args.pending.now c.args.fragment i.inside none (keeps_long mid.begun new.begun c.give_up.ensures.quiet.chunks),
     )
 
 pub complete-requires-clause-fit : goal.complete-requires-clause-fit
@@ -102,10 +102,10 @@ returns-in_default-clause-round g c =
     let i = c.requires.inside in let e = c.in_default.ensures in
     out_after g.W.Words.means
     route c.args.table.now c.args.seat.now c.claim_over.new.table c.claim_over.new.seat c.give_up.new.table c.give_up.new.seat c.claim_over.ensures.step e.lost e.told_lost
-    c.give_up.ensures.quiet
+    c.give_up.ensures.quiet c.give_up.ensures.stops.calls
     (stopped_holds_none (site_of setup place route) i.packet i.older old new c.args.pending.now c.give_up.new.pending c.args.fragment i.inside
     (cannot_run_on setup (g.W.Words.means.setup c.claim_over.new.table) place (g.W.Words.means.place c.claim_over.new.seat) route old mid new
-    c.args.pending.now c.give_up.new.pending c.args.fragment c.claim_over.ensures.step.setup_stays c.claim_over.ensures.step.place_stays e.lost c.give_up.ensures.stops))
+    c.args.pending.now c.give_up.new.pending c.args.fragment c.claim_over.ensures.step.setup_stays c.claim_over.ensures.step.place_stays (none_again setup route old old mid (none_yet old) e.lost) c.give_up.ensures.stops))
 
 pub returns-clause-round : goal.returns-clause-round
 returns-clause-round g c =

@@ -1,0 +1,51 @@
+use Rattle.std.proofs.Common.{sym, subst, arith}
+use Rattle.chunk_plain.specs.Views.{WriterView}
+use Rattle.trace_writer.specs.Claims.{FindsNone}
+use Rattle.trace_writer.proofs.claims.Asking.{none_yet, none_again, won_counts, lost_counts, gets_chunk, in_vain}
+use Rattle.trace_writer.proofs.claims.Trying.{trying_none, trying_on, trying_gets, tried_last}
+use Rattle.trace_writer.proofs.claim.claim_trying.Goals as goal
+
+pub tries-init : goal.tries-init
+tries-init g c = record {
+  none = none_yet (g.W.Words.means.view c.args.table.now c.args.seat.now);
+  trying = trying_none g.W.Words.means g.H.HelperOn.needs g.H.HelperOn.helps
+      c.args.route.now c.args.tries c.args.help.now c.args.table.now c.args.seat.now c.args.steps.now c.requires.seat c.requires.needs;
+}
+
+pub returns-in-Some-clause-work : goal.returns-in-Some-clause-work
+returns-in-Some-clause-work g c =
+    let route = c.args.route.now in
+    trying_gets g.W.Words.means g.H.HelperOn.needs g.H.HelperOn.helps
+    route c.args.tries c.args.help.now c.args.table.now c.args.seat.now c.args.steps.now c.tries.left c.tries.help c.tries.table c.tries.seat c.tries.steps
+    c.claim_over.new.table c.claim_over.new.seat c.claim_over.new.steps g.met.H.HelperOn.needs_stay c.requires.trying c.tries.invariant.trying
+    (gets_chunk g.W.Words.means
+    route c.in-Some.held.chunk _ c.tries.table c.tries.seat c.claim_over.new.table c.claim_over.new.seat c.claim_over.ensures.step c.in-Some.ensures.won c.in-Some.ensures.told_won)
+    (won_counts (g.W.Words.means.setup c.tries.table) route.arbiter.first route.arbiter.chunks c.in-Some.held.chunk (g.W.Words.means.view c.tries.table c.tries.seat)
+    (g.W.Words.means.view c.claim_over.new.table c.claim_over.new.seat) c.tries.steps c.claim_over.new.steps c.in-Some.ensures.won c.in-Some.ensures.steps_won)
+
+pub tries-preserved : goal.tries-preserved
+tries-preserved g c =
+    let route = c.args.route.now in
+    let old = g.W.Words.means.view c.args.table.now c.args.seat.now in
+    let mid = g.W.Words.means.view c.tries.table c.tries.seat in let new = g.W.Words.means.view c.claim_over.new.table c.claim_over.new.seat in
+    let h = c.help-worth in
+    record {
+      none = subst (λ (v : WriterView). FindsNone old v) (sym (h.ensures.leaves.writers_stay c.claim_over.new.seat c.claim_over.ensures.step.seat_stays).1)
+          (none_again (g.W.Words.means.setup c.tries.table) route old mid new c.tries.invariant.none c.in_default.ensures.lost);
+      trying = trying_on g.W.Words.means g.H.HelperOn.needs g.H.HelperOn.helps
+          route c.args.tries c.args.help.now c.args.table.now c.args.seat.now c.args.steps.now c.tries.left c.tries.help c.tries.table c.tries.seat c.tries.steps
+          c.claim_over.new.table c.claim_over.new.seat c.claim_over.new.steps h.result h.new.self h.new.table c.tries.invariant.trying c.tries-test.true
+          (in_vain g.W.Words.means
+          route c.tries.table c.tries.seat c.claim_over.new.table c.claim_over.new.seat c.claim_over.ensures.step c.in_default.ensures.lost c.in_default.ensures.told_lost)
+          (lost_counts (g.W.Words.means.setup c.tries.table) route.arbiter.first route.arbiter.chunks mid new c.tries.steps c.claim_over.new.steps c.in_default.ensures.lost c.in_default.ensures.steps_lost)
+          h.ensures.helps h.ensures.leaves h.ensures.needs;
+    }
+
+pub returns-clause-work : goal.returns-clause-work
+returns-clause-work g c =
+    let route = c.args.route.now in let last = c.claim_over-2 in let e = last.ensures in
+    tried_last g.W.Words.means g.H.HelperOn.needs g.H.HelperOn.helps
+    route c.args.tries c.args.help.now c.args.table.now c.args.seat.now c.args.steps.now c.tries.left c.tries.help c.tries.table c.tries.seat c.tries.steps c.args.next_id
+    last.new.table last.new.seat last.new.steps last.result g.met.H.HelperOn.needs_stay c.requires.trying c.tries.invariant.trying
+    (let none = c.tries-test.false in omega (arith, none))
+    e.step e.won e.steps_won e.told_won e.lost e.steps_lost e.told_lost
