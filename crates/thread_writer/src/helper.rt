@@ -1,6 +1,7 @@
-//! Whom a writer that stalls asks for chunks of the table that threads share.
-ghost use Rattle.std.specs.Prelude.{◌≡◌, ℕ, ◌<◌, Bool, true, false};
+//! Whom a writer asks for chunks of the table that threads share.
+ghost use Rattle.std.specs.Prelude.{◌≡◌, ℕ, ◌<◌, Bool, true, false, refl};
 ghost use Rattle.atomic_table.specs.Seated.{TableId};
+ghost use Rattle.trace_model.specs.Counts.{raised, last_count};
 ghost use Rattle.chunk_plain.specs.Setup.{HasProducer};
 ghost use Rattle.chunk_words.specs.Sits.{setup_in};
 ghost use Rattle.chunk_words.specs.Named.{identity_of};
@@ -19,6 +20,9 @@ pub trait Helper {
     // what one help is: the helper, the producer and the answer, and the helper behind it
     ghost helps: { Self → ℕ → Bool → Self → Type 0 };
 
+    // how often it was asked, a count that stands at its last value
+    ghost asked: { Self → ℕ };
+
     /// Frees chunks of a producer; true says that it is worth while to claim again.
     fn help(&mut self, table: &HostTable, producer: u16) -> bool
         requires table { of_table self.old (identity_of table.now) }
@@ -26,6 +30,10 @@ pub trait Helper {
         ensures helps { helps self.old producer result self.new }
         ensures table { (id : TableId) → of_table self.old id → of_table self.new id }
         ensures turns { result ≡ true → turns self.new < turns self.old };
+
+    // each help raises the count
+    ghost asked_more: { (helper : Self) (producer : ℕ) (answer : Bool) (behind : Self)
+        → helps helper producer answer behind → asked behind ≡ raised (asked helper) 1 };
 }
 
 /// Never frees a chunk, and waits for nobody.
@@ -35,6 +43,11 @@ impl Helper for NoHelp {
     ghost of_table = { λ _ _. Unit {0} };
 
     ghost helps = { λ helper producer answer after. (answer ≡ false) × (after ≡ helper) };
+
+    // it counts nothing, so its count stands at its last value
+    ghost asked = { λ _. last_count };
+
+    ghost asked_more = { λ _ _ _ _ _. refl };
 
     fn help(&mut self, _table: &HostTable, _producer: u16) -> bool {
         false
@@ -56,6 +69,10 @@ impl<'t, H: Helper> HelperOn<Shared<'t>> for Asks<H> {
     ghost needs = { λ asks shared. MayAsk H.of_table asks shared };
 
     ghost helps = { λ asks shared producer answer after left. IsHelp H.helps asks shared producer answer after left };
+
+    ghost asked = { λ asks. H.asked asks.help };
+
+    ghost asked_more = { λ asks shared producer answer after left helped. H.asked_more asks.help producer answer after.help helped.1 };
 
     ghost needs_stay = { λ asks old new seat after step may. still_asks H.of_table asks old new seat after step may };
 
