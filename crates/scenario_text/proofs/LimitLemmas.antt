@@ -7,11 +7,11 @@ use Rattle.std.proofs.lemmas.Bool.{not-false}
 use Rattle.trace_base.proofs.Lists.{get_more}
 use Rattle.trace_base.specs.declared.limits.TheConstants.{BYTES_PER_KB, MAX_BUFFERS, MAX_BUFFER_KB, MAX_PRODUCERS, MAX_WRITERS, MIN_BUFFER_KB}
 use Rattle.trace_base.specs.declared.policy.FullPolicy.{FullPolicy}
-use Rattle.trace_base.specs.declared.policy.WriterPolicy.{WriterPolicy}
 use Rattle.trace_base.specs.declared.policy.WriterSpec.{WriterSpec}
 use Rattle.page_geometry.specs.Sizes.{payload_size, record_size}
 use Rattle.trace_base.specs.declared.numeral.Numeral.{Numeral}
 use Rattle.trace_base.specs.declared.numeral.Numeral.TheVariants.{Fits, TooLarge}
+use Rattle.scenario_text.specs.declared.form.NamedPolicy.{NamedPolicy}
 use Rattle.scenario_text.specs.declared.form.Form.{Form}
 use Rattle.scenario_text.specs.declared.form.Form.TheVariants.{Buffer, Producer, Writer, OfWriter, OfProducer, Read, Request}
 use Rattle.scenario_text.specs.declared.form.ProducerStep.{ProducerStep}
@@ -25,12 +25,12 @@ use Rattle.scenario_text.specs.Ranges.{value}
 use Rattle.scenario_text.specs.State.{State, beginning}
 use Rattle.scenario_text.specs.Sound.{is_cut}
 use Rattle.scenario_text.specs.Reasons.{first, front_reasons, back_reasons, refusal_of, given, is_larger, is_out_of_range, has_larger_chunks, lacks_producer, lacks_buffer}
-use Rattle.scenario_text.specs.Effects.{moved, nodes_given, written, with_line, with_packet, with_closed, with_bytes, served}
+use Rattle.scenario_text.specs.Effects.{policy_of, moved, nodes_given, written, with_line, with_packet, with_closed, with_bytes, served}
 use Rattle.scenario_text.specs.Scenario.{IsScenario, Parts}
 use Rattle.scenario_text.specs.Limits.{IsBuffer, IsProducer, IsSetUp, IsWriter}
 use Rattle.scenario_text.proofs.SoundLemmas.{cut_pages, cut_chunks}
 use Rattle.scenario_text.proofs.StateLemmas.{first_none, scenario_holds}
-use Rattle.scenario_text.proofs.FrontLemmas.{passed, within_least, within_most, of_producer_line, producer_cut, room_for_buffer, room_for_producer, room_for_writer}
+use Rattle.scenario_text.proofs.FrontLemmas.{passed, within_least, within_most, of_producer_line, producer_cut, room_for_buffer, room_for_producer, room_for_writer, tries_of_line}
 
 abbrev KeepsLimits : State → Type 0
 KeepsLimits state = IsSetUp state.buffers state.producers state.writers
@@ -65,6 +65,7 @@ more_buffer buffers producers writers buffer keeps room is = record {
         producer_is = h.producer_is;
         buffer_is = get_more buffers (buffer ∷ []) (w.buffer - 1) h.into_buffer h.buffer_is;
         fits = h.fits;
+        tries = h.tries;
       }) keeps.are_writers;
 }
 
@@ -86,6 +87,7 @@ more_producer buffers producers writers producer keeps room is = record {
         producer_is = get_more producers (producer ∷ []) (w.producer - 1) h.of_producer h.producer_is;
         buffer_is = h.buffer_is;
         fits = h.fits;
+        tries = h.tries;
       }) keeps.are_writers;
 }
 
@@ -123,9 +125,9 @@ unfolding item
 named things (Fits n) some = named_at (nat_eq n 0) things n _ refl refl refl some
 named things TooLarge some = absurd cc
 
-writer_named : (state : State) (producer buffer : Numeral) (policy : WriterPolicy)
+writer_named : (state : State) (producer buffer : Numeral) (policy : NamedPolicy)
     → first (front_reasons state (Writer producer buffer policy)) ≡ None
-    → IsWriter state.buffers state.producers (record { producer = value producer; buffer = value buffer; policy = policy })
+    → IsWriter state.buffers state.producers (record { producer = value producer; buffer = value buffer; policy = policy_of policy })
 unfolding lacks_producer lacks_buffer has_larger_chunks is_larger
 writer_named state producer buffer policy none =
     let pass = passed state (Writer producer buffer policy) none in
@@ -141,6 +143,7 @@ writer_named state producer buffer policy none =
       producer_is = p.is;
       buffer_is = b.is;
       fits = grind (arith, common_steps, larger);
+      tries = tries_of_line state producer buffer policy none;
     }
 
 buffer_known : (state : State) (kb : Numeral) (policy : FullPolicy) → first (front_reasons state (Buffer kb policy)) ≡ None

@@ -1,10 +1,10 @@
 -- What becomes of a line that gives no packet anything.
 use Rattle.std.proofs.Common.{◌≡◌, ℕ, List, [], Option, Some, None, Ok, Err, refl, ◌∙◌}
 use Rattle.trace_base.specs.declared.policy.FullPolicy.{FullPolicy}
-use Rattle.trace_base.specs.declared.policy.WriterPolicy.{WriterPolicy}
 use Rattle.scenario_text.specs.declared.scenario.LineKind.TheVariants as kinds
 use Rattle.scenario_text.specs.Ranges.{value}
 use Rattle.trace_base.specs.declared.numeral.Numeral.{Numeral}
+use Rattle.scenario_text.specs.declared.form.NamedPolicy.{NamedPolicy}
 use Rattle.scenario_text.specs.declared.form.Form.{Form}
 use Rattle.scenario_text.specs.declared.form.Form.TheVariants.{Buffer, Producer, Writer, OfWriter, OfProducer, Read, Request}
 use Rattle.scenario_text.specs.declared.form.ProducerStep.{ProducerStep}
@@ -53,7 +53,7 @@ pub taken_producer : (state : State) (number : ℕ) (line : List ℕ) (pages pag
 unfolding moved
 taken_producer state number line pages page_size chunks none = taken_as_it_is state number line (Producer pages page_size chunks) tt none
 
-pub taken_writer : (state : State) (number : ℕ) (line : List ℕ) (producer buffer : Numeral) (policy : WriterPolicy)
+pub taken_writer : (state : State) (number : ℕ) (line : List ℕ) (producer buffer : Numeral) (policy : NamedPolicy)
     → first (front_reasons state (Writer producer buffer policy)) ≡ None
     → after_form state number line (Some (Writer producer buffer policy)) ≡ Ok (moved state 0 (Writer producer buffer policy) [])
 unfolding moved

@@ -2,8 +2,12 @@
 use Rattle.std.specs.Prelude.{ℕ, ◌+◌, ◌-◌, ◌^◌, ◌<◌, true, false, List, [], ◌∷◌, ◌++◌, Option, Some, None, Result, Ok, Err}
 use Rattle.trace_base.specs.declared.limits.TheConstants.{MAX_NUMBER}
 use Rattle.trace_base.specs.declared.numeral.Numeral.{Numeral}
+use Rattle.trace_base.specs.declared.policy.WriterPolicy.{WriterPolicy}
+use Rattle.trace_base.specs.declared.policy.WriterPolicy.TheVariants as policies
 use Rattle.scenario_text.specs.declared.form.Form.{Form}
 use Rattle.scenario_text.specs.declared.form.Form.TheVariants.{Buffer, Producer, Writer, OfWriter, OfProducer, Read, Request}
+use Rattle.scenario_text.specs.declared.form.NamedPolicy.{NamedPolicy}
+use Rattle.scenario_text.specs.declared.form.NamedPolicy.TheVariants.{Drops, Stalls, StallsThenDrops}
 use Rattle.scenario_text.specs.declared.form.WriterStep.{WriterStep}
 use Rattle.scenario_text.specs.declared.form.WriterStep.TheVariants.{Packet, Begin, Add, Nest, Unnest, End, Flush}
 use Rattle.scenario_text.specs.declared.form.ProducerStep.{ProducerStep}
@@ -38,6 +42,12 @@ producer_kind producer Close = kinds.Close producer
 unfoldable pub limit_of : Option Numeral → ℕ
 limit_of None = MAX_NUMBER
 limit_of (Some limit) = value limit
+
+-- the policy that a line names
+unfoldable pub policy_of : NamedPolicy → WriterPolicy
+policy_of Drops = policies.Drops
+policy_of Stalls = policies.Stalls
+policy_of (StallsThenDrops tries) = policies.StallsThenDrops (value tries)
 
 -- so many bytes longer, and so many messages inside one another deeper
 abbrev pub grown : OpenPacket → ℕ → ℕ → OpenPacket
@@ -95,7 +105,7 @@ moved state line (Producer pages page_size chunks) nodes = record state {
   closed = state.closed ++ false ∷ [];
 }
 moved state line (Writer producer buffer policy) nodes = record state {
-  writers = state.writers ++ (record { producer = value producer; buffer = value buffer; policy = policy }) ∷ [];
+  writers = state.writers ++ (record { producer = value producer; buffer = value buffer; policy = policy_of policy }) ∷ [];
   packets = state.packets ++ None ∷ [];
 }
 moved state line (OfWriter writer step) nodes = written state line writer step nodes (step_len step nodes)
@@ -103,6 +113,11 @@ moved state line (OfProducer producer step) nodes =
     served (with_line state line (producer_kind (value producer) step)) producer step
 moved state line (Read buffer limit) nodes = with_line state line (kinds.Read (value buffer) (limit_of limit))
 moved state line Request nodes = with_line state line kinds.Request
+
+-- how often a writer asks can be counted
+abbrev pub TriesFit : NamedPolicy → Type 0
+TriesFit (StallsThenDrops tries) = value tries < 2 ^ 32
+TriesFit policy = Unit {0}
 
 -- the field of an `n` line can be counted
 abbrev pub FieldFits : WriterStep → Type 0

@@ -1,10 +1,10 @@
 -- The forms of a line: what a scenario's table of lines has in its left column, up to a line's FIELDS.
-use Rattle.std.specs.Prelude.{ℕ, Bool, true, false, Option, Some, None, option_and_then, List, [], ◌∷◌, codes, if◌then◌else◌}
+use Rattle.std.specs.Prelude.{ℕ, Bool, true, false, Option, Some, None, option_and_then, List, [], ◌∷◌, codes, take, drop, if◌then◌else◌}
 use Rattle.std.specs.Str.{bytes_eq}
 use Rattle.trace_base.specs.declared.policy.FullPolicy.TheVariants.{Ring, Discard}
-use Rattle.trace_base.specs.declared.policy.WriterPolicy.TheVariants.{Drops, Stalls}
 use Rattle.trace_base.specs.declared.numeral.Numeral.{Numeral}
 use Rattle.scenario_text.specs.declared.form.Form.{Form}
+use Rattle.scenario_text.specs.declared.form.NamedPolicy.TheVariants.{Drops, Stalls, StallsThenDrops}
 use Rattle.scenario_text.specs.declared.form.Form.TheVariants.{Buffer, Producer, Writer, OfWriter, OfProducer, Read, Request}
 use Rattle.scenario_text.specs.declared.form.WriterStep.TheVariants.{Packet, Begin, Add, Nest, Unnest, End, Flush}
 use Rattle.scenario_text.specs.declared.form.ProducerStep.TheVariants.{Collect, Scrape, Close}
@@ -67,11 +67,12 @@ unfoldable pub producer_form : List ℕ → List ℕ → List ℕ → Option For
 producer_form second third fourth =
     with_number (λ pages. with_number (λ page_size. with_number (λ chunks. Some (Producer pages page_size chunks)) fourth) third) second
 
--- `writer PRODUCER BUFFER drop`, `writer PRODUCER BUFFER stall`
+-- `writer PRODUCER BUFFER drop`, `writer PRODUCER BUFFER stall`, `writer PRODUCER BUFFER stall:N`
 unfoldable pub policy_form : List ℕ → Numeral → Numeral → Option Form
 policy_form policy p b =
     if is policy (codes "drop") then Some (Writer p b Drops)
     else if is policy (codes "stall") then Some (Writer p b Stalls)
+    else if is (take 6 policy) (codes "stall:") then with_number (λ tries. Some (Writer p b (StallsThenDrops tries))) (drop 6 policy)
     else None
 
 -- the form of a writer's set-up line

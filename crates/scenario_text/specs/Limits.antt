@@ -2,8 +2,11 @@
 use Rattle.std.specs.Prelude.{◌≡◌, ◌-◌, ◌*◌, ◌≤◌, List, length, Some, slice_get}
 use Rattle.std.specs.List.{AllByRecursion}
 use Rattle.trace_base.specs.declared.limits.TheConstants.{BYTES_PER_KB, MAX_BUFFERS, MAX_BUFFER_KB, MAX_PAGES, MAX_PRODUCERS, MAX_WRITERS, MIN_BUFFER_KB}
+use Rattle.trace_base.specs.declared.policy.WriterPolicy.{WriterPolicy}
+use Rattle.trace_base.specs.declared.policy.WriterPolicy.TheVariants.{StallsThenDrops}
 use Rattle.trace_base.specs.declared.policy.WriterSpec.{WriterSpec}
 use Rattle.page_geometry.specs.Sizes.{IsPageSize, IsChunkCount, payload_size, record_size}
+use Rattle.scenario_text.specs.declared.form.TheConstants.{MAX_TRIES}
 use Rattle.scenario_text.specs.declared.scenario.BufferLine.{BufferLine}
 use Rattle.scenario_text.specs.declared.scenario.ProducerLine.{ProducerLine}
 use Rattle.scenario_text.specs.declared.scenario.Scenario.{Scenario}
@@ -21,6 +24,11 @@ pub record IsProducer (producer : ProducerLine) : Type 0 where
   pub page_size : IsPageSize producer.page_size
   pub chunks : IsChunkCount producer.chunks
 
+-- a writer can ask so often before it drops
+abbrev pub HasTries : WriterPolicy → Type 0
+HasTries (StallsThenDrops tries) = (1 ≤ tries) × (tries ≤ MAX_TRIES)
+HasTries policy = Unit {0}
+
 -- the writer names a producer and a buffer, counted from 1, and a record of its chunks fits the buffer
 pub record IsWriter (buffers : List BufferLine) (producers : List ProducerLine) (writer : WriterSpec) : Type 0 where
   pub of_producer : ProducerLine
@@ -30,6 +38,7 @@ pub record IsWriter (buffers : List BufferLine) (producers : List ProducerLine) 
   pub producer_is : slice_get producers (writer.producer - 1) ≡ Some of_producer
   pub buffer_is : slice_get buffers (writer.buffer - 1) ≡ Some into_buffer
   pub fits : record_size (payload_size of_producer.page_size of_producer.chunks) ≤ into_buffer.kb * BYTES_PER_KB
+  pub tries : HasTries writer.policy
 
 -- the set-up lines are within their limits, and their references are there
 pub record IsSetUp (buffers : List BufferLine) (producers : List ProducerLine) (writers : List WriterSpec) : Type 0 where

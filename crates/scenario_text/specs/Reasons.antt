@@ -6,6 +6,9 @@ use Rattle.page_geometry.specs.Sizes.{payload_size, record_size}
 use Rattle.trace_base.specs.declared.numeral.Numeral.{Numeral}
 use Rattle.trace_base.specs.declared.numeral.Numeral.TheVariants.{Fits}
 use Rattle.scenario_text.specs.declared.form.Form.{Form}
+use Rattle.scenario_text.specs.declared.form.TheConstants.{MAX_TRIES}
+use Rattle.scenario_text.specs.declared.form.NamedPolicy.{NamedPolicy}
+use Rattle.scenario_text.specs.declared.form.NamedPolicy.TheVariants.{StallsThenDrops}
 use Rattle.scenario_text.specs.declared.form.Form.TheVariants.{Buffer, Producer, Writer, OfWriter, OfProducer, Read, Request}
 use Rattle.scenario_text.specs.declared.form.WriterStep.{WriterStep}
 use Rattle.scenario_text.specs.declared.form.WriterStep.TheVariants.{Packet, Begin, Add, Nest, Unnest, End, Flush}
@@ -36,11 +39,16 @@ unfoldable pub is_limit : Option Numeral → Bool
 is_limit None = true
 is_limit (Some limit) = is_within 1 MAX_NUMBER limit
 
+-- how often a writer asks is in its range, or its policy names no number
+unfoldable pub are_tries : NamedPolicy → Bool
+are_tries (StallsThenDrops tries) = is_within 1 MAX_TRIES tries
+are_tries policy = true
+
 -- a number of the line, other than a reference, is outside its range, or any number before FIELDS doesn't fit
 unfoldable pub is_out_of_range : Form → Bool
 is_out_of_range (Buffer kb policy) = not (is_within MIN_BUFFER_KB MAX_BUFFER_KB kb)
 is_out_of_range (Producer pages page_size chunks) = not (is_producer_in_range pages page_size chunks)
-is_out_of_range (Writer producer buffer policy) = not (fits producer && fits buffer)
+is_out_of_range (Writer producer buffer policy) = not (fits producer && fits buffer && are_tries policy)
 is_out_of_range (OfWriter writer step) = not (fits writer)
 is_out_of_range (OfProducer producer step) = not (fits producer)
 is_out_of_range (Read buffer limit) = not (fits buffer && is_limit limit)

@@ -2,14 +2,15 @@
 ghost use Rattle.std.specs.Prelude.{◌≡◌, ◌+◌, ◌^◌, ◌<◌, ◌≤◌};
 ghost use Rattle.scenario_text.specs.Ranges.{value};
 ghost use Rattle.scenario_text.specs.State.{nesting_of, len_of};
-ghost use Rattle.scenario_text.specs.Effects.{limit_of, packet_after, producer_kind, writer_kind, FieldFits};
+ghost use Rattle.scenario_text.specs.Effects.{limit_of, packet_after, policy_of, producer_kind, writer_kind, FieldFits, TriesFit};
 
-use crate::form::{ProducerStep, WriterStep};
+use crate::form::{NamedPolicy, ProducerStep, WriterStep};
 use crate::open_packet::OpenPacket;
 use crate::scenario::LineKind;
 use field_tree::Fields;
 use trace_base::limits::{MAX_NESTING, MAX_PACKET_LEN};
 use trace_base::numeral::Numeral;
+use trace_base::policy::WriterPolicy;
 
 /// A number that is known to be small.
 #[tactic(auto, unfolding(crate::specs::Ranges::value))]
@@ -31,6 +32,20 @@ pub fn limit(limit: Option<Numeral>) -> u64
         None => u64::MAX,
         Some(Numeral::Fits(n)) => n,
         Some(Numeral::TooLarge) => 0,
+    }
+}
+
+#[tactic(auto, unfolding(crate::specs::Effects::policy_of))]
+pub fn policy_of(policy: NamedPolicy) -> WriterPolicy
+    requires { TriesFit policy }
+    ensures { result ≡ policy_of policy }
+{
+    match policy {
+        NamedPolicy::Drops => WriterPolicy::Drops,
+        NamedPolicy::Stalls => WriterPolicy::Stalls,
+        NamedPolicy::StallsThenDrops { tries } => WriterPolicy::StallsThenDrops {
+            tries: small(tries),
+        },
     }
 }
 

@@ -1,7 +1,10 @@
 //! The forms of a line, by its words alone.
 
 use trace_base::numeral::Numeral;
-use trace_base::policy::{FullPolicy, WriterPolicy};
+use trace_base::policy::FullPolicy;
+
+/// A writer asks its helper at most this many times for one chunk.
+pub const MAX_TRIES: u32 = 1_000_000;
 
 /// A line up to its FIELDS, before anything is known of what its numbers name.
 #[derive(Clone, Copy, Debug, PartialEq, Eq)]
@@ -17,11 +20,11 @@ pub enum Form {
         page_size: Numeral,
         chunks: Numeral,
     },
-    /// `writer PRODUCER BUFFER drop`, `writer PRODUCER BUFFER stall`
+    /// `writer PRODUCER BUFFER drop`, `writer PRODUCER BUFFER stall`, `writer PRODUCER BUFFER stall:N`
     Writer {
         producer: Numeral,
         buffer: Numeral,
-        policy: WriterPolicy,
+        policy: NamedPolicy,
     },
     OfWriter {
         writer: Numeral,
@@ -38,6 +41,17 @@ pub enum Form {
     },
     /// `q`
     Request,
+}
+
+/// What a writer does without a free chunk, as its line names it.
+#[derive(Clone, Copy, Debug, PartialEq, Eq)]
+pub enum NamedPolicy {
+    /// `drop`
+    Drops,
+    /// `stall`
+    Stalls,
+    /// `stall:N`
+    StallsThenDrops { tries: Numeral },
 }
 
 /// What a line has its writer do.

@@ -1,8 +1,8 @@
 //! Lines of each form, once no reason of the front holds.
 
-use crate::effects::{limit, packet_after, producer_kind, small, writer_kind};
+use crate::effects::{limit, packet_after, policy_of, producer_kind, small, writer_kind};
 use crate::fields::{Addition, read_addition};
-use crate::form::{Form, ProducerStep, WriterStep};
+use crate::form::{Form, NamedPolicy, ProducerStep, WriterStep};
 use crate::items::put_item;
 use crate::line_fault::LineFault;
 use crate::open_packet::OpenPacket;
@@ -13,7 +13,7 @@ use crate::scenario::{BufferLine, LineKind, ProducerLine};
 use field_tree::FieldParser;
 use trace_base::limits::{MAX_INPUT, MAX_NESTING, MAX_PACKET_LEN, MAX_SCENARIO_PACKET_BYTES};
 use trace_base::numeral::Numeral;
-use trace_base::policy::{FullPolicy, WriterPolicy, WriterSpec};
+use trace_base::policy::{FullPolicy, WriterSpec};
 
 impl Reader {
     ghost use Rattle.std.specs.Prelude.{◌≡◌, ◌+◌, ◌^◌, ◌<◌, ◌≤◌, None, Some, Ok, Err, true, [], length, OnOk, IsOkUnless};
@@ -62,12 +62,12 @@ impl Reader {
         Ok(())
     }
 
-    #[tactic(auto, using(crate::proofs::FrontLemmas::room_for_writer, crate::proofs::FrontLemmas::producer_of_writer, crate::proofs::FrontLemmas::buffer_of_writer, crate::proofs::SoundLemmas::all_push), unfolding(crate::specs::Effects::moved, crate::specs::Sound::is_shallow))]
+    #[tactic(auto, using(crate::proofs::FrontLemmas::room_for_writer, crate::proofs::FrontLemmas::producer_of_writer, crate::proofs::FrontLemmas::buffer_of_writer, crate::proofs::FrontLemmas::tries_of_writer, crate::proofs::SoundLemmas::all_push), unfolding(crate::specs::Effects::moved, crate::specs::Sound::is_shallow))]
     fn add_writer(
         &mut self,
         producer: Numeral,
         buffer: Numeral,
-        policy: WriterPolicy,
+        policy: NamedPolicy,
     ) -> Result<(), LineFault>
         requires { first (front_reasons (state_of self.old) (Writer producer buffer policy)) ≡ None }
         ensures ok { OnOk result (state_of self.new ≡ moved (state_of self.old) 0 (Writer producer buffer policy) []) }
@@ -76,7 +76,7 @@ impl Reader {
         let spec = WriterSpec {
             producer: small(producer) as u16,
             buffer: small(buffer) as u8,
-            policy,
+            policy: policy_of(policy),
         };
         self.scenario.writers.push(spec)?;
         self.packets.push(None)?;

@@ -3,11 +3,11 @@ ghost use Rattle.std.specs.Prelude.{◌≡◌};
 ghost use Rattle.scenario_text.specs.Pieces.{fields_part, pieces};
 ghost use Rattle.scenario_text.specs.Forms.{buffer_form, form_of, four_words, long_form, more_words, one_word, policy_form, producer_form, service_form, short_form, three_words, two_words, writer_form};
 
-use crate::form::{Form, ProducerStep, WriterStep};
+use crate::form::{Form, NamedPolicy, ProducerStep, WriterStep};
 use crate::pieces::next_piece;
 use trace_base::number::numeral;
 use trace_base::numeral::Numeral;
-use trace_base::policy::{FullPolicy, WriterPolicy};
+use trace_base::policy::FullPolicy;
 
 #[tactic(auto, unfolding(crate::specs::Forms::one_word))]
 fn one_word(word: &[u8]) -> Option<Form>
@@ -109,14 +109,16 @@ fn producer_form(second: &[u8], third: &[u8], fourth: &[u8]) -> Option<Form>
     })
 }
 
-#[tactic(auto, unfolding(crate::specs::Forms::policy_form))]
+#[tactic(auto, unfolding(crate::specs::Forms::policy_form, crate::specs::Forms::with_number))]
 fn policy_form(policy: &[u8], producer: Numeral, buffer: Numeral) -> Option<Form>
     ensures { result ≡ policy_form policy.now producer buffer }
 {
     let policy = match policy {
-        b"drop" => WriterPolicy::Drops,
-        b"stall" => WriterPolicy::Stalls,
-        _ => return None,
+        b"drop" => NamedPolicy::Drops,
+        b"stall" => NamedPolicy::Stalls,
+        _ => NamedPolicy::StallsThenDrops {
+            tries: numeral(policy.strip_prefix(b"stall:")?)?,
+        },
     };
     Some(Form::Writer {
         producer,

@@ -5,9 +5,9 @@ ghost use Rattle.page_geometry.specs.Sizes.{payload_size, record_size};
 ghost use Rattle.scenario_text.specs.Ranges.{fits, is_within, is_page_size, is_chunk_count};
 ghost use Rattle.scenario_text.specs.Sound.{is_cut};
 ghost use Rattle.scenario_text.specs.State.{nesting_of, len_of};
-ghost use Rattle.scenario_text.specs.Reasons.{is_limit, is_out_of_range, is_producer_in_range, is_set_up, wants_none, is_larger};
+ghost use Rattle.scenario_text.specs.Reasons.{are_tries, is_limit, is_out_of_range, is_producer_in_range, is_set_up, wants_none, is_larger};
 
-use crate::form::{Form, WriterStep};
+use crate::form::{Form, MAX_TRIES, NamedPolicy, WriterStep};
 use crate::items::item;
 use crate::open_packet::OpenPacket;
 use crate::reader::Reader;
@@ -80,6 +80,16 @@ fn is_limit(limit: Option<Numeral>) -> bool
     }
 }
 
+#[tactic(auto, unfolding(crate::specs::Reasons::are_tries))]
+fn are_tries(policy: NamedPolicy) -> bool
+    ensures { result ≡ are_tries policy }
+{
+    match policy {
+        NamedPolicy::StallsThenDrops { tries } => is_within(1, u64::from(MAX_TRIES), tries),
+        _ => true,
+    }
+}
+
 #[tactic(auto, unfolding(crate::specs::Reasons::is_out_of_range))]
 fn is_out_of_range(form: Form) -> bool
     ensures { result ≡ is_out_of_range form }
@@ -96,8 +106,8 @@ fn is_out_of_range(form: Form) -> bool
         Form::Writer {
             producer,
             buffer,
-            policy: _,
-        } => !(fits(producer) && fits(buffer)),
+            policy,
+        } => !(fits(producer) && fits(buffer) && are_tries(policy)),
         Form::OfWriter { writer, step: _ } => !fits(writer),
         Form::OfProducer { producer, step: _ } => !fits(producer),
         Form::Read { buffer, limit } => !(fits(buffer) && is_limit(limit)),
