@@ -5,9 +5,9 @@ use Rattle.std.proofs.lemmas.Bool.{lt-leb}
 use Rattle.std.proofs.lemmas.List.{length-replicate, replicate_more}
 use Rattle.trace_base.specs.declared.limits.TheConstants.{MAX_WRITERS}
 use Rattle.trace_base.specs.declared.policy.FullPolicy.TheVariants.{Ring}
-use Rattle.trace_base.specs.declared.policy.WriterPolicy.TheVariants.{Stalls}
 use Rattle.page_geometry.specs.Sizes.{payload_size, chunk_size}
 use Rattle.trace_base.specs.declared.numeral.Numeral.TheVariants.{Fits}
+use Rattle.scenario_text.specs.declared.form.NamedPolicy.TheVariants.{Stalls}
 use Rattle.scenario_text.specs.declared.form.Form.{Form}
 use Rattle.scenario_text.specs.declared.form.Form.TheVariants.{Buffer, Producer, Writer}
 use Rattle.scenario_text.specs.declared.open_packet.OpenPacket.{OpenPacket}
@@ -16,8 +16,8 @@ use Rattle.scenario_text.specs.Forms.{with_number, three_words, four_words, buff
 use Rattle.scenario_text.specs.Items.{item}
 use Rattle.scenario_text.specs.Ranges.{fits, value, is_within, is_page_size, is_chunk_count}
 use Rattle.scenario_text.specs.State.{State, beginning}
-use Rattle.scenario_text.specs.Reasons.{refusal_of, front_reasons, back_reasons, given, len_before, is_out_of_range, is_producer_in_range, is_late, is_set_up, is_too_many, lacks_producer, lacks_buffer, lacks_writer, is_larger, has_larger_chunks, has_closed_producer, meets_packet, lacks_packet, lacks_nesting, leaves_nesting}
-use Rattle.scenario_text.specs.Effects.{moved, nodes_given}
+use Rattle.scenario_text.specs.Reasons.{refusal_of, front_reasons, back_reasons, given, len_before, are_tries, is_out_of_range, is_producer_in_range, is_late, is_set_up, is_too_many, lacks_producer, lacks_buffer, lacks_writer, is_larger, has_larger_chunks, has_closed_producer, meets_packet, lacks_packet, lacks_nesting, leaves_nesting}
+use Rattle.scenario_text.specs.Effects.{policy_of, moved, nodes_given}
 use Rattle.scenario_text.specs.Grammar.{says_nothing, unless, after_form, after_line}
 use Rattle.workload_gen.specs.Workload.{repeated, set_up_lines}
 use Rattle.workload_laws.specs.Asked.{buffer_asked, producer_asked, writer_asked}
@@ -89,7 +89,7 @@ unfolding form_of_words long_form more_words four_words with_number writer_form 
 writer_is = refl
 
 writer_passes : (writers : ℕ) → writers < MAX_WRITERS → refusal_of (set_up writers) (codes "writer 1 1 stall") (Writer (Fits 1) (Fits 1) Stalls) ≡ None
-unfolding refusal_of front_reasons back_reasons given len_before is_out_of_range fits is_late is_set_up is_too_many lacks_producer lacks_buffer lacks_writer item is_larger has_larger_chunks payload_size chunk_size has_closed_producer meets_packet lacks_packet lacks_nesting leaves_nesting
+unfolding refusal_of front_reasons back_reasons given len_before is_out_of_range are_tries fits is_late is_set_up is_too_many lacks_producer lacks_buffer lacks_writer item is_larger has_larger_chunks payload_size chunk_size has_closed_producer meets_packet lacks_packet lacks_nesting leaves_nesting
 writer_passes writers few =
     let room : nat_le MAX_WRITERS (length (replicate writers writer_asked)) ≡ false =
     lt-leb MAX_WRITERS (length (replicate writers writer_asked)) (omega (arith, length-replicate writers writer_asked)) in
@@ -99,7 +99,7 @@ replicate_push : {X : Type 0} (n : ℕ) (x : X) → replicate n x ++ x ∷ [] �
 replicate_push n x = replicate_more n x ∙ ap (λ (m : ℕ). replicate m x) (add-one n)
 
 one_more : (writers : ℕ) → moved (set_up writers) (writers + 3) (Writer (Fits 1) (Fits 1) Stalls) [] ≡ set_up (suc writers)
-unfolding moved value
+unfolding moved policy_of value
 one_more writers =
     let specs = replicate_push writers writer_asked in
     let packets : none_begun writers ++ None ∷ [] ≡ none_begun (suc writers) = replicate_push writers None in
