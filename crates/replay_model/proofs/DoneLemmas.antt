@@ -2,7 +2,6 @@
 use Rattle.std.proofs.Common.{◌≡◌, ◌∙◌, ℕ, suc, ◌+◌, ◌<◌, true, false, List, [], length, Some, sym, ap}
 use Rattle.std.specs.Prelude.{slice_get}
 use Rattle.std.proofs.lemmas.Option.{slice_get_within, get_or_from_slice_get, slice_get-get_or}
-use Rattle.trace_base.specs.declared.policy.WriterPolicy.TheVariants.{Drops}
 use Rattle.trace_base.specs.declared.policy.WriterSpec.{WriterSpec}
 use Rattle.trace_model.specs.Cut.{newest_goes_on}
 use Rattle.trace_model.specs.Packets.{packets_of, lost_count}
@@ -19,23 +18,24 @@ use Rattle.world_model.specs.FirstBuffers.{payload_at}
 use Rattle.scenario_text.specs.Scenario.{Parts}
 use Rattle.scenario_text.specs.Accepted.{calls_asked}
 use Rattle.trace_writer.specs.Claims.{KeepsClaims}
+use Rattle.trace_writer.specs.Helping.{loses}
 use Rattle.service_core.specs.Agreement.{spec_at, no_writer}
 use Rattle.replay_model.specs.Flushes.{FlushNote}
 use Rattle.replay_model.specs.Played.{IsSetupOf, IsPlayed, buffers_of}
 use Rattle.replay_model.specs.Written.{HasWritten}
 use Rattle.replay_model.proofs.AccountLemmas.{many_writers, has_written, history_in_order}
-use Rattle.replay_model.proofs.LostLemmas.{only_drops_lose}
+use Rattle.replay_model.proofs.LostLemmas.{only_losers_lose}
 use Rattle.replay_model.proofs.OwnedLemmas.{HasOwned, owned_itself}
 use Rattle.replay_model.proofs.PlayedLemmas.{played_stands, setup_writers, writers_lose}
 
--- The world's chunks are owned. Each writer has noted what the lines ask of it, with losses and flushes between packets, and loses a packet only if it is
--- one that drops; its claims are of its producer's chunks, and its own chunks are a cut of its packets, whose pages come in order in the history.
+-- The world's chunks are owned. Each writer has noted what the lines ask of it, with losses and flushes between packets, and loses a packet only if its
+-- policy is to; its claims are of its producer's chunks, and its own chunks are a cut of its packets, whose pages come in order in the history.
 pub record IsDone (scenario : Parts) (setup : Setup) (world : World) : Type 0 where
   pub setup_is : IsSetupOf scenario setup
   pub many : length world.writers ≡ length setup.writers
   pub owned : HasOwned world
   pub shape : (place : ℕ) → place < length setup.writers → HasShapeOf (calls_asked (suc place) scenario.lines) (writer world place).calls
-  pub drops : (place : ℕ) → place < length setup.writers → 0 < lost_count (packets_of (writer world place).calls) → (spec_at setup.writers place).policy ≡ Drops
+  pub loses_by : (place : ℕ) → place < length setup.writers → 0 < lost_count (packets_of (writer world place).calls) → loses (spec_at setup.writers place).policy ≡ true
   pub claims : (place : ℕ) → place < length setup.writers → KeepsClaims setup place (writer world place)
   pub wrote : (place : ℕ) → place < length setup.writers → HasWritten setup place (writer world place)
   pub order : (place : ℕ) (inside : place < length setup.writers)
@@ -52,7 +52,7 @@ played_done scenario setup world notes played =
       owned = owned_itself world h.1;
       shape = λ place inside.
           losses_change_no_shape (calls_asked (suc place) scenario.lines) (writer world place).calls (writers_lose scenario setup world notes played place);
-      drops = λ place inside some. only_drops_lose scenario setup (buffers_of scenario setup) world notes played.plays place some;
+      loses_by = λ place inside some. only_losers_lose scenario setup (buffers_of scenario setup) world notes played.plays place some;
       claims = λ place inside. (h.0.wrote place inside).claims;
       wrote = λ place inside. has_written setup world h.1 place (h.0.wrote place inside);
       order = λ place inside. history_in_order setup world h.1 place (h.0.wrote place inside) h.0.sorted inside;

@@ -1,9 +1,8 @@
--- Only a writer that drops loses packets.
+-- Only a writer whose policy is to drop, at once or behind asks, loses packets.
 use Rattle.std.proofs.Common.{◌≡◌, ◌∙◌, ℕ, zero, suc, ◌<◌, ◌⊎◌, Bool, true, false, not, ◌||◌, is_some, List, [], ◌∷◌, ◌++◌, length, map, get_or, filter, Option, Some, None, refl, sym, ap, subst, arith, inl, inr, cond}
 use Rattle.std.specs.Prelude.{◌==◌, MatchBool}
 use Rattle.std.proofs.lemmas.Bool.{cases_eq, false≢true}
 use Rattle.std.proofs.lemmas.List.Sums.{fold-append}
-use Rattle.trace_base.specs.declared.policy.WriterPolicy.TheVariants.{Drops}
 use Rattle.trace_model.specs.Buffers.{Buffer}
 use Rattle.trace_model.specs.Calls.{Call, Begun, Number, Bytes, Nested, Ended, GivenUp, Finished, Flushed}
 use Rattle.trace_model.specs.Encoding.{number_field, bytes_field}
@@ -23,6 +22,7 @@ use Rattle.scenario_text.specs.declared.scenario.LineKind.{LineKind}
 use Rattle.scenario_text.specs.declared.scenario.LineKind.TheVariants as line
 use Rattle.scenario_text.specs.Scenario.{Parts}
 use Rattle.scenario_text.specs.Accepted.{line_calls, node_call}
+use Rattle.trace_writer.specs.Helping.{loses}
 use Rattle.replay_model.specs.Acts.{Act, Ask, Request, Answer, Collect, Scrape, CloseProducer, ReadAll, asks}
 use Rattle.replay_model.specs.Does.{Asks, Notes, policy_of}
 use Rattle.replay_model.specs.Flushes.{FlushNote}
@@ -87,42 +87,42 @@ KeepAll (Scrape producer ∷ acts) = KeepAll acts
 KeepAll (CloseProducer producer ∷ acts) = KeepAll acts
 KeepAll (ReadAll buffer limit ∷ acts) = KeepAll acts
 
--- each writer that lost a packet is one that drops
-abbrev OnlyDropsLose : Setup → World → Type 0
-OnlyDropsLose setup world = (place : ℕ) → 0 < lost_count (packets_of (writer world place).calls) → policy_of setup place ≡ Drops
+-- each writer that lost a packet is one whose policy loses packets
+abbrev OnlyLosersLose : Setup → World → Type 0
+OnlyLosersLose setup world = (place : ℕ) → 0 < lost_count (packets_of (writer world place).calls) → loses (policy_of setup place) ≡ true
 
-asks_keep : (setup : Setup) (place : ℕ) (call : Call) (old new : World) → Asks setup place call old new → keeps_call call ≡ true → OnlyDropsLose setup old → OnlyDropsLose setup new
+asks_keep : (setup : Setup) (place : ℕ) (call : Call) (old new : World) → Asks setup place call old new → keeps_call call ≡ true → OnlyLosersLose setup old → OnlyLosersLose setup new
 asks_keep setup place call old new asks keeps only other some = by_place (cases_eq other place)
   where
-    here : Notes setup place call old new → 0 < lost_count (packets_of (writer new place).calls) → policy_of setup place ≡ Drops
+    here : Notes setup place call old new → 0 < lost_count (packets_of (writer new place).calls) → loses (policy_of setup place) ≡ true
     here (inl is) more =
         let same : lost_count (packets_of (writer new place).calls) ≡ lost_count (packets_of (writer old place).calls) =
         ap (λ (calls : List Call). lost_count (packets_of calls)) is ∙ lost_more (writer old place).calls call keeps in
         only place (omega (arith, more, same))
     here (inr h) more = h.2
 
-    by_place : (other ≡ place) ⊎ (other ≡ place → ⊥) → policy_of setup other ≡ Drops
+    by_place : (other ≡ place) ⊎ (other ≡ place → ⊥) → loses (policy_of setup other) ≡ true
     by_place (inl same) =
-        subst (λ (p : ℕ). policy_of setup p ≡ Drops) (sym same)
+        subst (λ (p : ℕ). loses (policy_of setup p) ≡ true) (sym same)
         (here asks.notes (subst (λ (p : ℕ). 0 < lost_count (packets_of (writer new p).calls)) same some))
     by_place (inr differs) =
         only other (subst (λ (view : WriterView). 0 < lost_count (packets_of view.calls)) (works_others setup place old new asks.works other differs) some)
 
-same_keep : (setup : Setup) (old new : World) → new.writers ≡ old.writers → OnlyDropsLose setup old → OnlyDropsLose setup new
+same_keep : (setup : Setup) (old new : World) → new.writers ≡ old.writers → OnlyLosersLose setup old → OnlyLosersLose setup new
 same_keep setup old new is only place some =
     only place (subst (λ (ws : List WriterView). 0 < lost_count (packets_of (get_or ws place newcomer).calls)) is some)
 
-answer_keep : (setup : Setup) (place : ℕ) (old new : World) (b : Bool) → MatchBool b (new ≡ old) (Asks setup place Flushed old new) → OnlyDropsLose setup old → OnlyDropsLose setup new
-answer_keep setup place old new true same only = subst (OnlyDropsLose setup) (sym same) only
+answer_keep : (setup : Setup) (place : ℕ) (old new : World) (b : Bool) → MatchBool b (new ≡ old) (Asks setup place Flushed old new) → OnlyLosersLose setup old → OnlyLosersLose setup new
+answer_keep setup place old new true same only = subst (OnlyLosersLose setup) (sym same) only
 answer_keep setup place old new false asks only = asks_keep setup place Flushed old new asks refl only
 
 plays_keep_all : (setup : Setup) (buffers : List Buffer) (acts : List Act) (old new : World) (notes : List FlushNote) → KeepAll acts → Plays setup buffers acts old new notes
-    → OnlyDropsLose setup old → OnlyDropsLose setup new
-plays_keep_all setup buffers [] old new notes keep plays only = subst (OnlyDropsLose setup) (sym plays.0) only
+    → OnlyLosersLose setup old → OnlyLosersLose setup new
+plays_keep_all setup buffers [] old new notes keep plays only = subst (OnlyLosersLose setup) (sym plays.0) only
 plays_keep_all setup buffers (Ask place call ∷ acts) old new notes keep plays only =
     plays_keep_all setup buffers acts plays.0 new plays.1 keep.1 plays.5 (asks_keep setup place call old plays.0 plays.2 keep.0 only)
 plays_keep_all setup buffers (Request ∷ acts) old new notes keep plays only =
-    plays_keep_all setup buffers acts plays.0 new plays.1 keep plays.5 (subst (OnlyDropsLose setup) (sym plays.2) only)
+    plays_keep_all setup buffers acts plays.0 new plays.1 keep plays.5 (subst (OnlyLosersLose setup) (sym plays.2) only)
 plays_keep_all setup buffers (Answer place ∷ acts) old new notes keep plays only =
     plays_keep_all setup buffers acts plays.0 new plays.1 keep plays.5
     (answer_keep setup place old plays.0 (is_writing (packets_of (writer old place).calls)) plays.2 only)
@@ -236,10 +236,10 @@ keep_end scenario =
     (keep_append flushes (map Collect producers) (keep_flushes (open_places scenario.lines 0 scenario.writers)) (keep_collects producers)) (keep_closes producers))
     (keep_reads 1 scenario.buffers)
 
-pub only_drops_lose : (scenario : Parts) (setup : Setup) (buffers : List Buffer) (world : World) (notes : List FlushNote)
+pub only_losers_lose : (scenario : Parts) (setup : Setup) (buffers : List Buffer) (world : World) (notes : List FlushNote)
     → Plays setup buffers (schedule_of scenario) (first_world setup) world notes → (place : ℕ) → 0 < lost_count (packets_of (writer world place).calls)
-    → policy_of setup place ≡ Drops
-only_drops_lose scenario setup buffers world notes plays =
+    → loses (policy_of setup place) ≡ true
+only_losers_lose scenario setup buffers world notes plays =
     plays_keep_all setup buffers (schedule_of scenario) (first_world setup) world notes
     (keep_append (acts_from scenario [] scenario.lines) (last_acts scenario) (keep_lines scenario [] scenario.lines) (keep_end scenario)) plays
     (λ place some.

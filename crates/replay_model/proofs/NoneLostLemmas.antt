@@ -1,12 +1,11 @@
--- Where chunks are enough no packet is lost: only a writer that drops loses any, and it has chunks for all that its producer's writers emit.
-use Rattle.std.proofs.Common.{◌≡◌, ◌∙◌, ℕ, zero, suc, ◌+◌, ◌-◌, ◌*◌, ◌<◌, ◌≤◌, ◌⊎◌, false, List, [], ◌∷◌, length, get_or, Some, refl, sym, ap, subst, arith, inl, inr, cond}
+-- Where chunks are enough no packet is lost: only a writer whose policy is to lose any does, and it has chunks for all that its producer's writers emit.
+use Rattle.std.proofs.Common.{◌≡◌, ◌∙◌, ℕ, zero, suc, ◌+◌, ◌-◌, ◌*◌, ◌<◌, ◌≤◌, ◌⊎◌, true, false, List, [], ◌∷◌, length, get_or, Some, refl, sym, ap, subst, arith, inl, inr, cond}
 use Rattle.std.specs.Prelude.{◌==◌, slice_get}
 use Rattle.std.specs.List.{AllZip}
 use Rattle.std.specs.Coded.{le_prop}
 use Rattle.std.proofs.lemmas.Bool.{cases_eq, cases_lt}
 use Rattle.std.proofs.lemmas.List.{get_or_past}
 use Rattle.std.proofs.lemmas.Option.{slice_get_within}
-use Rattle.trace_base.specs.declared.policy.WriterPolicy.TheVariants.{Drops}
 use Rattle.trace_base.specs.declared.policy.WriterSpec.{WriterSpec}
 use Rattle.page_geometry.specs.Sizes.{payload_size}
 use Rattle.page_geometry.proofs.SizeLemmas.{payload_size_least}
@@ -27,6 +26,7 @@ use Rattle.scenario_text.specs.declared.scenario.ProducerLine.{ProducerLine}
 use Rattle.scenario_text.specs.Scenario.{Parts}
 use Rattle.scenario_text.specs.Accepted.{calls_asked, is_closed_by}
 use Rattle.scenario_text.specs.Limits.{IsWriter}
+use Rattle.trace_writer.specs.Helping.{loses}
 use Rattle.service_core.specs.Agreement.{spec_at}
 use Rattle.replay_model.specs.Enough.{HasEnough, IsPlayable}
 use Rattle.replay_model.specs.Laws.{EnoughLosesNothing}
@@ -180,15 +180,15 @@ module _ (scenario : Parts) (setup : Setup) (world : World) (done : IsDone scena
         subst (λ (p : ℕ). range_wins range.first range.count (writer world p).asked ≤ length (writer world p).begun) (sym at) (omega (arith, few, begun))) in
         omega (arith, wins, less)
 
-    -- so one that drops has lost none
-    no_loss : (spec_at setup.writers place).policy ≡ Drops → 0 < lost_count (packets_of (writer world place).calls) → ⊥
-    no_loss drops some =
+    -- so one whose policy loses packets has lost none
+    no_loss : loses (spec_at setup.writers place).policy ≡ true → 0 < lost_count (packets_of (writer world place).calls) → ⊥
+    no_loss losing some =
         let spec : WriterSpec = spec_at setup.writers place in
         let get = spec_there scenario setup world done place inside in
         let is = is_writer place spec get in
         let payload : ℕ = payload_size is.of_producer.page_size is.of_producer.chunks in
         let producer : ℕ = producer_of setup place in
-        let room = chunks_enough scenario.lines scenario.producers scenario.writers place spec is.of_producer enough.chunks get drops is.counts_producer is.producer_is in
+        let room = chunks_enough scenario.lines scenario.producers scenario.writers place spec is.of_producer enough.chunks get losing is.counts_producer is.producer_is in
         let count : (range_of setup producer).count ≡ is.of_producer.pages * is.of_producer.chunks =
         ap (λ (s : Setup). (range_of s producer).count) done.setup_is.laid
         ∙ count_is scenario.producers done.setup_is.specs 0 (producer - 1) is.of_producer done.setup_is.made is.producer_is in
@@ -228,7 +228,7 @@ module _ (scenario : Parts) (setup : Setup) (world : World) (done : IsDone scena
       by_count (inl none) = none
       by_count (inr some) =
           let more : 0 < lost_count (packets_of (writer world place).calls) = omega (arith, some) in
-          absurd (by_owned world ⊥ done.owned (hlevel le_prop) (λ chunks owned. no_loss chunks owned place inside (done.drops place inside more) more))
+          absurd (by_owned world ⊥ done.owned (hlevel le_prop) (λ chunks owned. no_loss chunks owned place inside (done.loses_by place inside more) more))
 
 pub enough_loses_nothing : EnoughLosesNothing
 enough_loses_nothing scenario setup world notes played = none_is_lost scenario setup world (played_done scenario setup world notes played)

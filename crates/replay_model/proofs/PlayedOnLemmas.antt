@@ -29,7 +29,7 @@ use Rattle.service_core.proofs.HistoryLemmas.{Grows}
 use Rattle.service_core.proofs.TakingLemmas.{took_grows, looked_grows}
 use Rattle.service_core.proofs.QuietLemmas.{grow_both}
 use Rattle.replay_model.specs.Acts.{Act, Ask, Request, Answer, Collect, Scrape, CloseProducer, ReadAll}
-use Rattle.replay_model.specs.Does.{Does, Collects, Works, Alone, Helped, Asks, Notes, Wrote, dropped_call, is_shut}
+use Rattle.replay_model.specs.Does.{Does, Collects, Works, Alone, Helped, Asked, Asks, Notes, Wrote, dropped_call, is_shut}
 use Rattle.replay_model.specs.Flushes.{FlushNote}
 use Rattle.replay_model.specs.FlushLaws.{LeaveAlone}
 use Rattle.replay_model.specs.Plays.{Plays}
@@ -65,6 +65,11 @@ collects_grow setup producer old new sorted collects =
 works_grow : (setup : Setup) (place : ℕ) {call : Call} (old new : World) → Works setup place call old new → IsSorted setup old.service → Grows old.service new.service
 works_grow setup place old new (Alone _ _ leaves) sorted = subst (Grows old.service) (sym leaves.service) (grows_same old.service)
 works_grow setup place old new (Helped _ asking freed _ may stalls leaves out collects owned some rest) sorted =
+    let asked : IsSorted setup asking.service = subst (IsSorted setup) (sym leaves.service) sorted in
+    let one : Grows old.service freed.service =
+    subst (λ (v : ServiceView). Grows v freed.service) leaves.service (collects_grow setup _ asking freed asked collects) in
+    grow_both old.service freed.service new.service one (works_grow setup place freed new rest (sorted_collects setup _ asking freed asked collects))
+works_grow setup place old new (Asked _ asking freed _ tries may policy leaves vain collects owned rest) sorted =
     let asked : IsSorted setup asking.service = subst (IsSorted setup) (sym leaves.service) sorted in
     let one : Grows old.service freed.service =
     subst (λ (v : ServiceView). Grows v freed.service) leaves.service (collects_grow setup _ asking freed asked collects) in

@@ -4,11 +4,13 @@ use Rattle.std.specs.Prelude.{◌==◌, nat_le, slice_get, IsTrue}
 use Rattle.std.specs.List.{list_all, enumerate_from, AllZip}
 use Rattle.std.proofs.lemmas.Bool.{eq-eqb, false≢true, leb-true, and_parts}
 use Rattle.std.proofs.lemmas.List.Sums.{sum_by-cons}
-use Rattle.trace_base.specs.declared.policy.WriterPolicy.TheVariants.{Drops}
+use Rattle.trace_base.specs.declared.policy.WriterPolicy.{WriterPolicy}
+use Rattle.trace_base.specs.declared.policy.WriterPolicy.TheVariants.{Drops, Stalls, StallsThenDrops}
 use Rattle.trace_base.specs.declared.policy.WriterSpec.{WriterSpec}
 use Rattle.page_geometry.specs.Sizes.{payload_size, record_size}
 use Rattle.trace_model.specs.Enough.{ChunkRoom, WriterLoad, most_chunks, payload_in, stalls, is_enough_for, has_chunks_enough, most_bytes, has_bytes_enough}
 use Rattle.trace_model.specs.Packets.{emissions_of}
+use Rattle.trace_writer.specs.Helping.{loses}
 use Rattle.chunk_plain.specs.declared.setup.ProducerSpec.{ProducerSpec}
 use Rattle.chunk_plain.specs.Laying.{ranges_of, sizes_of, chunks_in}
 use Rattle.scenario_text.specs.declared.scenario.ProducerLine.{ProducerLine}
@@ -54,12 +56,18 @@ sum_of_loads lines producer payload number (spec ∷ specs) =
     (filter (λ (load : WriterLoad). load.spec.producer == producer) (loads_from lines (suc number) specs))
     ∙ ap (λ (n : ℕ). cond (spec.producer == producer) (most_chunks payload (emissions_of (calls_asked number lines))) 0 + n) (sum_of_loads lines producer payload (suc number) specs)
 
--- a writer that drops is no one that stalls
-drops_among : (lines : List NumberedLine) (producer number : ℕ) (specs : List WriterSpec) (i : ℕ) (spec : WriterSpec) → slice_get specs i ≡ Some spec
-    → spec.producer ≡ producer → spec.policy ≡ Drops
+-- a policy that loses packets is none that stalls
+loses_not_stalls : (policy : WriterPolicy) → loses policy ≡ true → stalls policy ≡ false
+loses_not_stalls Drops losing = refl
+loses_not_stalls Stalls losing = absurd (false≢true losing)
+loses_not_stalls (StallsThenDrops tries) losing = refl
+
+-- a writer whose policy loses packets is no one that stalls
+losing_among : (lines : List NumberedLine) (producer number : ℕ) (specs : List WriterSpec) (i : ℕ) (spec : WriterSpec) → slice_get specs i ≡ Some spec
+    → spec.producer ≡ producer → loses spec.policy ≡ true
     → list_all (λ (load : WriterLoad). stalls load.spec.policy) (filter (λ (load : WriterLoad). load.spec.producer == producer) (loads_from lines number specs)) ≡ true → ⊥
-drops_among lines producer number [] i spec get mine drops all = absurd (cc)
-drops_among lines producer number (first ∷ specs) zero spec get mine drops all =
+losing_among lines producer number [] i spec get mine losing all = absurd (cc)
+losing_among lines producer number (first ∷ specs) zero spec get mine losing all =
     let same : first ≡ spec = cc in
     let own : (first.producer == producer) ≡ true = eq-eqb first.producer producer (ap (λ (s : WriterSpec). s.producer) same ∙ mine) in
     let later : List WriterLoad = filter (λ (load : WriterLoad). load.spec.producer == producer) (loads_from lines (suc number) specs) in
@@ -67,10 +75,10 @@ drops_among lines producer number (first ∷ specs) zero spec get mine drops all
     let kept : list_all (λ (load : WriterLoad). stalls load.spec.policy) (one ∷ later) ≡ true =
     sym (ap (λ (b : Bool). list_all (λ (load : WriterLoad). stalls load.spec.policy) (cond b (one ∷ later) later)) own) ∙ all in
     let both = and_parts (stalls first.policy) (list_all (λ (load : WriterLoad). stalls load.spec.policy) later) kept in
-    let never : stalls first.policy ≡ false = ap (λ (s : WriterSpec). stalls s.policy) same ∙ ap stalls drops in
+    let never : stalls first.policy ≡ false = ap (λ (s : WriterSpec). stalls s.policy) same ∙ loses_not_stalls spec.policy losing in
     false≢true (sym never ∙ both.0)
-drops_among lines producer number (first ∷ specs) (suc i) spec get mine drops all =
-    step (first.producer == producer) all (λ h. drops_among lines producer (suc number) specs i spec get mine drops h)
+losing_among lines producer number (first ∷ specs) (suc i) spec get mine losing all =
+    step (first.producer == producer) all (λ h. losing_among lines producer (suc number) specs i spec get mine losing h)
   where
     step : (b : Bool)
         → list_all (λ (load : WriterLoad). stalls load.spec.policy)
@@ -84,12 +92,12 @@ or_right : (a b : Bool) → (a || b) ≡ true → (a ≡ true → ⊥) → b ≡
 or_right true b is none = absurd (none refl)
 or_right false b is none = is
 
--- Where chunks are enough, those of a producer with a writer that drops are as many as its writers' packets take at most.
+-- Where chunks are enough, those of a producer with a writer whose policy loses packets are as many as its writers' packets take at most.
 pub chunks_enough : (lines : List NumberedLine) (producers : List ProducerLine) (specs : List WriterSpec) (i : ℕ) (spec : WriterSpec) (line : ProducerLine)
-    → IsTrue (has_chunks_enough (map room_of producers) (loads_from lines 1 specs)) → slice_get specs i ≡ Some spec → spec.policy ≡ Drops
+    → IsTrue (has_chunks_enough (map room_of producers) (loads_from lines 1 specs)) → slice_get specs i ≡ Some spec → loses spec.policy ≡ true
     → 1 ≤ spec.producer → slice_get producers (spec.producer - 1) ≡ Some line
     → most_from lines spec.producer (payload_size line.page_size line.chunks) 1 specs ≤ line.pages * line.chunks
-chunks_enough lines producers specs i spec line enough get drops least there =
+chunks_enough lines producers specs i spec line enough get losing least there =
     let loads : List WriterLoad = loads_from lines 1 specs in
     let room : ChunkRoom = room_of line in
     let holds = all_at (λ (number : ℕ) (one : ChunkRoom). is_enough_for (filter (λ (load : WriterLoad). load.spec.producer == number) loads) one) 1 (map room_of producers)
@@ -98,7 +106,7 @@ chunks_enough lines producers specs i spec line enough get drops least there =
     let here : is_enough_for (filter (λ (load : WriterLoad). load.spec.producer == spec.producer) loads) room ≡ true =
     subst (λ (n : ℕ). is_enough_for (filter (λ (load : WriterLoad). load.spec.producer == n) loads) room ≡ true) number holds in
     let fits = or_right _ (nat_le (sum_by (λ (load : WriterLoad). most_chunks room.payload load.emitted) (filter (λ (load : WriterLoad). load.spec.producer == spec.producer) loads)) room.chunks) here
-    (drops_among lines spec.producer 1 specs i spec get refl drops) in
+    (losing_among lines spec.producer 1 specs i spec get refl losing) in
     let low = leb-true (sum_by (λ (load : WriterLoad). most_chunks room.payload load.emitted) (filter (λ (load : WriterLoad). load.spec.producer == spec.producer) loads)) room.chunks fits in
     subst (λ (n : ℕ). n ≤ room.chunks) (sum_of_loads lines spec.producer room.payload 1 specs) low
 

@@ -14,7 +14,7 @@ use Rattle.chunk_plain.specs.Owned.{IsOwned}
 use Rattle.service_core.specs.Reading.{reads_in}
 use Rattle.service_core.specs.Taking.{places_of}
 use Rattle.replay_model.specs.Acts.{Act, Ask, Request, Answer, Collect, Scrape, CloseProducer, ReadAll}
-use Rattle.replay_model.specs.Does.{Does, Collects, Closes, Works, Alone, Helped, Asks, Wrote, AreOpen}
+use Rattle.replay_model.specs.Does.{Does, Collects, Closes, Works, Alone, Helped, Asked, Asks, Wrote, AreOpen}
 use Rattle.replay_model.proofs.SortedLemmas.{IsSorted, sorted_takes, sorted_closes, sorted_reads, open_places_fit}
 use Rattle.replay_model.proofs.ScrapedLemmas.{sorted_scrapes}
 
@@ -36,10 +36,17 @@ works_others setup place old new (Helped _ asking freed _ may stalls leaves out 
     works_others setup place freed new rest other differs
     ∙ ap (λ (ws : List WriterView). get_or ws other newcomer) collects.writers
     ∙ leaves.writers other differs
+works_others setup place old new (Asked _ asking freed _ tries may policy leaves vain collects owned rest) other differs =
+    works_others setup place freed new rest other differs
+    ∙ ap (λ (ws : List WriterView). get_or ws other newcomer) collects.writers
+    ∙ leaves.writers other differs
 
 pub works_sorted : (setup : Setup) (place : ℕ) {call : Call} (old new : World) → Works setup place call old new → IsSorted setup old.service → IsSorted setup new.service
 works_sorted setup place old new (Alone _ _ leaves) sorted = subst (IsSorted setup) (sym leaves.service) sorted
 works_sorted setup place old new (Helped _ asking freed _ may stalls leaves out collects owned some rest) sorted =
+    works_sorted setup place freed new rest
+    (sorted_collects setup _ asking freed (subst (IsSorted setup) (sym leaves.service) sorted) collects)
+works_sorted setup place old new (Asked _ asking freed _ tries may policy leaves vain collects owned rest) sorted =
     works_sorted setup place freed new rest
     (sorted_collects setup _ asking freed (subst (IsSorted setup) (sym leaves.service) sorted) collects)
 

@@ -2,7 +2,7 @@
 use Rattle.std.specs.Prelude.{◌≡◌, ◌≢◌, ℕ, ◌+◌, ◌<◌, ◌⊎◌, ◌==◌, Bool, true, false, None, List, [], ◌∷◌, ◌++◌, length, MatchBool}
 use Rattle.std.specs.List.{flat_map, list_any}
 use Rattle.trace_base.specs.declared.policy.WriterPolicy.{WriterPolicy}
-use Rattle.trace_base.specs.declared.policy.WriterPolicy.TheVariants.{Drops, Stalls}
+use Rattle.trace_base.specs.declared.policy.WriterPolicy.TheVariants.{Drops, Stalls, StallsThenDrops}
 use Rattle.trace_model.specs.Buffers.{Buffer}
 use Rattle.trace_model.specs.Calls.{Call, Begun, Number, Bytes, Nested, Flushed}
 use Rattle.trace_model.specs.History.{buffers_after}
@@ -19,7 +19,9 @@ use Rattle.world_model.specs.Accounts.{HasCut}
 use Rattle.trace_writer.specs.Asked.{begun_as, written_as}
 use Rattle.trace_writer.specs.Claims.{AreOwnChunks, KeepsClaims}
 use Rattle.trace_writer.specs.Core.{last_is_held, holds_newest}
+use Rattle.trace_writer.specs.Helping.{loses, rounds_for}
 use Rattle.trace_writer.specs.Laws.{IsHeldImage}
+use Rattle.trace_writer.specs.Losing.{LosesBehind}
 use Rattle.trace_writer.specs.Outcomes.{NewestIsWhole}
 use Rattle.trace_writer.specs.OwnSteps.{NoneHeld}
 use Rattle.service_core.specs.Agreement.{spec_at, AreKnownNotes}
@@ -105,36 +107,47 @@ MayNeedChunk (Bytes field text times) = Unit {0}
 MayNeedChunk (Nested field) = Unit {0}
 MayNeedChunk other = ⊥
 
--- The writer at this place is out of chunks, in a world in which each chunk is owned by exactly one: no chunk of its producer is free, it
--- holds none, and no claim of it is out; and all that it began are chunks of its producer. So each of these chunks is another writer's, or
--- is one that it completed and that waits.
-pub record IsOut (setup : Setup) (place : ℕ) (world : World) : Type 0 where
+-- A round of claims of the writer at this place was in vain, in a world in which each chunk is owned by exactly one: no chunk of its
+-- producer is free, and no claim of it is out; and all that it began are chunks of its producer.
+pub record IsVainIn (setup : Setup) (place : ℕ) (world : World) : Type 0 where
   pub owned : ∥ IsOwned world ∥₁
   pub none_free : HasNoFreeChunk setup (producer_of setup place) world
-  pub none_held : NoneHeld (writer world place).begun
   pub unclaimed : (writer world place).claimed ≡ []
   pub unstamped : (writer world place).stamped ≡ None
   pub own_chunks : AreOwnChunks setup (producer_of setup place) (writer world place).begun
 
--- Steps of the writer and, in a call that may need a chunk, where the writer is one that stalls and is out of chunks, the taking of its
--- producer's complete chunks, which takes some.
+-- The writer at this place is out of chunks: its round of claims was in vain, and it holds none. So each chunk of its producer is another
+-- writer's, or is one that it completed and that waits.
+pub record IsOut (setup : Setup) (place : ℕ) (world : World) : Type 0 where
+  pub vain : IsVainIn setup place world
+  pub none_held : NoneHeld (writer world place).begun
+
+-- Steps of the writer and, in a call that may need a chunk, the taking of its producer's complete chunks: where the writer is one that
+-- stalls and is out of chunks, and this takes some; or where it is one that asks so often and then drops, and its round of claims was in
+-- vain, whatever this takes.
 pub data Works (setup : Setup) (place : ℕ) (call : Call) : World → World → Type 0 where
   Alone : (old new : World) → LeavesRest place old new → Works setup place call old new
   Helped : (old asking freed new : World) → MayNeedChunk call → policy_of setup place ≡ Stalls → LeavesRest place old asking
       → IsOut setup place asking → Collects setup (producer_of setup place) asking freed → ∥ IsOwned freed ∥₁
       → freed.service.events ≢ asking.service.events → Works setup place call freed new → Works setup place call old new
+  Asked : (old asking freed new : World) (tries : ℕ) → MayNeedChunk call → policy_of setup place ≡ StallsThenDrops tries → LeavesRest place old asking
+      → IsVainIn setup place asking → Collects setup (producer_of setup place) asking freed → ∥ IsOwned freed ∥₁
+      → Works setup place call freed new → Works setup place call old new
 
 -- what is noted where no chunk is free: the packet is dropped at its begin, or given up
 abbrev pub dropped_call : Call → List Call
 dropped_call (Begun kept) = begun_as true Drops
 dropped_call call = written_as true Drops call
 
--- The call is noted; or, by a writer that drops, in a call that may need a chunk and only where none is free, that the packet is lost.
+-- The call is noted; or that the packet is lost, by a writer that drops, or that asks so often and then drops, in a call that may need a
+-- chunk and only where none is free: behind one whole round of its claims in vain, or one more than it asks for helps, which are the last
+-- claims of this call.
 abbrev pub Notes : Setup → (place : ℕ) → Call → World → World → Type 0
 Notes setup place call old new =
     ((writer new place).calls ≡ (writer old place).calls ++ call ∷ [])
     ⊎ (((writer new place).calls ≡ (writer old place).calls ++ dropped_call call)
-    × MayNeedChunk call × (policy_of setup place ≡ Drops) × HasNoFreeChunk setup (producer_of setup place) new)
+    × MayNeedChunk call × (loses (policy_of setup place) ≡ true) × HasNoFreeChunk setup (producer_of setup place) new
+    × LosesBehind setup (range_of setup (producer_of setup place)) (rounds_for (policy_of setup place)) (writer old place) (writer new place))
 
 -- What a writer has written, between two calls: its chunks are a cut of its packets, in which all stands that it was asked to write of the
 -- newest one, unless that is lost; it holds its newest chunk exactly where its newest packet isn't lost and no flush came behind it, and
