@@ -144,6 +144,46 @@ fn a_collect_frees_what_a_writer_completed_meanwhile(rt: HostRuntime) -> Result<
     Ok(())
 }
 
+const ASKS_TWICE: &[u8] =
+    b"buffer 64 ring\nproducer 1 4096 1\nwriter 1 1 drop\nwriter 1 1 stall:2\np 1 8:1\nf 1\np 2 8:2\n";
+
+const NEITHER_LOST: &[u8] =
+    b"buffer 1 ring bytes 65536 placed 2 rewritten 0 overwritten 0 discarded 0 unpatched 0 padding 0\nsequence 2 begun 1 delivered 1 dropped 0 overwritten 0 discarded 0 cut 0\nsequence 3 begun 1 delivered 1 dropped 0 overwritten 0 discarded 0 cut 0\n";
+
+// The first writer holds the only chunk until the second one has dropped its packet.
+#[test]
+fn a_writer_drops_where_its_asks_free_nothing(rt: HostRuntime) -> Result<(), Fail> {
+    let gate = Both {
+        first: Hold::new(Place { job: 2, line: 1 }, Place { job: 1, line: 2 }),
+        second: Hold::new(Place { job: 1, line: 2 }, Place { job: 2, line: 2 }),
+    };
+    let ran = run(&rt, ASKS_TWICE.to_vec(rt.alloc())?, &gate)?;
+    assert_eq!(rt; ran.status, 0);
+    assert_eq!(rt; gate.first.ran_out.load(Ordering::SeqCst), 0);
+    assert_eq!(rt; gate.second.ran_out.load(Ordering::SeqCst), 0);
+    assert_eq!(rt;
+        ran.trace.taken(),
+        b"\x0A\x07\x40\x01\x50\x02\xD0\x02\x01".as_slice()
+    );
+    assert_eq!(rt; ran.text.taken(), FIRST_WON);
+    Ok(())
+}
+
+// It has completed the chunk before the second one asks for it.
+#[test]
+fn an_ask_frees_what_another_writer_completed(rt: HostRuntime) -> Result<(), Fail> {
+    let gate = Hold::new(Place { job: 2, line: 1 }, Place { job: 1, line: 3 });
+    let ran = run(&rt, ASKS_TWICE.to_vec(rt.alloc())?, &gate)?;
+    assert_eq!(rt; ran.status, 0);
+    assert_eq!(rt; gate.ran_out.load(Ordering::SeqCst), 0);
+    assert_eq!(rt;
+        ran.trace.taken(),
+        b"\x0A\x07\x40\x01\x50\x02\xD0\x02\x01\x0A\x07\x40\x02\x50\x03\xD0\x02\x01".as_slice()
+    );
+    assert_eq!(rt; ran.text.taken(), NEITHER_LOST);
+    Ok(())
+}
+
 /// Packets of each writer that stalls.
 const MANY: usize = 60;
 

@@ -9,7 +9,7 @@ struct Row {
     text: &'static [u8],
 }
 
-static ROWS: [Row; 35] = [
+static ROWS: [Row; 37] = [
     // One packet of one number field.
     Row {
         input: b"buffer 64 ring\nproducer 1 4096 14\nwriter 1 1 drop\np 1 8:5\n",
@@ -225,6 +225,20 @@ static ROWS: [Row; 35] = [
         status: 0,
         trace: b"\x0A\x07\x40\x01\x50\x02\xD0\x02\x01\x0A\x07\x40\x02\x50\x03\xD0\x02\x01",
         text: b"buffer 1 ring bytes 65536 placed 2 rewritten 0 overwritten 0 discarded 0 unpatched 0 padding 0\nsequence 2 begun 1 delivered 1 dropped 0 overwritten 0 discarded 0 cut 0\nsequence 3 begun 1 delivered 1 dropped 0 overwritten 0 discarded 0 cut 0\n",
+    },
+    // Writer 2 asks twice in vain, and drops; the chunk is complete when it is asked for the next packet, and is taken for it.
+    Row {
+        input: b"buffer 64 ring\nproducer 1 4096 1\nwriter 1 1 drop\nwriter 1 1 stall:2\np 1 8:1\np 2 8:2\nf 1\np 2 8:3\n",
+        status: 0,
+        trace: b"\x0A\x07\x40\x01\x50\x02\xD0\x02\x01\x0A\x0A\xD0\x02\x01\x40\x03\x50\x03\xD0\x02\x01",
+        text: b"buffer 1 ring bytes 65536 placed 2 rewritten 0 overwritten 0 discarded 0 unpatched 0 padding 0\nsequence 2 begun 1 delivered 1 dropped 0 overwritten 0 discarded 0 cut 0\nsequence 3 begun 2 delivered 1 dropped 1 overwritten 0 discarded 0 cut 0\n",
+    },
+    // It asks in the midst of a packet, while it holds the only chunk, and gives the packet up.
+    Row {
+        input: b"buffer 64 ring\nproducer 1 4096 1\nwriter 1 1 stall:1\np 1 8:1\np 1 900{1:\"x\"*5000}\np 1 8:2\n",
+        status: 0,
+        trace: b"\x0A\x07\x40\x01\x50\x02\xD0\x02\x01\x0A\x0A\xD0\x02\x01\x40\x02\x50\x02\xD0\x02\x01",
+        text: b"buffer 1 ring bytes 65536 placed 2 rewritten 0 overwritten 0 discarded 0 unpatched 0 padding 0\nsequence 2 begun 3 delivered 2 dropped 1 overwritten 0 discarded 0 cut 0\n",
     },
     // A scraped record is rewritten.
     Row {
