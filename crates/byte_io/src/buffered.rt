@@ -39,10 +39,12 @@ impl PendingBytes {
     /// Passes on all that waits. After a fault, what the sink took waits no longer.
     #[tactic(auto, using(crate::proofs::Told::up_to_start, crate::proofs::Told::up_to_further))]
     pub fn pass_on<O: Sink>(&mut self, inner: &mut O) -> Result<(), WriteFault>
+        requires { O.may_write inner.old }
         ensures passed { TakesUpTo (O.taken inner.old) (O.taken inner.new) (pending_bytes self.old) (pending_bytes self.new) }
         ensures all { OnOk result (pending_bytes self.new ≡ []) }
         ensures room { OnOk result (pending_count self.new ≡ 0) }
         ensures count { CountsFaults (O.faults inner.old) (O.faults inner.new) result }
+        ensures goes_on { OnOk result (O.may_write inner.new) }
     {
         while self.passed < self.bytes.len() {
             match inner.write(&self.bytes[self.passed..]) {
@@ -108,11 +110,13 @@ impl<'a, O: Sink> BufferedSink<'a, O> {
     #[inline(never)]
     #[tactic(auto, using(crate::proofs::Lent::after_told_lent, crate::proofs::Told::after_told_again, crate::proofs::Told::after_told_nothing, crate::proofs::Lent::up_to_joined, crate::proofs::Lent::grown_up_to, crate::proofs::Lent::grown_after))]
     fn write_behind(&mut self, piece: &[u8]) -> Result<usize, Failed>
+        requires { O.may_write (buffered_inner self.old).now }
         ensures within { IfOk result (λ count. count ≤ length piece.now) }
         ensures some { 0 < length piece.now → IfOk result (λ count. 0 < count) }
         ensures bytes { IfOk result (λ count. buffered_intake self.new ≡ after_told (buffered_intake self.old) (take count piece.now)) }
         ensures err { OnErr result (buffered_intake self.new ≡ buffered_intake self.old) }
         ensures count { CountsFaults (O.faults (buffered_inner self.old).now) (O.faults (buffered_inner self.new).now) result }
+        ensures goes_on { OnOk result (O.may_write (buffered_inner self.new).now) }
     {
         match self.pending.pass_on(self.inner) {
             Ok(()) => {}
@@ -132,6 +136,8 @@ impl<O: Sink> Sink for BufferedSink<'_, O> {
     ghost taken = { λ sink. buffered_intake sink };
 
     ghost faults = { λ sink. O.faults (buffered_inner sink).now };
+
+    ghost may_write = { λ sink. O.may_write (buffered_inner sink).now };
 
     ghost count_fits = { λ sink. O.count_fits (buffered_inner sink).now };
 

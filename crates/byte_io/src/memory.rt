@@ -102,6 +102,8 @@ impl Sink for MemSink {
 
     ghost faults = { λ sink. mem_sink_faults sink };
 
+    ghost may_write = { λ _. ⊤ };
+
     ghost count_fits = { λ sink. sink.count_fits };
 
     fn write(&mut self, piece: &[u8]) -> Result<usize, Failed>

@@ -14,9 +14,11 @@ pub struct WriteFault;
 #[inline(always)]
 #[tactic(auto, using(crate::proofs::Told::after_told_nothing, crate::proofs::Told::part_none, crate::proofs::Told::part_behind, crate::proofs::Told::all_at_once, crate::proofs::Told::all_behind))]
 pub fn put_all<O: Sink>(out: &mut O, piece: &[u8]) -> Result<(), WriteFault>
+    requires { O.may_write out.old }
     ensures all { OnOk result (O.taken out.new ≡ after_told (O.taken out.old) piece.now) }
     ensures part { OnErr result (TakesPart (O.taken out.old) (O.taken out.new) piece.now) }
     ensures count { CountsFaults (O.faults out.old) (O.faults out.new) result }
+    ensures goes_on { OnOk result (O.may_write out.new) }
 {
     if piece.is_empty() {
         return Ok(());
@@ -36,9 +38,11 @@ pub fn put_all<O: Sink>(out: &mut O, piece: &[u8]) -> Result<(), WriteFault>
 #[inline(never)]
 #[tactic(auto, using(crate::proofs::Told::up_to_start, crate::proofs::Told::up_to_more, crate::proofs::Told::up_to_part, crate::proofs::Told::up_to_end))]
 fn put_rest<O: Sink>(out: &mut O, piece: &[u8]) -> Result<(), WriteFault>
+    requires { O.may_write out.old }
     ensures all { OnOk result (O.taken out.new ≡ after_told (O.taken out.old) piece.now) }
     ensures part { OnErr result (TakesPart (O.taken out.old) (O.taken out.new) piece.now) }
     ensures count { CountsFaults (O.faults out.old) (O.faults out.new) result }
+    ensures goes_on { OnOk result (O.may_write out.new) }
 {
     let mut rest = piece;
     while !rest.is_empty() {

@@ -154,6 +154,8 @@ impl Sink for ScriptSink {
 
     ghost faults = { λ sink. script_sink_faults sink };
 
+    ghost may_write = { λ _. ⊤ };
+
     ghost count_fits = { λ sink. sink.count_fits };
 
     fn write(&mut self, piece: &[u8]) -> Result<usize, Failed>

@@ -92,6 +92,8 @@ impl<W: Write + Drop> Sink for StdSink<W> {
 
     ghost faults = { λ sink. std_sink_faults sink };
 
+    ghost may_write = { λ _. ⊤ };
+
     ghost count_fits = { λ sink. sink.count_fits };
 
     #[tactic(auto, using(crate::proofs::Known::tells_appended, crate::proofs::Known::tells_kept, crate::proofs::Known::takes_appended, crate::proofs::Known::told_kept))]

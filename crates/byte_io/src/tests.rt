@@ -23,7 +23,8 @@ fn write_both<T: Sink>(
     first: &[u8],
     second: &[u8],
 ) -> Result<(), WriteFault>
-    requires { pending_bytes pending.old ≡ [] }
+    requires waits { pending_bytes pending.old ≡ [] }
+    requires may { T.may_write trace.old }
     ensures all { OnOk result (T.taken trace.new ≡ after_told (T.taken trace.old) (first.now ++ second.now)) }
     ensures part { OnErr result (TakesPart (T.taken trace.old) (T.taken trace.new) (first.now ++ second.now)) }
     ensures count { CountsFaults (T.faults trace.old) (T.faults trace.new) result }
@@ -41,10 +42,12 @@ fn lend_both<T: Sink>(
     first: &[u8],
     second: &[u8],
 ) -> Result<(), WriteFault>
-    requires { pending_bytes pending.old ≡ [] }
+    requires waits { pending_bytes pending.old ≡ [] }
+    requires may { T.may_write trace.old }
     ensures handed { OnOk result (HandsOn (T.taken trace.old) (T.taken trace.new) (first.now ++ second.now) (pending_bytes pending.new)) }
     ensures part { OnErr result (TakesPart (T.taken trace.old) (T.taken trace.new) (first.now ++ second.now)) }
     ensures count { CountsFaults (T.faults trace.old) (T.faults trace.new) result }
+    ensures goes_on { OnOk result (T.may_write trace.new) }
 {
     let mut buffered = BufferedSink::new(trace, pending);
     put_both(&mut buffered, first, second)
@@ -52,9 +55,11 @@ fn lend_both<T: Sink>(
 
 #[tactic(auto, using(crate::proofs::Told::after_told_again, crate::proofs::Told::part_first, crate::proofs::Told::part_second))]
 fn put_both<O: Sink>(out: &mut O, first: &[u8], second: &[u8]) -> Result<(), WriteFault>
+    requires { O.may_write out.old }
     ensures all { OnOk result (O.taken out.new ≡ after_told (O.taken out.old) (first.now ++ second.now)) }
     ensures part { OnErr result (TakesPart (O.taken out.old) (O.taken out.new) (first.now ++ second.now)) }
     ensures count { CountsFaults (O.faults out.old) (O.faults out.new) result }
+    ensures goes_on { OnOk result (O.may_write out.new) }
 {
     put_all(out, first)?;
     put_all(out, second)
@@ -342,7 +347,9 @@ fn objects_in_memory_end_where_their_bytes_do(rt: HostRuntime) -> Result<(), Fai
 
 // Writes the piece, again where it fails, and says how often it failed. A failed write of a told
 // sink took nothing.
-fn write_again<O: Sink>(rt: &impl Abort, out: &mut O, piece: &[u8]) -> usize {
+fn write_again<O: Sink>(rt: &impl Abort, out: &mut O, piece: &[u8]) -> usize
+    requires { (sink : O) → O.may_write sink }
+{
     for failed in 0..3 {
         if let Ok(count) = out.write(piece) {
             assert_eq!(rt; count, piece.len());
@@ -353,7 +360,9 @@ fn write_again<O: Sink>(rt: &impl Abort, out: &mut O, piece: &[u8]) -> usize {
 }
 
 // Writes many short pieces, a long one and a last one, and says how many writes failed.
-fn write_pieces<O: Sink>(rt: &impl Abort, out: &mut O, short: &[u8], long: &[u8]) -> usize {
+fn write_pieces<O: Sink>(rt: &impl Abort, out: &mut O, short: &[u8], long: &[u8]) -> usize
+    requires { (sink : O) → O.may_write sink }
+{
     let mut failed = 0usize;
     for piece in short.chunks(7) {
         failed = failed.saturating_add(write_again(rt, out, piece));

@@ -1,5 +1,5 @@
 //! What the outside is: a source of bytes, a sink for bytes, and a gate that jobs pass.
-ghost use Rattle.std.specs.Prelude.{◌≡◌, ℕ, ◌^◌, ◌<◌, ◌≤◌, List, [], Option, length, take, IfOk, OnErr, IfSome};
+ghost use Rattle.std.specs.Prelude.{◌≡◌, ℕ, ◌^◌, ◌<◌, ◌≤◌, List, [], Option, length, take, IfOk, OnOk, OnErr, IfSome};
 ghost use Rattle.byte_io.specs.Bytes.{Intake, before_told, after_told, CountsFaults};
 
 /// A read or a write that failed. Why it failed isn't said.
@@ -40,13 +40,19 @@ pub trait Sink {
     // How many faults there were. The count never falls, and stays at 2 ^ 64 - 1.
     ghost faults: { Self → ℕ };
 
+    // It may be written to. Nobody knows so behind a write that failed: a pipe that nobody reads
+    // fails for good, and behind a full disk a later piece would stand without those before it.
+    ghost may_write: { Self → Type 0 };
+
     /// Takes bytes from the front of the piece and says how many.
     fn write(&mut self, piece: &[u8]) -> Result<usize, Failed>
+        requires may { may_write self.old }
         ensures within { IfOk result (λ count. count ≤ length piece.now) }
         ensures some { 0 < length piece.now → IfOk result (λ count. 0 < count) }
         ensures bytes { IfOk result (λ count. taken self.new ≡ after_told (taken self.old) (take count piece.now)) }
         ensures err { OnErr result (taken self.new ≡ taken self.old) }
-        ensures count { CountsFaults (faults self.old) (faults self.new) result };
+        ensures count { CountsFaults (faults self.old) (faults self.new) result }
+        ensures goes_on { OnOk result (may_write self.new) };
 
     ghost count_fits: { (sink : Self) → faults sink < 2 ^ 64 };
 }
