@@ -72,9 +72,11 @@ fn two(first: u8, second: u8) -> [u8; 2]
 
 /// Writes the head of a record. Most are of two bytes, which go to the sink at once.
 fn put_head<O: Sink>(out: &mut O, len: u64) -> Result<(), WriteFault>
+    requires { O.may_write out.old }
     ensures all { OnOk result (O.taken out.new ≡ after_told (O.taken out.old) (0x0A ∷ varint len)) }
     ensures part { OnErr result (TakesPart (O.taken out.old) (O.taken out.new) (0x0A ∷ varint len)) }
     ensures count { CountsFaults (O.faults out.old) (O.faults out.new) result }
+    ensures goes_on { OnOk result (O.may_write out.new) }
 {
     if len < 128 {
         return put_all(out, &two(PACKET_TAG, len as u8));
@@ -84,9 +86,11 @@ fn put_head<O: Sink>(out: &mut O, len: u64) -> Result<(), WriteFault>
 
 /// Writes what stands behind a packet's bytes, which mostly are two bytes.
 fn put_tail<O: Sink>(out: &mut O, sequence: u32, marked: bool) -> Result<(), WriteFault>
+    requires { O.may_write out.old }
     ensures all { OnOk result (O.taken out.new ≡ after_told (O.taken out.old) (record_tail sequence marked)) }
     ensures part { OnErr result (TakesPart (O.taken out.old) (O.taken out.new) (record_tail sequence marked)) }
     ensures count { CountsFaults (O.faults out.old) (O.faults out.new) result }
+    ensures goes_on { OnOk result (O.may_write out.new) }
 {
     if sequence < 128 && !marked {
         return put_all(out, &two(SEQUENCE_TAG, sequence as u8));
@@ -103,10 +107,12 @@ impl RecordWriter {
         sequence: u32,
         marked: bool,
     ) -> Result<RecordWriter, WriteFault>
+        requires { O.may_write out.old }
         ensures writer { IfOk result (λ writer. writer ≡ record { left = len; sequence = sequence; marked = marked }) }
         ensures all { OnOk result (O.taken out.new ≡ after_told (O.taken out.old) (record_head len sequence marked)) }
         ensures part { OnErr result (TakesPart (O.taken out.old) (O.taken out.new) (record_head len sequence marked)) }
         ensures count { CountsFaults (O.faults out.old) (O.faults out.new) result }
+        ensures goes_on { OnOk result (O.may_write out.new) }
     {
         RecordWriter::start_long(out, u64::from(len), sequence, marked)
     }
@@ -118,11 +124,13 @@ impl RecordWriter {
         sequence: u32,
         marked: bool,
     ) -> Result<RecordWriter, WriteFault>
-        requires { len ≤ MAX_BODY }
+        requires short { len ≤ MAX_BODY }
+        requires may { O.may_write out.old }
         ensures writer { IfOk result (λ writer. writer ≡ record { left = len; sequence = sequence; marked = marked }) }
         ensures all { OnOk result (O.taken out.new ≡ after_told (O.taken out.old) (record_head len sequence marked)) }
         ensures part { OnErr result (TakesPart (O.taken out.old) (O.taken out.new) (record_head len sequence marked)) }
         ensures count { CountsFaults (O.faults out.old) (O.faults out.new) result }
+        ensures goes_on { OnOk result (O.may_write out.new) }
     {
         let behind = tail(sequence, marked).len() as u64;
         put_head(out, len + behind)?;
@@ -135,11 +143,13 @@ impl RecordWriter {
 
     /// Writes the next bytes of the packet.
     pub fn part<O: Sink>(&mut self, out: &mut O, piece: &[u8]) -> Result<(), WriteFault>
-        requires { length piece.now ≤ self.old.left }
+        requires within { length piece.now ≤ self.old.left }
+        requires may { O.may_write out.old }
         ensures left { self.new ≡ record self.old { left = self.old.left - length piece.now } }
         ensures all { OnOk result (O.taken out.new ≡ after_told (O.taken out.old) piece.now) }
         ensures part { OnErr result (TakesPart (O.taken out.old) (O.taken out.new) piece.now) }
         ensures count { CountsFaults (O.faults out.old) (O.faults out.new) result }
+        ensures goes_on { OnOk result (O.may_write out.new) }
     {
         self.left -= piece.len() as u64;
         put_all(out, piece)
@@ -147,10 +157,12 @@ impl RecordWriter {
 
     /// Ends the record, once all bytes of the packet were given.
     pub fn end<O: Sink>(self, out: &mut O) -> Result<(), WriteFault>
-        requires { self.left ≡ 0 }
+        requires whole { self.left ≡ 0 }
+        requires may { O.may_write out.old }
         ensures all { OnOk result (O.taken out.new ≡ after_told (O.taken out.old) (record_tail self.sequence self.marked)) }
         ensures part { OnErr result (TakesPart (O.taken out.old) (O.taken out.new) (record_tail self.sequence self.marked)) }
         ensures count { CountsFaults (O.faults out.old) (O.faults out.new) result }
+        ensures goes_on { OnOk result (O.may_write out.new) }
     {
         put_tail(out, self.sequence, self.marked)
     }

@@ -16,9 +16,11 @@ pub fn put_packet<O: Sink>(
     sequence: u32,
     marked: bool,
 ) -> Result<(), WriteFault>
+    requires { O.may_write out.old }
     ensures all { OnOk result (O.taken out.new ≡ after_told (O.taken out.old) (record_of body.now sequence marked)) }
     ensures part { OnErr result (TakesPart (O.taken out.old) (O.taken out.new) (record_of body.now sequence marked)) }
     ensures count { CountsFaults (O.faults out.old) (O.faults out.new) result }
+    ensures goes_on { OnOk result (O.may_write out.new) }
 {
     let mut writer = RecordWriter::start_long(out, body.len() as u64, sequence, marked)?;
     writer.part(out, body)?;
