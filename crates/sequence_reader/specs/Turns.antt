@@ -1,5 +1,5 @@
 -- How a read goes on from link to link, and how its steps make up the whole read.
-use Rattle.std.specs.Prelude.{◌≡◌, ℕ, ◌+◌, ◌-◌, ◌<◌, ◌≤◌, List, [], ◌∷◌, ◌++◌, length}
+use Rattle.std.specs.Prelude.{⊤, ◌≡◌, ℕ, ◌+◌, ◌-◌, ◌<◌, ◌≤◌, List, [], ◌∷◌, ◌++◌, length}
 use Rattle.byte_io.specs.Bytes.{Intake, after_told, TakesPart, Faulted}
 use Rattle.trace_model.specs.Buffers.{Buffer}
 use Rattle.trace_model.specs.Reads.{Delivery, delivered_by, with_read, read_end, is_marked, link_bytes}
@@ -88,6 +88,12 @@ CountsTurn old new (On next) = new ≡ old
 CountsTurn old new (Ended why) = new ≡ old
 CountsTurn old new Failed = (old ≤ new) × Faulted old new
 
+-- this holds unless a write failed
+abbrev pub UnlessTurnFails : Type 0 → Turned → Type 0
+UnlessTurnFails Holds (On next) = Holds
+UnlessTurnFails Holds (Ended why) = Holds
+UnlessTurnFails Holds Failed = ⊤
+
 -- the same before the buffer is told what was passed
 
 abbrev pub Puts : Buffer → (before after : Intake) → Bounds → ℕ → Progress → Put → Type 0
@@ -103,3 +109,9 @@ abbrev pub CountsPut : (old new : ℕ) → Put → Type 0
 CountsPut old new (put.Passed passed next) = new ≡ old
 CountsPut old new (put.Ended why) = new ≡ old
 CountsPut old new put.Failed = (old ≤ new) × Faulted old new
+
+-- this holds unless a write failed
+abbrev pub UnlessPutFails : Type 0 → Put → Type 0
+UnlessPutFails Holds (put.Passed passed next) = Holds
+UnlessPutFails Holds (put.Ended why) = Holds
+UnlessPutFails Holds put.Failed = ⊤

@@ -27,11 +27,13 @@ pub fn put_packet_at<O: Sink>(
     requires first { IsPieceAt buffer.now bounds spot first }
     requires packet { IsWholeAt (rows_of buffer.now bounds.sequence (cursor_of spot)) len }
     requires few { len ≤ 2 ^ 59 }
+    requires may { O.may_write out.old }
     ensures all { OnOk result (O.taken out.new ≡ after_told (O.taken out.old)
         (record_of (first_bytes (rows_of buffer.now bounds.sequence (cursor_of spot))) bounds.sequence marked)) }
     ensures part { OnErr result (TakesPart (O.taken out.old) (O.taken out.new)
         (record_of (first_bytes (rows_of buffer.now bounds.sequence (cursor_of spot))) bounds.sequence marked)) }
     ensures count { CountsFaults (O.faults out.old) (O.faults out.new) result }
+    ensures goes_on { OnOk result (O.may_write out.new) }
 {
     let mut writer = RecordWriter::start_long(out, len, bounds.sequence, marked)?;
     put_pieces(buffer, bounds, spot, first, &mut writer, out)?;
@@ -50,12 +52,14 @@ fn put_pieces<O: Sink>(
     requires bounds { AreBounds buffer.now bounds }
     requires first { IsPieceAt buffer.now bounds spot first }
     requires packet { IsWholeAt (rows_of buffer.now bounds.sequence (cursor_of spot)) writer.old.left }
+    requires may { O.may_write out.old }
     ensures ended { OnOk result (writer.new ≡ record writer.old { left = 0 }) }
     ensures all { OnOk result (O.taken out.new
         ≡ after_told (O.taken out.old) (first_bytes (rows_of buffer.now bounds.sequence (cursor_of spot)))) }
     ensures part { OnErr result (TakesPart (O.taken out.old) (O.taken out.new)
         (first_bytes (rows_of buffer.now bounds.sequence (cursor_of spot)))) }
     ensures count { CountsFaults (O.faults out.old) (O.faults out.new) result }
+    ensures goes_on { OnOk result (O.may_write out.new) }
 {
     let mut piece = first;
     loop {

@@ -5,7 +5,7 @@ ghost use Rattle.trace_model.specs.Reads.{delivered_by, with_read, read_end};
 ghost use Rattle.trace_model.specs.Sequences.{is_known};
 ghost use Rattle.sequence_reader.specs.Ends.{record_bytes, row_met, why_told, end_told, EndsInRecord, EndsInRecordAt};
 ghost use Rattle.sequence_reader.specs.Spots.{AreBounds};
-ghost use Rattle.sequence_reader.specs.Turns.{IsAt, Turns, CountsTurn, Puts, CountsPut};
+ghost use Rattle.sequence_reader.specs.Turns.{IsAt, Turns, CountsTurn, UnlessTurnFails, Puts, CountsPut, UnlessPutFails};
 
 use crate::deliver::put_packet_at;
 use crate::ends::{ReadCount, ReadEnd, Why};
@@ -51,13 +51,15 @@ pub fn read_sequence<O: Sink>(
     limit: u64,
     out: &mut O,
 ) -> Result<ReadEnd, WriteFault>
-    requires { is_known buffer.old.sequences sequence ≡ true }
+    requires known { is_known buffer.old.sequences sequence ≡ true }
+    requires may { O.may_write out.old }
     ensures records { OnOk result (O.taken out.new
         ≡ after_told (O.taken out.old) (record_bytes sequence (delivered_by buffer.old sequence limit))) }
     ensures after { OnOk result (buffer.new ≡ with_read buffer.old sequence limit) }
     ensures end { IfOk result (λ end. end ≡ end_told buffer.old sequence limit) }
     ensures part { OnErr result (EndsInRecord buffer.old buffer.new (O.taken out.old) (O.taken out.new) sequence limit) }
     ensures count { CountsFaults (O.faults out.old) (O.faults out.new) result }
+    ensures goes_on { OnOk result (O.may_write out.new) }
 {
     let ReadCount { delivered, end } = read_counted(buffer, sequence, limit, out);
     match end {
@@ -73,7 +75,8 @@ pub fn read_counted<O: Sink>(
     limit: u64,
     out: &mut O,
 ) -> ReadCount
-    requires { is_known buffer.old.sequences sequence ≡ true }
+    requires known { is_known buffer.old.sequences sequence ≡ true }
+    requires may { O.may_write out.old }
     ensures records { OnOk result.end (O.taken out.new
         ≡ after_told (O.taken out.old) (record_bytes sequence (delivered_by buffer.old sequence limit))) }
     ensures after { OnOk result.end (buffer.new ≡ with_read buffer.old sequence limit) }
@@ -82,6 +85,7 @@ pub fn read_counted<O: Sink>(
     ensures part { OnErr result.end
         (EndsInRecordAt buffer.old buffer.new (O.taken out.old) (O.taken out.new) sequence limit result.delivered) }
     ensures count { CountsFaults (O.faults out.old) (O.faults out.new) result.end }
+    ensures goes_on { OnOk result.end (O.may_write out.new) }
 {
     let bounds = bounds_of(buffer, sequence);
     let mut progress = begun(buffer, bounds);
@@ -142,8 +146,10 @@ fn pass_link<O: Sink>(
 ) -> Turned
     requires at { IsAt buffer.old bounds progress }
     requires most { progress.delivered ≤ limit }
+    requires may { O.may_write out.old }
     ensures turns { Turns buffer.old buffer.new (O.taken out.old) (O.taken out.new) bounds limit progress result }
     ensures count { CountsTurn (O.faults out.old) (O.faults out.new) result }
+    ensures goes_on { UnlessTurnFails (O.may_write out.new) result }
 {
     match put_next(buffer, bounds, limit, progress, out) {
         Put::Passed {
@@ -168,8 +174,10 @@ fn put_next<O: Sink>(
 ) -> Put
     requires at { IsAt buffer.now bounds progress }
     requires most { progress.delivered ≤ limit }
+    requires may { O.may_write out.old }
     ensures puts { Puts buffer.now (O.taken out.old) (O.taken out.new) bounds limit progress result }
     ensures count { CountsPut (O.faults out.old) (O.faults out.new) result }
+    ensures goes_on { UnlessPutFails (O.may_write out.new) result }
 {
     let held = progress.held.at(buffer, bounds, progress.at.chunk_id);
     match next_link(buffer, bounds, progress.at, held) {

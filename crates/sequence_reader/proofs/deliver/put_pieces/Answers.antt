@@ -10,6 +10,7 @@ loop-next-init g c = record {
   putting = putting_at c.args.buffer.now c.args.bounds c.args.spot c.args.first (g.O.Sink.taken c.args.out.now) c.args.writer.now.left c.requires.first c.requires.packet;
   writer = refl;
   faults = refl;
+  may = c.requires.may;
 }
 
 pub returns-in_err-part-clause-part : goal.returns-in_err-part-clause-part
@@ -44,4 +45,5 @@ loop-next-preserved g c =
       writer = c.in_ok-part.ensures.left
           ∙ (λ i. record (c.loop-next.invariant.writer i) { left = sym left i });
       faults = c.in_ok-part.ensures.count ∙ c.loop-next.invariant.faults;
+      may = c.in_ok-part.ensures.goes_on;
     }

@@ -8,6 +8,7 @@ invariant-loop-next g l = record {
   putting : IsPuttingAt l.buffer l.bounds l.fn.spot l.piece (g.O.Sink.taken l.fn.out) (g.O.Sink.taken l.out) l.writer.left;
   writer : l.writer ≡ record l.fn.writer { left = l.writer.left };
   faults : g.O.Sink.faults l.out ≡ g.O.Sink.faults l.fn.out;
+  may : g.O.Sink.may_write l.out;
 }
 
 abbrev pub decreases-loop-next : goal.decreases-loop-next

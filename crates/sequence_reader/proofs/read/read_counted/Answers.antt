@@ -11,6 +11,7 @@ loop-next-init g c = record {
   read = subst (IsReadTo c.args.buffer.now c.args.buffer.now (g.O.Sink.taken c.args.out.now) (g.O.Sink.taken c.args.out.now) c.bounds_of-bounds.result.sequence)
       (sym c.begun-progress.ensures.none) (read_none c.args.buffer.now c.bounds_of-bounds.result.sequence (g.O.Sink.taken c.args.out.now));
   faults = refl;
+  may = c.requires.may;
 }
 
 pub loop-next-preserved : goal.loop-next-preserved
@@ -23,6 +24,7 @@ loop-next-preserved g c =
       read = read_further c.args.buffer.now c.loop-next.buffer c.pass_link.new.buffer (g.O.Sink.taken c.args.out.now) (g.O.Sink.taken c.loop-next.out) (g.O.Sink.taken c.pass_link.new.out)
           c.bounds_of-bounds.result.sequence c.loop-next.progress.delivered c.in-On.next.delivered c.loop-next.invariant.read turn.read turn.later;
       faults = c.in-On.ensures.count ∙ c.loop-next.invariant.faults;
+      may = c.in-On.ensures.goes_on;
     }
 
 pub returns-in-Ended-clause-records : goal.returns-in-Ended-clause-records

@@ -10,6 +10,7 @@ invariant-loop-next g l = record {
   most : l.progress.delivered ≤ l.fn.limit;
   read : IsReadTo l.fn.buffer l.buffer (g.O.Sink.taken l.fn.out) (g.O.Sink.taken l.out) l.bounds.sequence l.progress.delivered;
   faults : g.O.Sink.faults l.out ≡ g.O.Sink.faults l.fn.out;
+  may : g.O.Sink.may_write l.out;
 }
 
 abbrev pub decreases-loop-next : goal.decreases-loop-next
