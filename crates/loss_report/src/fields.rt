@@ -37,10 +37,12 @@ fn field_bytes(before: &[u8], field: &Field) -> ArrayVec<u8, 40>
 
 /// Writes the fields behind the first one of a line.
 fn put_others<O: Sink>(out: &mut O, others: &[Field]) -> Result<(), WriteFault>
-    requires { All HasShortName others.now }
+    requires names { All HasShortName others.now }
+    requires may { O.may_write out.old }
     ensures all { OnOk result (O.taken out.new ≡ after_told (O.taken out.old) (others_text (map entry_of others.now))) }
     ensures part { OnErr result (TakesPart (O.taken out.old) (O.taken out.new) (others_text (map entry_of others.now))) }
     ensures count { CountsFaults (O.faults out.old) (O.faults out.new) result }
+    ensures goes_on { OnOk result (O.may_write out.new) }
 {
     for field in others {
         let bytes = field_bytes(b" ", field);
@@ -58,9 +60,11 @@ pub(crate) fn put_line<O: Sink>(
 ) -> Result<(), WriteFault>
     requires name { HasShortName first.now }
     requires names { All HasShortName others.now }
+    requires may { O.may_write out.old }
     ensures all { OnOk result (O.taken out.new ≡ after_told (O.taken out.old) (line_text (entry_of first.now) (map entry_of others.now))) }
     ensures part { OnErr result (TakesPart (O.taken out.old) (O.taken out.new) (line_text (entry_of first.now) (map entry_of others.now))) }
     ensures count { CountsFaults (O.faults out.old) (O.faults out.new) result }
+    ensures goes_on { OnOk result (O.may_write out.new) }
 {
     let bytes = field_bytes(b"", first);
     put_all(out, &bytes)?;

@@ -29,9 +29,11 @@ fn size_name(policy: FullPolicy) -> &'static [u8]
 }
 
 fn put_buffer<O: Sink>(out: &mut O, number: u64, counts: &BufferCounts) -> Result<(), WriteFault>
+    requires { O.may_write out.old }
     ensures all { OnOk result (O.taken out.new ≡ after_told (O.taken out.old) (buffer_line number counts.now)) }
     ensures part { OnErr result (TakesPart (O.taken out.old) (O.taken out.new) (buffer_line number counts.now)) }
     ensures count { CountsFaults (O.faults out.old) (O.faults out.new) result }
+    ensures goes_on { OnOk result (O.may_write out.new) }
 {
     let first = Field {
         name: b"buffer",
@@ -75,9 +77,11 @@ fn put_sequence<O: Sink>(
     number: u64,
     counts: &SequenceCounts,
 ) -> Result<(), WriteFault>
+    requires { O.may_write out.old }
     ensures all { OnOk result (O.taken out.new ≡ after_told (O.taken out.old) (sequence_line number counts.now)) }
     ensures part { OnErr result (TakesPart (O.taken out.old) (O.taken out.new) (sequence_line number counts.now)) }
     ensures count { CountsFaults (O.faults out.old) (O.faults out.new) result }
+    ensures goes_on { OnOk result (O.may_write out.new) }
 {
     let first = Field {
         name: b"sequence",
@@ -113,9 +117,11 @@ fn put_sequence<O: Sink>(
 }
 
 fn put_flush<O: Sink>(out: &mut O, number: u64, chunks: u64) -> Result<(), WriteFault>
+    requires { O.may_write out.old }
     ensures all { OnOk result (O.taken out.new ≡ after_told (O.taken out.old) (flush_line number chunks)) }
     ensures part { OnErr result (TakesPart (O.taken out.old) (O.taken out.new) (flush_line number chunks)) }
     ensures count { CountsFaults (O.faults out.old) (O.faults out.new) result }
+    ensures goes_on { OnOk result (O.may_write out.new) }
 {
     let first = Field {
         name: b"flush",
@@ -129,9 +135,11 @@ fn put_flush<O: Sink>(out: &mut O, number: u64, chunks: u64) -> Result<(), Write
 }
 
 fn put_buffers<O: Sink>(out: &mut O, buffers: &[BufferCounts]) -> Result<(), WriteFault>
+    requires { O.may_write out.old }
     ensures all { OnOk result (O.taken out.new ≡ after_told (O.taken out.old) (lines_of buffer_line 1 buffers.now)) }
     ensures part { OnErr result (TakesPart (O.taken out.old) (O.taken out.new) (lines_of buffer_line 1 buffers.now)) }
     ensures count { CountsFaults (O.faults out.old) (O.faults out.new) result }
+    ensures goes_on { OnOk result (O.may_write out.new) }
 {
     for (i, counts) in buffers.iter().enumerate() {
         put_buffer(out, i as u64 + 1, counts)?;
@@ -140,9 +148,11 @@ fn put_buffers<O: Sink>(out: &mut O, buffers: &[BufferCounts]) -> Result<(), Wri
 }
 
 fn put_sequences<O: Sink>(out: &mut O, sequences: &[SequenceCounts]) -> Result<(), WriteFault>
+    requires { O.may_write out.old }
     ensures all { OnOk result (O.taken out.new ≡ after_told (O.taken out.old) (lines_of sequence_line FIRST_SEQUENCE sequences.now)) }
     ensures part { OnErr result (TakesPart (O.taken out.old) (O.taken out.new) (lines_of sequence_line FIRST_SEQUENCE sequences.now)) }
     ensures count { CountsFaults (O.faults out.old) (O.faults out.new) result }
+    ensures goes_on { OnOk result (O.may_write out.new) }
 {
     for (i, counts) in sequences.iter().enumerate() {
         put_sequence(out, i as u64 + FIRST_NUMBER, counts)?;
@@ -151,9 +161,11 @@ fn put_sequences<O: Sink>(out: &mut O, sequences: &[SequenceCounts]) -> Result<(
 }
 
 fn put_flushes<O: Sink>(out: &mut O, flushes: &[u64]) -> Result<(), WriteFault>
+    requires { O.may_write out.old }
     ensures all { OnOk result (O.taken out.new ≡ after_told (O.taken out.old) (lines_of flush_line 1 flushes.now)) }
     ensures part { OnErr result (TakesPart (O.taken out.old) (O.taken out.new) (lines_of flush_line 1 flushes.now)) }
     ensures count { CountsFaults (O.faults out.old) (O.faults out.new) result }
+    ensures goes_on { OnOk result (O.may_write out.new) }
 {
     for (i, chunks) in flushes.iter().enumerate() {
         put_flush(out, i as u64 + 1, *chunks)?;
@@ -170,9 +182,11 @@ pub fn put_report<O: Sink>(
     sequences: &[SequenceCounts],
     flushes: &[u64],
 ) -> Result<(), WriteFault>
+    requires { O.may_write out.old }
     ensures all { OnOk result (O.taken out.new ≡ after_told (O.taken out.old) (report_text buffers.now sequences.now flushes.now)) }
     ensures part { OnErr result (TakesPart (O.taken out.old) (O.taken out.new) (report_text buffers.now sequences.now flushes.now)) }
     ensures count { CountsFaults (O.faults out.old) (O.faults out.new) result }
+    ensures goes_on { OnOk result (O.may_write out.new) }
 {
     put_buffers(out, buffers)?;
     put_sequences(out, sequences)?;

@@ -27,4 +27,5 @@ loop-field-preserved g c =
           (omega arith) c.loop-field.invariant.taken
           (c.in_ok-put_all.ensures.all ∙ ap (λ (bytes : List ℕ). after_told (taken c.loop-field.out) bytes) piece);
       faults = c.in_ok-put_all.ensures.count ∙ c.loop-field.invariant.faults;
+      may = c.in_ok-put_all.ensures.goes_on;
     }

@@ -21,4 +21,5 @@ loop-i-preserved g c = record {
   taken = lines_more buffer_line (g.O.Sink.taken c.args.out.now) (g.O.Sink.taken c.loop-i.out) (g.O.Sink.taken c.put_buffer.new.out) 1 c.loop-i.i c.args.buffers.now none
       (omega arith) c.loop-i.invariant.taken c.in_ok-put_buffer.ensures.all;
   faults = c.in_ok-put_buffer.ensures.count ∙ c.loop-i.invariant.faults;
+  may = c.in_ok-put_buffer.ensures.goes_on;
 }

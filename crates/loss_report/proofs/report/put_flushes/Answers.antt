@@ -19,4 +19,5 @@ loop-i-preserved g c = record {
   taken = lines_more flush_line (g.O.Sink.taken c.args.out.now) (g.O.Sink.taken c.loop-i.out) (g.O.Sink.taken c.put_flush.new.out) 1 c.loop-i.i c.args.flushes.now none
       (omega arith) c.loop-i.invariant.taken c.in_ok-put_flush.ensures.all;
   faults = c.in_ok-put_flush.ensures.count ∙ c.loop-i.invariant.faults;
+  may = c.in_ok-put_flush.ensures.goes_on;
 }

@@ -20,4 +20,5 @@ loop-i-preserved g c = record {
   taken = lines_more sequence_line (g.O.Sink.taken c.args.out.now) (g.O.Sink.taken c.loop-i.out) (g.O.Sink.taken c.put_sequence.new.out) 2 c.loop-i.i c.args.sequences.now none
       (omega arith) c.loop-i.invariant.taken c.in_ok-put_sequence.ensures.all;
   faults = c.in_ok-put_sequence.ensures.count ∙ c.loop-i.invariant.faults;
+  may = c.in_ok-put_sequence.ensures.goes_on;
 }
