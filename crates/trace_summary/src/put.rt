@@ -49,9 +49,11 @@ fn last_line(packets: u64, bytes: u64) -> ArrayVec<u8, 128>
 /// Writes the lines of a summary: those of its sequences in rising order, and then the one of all.
 #[tactic(auto, using(crate::proofs::LineLemmas::lines_start, crate::proofs::LineLemmas::lines_more, crate::proofs::LineLemmas::lines_part, crate::proofs::LineLemmas::lines_end, crate::proofs::LineLemmas::lines_last))]
 pub fn put_summary<O: Sink>(out: &mut O, summary: &Summary) -> Result<(), WriteFault>
+    requires { O.may_write out.old }
     ensures all { OnOk result (O.taken out.new ≡ after_told (O.taken out.old) (counts.summary_text summary.now)) }
     ensures part { OnErr result (TakesPart (O.taken out.old) (O.taken out.new) (counts.summary_text summary.now)) }
     ensures count { CountsFaults (O.faults out.old) (O.faults out.new) result }
+    ensures goes_on { OnOk result (O.may_write out.new) }
 {
     'lines: for (sequence, totals) in &summary.sequences {
         match put_all(out, &sequence_line(*sequence, *totals)) {

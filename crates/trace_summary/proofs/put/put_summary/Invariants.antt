@@ -6,4 +6,5 @@ abbrev pub invariant-lines : goal.invariant-lines
 invariant-lines g l = record {
   written : HasWritten (g.O.Sink.taken l.fn.out) (g.O.Sink.taken l.out) l.summary l.sequence-iterator;
   steady : g.O.Sink.faults l.out ≡ g.O.Sink.faults l.fn.out;
+  may : g.O.Sink.may_write l.out;
 }
