@@ -1,5 +1,5 @@
 //! Reading a buffer.
-ghost use Rattle.std.specs.Prelude.{◌≡◌, ◌<◌, Some, length, IfOk, OnErr};
+ghost use Rattle.std.specs.Prelude.{◌≡◌, ◌<◌, Some, length, IfOk, OnErr, OnOk};
 ghost use Rattle.byte_io.specs.Bytes.{CountsFaults};
 ghost use Rattle.chunk_plain.specs.Meaning.{IsServiceStep};
 ghost use Rattle.chunk_plain.specs.Setup.{sequence_of};
@@ -29,6 +29,7 @@ impl<S> ServiceCore<S> {
         requires agrees { ServiceAgrees (W.means.setup table.old) (W.means.service_view table.old self.old.seat) self.old }
         requires reads { W.means.takes_reads table.old self.old.seat }
         requires place { place < length (W.means.setup table.old).writers }
+        requires may { O.may_write out.old }
         ensures agrees { ServiceAgrees (W.means.setup table.old) (W.means.service_view table.new self.new.seat) self.new }
         ensures keeps { KeepsRest (W.means.setup table.old) self.old self.new }
         ensures step { IsServiceStep W.means table.old self.old.seat table.new self.new.seat }
@@ -41,6 +42,7 @@ impl<S> ServiceCore<S> {
         ensures told { (world : World) → W.means.told table.old ≡ Some world
             → W.means.told table.new ≡ Some (serviced world (W.means.service_view table.new self.new.seat)) }
         ensures count { CountsFaults (O.faults out.old) (O.faults out.new) result }
+        ensures goes_on { OnOk result (O.may_write out.new) }
     {
         let sequence = place as u32 + FIRST_SEQUENCE;
         let index = usize::from(self.writers[place].buffer) - 1;
@@ -72,6 +74,7 @@ impl<S> ServiceCore<S> {
         requires serves { W.means.serves table.old self.old.seat }
         requires agrees { ServiceAgrees (W.means.setup table.old) (W.means.service_view table.old self.old.seat) self.old }
         requires reads { W.means.takes_reads table.old self.old.seat }
+        requires may { O.may_write out.old }
         ensures agrees { ServiceAgrees (W.means.setup table.old) (W.means.service_view table.new self.new.seat) self.new }
         ensures keeps { KeepsRest (W.means.setup table.old) self.old self.new }
         ensures step { IsServiceStep W.means table.old self.old.seat table.new self.new.seat }
@@ -84,6 +87,7 @@ impl<S> ServiceCore<S> {
         ensures told { (world : World) → W.means.told table.old ≡ Some world
             → W.means.told table.new ≡ Some (serviced world (W.means.service_view table.new self.new.seat)) }
         ensures count { CountsFaults (O.faults out.old) (O.faults out.new) result }
+        ensures goes_on { OnOk result (O.may_write out.new) }
     {
         let mut left = limit;
         for place in 0..self.writers.len() {

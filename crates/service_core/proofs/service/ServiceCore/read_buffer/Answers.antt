@@ -26,6 +26,7 @@ loop-place-init g c =
       told = λ world is. is
           ∙ ap (λ (v : ServiceView). Some (serviced world v)) (sym (g.met.W.Words.told_service_view c.args.table.now c.args.self.now.seat world is c.requires.serves));
       faults = refl;
+      may = c.requires.may;
     }
 
 pub loop-place-preserved-then-index-buffer : goal.loop-place-preserved-then-index-buffer
@@ -49,6 +50,7 @@ loop-place-preserved-then-index-buffer g c =
           i.reads low (λ same. c.if-index-buffer.true (ap (λ (w : WriterSpec). w.buffer) read ∙ same));
       told = i.told;
       faults = i.faults;
+      may = i.may;
     }
 
 pub loop-place-preserved : goal.loop-place-preserved
@@ -79,6 +81,7 @@ loop-place-preserved g c =
           i.reads low same at i.agrees.known c.read_writer.new.self new (g.O.Sink.taken c.read_writer.new.out) c.in_ok-left.field-0 c.in_ok-left.ensures.reads;
       told = λ world is. c.in_ok-left.ensures.told (serviced world between) (i.told world is);
       faults = c.in_ok-left.ensures.count ∙ i.faults;
+      may = c.in_ok-left.ensures.goes_on;
     }
 
 pub returns-in_err-left-clause-fails : goal.returns-in_err-left-clause-fails

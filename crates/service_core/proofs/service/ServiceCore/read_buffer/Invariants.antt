@@ -16,4 +16,5 @@ invariant-loop-place g l = record {
   told : (world : World) → g.W.Words.means.told l.fn.table ≡ Some world
       → g.W.Words.means.told l.table ≡ Some (serviced world (g.W.Words.means.service_view l.table l.self.seat));
   faults : g.O.Sink.faults l.out ≡ g.O.Sink.faults l.fn.out;
+  may : g.O.Sink.may_write l.out;
 }

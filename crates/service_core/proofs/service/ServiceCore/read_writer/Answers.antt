@@ -21,8 +21,8 @@ index_mut-buffer-requires g c =
     let joined = core.buffers.ok.0 in
     omega (arith, inside, joined)
 
-pub read_counted-delivered-requires : goal.read_counted-delivered-requires
-read_counted-delivered-requires g c =
+pub read_counted-delivered-requires-clause-known : goal.read_counted-delivered-requires-clause-known
+read_counted-delivered-requires-clause-known g c =
     let setup = g.W.Words.means.setup c.args.table.now in
     let view = g.W.Words.means.service_view c.args.table.now c.args.self.now.seat in
     let core = c.args.self.now in
