@@ -34,6 +34,7 @@ impl Service {
         requires serves { Serves table.now self.old }
         requires pass { Passes table.now pass.old }
         requires known { IsKnownWhole (known_by_pass pass.old) }
+        requires may { O.may_write out.old }
         ensures serves { Serves table.now self.new }
         ensures pass { Passes table.now pass.new }
         ensures known { IsKnownWhole (known_by_pass pass.new) }
@@ -47,6 +48,7 @@ impl Service {
             → NotesReads (setup_in table.now) (core_of self.old) events (view_in self.old) (view_in self.new)
             → PassReads (setup_in table.now) (core_of self.old) events (known_by_pass pass.old) (known_by_pass pass.new) }
         ensures count { CountsFaults (O.faults out.old) (O.faults out.new) result }
+        ensures goes_on { OnOk result (O.may_write out.new) }
     {
         self.read_at::<Brand, O>(table, pass, buffer, limit, out)
     }
@@ -67,6 +69,7 @@ impl Service {
         requires serves { Serves table.now self.old }
         requires pass { Passes table.now pass.old }
         requires known { IsKnownWhole (known_by_pass pass.old) }
+        requires may { O.may_write out.old }
         ensures serves { Serves table.now self.new }
         ensures pass { Passes table.now pass.new }
         ensures known { IsKnownWhole (known_by_pass pass.new) }
@@ -80,6 +83,7 @@ impl Service {
             → NotesReads (setup_in table.now) (core_of self.old) events (view_in self.old) (view_in self.new)
             → PassReads (setup_in table.now) (core_of self.old) events (known_by_pass pass.old) (known_by_pass pass.new) }
         ensures count { CountsFaults (O.faults out.old) (O.faults out.new) result }
+        ensures goes_on { OnOk result (O.may_write out.new) }
     {
         let mut passing = Passing::<N> {
             table,
