@@ -4,7 +4,7 @@ ghost use Rattle.trace_model.specs.Calls.{Flushed};
 ghost use Rattle.trace_base.specs.declared.limits.TheConstants.{MAX_BUFFERS};
 ghost use Rattle.replay_model.specs.Acts.{Ask, CloseProducer};
 ghost use Rattle.replay_model.specs.Schedule.{open_places, open_producers, last_acts};
-ghost use Rattle.replay_host.specs.Replaying.{CountsStop};
+ghost use Rattle.replay_host.specs.Replaying.{CountsStop, IsStall};
 
 use crate::fault::HostFault;
 use crate::host::Host;
@@ -48,9 +48,12 @@ impl<W: Words> Host<W, W::Writer, W::Service> {
     fn read_all<O: Sink>(&mut self, buffers: usize, out: &mut O) -> Result<(), HostFault>
         requires host { IsHost W.means self.old }
         requires few { buffers ≤ MAX_BUFFERS }
+        requires may { O.may_write out.old }
         ensures read { OnOk result (HasEnded W.means (reads_to buffers) self.old (O.taken out.old) self.new (O.taken out.new)) }
         ensures stops { IfErr result (λ fault. StopsIn W.means (reads_to buffers) self.old (O.taken out.old) fault (O.taken out.new)) }
         ensures count { CountsStop (O.faults out.old) (O.faults out.new) result }
+        ensures goes_on { OnOk result (O.may_write out.new) }
+        ensures stalled { IfErr result (λ fault. IsStall fault → O.may_write out.new) }
     {
         for index in 0..buffers {
             self.read(index as u8 + 1, u64::MAX, out)?;
@@ -63,11 +66,14 @@ impl<W: Words> Host<W, W::Writer, W::Service> {
     pub(crate) fn play_end<O: Sink>(&mut self, buffers: usize, out: &mut O) -> Result<(), HostFault>
         requires over { (over : IsOver W.means self.old) × (length over.scenario.buffers ≡ buffers) }
         requires few { buffers ≤ MAX_BUFFERS }
+        requires may { O.may_write out.old }
         ensures ended { OnOk result ((over : IsOver W.means self.old) → length over.scenario.buffers ≡ buffers
             → HasEnded W.means (last_acts over.scenario) self.old (O.taken out.old) self.new (O.taken out.new)) }
         ensures stops { IfErr result (λ fault. (over : IsOver W.means self.old) → length over.scenario.buffers ≡ buffers
             → StopsIn W.means (last_acts over.scenario) self.old (O.taken out.old) fault (O.taken out.new)) }
         ensures count { CountsStop (O.faults out.old) (O.faults out.new) result }
+        ensures goes_on { OnOk result (O.may_write out.new) }
+        ensures stalled { IfErr result (λ fault. IsStall fault → O.may_write out.new) }
     {
         self.flush_all();
         self.collect_all();

@@ -156,11 +156,14 @@ impl<W: Words> Host<W, W::Writer, W::Service> {
     /// Plays a line in which a buffer is read.
     fn play_read<O: Sink>(&mut self, buffer: u8, limit: u64, out: &mut O) -> Result<(), HostFault>
         requires next { (moment : Moment) × ComesServing W.means moment (ReadAll buffer limit ∷ []) self.old }
+        requires may { O.may_write out.old }
         ensures played { OnOk result ((moment : Moment) → ComesServing W.means moment (ReadAll buffer limit ∷ []) self.old
             → IsLinePlayed W.means moment self.old (O.taken out.old) self.new (O.taken out.new)) }
         ensures stops { IfErr result (λ fault. (moment : Moment) → ComesServing W.means moment (ReadAll buffer limit ∷ []) self.old
             → StopsIn W.means (acts_of moment.scenario moment.before moment.line.what) self.old (O.taken out.old) fault (O.taken out.new)) }
         ensures count { CountsStop (O.faults out.old) (O.faults out.new) result }
+        ensures goes_on { OnOk result (O.may_write out.new) }
+        ensures stalled { IfErr result (λ fault. IsStall fault → O.may_write out.new) }
     {
         self.read(buffer, limit, out)
     }
@@ -173,11 +176,14 @@ impl<W: Words> Host<W, W::Writer, W::Service> {
         out: &mut O,
     ) -> Result<(), HostFault>
         requires next { (moment : Moment) × (moment.line.what ≡ line.now) × ComesNext W.means moment self.old }
+        requires may { O.may_write out.old }
         ensures played { OnOk result ((moment : Moment) → moment.line.what ≡ line.now → ComesNext W.means moment self.old
             → IsLinePlayed W.means moment self.old (O.taken out.old) self.new (O.taken out.new)) }
         ensures stops { IfErr result (λ fault. (moment : Moment) → moment.line.what ≡ line.now → ComesNext W.means moment self.old
             → StopsIn W.means (acts_of moment.scenario moment.before moment.line.what) self.old (O.taken out.old) fault (O.taken out.new)) }
         ensures count { CountsStop (O.faults out.old) (O.faults out.new) result }
+        ensures goes_on { OnOk result (O.may_write out.new) }
+        ensures stalled { IfErr result (λ fault. IsStall fault → O.may_write out.new) }
     {
         match line {
             LineKind::Packet { writer, fields } => {

@@ -4,7 +4,7 @@ ghost use Rattle.loss_report.specs.Report.{report_text};
 ghost use Rattle.replay_model.specs.Played.{Replays};
 ghost use Rattle.scenario_text.specs.Scenario.{IsScenario, parts_of};
 ghost use Rattle.replay_host.specs.Making.{IsMade};
-ghost use Rattle.replay_host.specs.Replaying.{HasReplayed, EndsEarly, CountsStop};
+ghost use Rattle.replay_host.specs.Replaying.{HasReplayed, EndsEarly, CountsStop, IsStall};
 
 use crate::counting::make_done;
 use crate::fault::HostFault;
@@ -33,10 +33,13 @@ impl<W: Words> Host<W, W::Writer, W::Service> {
         requires made { IsMade W.means (parts_of scenario.now) self.old }
         requires buffers { vec_len done.old.buffers ≡ vec_len scenario.now.buffers }
         requires sequences { vec_len done.old.sequences ≡ vec_len scenario.now.writers }
+        requires may { O.may_write out.old }
         ensures played { OnOk result (Replays (parts_of scenario.now) (O.taken out.old) (O.taken out.new)
             (report_text done.new.buffers.items done.new.sequences.items self.new.flushes.chunks.items)) }
         ensures stops { IfErr result (λ fault. EndsEarly (parts_of scenario.now) fault (O.taken out.old) (O.taken out.new)) }
         ensures count { CountsStop (O.faults out.old) (O.faults out.new) result }
+        ensures goes_on { OnOk result (O.may_write out.new) }
+        ensures stalled { IfErr result (λ fault. IsStall fault → O.may_write out.new) }
     {
         self.play_lines(steps, &scenario.lines, out)?;
         self.play_end(scenario.buffers.len(), out)?;
@@ -81,9 +84,12 @@ fn play_made<T: Sink, L: Ledger>(
     requires name { blank.name ≡ L.name }
     requires parts { blank.parts ≡ L.parts }
     requires some_part { 0 < L.parts }
+    requires may { T.may_write out.old }
     ensures done { IfOk result (λ done. HasReplayed (parts_of scenario.now) (T.taken out.old) (T.taken out.new) done) }
     ensures stops { IfErr result (λ fault. EndsEarly (parts_of scenario.now) fault (T.taken out.old) (T.taken out.new)) }
     ensures count { CountsStop (T.faults out.old) (T.faults out.new) result }
+    ensures goes_on { OnOk result (T.may_write out.new) }
+    ensures stalled { IfErr result (λ fault. IsStall fault → T.may_write out.new) }
 {
     let mut host = made;
     let mut done = room;
@@ -99,10 +105,13 @@ fn play_made<T: Sink, L: Ledger>(
 /// Plays a scenario into a sink, and answers what became of its packets, its chunks and its flush
 /// requests. Where it stops early, the sink has taken a front part of the trace.
 pub fn replay<T: Sink>(alloc: Global, scenario: &Scenario, out: &mut T) -> Result<Done, HostFault>
-    requires { IsScenario scenario.now }
+    requires scenario { IsScenario scenario.now }
+    requires may { T.may_write out.old }
     ensures done { IfOk result (λ done. HasReplayed (parts_of scenario.now) (T.taken out.old) (T.taken out.new) done) }
     ensures stops { IfErr result (λ fault. EndsEarly (parts_of scenario.now) fault (T.taken out.old) (T.taken out.new)) }
     ensures count { CountsStop (T.faults out.old) (T.faults out.new) result }
+    ensures goes_on { OnOk result (T.may_write out.new) }
+    ensures stalled { IfErr result (λ fault. IsStall fault → T.may_write out.new) }
 {
     let buffers = scenario.buffers.len();
     let writers = scenario.writers.len();

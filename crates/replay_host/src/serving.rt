@@ -66,6 +66,7 @@ impl<W: Words> Host<W, W::Writer, W::Service> {
     /// packets that it took whole are noted as read, no others.
     pub fn read<O: Sink>(&mut self, buffer: u8, limit: u64, out: &mut O) -> Result<(), HostFault>
         requires host { IsHost W.means self.old }
+        requires may { O.may_write out.old }
         ensures host { IsHost W.means self.new }
         ensures writers { LeavesWriters W.means self.old self.new }
         ensures opened { self.new.open_producers ≡ self.old.open_producers }
@@ -74,6 +75,7 @@ impl<W: Words> Host<W, W::Writer, W::Service> {
             (HasDone W.means (ReadAll buffer limit ∷ []) [] self.old (O.taken out.old) self.new (O.taken out.new)) }
         ensures fails { IfErr result (λ fault. FailsReading W.means buffer limit self.old (O.taken out.old) self.new (O.taken out.new) fault) }
         ensures count { CountsFaults (O.faults out.old) (O.faults out.new) result }
+        ensures goes_on { OnOk result (O.may_write out.new) }
     {
         match self
             .helper

@@ -6,7 +6,7 @@ use Rattle.replay_model.specs.Acts.{Act, ReadAll}
 use Rattle.replay_host.specs.Ending.{HasEnded, reads_to}
 use Rattle.replay_host.specs.Playing.{HasDone}
 use Rattle.replay_host.specs.declared.fault.HostFault.{HostFault}
-use Rattle.replay_host.specs.Replaying.{CountsOne}
+use Rattle.replay_host.specs.Replaying.{CountsOne, IsStall}
 use Rattle.replay_host.specs.Stopping.{StopsIn}
 use Rattle.replay_host.proofs.EndingLemmas.{ended_more, reads_cut}
 use Rattle.replay_host.proofs.FieldLemmas.{if_err_is}
@@ -57,6 +57,7 @@ loop-index-preserved g c =
           (ended_more means (reads_to index) (ReadAll (suc index) last_count ∷ []) old mid c.read.new.self taken between left c.loop-index.invariant.ended
           c.in_ok-read.ensures.host c.in_ok-read.ensures.writers.flushes done);
       steady = c.in_ok-read.ensures.count ∙ c.loop-index.invariant.steady;
+      may = c.in_ok-read.ensures.goes_on;
     }
 
 pub returns-in_err-read-clause-count : goal.returns-in_err-read-clause-count
@@ -71,3 +72,9 @@ returns-in_err-read-clause-count g c =
 
 pub returns-clause-count : goal.returns-clause-count
 returns-clause-count g c = c.loop-index.invariant.steady
+
+pub returns-in_err-read-clause-stalled : goal.returns-in_err-read-clause-stalled
+returns-in_err-read-clause-stalled g c =
+    let found = c.in_err-read.field-0.0 in
+    let result_is : c.from_residual.result ≡ Err found = search rules in
+    if_err_is c.from_residual.result found _ result_is (λ stall. absurd (subst IsStall c.in_err-read.ensures.fails.fault_is stall))

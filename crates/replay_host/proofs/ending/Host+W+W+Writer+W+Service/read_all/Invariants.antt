@@ -7,4 +7,5 @@ abbrev pub invariant-loop-index : goal.invariant-loop-index
 invariant-loop-index g l = record {
   ended : HasEnded g.W.Words.means (reads_to l.index) l.fn.self (g.O.Sink.taken l.fn.out) l.self (g.O.Sink.taken l.out);
   steady : g.O.Sink.faults l.out ≡ g.O.Sink.faults l.fn.out;
+  may : g.O.Sink.may_write l.out;
 }

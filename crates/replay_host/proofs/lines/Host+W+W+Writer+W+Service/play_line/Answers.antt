@@ -97,8 +97,9 @@ play_scrape-requires g c =
 pub returns-in-Scrape-clause-played : goal.returns-in-Scrape-clause-played
 returns-in-Scrape-clause-played g c moment what next = c.play_scrape.ensures.played moment (comes_scrape g.W.Words.means moment c.args.self.now c.in-Scrape.producer (what ∙ c.in-Scrape.is) next).0 (g.O.Sink.taken c.args.out.now)
 
-pub play_read-requires : goal.play_read-requires
-play_read-requires g c = record { next = (c.requires.next.0, comes_read g.W.Words.means c.requires.next.0 c.args.self.now c.in-Read.buffer c.in-Read.limit (c.requires.next.1 ∙ c.in-Read.is) c.requires.next.2) }
+pub play_read-requires-clause-next : goal.play_read-requires-clause-next
+play_read-requires-clause-next g c =
+    (c.requires.next.0, comes_read g.W.Words.means c.requires.next.0 c.args.self.now c.in-Read.buffer c.in-Read.limit (c.requires.next.1 ∙ c.in-Read.is) c.requires.next.2)
 
 pub returns-in-Read-clause-played : goal.returns-in-Read-clause-played
 returns-in-Read-clause-played g c =

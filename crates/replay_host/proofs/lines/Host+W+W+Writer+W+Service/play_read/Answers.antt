@@ -1,6 +1,7 @@
 -- The service plays the line alone, or a write fails.
 use Rattle.std.proofs.Common.{[], ◌∷◌, List, sym, subst}
 use Rattle.replay_model.specs.Acts.{Act, ReadAll}
+use Rattle.replay_host.specs.Replaying.{IsStall}
 use Rattle.replay_host.specs.Stopping.{StopsIn}
 use Rattle.replay_host.proofs.FieldLemmas.{on_ok_map, if_err_map}
 use Rattle.replay_host.proofs.RowLemmas.{AreLaws}
@@ -8,8 +9,8 @@ use Rattle.replay_host.proofs.ServedLineLemmas.{served_played}
 use Rattle.replay_host.proofs.StopLemmas.{stopped_read}
 use Rattle.replay_host.proofs.lines.Host+W+W+Writer+W+Service.play_read.Goals as goal
 
-pub read-requires : goal.read-requires
-read-requires g c = record { host = c.requires.next.1.next.at.going.kept.is_host }
+pub read-requires-clause-host : goal.read-requires-clause-host
+read-requires-clause-host g c = c.requires.next.1.next.at.going.kept.is_host
 
 pub returns-clause-played : goal.returns-clause-played
 returns-clause-played g c =
@@ -32,3 +33,7 @@ returns-clause-stops g c =
     subst (λ (acts : List Act). StopsIn means acts c.args.self.now (g.O.Sink.taken c.args.out.now) fault (g.O.Sink.taken c.read.new.out)) (sym comes.acts_are)
     (stopped_read means laws c.args.buffer c.args.limit c.args.self.now c.read.new.self (g.O.Sink.taken c.args.out.now) (g.O.Sink.taken c.read.new.out) fault
     comes.next.at.going.kept.is_host fails))
+
+pub returns-clause-stalled : goal.returns-clause-stalled
+returns-clause-stalled g c =
+    if_err_map c.read.result _ _ c.read.ensures.fails (λ fault fails stall. absurd (subst IsStall fails.fault_is stall))

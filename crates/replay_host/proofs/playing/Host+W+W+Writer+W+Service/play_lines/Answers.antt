@@ -14,10 +14,11 @@ lines-init g c = record {
   left = sym c.walk-walk.ensures;
   played = λ scenario same begins. played_first g.W.Words.means scenario c.args.self.now (g.O.Sink.taken c.args.out.now) begins;
   steady = refl;
+  may = c.requires.may;
 }
 
-pub play_line-requires : goal.play_line-requires
-play_line-requires g c =
+pub play_line-requires-clause-next : goal.play_line-requires-clause-next
+play_line-requires-clause-next g c =
     let means = g.W.Words.means in
     let scenario : Parts = c.requires.begins.0 in
     let same = c.requires.begins.1 in
@@ -30,14 +31,11 @@ play_line-requires g c =
     ap (λ (ls : List NumberedLine). get_or ls i line) same ∙ there.1 in
     let so = c.lines.invariant.played scenario same begins in
     let taken = g.O.Sink.taken c.args.out.now in
-    let between = g.O.Sink.taken c.lines.out in
-    record {
-      next = (
-        moment_at means scenario c.args.self.now taken begins i line below is c.lines.self between so,
-        refl,
-        comes_at means scenario c.args.self.now taken begins i line below is c.lines.self between so,
-      );
-    }
+    let between = g.O.Sink.taken c.lines.out in (
+      moment_at means scenario c.args.self.now taken begins i line below is c.lines.self between so,
+      refl,
+      comes_at means scenario c.args.self.now taken begins i line below is c.lines.self between so,
+    )
 
 pub returns-in_err-play_line-clause-stops : goal.returns-in_err-play_line-clause-stops
 returns-in_err-play_line-clause-stops g c =
@@ -79,6 +77,7 @@ lines-preserved g c = record {
       refl
       (comes_at means scenario c.args.self.now taken begins i line below is c.lines.self between so));
   steady = c.in_ok-play_line.ensures.count ∙ c.lines.invariant.steady;
+  may = c.in_ok-play_line.ensures.goes_on;
 }
 
 pub returns-clause-played : goal.returns-clause-played

@@ -11,6 +11,7 @@ invariant-lines g l = record {
   played : (scenario : Parts) → scenario.lines ≡ l.fn.lines → Begins g.W.Words.means scenario l.fn.self
       → HavePlayedTo g.W.Words.means scenario place l.fn.self (g.O.Sink.taken l.fn.out) l.self (g.O.Sink.taken l.out);
   steady : g.O.Sink.faults l.out ≡ g.O.Sink.faults l.fn.out;
+  may : g.O.Sink.may_write l.out;
 }
 
 abbrev pub decreases-lines : goal.decreases-lines

@@ -9,14 +9,12 @@ use Rattle.replay_host.proofs.ReplayingLemmas.{may_begin, lines_stopped, is_over
 use Rattle.replay_host.proofs.RowLemmas.{AreLaws}
 use Rattle.replay_host.proofs.replaying.Host+W+W+Writer+W+Service.play.Goals as goal
 
-pub play_lines-requires : goal.play_lines-requires
-play_lines-requires g c =
+pub play_lines-requires-clause-begins : goal.play_lines-requires-clause-begins
+play_lines-requires-clause-begins g c =
     let means = g.W.Words.means in
-    record {
-      begins = may_begin means c.args.scenario.now c.requires.scenario c.args.self.now c.requires.made
-          (g.O.Sink.taken c.args.out.now)
-          c.args.scenario.now.lines refl;
-    }
+    may_begin means c.args.scenario.now c.requires.scenario c.args.self.now c.requires.made
+    (g.O.Sink.taken c.args.out.now)
+    c.args.scenario.now.lines refl
 
 pub returns-in_err-play_lines-clause-stops : goal.returns-in_err-play_lines-clause-stops
 returns-in_err-play_lines-clause-stops g c =
