@@ -1,5 +1,5 @@
 //! The end of a run: all sequences are closed, all buffers read, and all is counted.
-ghost use Rattle.std.specs.Prelude.{◌≡◌, ℕ, ◌<◌, ◌≤◌, length, map, slice_index_or, IfOk, OnErr};
+ghost use Rattle.std.specs.Prelude.{◌≡◌, ℕ, ◌<◌, ◌≤◌, length, map, slice_index_or, IfOk, OnErr, OnOk};
 ghost use Rattle.byte_io.specs.Bytes.{CountsFaults};
 ghost use Rattle.trace_base.specs.declared.limits.TheConstants.{MAX_BUFFERS};
 ghost use Rattle.trace_buffer.specs.Answers as answers;
@@ -35,12 +35,14 @@ impl Settled {
     /// service that were settled, also where a write failed.
     pub fn finish<T: Sink>(self, out: &mut T) -> Result<Done, WriteFault>
         requires settled { (scenario : Parts) × IsSettled scenario self }
+        requires may { T.may_write out.old }
         ensures done { (scenario : Parts) → IsSettled scenario self
             → IfOk result (HasFinished scenario self (T.taken out.old) (T.taken out.new)) }
         ensures fails { (scenario : Parts) → IsSettled scenario self
             → OnErr result (HasFailed scenario self (T.taken out.old) (T.taken out.new)) }
         ensures stands { KeepsLoans (T.taken out.old) (T.taken out.new) }
         ensures count { CountsFaults (T.faults out.old) (T.faults out.new) result }
+        ensures goes_on { OnOk result (T.may_write out.new) }
     {
         let Settled {
             table,
@@ -112,6 +114,7 @@ fn read_all<T: Sink>(
     requires pass { Passes table.now pass.old }
     requires known { IsKnownWhole (known_by_pass pass.old) }
     requires few { buffers ≤ MAX_BUFFERS }
+    requires may { T.may_write out.old }
     ensures serves { Serves table.now service.new }
     ensures pass { Passes table.now pass.new }
     ensures known { IsKnownWhole (known_by_pass pass.new) }
@@ -123,6 +126,7 @@ fn read_all<T: Sink>(
         (view_in service.old) (view_in service.new) (known_by_pass pass.old) (known_by_pass pass.new) (T.taken out.old) (T.taken out.new)) }
     ensures stands { KeepsLoans (T.taken out.old) (T.taken out.new) }
     ensures count { CountsFaults (T.faults out.old) (T.faults out.new) result }
+    ensures goes_on { OnOk result (T.may_write out.new) }
 {
     'buffers: for index in 0..buffers {
         service.read_passing(table, pass, index as u8 + 1, u64::MAX, out)?;

@@ -92,6 +92,7 @@ impl Host {
     ) -> Result<(), WriteFault>
         requires host { IsHost (parts_of scenario.now) self.old }
         requires writers { AreReady scenario.now.lines self.old.table writers.old.items }
+        requires may { T.may_write out.old }
         ensures host { IsHost (parts_of scenario.now) self.new }
         ensures table { self.new.table ≡ self.old.table }
         ensures grows { IfSome self.old.service (λ before. IfSome self.new.service (λ after.
@@ -103,6 +104,7 @@ impl Host {
             scenario.now.lines (known_by_pass self.old.pass) (known_by_pass self.new.pass) (T.taken out.old) (T.taken out.new)) }
         ensures stands { KeepsLoans (T.taken out.old) (T.taken out.new) }
         ensures count { CountsFaults (T.faults out.old) (T.faults out.new) result }
+        ensures goes_on { OnOk result (T.may_write out.new) }
     {
         let Some(service) = self.service.take() else {
             unreachable!()

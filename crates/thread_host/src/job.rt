@@ -1,5 +1,5 @@
 //! The service's own job of a run.
-ghost use Rattle.std.specs.Prelude.{◌≡◌, ℕ, true, IfOk, OnErr};
+ghost use Rattle.std.specs.Prelude.{◌≡◌, ℕ, true, IfOk, OnErr, OnOk};
 ghost use Rattle.byte_io.specs.Bytes.{CountsFaults};
 ghost use Rattle.chunk_words.specs.Sits.{Passes, known_by_pass};
 ghost use Rattle.scenario_text.specs.declared.scenario.LineKind.TheVariants as line_kinds;
@@ -33,6 +33,7 @@ pub fn service_job<N: HostName, R: Wait, G: Gate, O: Sink>(
     requires lines { lines.now ≡ N.lines }
     requires pass { Passes table.now pass.old }
     requires known { IsKnownWhole (known_by_pass pass.old) }
+    requires may { O.may_write out.old }
     ensures pass { Passes table.now pass.new }
     ensures known { IsKnownWhole (known_by_pass pass.new) }
     ensures told { IfOk result (λ _. TellsLines N.setup N.first lines.now (known_by_pass pass.old) (known_by_pass pass.new)
@@ -41,6 +42,7 @@ pub fn service_job<N: HostName, R: Wait, G: Gate, O: Sink>(
         (O.taken out.old) (O.taken out.new)) }
     ensures stands { KeepsLoans (O.taken out.old) (O.taken out.new) }
     ensures count { CountsFaults (O.faults out.old) (O.faults out.new) result }
+    ensures goes_on { OnOk result (O.may_write out.new) }
 {
     // There are never so many lines that the number stands still.
     let mut number: u64 = 1;
@@ -84,6 +86,7 @@ fn play_line<N: HostName, R: Wait, O: Sink>(
     requires scraped { (producer : ℕ) → line.now ≡ line_kinds.Scrape producer → is_scraped_by N.lines producer ≡ true }
     requires pass { Passes table.now pass.old }
     requires known { IsKnownWhole (known_by_pass pass.old) }
+    requires may { O.may_write out.old }
     ensures pass { Passes table.now pass.new }
     ensures known { IsKnownWhole (known_by_pass pass.new) }
     ensures told { IfOk result (λ _. TellsLine N.setup N.first line.now (known_by_pass pass.old) (known_by_pass pass.new)
@@ -92,6 +95,7 @@ fn play_line<N: HostName, R: Wait, O: Sink>(
         (O.taken out.old) (O.taken out.new)) }
     ensures stands { KeepsLoans (O.taken out.old) (O.taken out.new) }
     ensures count { CountsFaults (O.faults out.old) (O.faults out.new) result }
+    ensures goes_on { OnOk result (O.may_write out.new) }
 {
     match line {
         LineKind::Collect { producer } => {

@@ -1,5 +1,5 @@
 //! The service behind a lock.
-ghost use Rattle.std.specs.Prelude.{◌≡◌, true, List, IfOk, OnErr};
+ghost use Rattle.std.specs.Prelude.{◌≡◌, true, List, IfOk, OnErr, OnOk};
 ghost use Rattle.byte_io.specs.Bytes.{CountsFaults};
 ghost use Rattle.trace_model.specs.History as model;
 ghost use Rattle.chunk_words.specs.Knows.{Away, with_stage};
@@ -104,6 +104,7 @@ impl<N: HostName> Locked<N> {
         requires table { IsNamed N.table N.setup table.now }
         requires pass { Passes table.now pass.old }
         requires known { IsKnownWhole (known_by_pass pass.old) }
+        requires may { O.may_write out.old }
         ensures pass { Passes table.now pass.new }
         ensures known { IsKnownWhole (known_by_pass pass.new) }
         ensures desk { with_stage (desk_in self.new.service) Away ≡ with_stage (desk_in self.old.service) Away }
@@ -120,6 +121,7 @@ impl<N: HostName> Locked<N> {
             → NotesReads N.setup (core_of self.old.service) events (view_in self.old.service) (view_in self.new.service)
             → PassReads N.setup (core_of self.old.service) events (known_by_pass pass.old) (known_by_pass pass.new) }
         ensures count { CountsFaults (O.faults out.old) (O.faults out.new) result }
+        ensures goes_on { OnOk result (O.may_write out.new) }
     {
         self.service.read_passing(table, pass, buffer, limit, out)
     }

@@ -1,5 +1,5 @@
 //! The jobs of a run, beside each other.
-ghost use Rattle.std.specs.Prelude.{◌≡◌, ℕ, ◌<◌, length, IfOk, OnErr};
+ghost use Rattle.std.specs.Prelude.{◌≡◌, ℕ, ◌<◌, length, IfOk, OnErr, OnOk};
 ghost use Rattle.byte_io.specs.Bytes.{CountsFaults};
 ghost use Rattle.chunk_words.specs.Sits.{Passes, known_by_pass};
 ghost use Rattle.thread_service.specs.Reading.{IsKnownWhole};
@@ -140,6 +140,7 @@ pub fn run_named<
     requires grows { Grows N.setup N.lines N.start (view_in service) }
     requires pass { Passes table.now pass.old }
     requires known { IsKnownWhole (known_by_pass pass.old) }
+    requires may { O.may_write out.old }
     requires ready { AreReadyFrom own.now table.now 0 writers.old }
     ensures serves { ServesNamed N.table N.setup result.0 }
     ensures open { AllOpen N.setup result.0 }
@@ -154,6 +155,7 @@ pub fn run_named<
         (O.taken out.old) (O.taken out.new)) }
     ensures stands { KeepsLoans (O.taken out.old) (O.taken out.new) }
     ensures count { CountsFaults (O.faults out.old) (O.faults out.new) result.1 }
+    ensures goes_on { OnOk result.1 (O.may_write out.new) }
     ensures played { HavePlayedFrom own.now table.now 0 writers.old writers.new }
 {
     let locked = Mutex::new(Locked::<N>::new(service));

@@ -1,4 +1,5 @@
 //! Running a scenario whole.
+ghost use Rattle.std.specs.Prelude.{OnOk};
 ghost use Rattle.replay_host.specs.Replaying.{CountsStop};
 ghost use Rattle.scenario_text.specs.Scenario.{IsScenario, parts_of};
 ghost use Rattle.thread_host.specs.Finishing.{EndsRun};
@@ -31,9 +32,11 @@ pub fn run<R: Threads + Wait + Sync, T: Sink + Send, G: Gate + Sync>(
 ) -> Result<Done, HostFault>
     requires scenario { IsScenario scenario.now }
     requires closes { ClosesNone scenario.now.lines }
+    requires may { T.may_write out.old }
     ensures ends { EndsRun (parts_of scenario.now) result (T.taken out.old) (T.taken out.new) }
     ensures stands { KeepsLoans (T.taken out.old) (T.taken out.new) }
     ensures count { CountsStop (T.faults out.old) (T.faults out.new) result }
+    ensures goes_on { OnOk result (T.may_write out.new) }
 {
     every_run_is_faithful();
     every_stopped_run_is_faithful();

@@ -22,6 +22,7 @@ buffers-init g c =
       reads = out_none setup (first_of setup (core_of c.args.service.now)) (view_in c.args.service.now) (known_by_pass c.args.pass.now) (g.T.Sink.taken c.args.out.now);
       stands = refl;
       steady = refl;
+      may = c.requires.may;
     }
 
 pub buffers-preserved : goal.buffers-preserved
@@ -44,6 +45,7 @@ buffers-preserved g c =
           (first_stays setup start core i.keeps.fields) i.serves.agrees.buffers i.reads ok.reads ok.passes;
       stands = loans_kept (g.T.Sink.taken c.buffers.out) (g.T.Sink.taken c.read_passing.new.out) _ ok.reads.taken ∙ i.stands;
       steady = ok.count ∙ i.steady;
+      may = ok.goes_on;
     }
 
 pub returns-in_err-read_passing-clause-fails : goal.returns-in_err-read_passing-clause-fails

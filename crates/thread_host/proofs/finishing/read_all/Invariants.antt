@@ -19,4 +19,5 @@ invariant-buffers g l = record {
       (known_by_pass l.fn.pass) (known_by_pass l.pass) (g.T.Sink.taken l.fn.out) (g.T.Sink.taken l.out);
   stands : KeepsLoans (g.T.Sink.taken l.fn.out) (g.T.Sink.taken l.out);
   steady : g.T.Sink.faults l.out ≡ g.T.Sink.faults l.fn.out;
+  may : g.T.Sink.may_write l.out;
 }

@@ -22,4 +22,5 @@ returns g c = record {
   fails = tt;
   stands = refl;
   count = refl;
+  goes_on = c.requires.may;
 }

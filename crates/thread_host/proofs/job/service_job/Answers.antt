@@ -17,6 +17,7 @@ lines-init g c = record {
   told = tells_none g.N.HostName.setup g.N.HostName.first (known_by_pass c.args.pass.now) (g.O.Sink.taken c.args.out.now);
   stands = refl;
   steady = refl;
+  may = c.requires.may;
 }
 
 pub play_line-requires-clause-collected : goal.play_line-requires-clause-collected
@@ -43,6 +44,7 @@ lines-preserved g c =
           c.lines.invariant.told c.in_ok-play_line.ensures.told;
       stands = c.in_ok-play_line.ensures.stands ∙ c.lines.invariant.stands;
       steady = c.in_ok-play_line.ensures.count ∙ c.lines.invariant.steady;
+      may = c.in_ok-play_line.ensures.goes_on;
     }
 
 pub returns-in_err-play_line-clause-fails : goal.returns-in_err-play_line-clause-fails

@@ -16,6 +16,7 @@ invariant-lines g l = record {
       (g.O.Sink.taken l.fn.out) (g.O.Sink.taken l.out);
   stands : KeepsLoans (g.O.Sink.taken l.fn.out) (g.O.Sink.taken l.out);
   steady : g.O.Sink.faults l.out ≡ g.O.Sink.faults l.fn.out;
+  may : g.O.Sink.may_write l.out;
 }
 
 abbrev pub decreases-lines : goal.decreases-lines
