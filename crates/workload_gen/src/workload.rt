@@ -18,9 +18,11 @@ pub fn generate<O: Sink>(
 ) -> Result<(), WriteFault>
     requires writers { (1 ≤ writers) × (writers ≤ MAX_GENERATED_WRITERS) }
     requires packets { (1 ≤ packets) × (packets ≤ MAX_GENERATED_PACKETS) }
+    requires may { O.may_write out.old }
     ensures all { OnOk result (O.taken out.new ≡ after_told (O.taken out.old) (workload number writers packets)) }
     ensures part { OnErr result (TakesPart (O.taken out.old) (O.taken out.new) (workload number writers packets)) }
     ensures count { CountsFaults (O.faults out.old) (O.faults out.new) result }
+    ensures goes_on { OnOk result (O.may_write out.new) }
 {
     let writers_of_turn = u32::from(writers);
     let mut batch = Batch::new();

@@ -16,6 +16,7 @@ unfolding state_after
 loop-k-init g c = record {
   written = set_up_waits c.args.number c.args.writers (set_up_lines c.args.writers) c.add_set_up.ensures.text;
   count = refl;
+  may = c.requires.may;
   state = refl;
 }
 
@@ -38,6 +39,7 @@ loop-k-preserved g c =
             written = line_waits c.args.number c.args.writers c.loop-k.k (set_up_lines c.args.writers) waits c.from-writers_of_turn.ensures state
                 c.drawn_of.ensures.is c.add_line.ensures;
             count = ap g.O.Sink.faults w.out-is ∙ w.in_ok-put_all.ensures.count ∙ c.loop-k.invariant.count;
+            may = rw w.out-is w.in_ok-put_all.ensures.goes_on;
             state = state;
           }
       | else-len w ↦
@@ -47,6 +49,7 @@ loop-k-preserved g c =
             written = line_waits c.args.number c.args.writers c.loop-k.k (set_up_lines c.args.writers) waits c.from-writers_of_turn.ensures state
                 c.drawn_of.ensures.is c.add_line.ensures;
             count = ap g.O.Sink.faults w.out-is ∙ c.loop-k.invariant.count;
+            may = rw w.out-is c.loop-k.invariant.may;
             state = state;
           }
     ]

@@ -7,5 +7,6 @@ abbrev pub invariant-loop-k : goal.invariant-loop-k
 invariant-loop-k g l = record {
   written : TakesUpTo (g.O.Sink.taken l.fn.out) (g.O.Sink.taken l.out) (set_up_lines l.writers ++ packet_lines l.number l.writers l.k) l.batch.items;
   count : g.O.Sink.faults l.out ≡ g.O.Sink.faults l.fn.out;
+  may : g.O.Sink.may_write l.out;
   state : l.state ≡ state_after l.number l.k;
 }
