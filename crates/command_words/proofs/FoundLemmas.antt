@@ -10,11 +10,12 @@ use Rattle.clap.specs.Words.{fault_of, subcommand_of, subcommand_name_of, subcom
 use Rattle.clap.specs.declared.ArgMatches.{ArgMatches}
 use Rattle.clap.proofs.WalkLemmas.{first_value-rows}
 use Rattle.command_words.specs.declared.command.Command.{Command}
-use Rattle.command_words.specs.declared.command.Command.TheVariants.{Replay, Run, Read, Check, Gen}
+use Rattle.command_words.specs.declared.command.Command.TheVariants.{Replay, Run, Read, Check, Gen, Tune}
 use Rattle.command_words.specs.Commands.{Spells, IsWithinLimits, words_of}
-use Rattle.command_words.specs.Found.{HasNumbers}
+use Rattle.command_words.specs.Found.{HasNumbers, HasTurns}
 use Rattle.command_words.specs.Program.{program_app, is_plain}
 use Rattle.command_words.proofs.GenLemmas.{IsValue, is_value, gen_passes, gen_found, gen_values, gen_rows, lone_passes, lone_found}
+use Rattle.command_words.proofs.TuneLemmas.{tune_passes, tune_found, tune_values, tune_rows}
 
 -- a word that was let through is no flag
 pub plain_value : (word : Text) → is_plain word ≡ true → IsValue word
@@ -59,6 +60,15 @@ spelled_by (Gen number writers packets) (small, some_writer, few_writers, some_p
       passes = gen_passes (decimal number) (decimal writers) (decimal packets) (decimal_value number small) (decimal_value writers few) (decimal_value packets many);
       plain = rw (decimal_plain number small) (rw (decimal_plain writers few) (rw (decimal_plain packets many) refl));
     }
+spelled_by (Tune users turns) (some_user, few_users, some_turn, few_turns) =
+    let few : users < 2 ^ 64 = omega arith in
+    let many : turns < 2 ^ 64 = omega arith in
+    record {
+      rows = tune_rows (decimal users) (decimal turns);
+      found = tune_found (decimal users) (decimal turns) (decimal_value users few) (decimal_value turns many);
+      passes = tune_passes (decimal users) (decimal turns) (decimal_value users few) (decimal_value turns many);
+      plain = rw (decimal_plain users few) (rw (decimal_plain turns many) refl);
+    }
 
 pub spelled : (words : List Text) (command : Command) → Spells words command → IsFound words
 spelled words command (same, within) = subst IsFound (sym same) (spelled_by command within)
@@ -87,6 +97,15 @@ numbers_found values number writers packets same =
       number_found = first_value-rows (found_of values) (codes "NUMBER") ∙ ap (first_of (codes "NUMBER")) same ∙ found.0;
       writers_found = first_value-rows (found_of values) (codes "WRITERS") ∙ ap (first_of (codes "WRITERS")) same ∙ found.1;
       packets_found = first_value-rows (found_of values) (codes "PACKETS") ∙ ap (first_of (codes "PACKETS")) same ∙ found.2;
+    }
+
+-- behind `tune`, with two words that were let through, their values are found
+pub turns_found : (values : ArgMatches) (users turns : Text) → rows_of (found_of values) ≡ tune_rows users turns → HasTurns values users turns
+turns_found values users turns same =
+    let found = tune_values users turns in
+    record {
+      users_found = first_value-rows (found_of values) (codes "USERS") ∙ ap (first_of (codes "USERS")) same ∙ found.0;
+      turns_found = first_value-rows (found_of values) (codes "TURNS") ∙ ap (first_of (codes "TURNS")) same ∙ found.1;
     }
 
 pub some_same : {T : Type 0} (one other : T) → Some one ≡ Some other → one ≡ other
@@ -140,3 +159,32 @@ same_numbers values a b c x y z one other = (
   some_same b y (sym one.writers_found ∙ other.writers_found),
   some_same c z (sym one.packets_found ∙ other.packets_found),
 )
+
+-- two words
+pub record AreTwo (words : List Text) : Type 0 where
+  pub first : Text
+  pub second : Text
+  pub same : words ≡ first ∷ second ∷ []
+
+pub two_of : (words : List Text) → length words ≡ 2 → AreTwo words
+two_of [] long = absurd (omega (arith, long))
+two_of (a ∷ []) long = absurd (omega (arith, long))
+two_of (a ∷ b ∷ []) long = record { first = a; second = b; same = refl }
+two_of (a ∷ b ∷ c ∷ more) long = absurd (omega (arith, long))
+
+-- the numbers that are found behind the name `tune`
+pub tune_numbers : (m values : ArgMatches) (name users turns : Text) → subcommand_rows_of m ≡ subcommand_of program_app (name ∷ users ∷ turns ∷ [])
+    → list_all is_plain (name ∷ users ∷ turns ∷ []) ≡ true → name ≡ codes "tune"
+    → Some (rows_of (found_of values)) ≡ option_map (λ (p : Text × List Row). p.1) (subcommand_rows_of m)
+    → HasTurns values users turns
+tune_numbers m values name users turns found plain named rows =
+    let last = is_plain turns && true in
+    let first = and_parts (is_plain users) last (and_parts (is_plain name) (is_plain users && last) plain).1 in
+    let second = and_parts (is_plain turns) true first.1 in
+    let whole = found ∙ ap (λ n. subcommand_of program_app (n ∷ users ∷ turns ∷ [])) named
+    ∙ tune_found users turns (plain_value users first.0) (plain_value turns second.0) in
+    turns_found values users turns (some_same _ _ (rows ∙ found_rows m (codes "tune") (tune_rows users turns) whole))
+
+-- no text is found twice
+pub same_turns : (values : ArgMatches) (a b x y : Text) → HasTurns values a b → HasTurns values x y → (a ≡ x) × (b ≡ y)
+same_turns values a b x y one other = (some_same a x (sym one.users_found ∙ other.users_found), some_same b y (sym one.turns_found ∙ other.turns_found))

@@ -21,16 +21,16 @@ pub record IsValue (word : Text) : Type 0 where
 pub is_value : (byte : ℕ) (bytes : List ℕ) → (byte == 45) ≡ false → IsValue (byte ∷ bytes)
 is_value byte bytes other = record { no_dashes = rw other refl; no_long = rw other refl; no_short = rw other refl }
 
-abbrev at : Held → ℕ → Walk
+abbrev pub at : Held → ℕ → Walk
 at held position = record { held = held; waiting = idle; position = position; is_trailing = false; stopped = None }
 
 -- such a word goes to the positional whose turn it is
-value_step : (rules : List Rule) (held : Held) (position : ℕ) (word : Text) → IsValue word
+pub value_step : (rules : List Rule) (held : Held) (position : ℕ) (word : Text) → IsValue word
     → walked rules [] (at held position) word ≡ to_positional rules (arg_by_index rules position) word (at held position) held
 unfolding walked
 value_step rules held position word plain = rw plain.no_dashes (rw plain.no_long (rw plain.no_short refl))
 
-value_turn : (shape : Shape) (held : Held) (position : ℕ) (word : Text) → IsValue word
+pub value_turn : (shape : Shape) (held : Held) (position : ℕ) (word : Text) → IsValue word
     → turn_fault shape [] (at held position) word
     ≡ option_map_or (λ rule. positional_fault shape.rules shape.args_override_self rule held) (arg_by_index shape.rules position) (stray_fault shape)
 value_turn shape held position word plain = rw plain.no_dashes (rw plain.no_long (rw plain.no_short refl))
@@ -90,18 +90,18 @@ no_fault number writers packets one two three =
     ∙ ap (λ (k : Kinds). or_else k []) (third_turn number writers packets three)
 
 -- what is left to find at fault behind the walk
-abbrev end_fault : Kinds → Held → Kinds
-end_fault walked_kinds end =
+abbrev pub end_fault : Shape → Kinds → Held → Kinds
+end_fault shape walked_kinds end =
     or_else walked_kinds
-    (or_else [] (or_else (settle_fault rules gen_shape.args_override_self end)
-    (or_else (defaults_fault (settled rules end).rows rules) (check_fault gen_shape (finished rules end) false))))
+    (or_else [] (or_else (settle_fault shape.rules shape.args_override_self end)
+    (or_else (defaults_fault (settled shape.rules end).rows shape.rules) (check_fault shape (finished shape.rules end) false))))
 
 level_passes : (number writers packets : Text) → IsValue number → IsValue writers → IsValue packets
     → level_fault gen_shape [] nothing_held (number ∷ writers ∷ packets ∷ []) false [] ≡ []
 unfolding defaults_fault
 level_passes number writers packets one two three =
-    ap (λ w. end_fault (walk_fault gen_shape [] (walk_from nothing_held) (number ∷ writers ∷ packets ∷ [])) w.held) (all_steps number writers packets one two three)
-    ∙ ap (λ (k : Kinds). end_fault k (third_walk number writers packets).held) (no_fault number writers packets one two three)
+    ap (λ w. end_fault gen_shape (walk_fault gen_shape [] (walk_from nothing_held) (number ∷ writers ∷ packets ∷ [])) w.held) (all_steps number writers packets one two three)
+    ∙ ap (λ (k : Kinds). end_fault gen_shape k (third_walk number writers packets).held) (no_fault number writers packets one two three)
 
 abbrev pub gen_words : Text → Text → Text → List Text
 gen_words number writers packets = codes "gen" ∷ number ∷ writers ∷ packets ∷ []

@@ -2,7 +2,7 @@
 use Rattle.std.proofs.Common.{◌≡◌, ℕ, ◌==◌, false, List, [], length, slice_index_or, refl, sym, ◌∙◌, ap, arith}
 use Rattle.std.proofs.lemmas.Fmt.{decimal_injective}
 use Rattle.command_words.specs.declared.command.Command.{Command}
-use Rattle.command_words.specs.declared.command.Command.TheVariants.{Replay, Run, Read, Check, Gen}
+use Rattle.command_words.specs.declared.command.Command.TheVariants.{Replay, Run, Read, Check, Gen, Tune}
 use Rattle.command_words.specs.Commands.{Spells, WordsSpellOneCommand}
 use Rattle.command_words.proofs.SpellLemmas.{other_length}
 
@@ -35,6 +35,21 @@ once words Check (Gen n w p) (a, _) (b, _) = absurd (heads _ _ refl (sym a ∙ b
 once words (Gen n w p) Replay (a, _) (b, _) = absurd (heads _ _ refl (sym a ∙ b))
 once words (Gen n w p) Read (a, _) (b, _) = absurd (heads _ _ refl (sym a ∙ b))
 once words (Gen n w p) Check (a, _) (b, _) = absurd (heads _ _ refl (sym a ∙ b))
+once words Replay (Tune u t) (a, _) (b, _) = absurd (other_length _ _ refl (sym a ∙ b))
+once words Run (Tune u t) (a, _) (b, _) = absurd (other_length _ _ refl (sym a ∙ b))
+once words Read (Tune u t) (a, _) (b, _) = absurd (other_length _ _ refl (sym a ∙ b))
+once words Check (Tune u t) (a, _) (b, _) = absurd (other_length _ _ refl (sym a ∙ b))
+once words (Gen n w p) (Tune u t) (a, _) (b, _) = absurd (other_length _ _ refl (sym a ∙ b))
+once words (Tune u t) Replay (a, _) (b, _) = absurd (other_length _ _ refl (sym a ∙ b))
+once words (Tune u t) Run (a, _) (b, _) = absurd (other_length _ _ refl (sym a ∙ b))
+once words (Tune u t) Read (a, _) (b, _) = absurd (other_length _ _ refl (sym a ∙ b))
+once words (Tune u t) Check (a, _) (b, _) = absurd (other_length _ _ refl (sym a ∙ b))
+once words (Tune u t) (Gen n w p) (a, _) (b, _) = absurd (other_length _ _ refl (sym a ∙ b))
+once words (Tune u t) (Tune v s) (a, (u_some, u_few, t_some, t_few)) (b, (v_some, v_few, s_some, s_few)) =
+    let same = sym a ∙ b in
+    let one : u ≡ v = decimal_injective u v (omega arith) (omega arith) (ap (λ ws. slice_index_or ws 1 []) same) in
+    let two : t ≡ s = decimal_injective t s (omega arith) (omega arith) (ap (λ ws. slice_index_or ws 2 []) same) in
+    ap (λ x. Tune x t) one ∙ ap (λ x. Tune v x) two
 once words (Gen n w p) (Gen m v q) (a, (n_small, w_some, w_few, p_some, p_few)) (b, (m_small, v_some, v_few, q_some, q_few)) =
     let same = sym a ∙ b in
     let one : n ≡ m = decimal_injective n m n_small m_small (ap (λ ws. slice_index_or ws 1 []) same) in

@@ -17,6 +17,10 @@ gen_app =
     with_rule (with_rule (with_rule (plain_app (codes "gen")) (number_rule (codes "NUMBER"))) (number_rule (codes "WRITERS")))
     (number_rule (codes "PACKETS"))
 
+-- `tune` and its two numbers
+abbrev pub tune_app : App
+tune_app = with_rule (with_rule (plain_app (codes "tune")) (number_rule (codes "USERS"))) (number_rule (codes "TURNS"))
+
 -- the program without its commands: all words are its own, and there is no help
 abbrev pub bare_program : App
 bare_program = record (new_app (codes "tracesmb")) {
@@ -31,8 +35,8 @@ bare_program = record (new_app (codes "tracesmb")) {
 -- the whole program
 abbrev pub program_app : App
 program_app =
-    with_subcommand (with_subcommand (with_subcommand (with_subcommand (with_subcommand bare_program (plain_app (codes "replay")).top)
-    (plain_app (codes "run")).top) (plain_app (codes "read")).top) (plain_app (codes "check")).top) gen_app.top
+    with_subcommand (with_subcommand (with_subcommand (with_subcommand (with_subcommand (with_subcommand bare_program (plain_app (codes "replay")).top)
+    (plain_app (codes "run")).top) (plain_app (codes "read")).top) (plain_app (codes "check")).top) gen_app.top) tune_app.top
 
 -- the word isn't empty, doesn't begin with a hyphen, and isn't `help`: `clap` gives such words meanings of its own
 abbrev pub is_plain : Text → Bool

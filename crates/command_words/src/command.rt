@@ -17,4 +17,9 @@ pub enum Command {
         writers: u8,
         packets: u32,
     },
+    /// Has so many users, from 1 to 8, partition pages anew beside a collector, in so many turns each, from 1 to 10,000.
+    Tune {
+        users: u8,
+        turns: u32,
+    },
 }

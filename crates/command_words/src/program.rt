@@ -2,7 +2,7 @@
 ghost use Rattle.std.specs.Prelude.{◌≡◌, false, IfOk};
 ghost use Rattle.clap.specs.Words.{app_of, rule_of};
 ghost use Rattle.clap.specs.declared.Command.TheViews.{out-Command as fields_of};
-ghost use Rattle.command_words.specs.Program.{program_app, bare_program, gen_app, plain_app, number_rule};
+ghost use Rattle.command_words.specs.Program.{program_app, bare_program, gen_app, tune_app, plain_app, number_rule};
 
 use clap::{Arg, Command};
 use std::alloc::{AllocError, Global};
@@ -32,6 +32,15 @@ fn generator<'a>(alloc: Global) -> Result<Command<'a>, AllocError>
         .arg(number(alloc, "PACKETS"))
 }
 
+fn tuner<'a>(alloc: Global) -> Result<Command<'a>, AllocError>
+    ensures app { IfOk result (λ command. app_of command ≡ tune_app) }
+    ensures local { IfOk result (λ command. (fields_of command).has_globals ≡ false) }
+{
+    plain(alloc, "tune")
+        .arg(number(alloc, "USERS"))?
+        .arg(number(alloc, "TURNS"))
+}
+
 /// The program, whose words are those behind its name.
 fn bare<'a>(alloc: Global) -> Command<'a>
     ensures { app_of result ≡ bare_program }
@@ -43,15 +52,17 @@ fn bare<'a>(alloc: Global) -> Command<'a>
         .subcommand_required(true)
 }
 
-/// The program with its commands. `gen` has three numbers, and the others have nothing behind their names.
+/// The program with its commands. `gen` has three numbers, `tune` has two, and the others have nothing behind their names.
 pub fn program<'a>(alloc: Global) -> Result<Command<'a>, AllocError>
     ensures { IfOk result (λ command. app_of command ≡ program_app) }
 {
     let generator = generator(alloc)?;
+    let tuner = tuner(alloc)?;
     bare(alloc)
         .subcommand(plain(alloc, "replay"))?
         .subcommand(plain(alloc, "run"))?
         .subcommand(plain(alloc, "read"))?
         .subcommand(plain(alloc, "check"))?
-        .subcommand(generator)
+        .subcommand(generator)?
+        .subcommand(tuner)
 }

@@ -4,7 +4,7 @@ ghost use Rattle.std.specs.List.{list_all};
 ghost use Rattle.std.specs.String.{string_bytes};
 ghost use Rattle.clap.specs.Words.{kind_of, subcommand_of, subcommand_rows_of};
 ghost use Rattle.command_words.specs.Commands.{Spells};
-ghost use Rattle.command_words.specs.Found.{HasNumbers};
+ghost use Rattle.command_words.specs.Found.{HasNumbers, HasTurns};
 ghost use Rattle.command_words.specs.Program as program_spec;
 ghost use Rattle.command_words.specs.Program.{program_app};
 
@@ -13,8 +13,10 @@ use crate::number::{count_of, number_of};
 use crate::program::program;
 use clap::error::ErrorKind;
 use clap::{ArgMatches, Error};
+use layout_tuner::MAX_USERS;
 use std::alloc::{AllocError, Global};
 use trace_base::limits::{MAX_GENERATED_PACKETS, MAX_GENERATED_WRITERS};
+use tune_run::MAX_TURNS;
 
 /// Why words give no command.
 #[derive(Clone, Copy, Debug, PartialEq, Eq)]
@@ -85,6 +87,7 @@ fn command_of(matches: &ArgMatches<'_>, words: &[String]) -> Option<Command>
     }
     match others.len() {
         0 => lone_command(name),
+        2 => tuning_of(name, values),
         3 => generation_of(name, values),
         _ => None,
     }
@@ -104,6 +107,21 @@ fn generation_of(name: &str, values: &ArgMatches<'_>) -> Option<Command>
     let writers = values.get_str("WRITERS")?;
     let packets = values.get_str("PACKETS")?;
     generation(number, writers, packets)
+}
+
+/// The command `tune`, where it is the one that was named, with the numbers that were found behind it.
+fn tuning_of(name: &str, values: &ArgMatches<'_>) -> Option<Command>
+    ensures some { IfSome result (λ command. (users turns : List ℕ) × HasTurns values.now users turns
+        × Spells (name.now ∷ users ∷ turns ∷ []) command) }
+    ensures none { IfNone result ((command : Command) (users turns : List ℕ) → HasTurns values.now users turns
+        → Spells (name.now ∷ users ∷ turns ∷ []) command → ⊥) }
+{
+    if name != "tune" {
+        return None;
+    }
+    let users = values.get_str("USERS")?;
+    let turns = values.get_str("TURNS")?;
+    tuning(users, turns)
 }
 
 /// A command without numbers.
@@ -132,5 +150,18 @@ fn generation(number: &str, writers: &str, packets: &str) -> Option<Command>
         number,
         writers: writers as u8,
         packets,
+    })
+}
+
+/// The command `tune` with these numbers.
+fn tuning(users: &str, turns: &str) -> Option<Command>
+    ensures some { IfSome result (λ command. Spells (codes "tune" ∷ users.now ∷ turns.now ∷ []) command) }
+    ensures none { IfNone result ((command : Command) → Spells (codes "tune" ∷ users.now ∷ turns.now ∷ []) command → ⊥) }
+{
+    let users = count_of(users, u32::from(MAX_USERS))?;
+    let turns = count_of(turns, MAX_TURNS)?;
+    Some(Command::Tune {
+        users: users as u8,
+        turns,
     })
 }

@@ -10,7 +10,7 @@ struct Row {
     command: Option<Command>,
 }
 
-static ROWS: [Row; 27] = [
+static ROWS: [Row; 34] = [
     Row {
         line: "replay",
         command: Some(Command::Replay),
@@ -89,6 +89,37 @@ static ROWS: [Row; 27] = [
     },
     Row {
         line: "gen 0x1 1 1",
+        command: None,
+    },
+    Row {
+        line: "tune 1 1",
+        command: Some(Command::Tune { users: 1, turns: 1 }),
+    },
+    Row {
+        line: "tune 8 10000",
+        command: Some(Command::Tune {
+            users: 8,
+            turns: 10_000,
+        }),
+    },
+    Row {
+        line: "tune 9 1",
+        command: None,
+    },
+    Row {
+        line: "tune 1 10001",
+        command: None,
+    },
+    Row {
+        line: "tune 0 1",
+        command: None,
+    },
+    Row {
+        line: "tune 1 01",
+        command: None,
+    },
+    Row {
+        line: "tune 1",
         command: None,
     },
     Row {

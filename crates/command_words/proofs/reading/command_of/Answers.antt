@@ -10,8 +10,8 @@ use Rattle.clap.specs.Words.{subcommand_rows_of, subcommand_of, found_of, rows_o
 use Rattle.command_words.specs.declared.command.Command.{Command}
 use Rattle.command_words.specs.Commands.{Spells}
 use Rattle.command_words.specs.Program.{program_app, is_plain}
-use Rattle.command_words.proofs.FoundLemmas.{spelled, found_name, some_same, all_mapped, three_of, none_of, gen_numbers, same_numbers}
-use Rattle.command_words.proofs.SpellLemmas.{same_text, four_words}
+use Rattle.command_words.proofs.FoundLemmas.{spelled, found_name, some_same, all_mapped, two_of, three_of, none_of, gen_numbers, same_numbers, tune_numbers, same_turns}
+use Rattle.command_words.proofs.SpellLemmas.{same_text, three_words, four_words}
 use Rattle.command_words.proofs.reading.command_of.Goals as goal
 
 -- what holds anyhow holds of None
@@ -113,3 +113,44 @@ returns-in-3-clause-none c =
     let numbers = gen_numbers c.args.matches.now c.in_ok-name.values.now name three.first three.second three.third found plain
     (four_words name three.first three.second three.third command spelled_so).0 rows in
     none command three.first three.second three.third numbers spelled_so) c.generation_of.ensures.none
+
+pub returns-in-2-clause-some : goal.returns-in-2-clause-some
+returns-in-2-clause-some c =
+    let words = c.in_ok-first.ensures.cases.0 in
+    let name = c.in_ok-name.name.now in
+    let same : string_bytes c.in_ok-first.first.now ≡ name =
+    sym c.as_str.ensures.value ∙ same_bytes c.as_str.result.now name (not-false _ (sym c.ne.ensures ∙ c.if-ne.false)) in
+    let two = two_of (map string_bytes c.in_ok-first.others.now) (length-map c.in_ok-first.others.now string_bytes ∙ c.in-2.is) in
+    let texts : map string_bytes c.args.words.now ≡ name ∷ two.first ∷ two.second ∷ [] =
+    ap (map string_bytes) words ∙ ap (λ first. first ∷ map string_bytes c.in_ok-first.others.now) same ∙ ap (λ others. name ∷ others) two.same in
+    let plain : list_all is_plain (name ∷ two.first ∷ two.second ∷ []) ≡ true =
+    ap (list_all is_plain) (sym texts) ∙ sym (all_mapped is_plain string_bytes c.args.words.now) ∙ c.requires.plain in
+    let found = c.requires.found ∙ ap (subcommand_of program_app) texts in
+    let rows : Some (rows_of (found_of c.in_ok-name.values.now)) ≡ option_map (λ (p : Text × List Row). p.1) (subcommand_rows_of c.args.matches.now) =
+    c.in_ok-name.ensures.rows in
+    some_weaker c.tuning_of.result _ (λ command. Spells (map string_bytes c.args.words.now) command)
+    (λ command (users, turns, has, spells).
+    let three = three_words name users turns command spells in
+    let numbers = tune_numbers c.args.matches.now c.in_ok-name.values.now name two.first two.second found plain three.0 rows in
+    let (one, last) = same_turns c.in_ok-name.values.now users turns two.first two.second has numbers in
+    subst (λ ws. Spells ws command) (ap (λ n. name ∷ n ∷ turns ∷ []) one ∙ ap (λ n. name ∷ two.first ∷ n ∷ []) last ∙ sym texts) spells)
+    c.tuning_of.ensures.some
+
+pub returns-in-2-clause-none : goal.returns-in-2-clause-none
+returns-in-2-clause-none c =
+    let words = c.in_ok-first.ensures.cases.0 in
+    let name = c.in_ok-name.name.now in
+    let same : string_bytes c.in_ok-first.first.now ≡ name =
+    sym c.as_str.ensures.value ∙ same_bytes c.as_str.result.now name (not-false _ (sym c.ne.ensures ∙ c.if-ne.false)) in
+    let two = two_of (map string_bytes c.in_ok-first.others.now) (length-map c.in_ok-first.others.now string_bytes ∙ c.in-2.is) in
+    let texts : map string_bytes c.args.words.now ≡ name ∷ two.first ∷ two.second ∷ [] =
+    ap (map string_bytes) words ∙ ap (λ first. first ∷ map string_bytes c.in_ok-first.others.now) same ∙ ap (λ others. name ∷ others) two.same in
+    let plain : list_all is_plain (name ∷ two.first ∷ two.second ∷ []) ≡ true =
+    ap (list_all is_plain) (sym texts) ∙ sym (all_mapped is_plain string_bytes c.args.words.now) ∙ c.requires.plain in
+    let found = c.requires.found ∙ ap (subcommand_of program_app) texts in
+    let rows : Some (rows_of (found_of c.in_ok-name.values.now)) ≡ option_map (λ (p : Text × List Row). p.1) (subcommand_rows_of c.args.matches.now) =
+    c.in_ok-name.ensures.rows in
+    none_weaker c.tuning_of.result (λ none command spells.
+    let spelled_so : Spells (name ∷ two.first ∷ two.second ∷ []) command = subst (λ ws. Spells ws command) texts spells in
+    let numbers = tune_numbers c.args.matches.now c.in_ok-name.values.now name two.first two.second found plain (three_words name two.first two.second command spelled_so).0 rows in
+    none command two.first two.second numbers spelled_so) c.tuning_of.ensures.none
