@@ -1,6 +1,7 @@
 //! A helper that takes the complete chunks of one writer and lets them go, as a service does.
 ghost use Rattle.std.specs.Prelude.{◌≡◌, ◌+◌, ◌-◌, ◌<◌, ◌≤◌, [], length};
-ghost use Rattle.std.proofs.Common.{ap, sym, subst, ◌∙◌};
+ghost use Rattle.std.proofs.Common.{refl, ap, sym, subst, ◌∙◌};
+ghost use Rattle.trace_model.specs.Counts.{last_count};
 ghost use Rattle.chunk_plain.specs.Setup.{Setup};
 ghost use Rattle.chunk_plain.specs.Views.{ServiceView, taken_of};
 ghost use Rattle.trace_writer.specs.Helping.{LeavesWriters};
@@ -74,6 +75,8 @@ pub(crate) struct Collector {
     pub images: [Option<Image>; 4],
     /// It takes nothing when a writer asks it.
     pub waits: bool,
+    /// How often it was asked.
+    pub asks: u64,
 }
 
 impl Collector {
@@ -111,6 +114,11 @@ impl HelperOn<PlainTable> for Collector {
 
     ghost helps = { λ helper table producer answer after left. Unit {0} };
 
+    // what it counts is for the tests alone
+    ghost asked = { λ _. last_count };
+
+    ghost asked_more = { λ _ _ _ _ _ _ _. refl };
+
     ghost needs_stay = { λ helper old new seat after step needs.
         let stays = step.service_stays helper.service needs.0 in (
           stays.0,
@@ -122,6 +130,7 @@ impl HelperOn<PlainTable> for Collector {
         ) };
 
     fn help(&mut self, table: &mut PlainTable, producer: u16) -> bool {
+        self.asks = self.asks.saturating_add(1);
         if self.waits {
             return NoHelp.help(table, producer);
         }

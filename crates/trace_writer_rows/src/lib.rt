@@ -1,5 +1,5 @@
 //! Worked examples of a writer: what it leaves behind its calls, in its counts and in its chunks,
-//! which calls it refuses, and how it stalls.
+//! which calls it refuses, how it stalls, and how often it asks before it drops.
 //! Nothing stands on this crate. What each call does is proved in `trace_writer`. The tests have a
 //! crate of their own since a crate with tests is proved twice.
 #![tactic(auto)]
@@ -16,3 +16,5 @@ mod packets;
 mod setting;
 #[cfg(test)]
 mod stalls;
+#[cfg(test)]
+mod tries;

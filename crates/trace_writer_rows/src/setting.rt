@@ -71,6 +71,7 @@ fn set_up(
         taken: 0,
         images: [None; 4],
         waits: false,
+        asks: 0,
     };
     Ok((table, writer, collector))
 }
@@ -176,6 +177,22 @@ pub(crate) fn left_alone<R: Abort, L: Ledger>(
     collector.waits = true;
     let left = play(rt, &mut table, writer, &mut collector, scripts, steps);
     Ok(add_held(left, &mut table, &mut collector))
+}
+
+/// What scripts leave where the helper is asked, which takes chunks or doesn't, and how often it was.
+pub(crate) fn left_asking<R: Abort, L: Ledger>(
+    rt: &R,
+    alloc: Global,
+    chunks: u8,
+    policy: WriterPolicy,
+    waits: bool,
+    scripts: [&[Call]; 3],
+    steps: &mut Steps<L>,
+) -> Result<(Left, u64), Fail> {
+    let (mut table, writer, mut collector) = set_up(alloc, chunks, policy)?;
+    collector.waits = waits;
+    let left = play(rt, &mut table, writer, &mut collector, scripts, steps);
+    Ok((left, collector.asks))
 }
 
 /// What scripts leave beside a collector.
