@@ -1,12 +1,12 @@
 #!/usr/bin/env python3
 """Refuses each allocation of a run in turn, and compares with the untroubled run.
 
-    tools/refuse_memory.py PROGRAM                    plays examples/day.scenario by replay and another by run, reads and checks the trace
+    tools/refuse_memory.py PROGRAM                    each command: replay of examples/day.scenario, run of another, and so on
     tools/refuse_memory.py PROGRAM INPUT COMMAND..    these commands on this input
 
 The allocator of a second process answers "no memory" to its Nth call, for each N that a run reaches. A run must then end as
-the untroubled one does, to the byte, or with status 1, one line and no output. Needs a C compiler (cc). For `run` what is
-printed depends on its threads: there the status alone is compared, and that status 1 leaves no output.
+the untroubled one does, to the byte, or with status 1, one line and no output. Needs a C compiler (cc). For `run` and
+`tune` what is printed depends on their threads: there the status alone is compared, and that status 1 leaves no output.
 """
 import os
 import subprocess
@@ -51,7 +51,7 @@ def refuse_each(program, words, text, shim):
     # Behind the last call of a run nothing is refused: a stretch of 20 untroubled runs ends it.
     while quiet < 20:
         found = played(program, words, text, shim, nth)
-        same = found == usual if words[0] != 'run' else found[0] == usual[0]
+        same = found == usual if words[0] not in ('run', 'tune') else found[0] == usual[0]
         if same:
             quiet += 1
         elif found[0] == 1 and not found[1] and found[2].count(b'\n') == 1:
@@ -76,7 +76,8 @@ def main():
             scenario = open(os.path.join(TOP, 'examples/day.scenario'), 'rb').read()
             trace = open(os.path.join(TOP, 'examples/day.trace'), 'rb').read()
             threads = open(os.path.join(TOP, 'examples/timeline.scenario'), 'rb').read()
-            runs = [(['replay'], scenario), (['run'], threads), (['read'], trace), (['check'], scenario + b'==\n' + trace), (['gen', '7', '3', '20'], b'')]
+            runs = [(['replay'], scenario), (['run'], threads), (['read'], trace), (['check'], scenario + b'==\n' + trace), (['gen', '7', '3', '20'], b''),
+                (['tune', '3', '20'], b'')]
         bad = 0
         for words, text in runs:
             calls, noticed, wrong = refuse_each(program, words, text, shim)

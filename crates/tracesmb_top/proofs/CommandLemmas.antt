@@ -4,7 +4,7 @@ use Rattle.byte_io.specs.Bytes.{Intake}
 use Rattle.trace_base.specs.declared.limits.TheConstants.{MAX_INPUT}
 use Rattle.trace_file.proofs.WholeLemmas.{traces_read_once}
 use Rattle.command_words.specs.declared.command.Command.{Command}
-use Rattle.command_words.specs.declared.command.Command.TheVariants.{Replay, Run, Read, Check, Gen}
+use Rattle.command_words.specs.declared.command.Command.TheVariants.{Replay, Run, Read, Check, Gen, Tune}
 use Rattle.scenario_text.specs.Scenario.{Parts, scenario_of}
 use Rattle.tracesmb_top.specs.Words.{Ask, ReadsInput, LeavesReport, IsReplay}
 use Rattle.tracesmb_top.specs.Ran.{IsForThreads, run_refusal_by, run_refusal_of}
@@ -31,6 +31,7 @@ bytes_unrefused Read given bytes line summary refusal =
     let none : None ≡ Some refusal.fault = once.1 in cc
 bytes_unrefused Check given bytes line writes refused = checked_unrefused given bytes line writes refused
 bytes_unrefused (Gen number writers packets) given bytes line writes refused = refused
+bytes_unrefused (Tune users turns) given bytes line writes refused = refused
 bytes_unrefused Replay given bytes line writes refused = writes
 bytes_unrefused Run given bytes line writes refused = writes
 
@@ -55,6 +56,7 @@ tried_unrefused Check given line old new (wrote report is) refused = bytes_unref
 tried_unrefused Check given line old new (wrote_part is) refused = bytes_unrefused Check given is.bytes line is.writes refused
 tried_unrefused Check given line old new (has_stalled writer is) refused = is
 tried_unrefused (Gen number writers packets) given line old new tried refused = refused
+tried_unrefused (Tune users turns) given line old new tried refused = refused
 
 -- ---- a command that refuses or stalls reads the input
 
@@ -64,6 +66,7 @@ refused_reads Run given line refused = tt
 refused_reads Read given line refused = tt
 refused_reads Check given line refused = tt
 refused_reads (Gen number writers packets) given line refused = refused
+refused_reads (Tune users turns) given line refused = refused
 
 pub report_reads : (command : Command) → LeavesReport command → ReadsInput command
 report_reads Replay is = tt
@@ -71,6 +74,7 @@ report_reads Run is = tt
 report_reads Read is = tt
 report_reads Check is = tt
 report_reads (Gen number writers packets) is = is
+report_reads (Tune users turns) is = is
 
 -- `replay` leaves a report
 pub replay_reports : (command : Command) → IsReplay command → LeavesReport command
@@ -79,6 +83,7 @@ replay_reports Run is = tt
 replay_reports Read is = is
 replay_reports Check is = is
 replay_reports (Gen number writers packets) is = is
+replay_reports (Tune users turns) is = is
 
 -- ---- of words that ask for a command, and an input with so much left
 

@@ -5,3 +5,4 @@ pub mod DividerLemmas
 pub mod CommandLemmas
 pub mod GatherLemmas
 pub mod RunLemmas
+pub mod TuneLemmas

@@ -5,7 +5,7 @@ use Rattle.trace_base.specs.declared.limits.TheConstants.{MAX_INPUT}
 use Rattle.trace_summary.specs.Counts.{IsSummaryOf}
 use Rattle.workload_gen.specs.Workload.{workload}
 use Rattle.command_words.specs.declared.command.Command.{Command}
-use Rattle.command_words.specs.declared.command.Command.TheVariants.{Replay, Run, Read, Check, Gen}
+use Rattle.command_words.specs.declared.command.Command.TheVariants.{Replay, Run, Read, Check, Gen, Tune}
 use Rattle.loss_report.specs.declared.counts.Done.{Done}
 use Rattle.tracesmb_top.specs.declared.commands.CommandFault.{CommandFault}
 use Rattle.tracesmb_top.specs.declared.commands.CommandFault.TheVariants.{OutOfMemory, Refused, WriteFault, Stalled}
@@ -13,6 +13,7 @@ use Rattle.tracesmb_top.specs.Checked.{IsChecked, IsCheckRefusal}
 use Rattle.tracesmb_top.specs.Refusals.{refusal_of, IsTraceRefusal}
 use Rattle.tracesmb_top.specs.Replayed.{IsReplayed, IsStalled, IsCutShort, report_of}
 use Rattle.tracesmb_top.specs.Ran.{run_refusal_of, IsRanBy, IsRanShort}
+use Rattle.tracesmb_top.specs.Tuned.{IsTuned}
 use Rattle.tracesmb_top.specs.Words.{ReadsInput, LeavesReport}
 
 -- a command that reads the input is given all of it, where the input tells what it has
@@ -30,10 +31,11 @@ Refuses Check given line = IsCheckRefusal given line
 Refuses other given line = ⊥
 
 -- The bytes are what a command that leaves no report writes for what it was given: `read`, the summary of a trace; `check`, the verdict
--- on a trace by a scenario; `gen`, the workload of its numbers.
+-- on a trace by a scenario; `gen`, the workload of its numbers; `tune`, the lines of a run of its users.
 abbrev pub Writes : Command → List ℕ → List ℕ → Type 0
 Writes Read given bytes = IsSummaryOf given bytes
 Writes (Gen number writers packets) given bytes = bytes ≡ workload number writers packets
+Writes (Tune users turns) given bytes = IsTuned users turns bytes
 Writes Check given bytes = IsChecked given bytes
 Writes Replay given bytes = ⊥
 Writes Run given bytes = ⊥

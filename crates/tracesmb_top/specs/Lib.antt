@@ -6,3 +6,4 @@ pub mod Replayed
 pub mod Ran
 pub mod Words
 pub mod Given
+pub mod Tuned

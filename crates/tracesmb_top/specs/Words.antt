@@ -1,7 +1,7 @@
 -- The words that the program has a command for.
 use Rattle.std.specs.Prelude.{ℕ, List}
 use Rattle.command_words.specs.declared.command.Command.{Command}
-use Rattle.command_words.specs.declared.command.Command.TheVariants.{Gen, Replay, Run}
+use Rattle.command_words.specs.declared.command.Command.TheVariants.{Gen, Replay, Run, Tune}
 use Rattle.command_words.specs.Commands.{Spells}
 
 -- the words ask for the command: they are its written form
@@ -12,9 +12,10 @@ pub record Ask (words : List (List ℕ)) (command : Command) : Type 0 where
 abbrev pub AskForNothing : List (List ℕ) → Type 0
 AskForNothing words = (command : Command) → Ask words command → ⊥
 
--- the command reads the input; `gen` alone doesn't
+-- the command reads the input; `gen` and `tune` alone don't
 abbrev pub ReadsInput : Command → Type 0
 ReadsInput (Gen number writers packets) = ⊥
+ReadsInput (Tune users turns) = ⊥
 ReadsInput other = Unit {0}
 
 -- the words ask for no command that reads the input

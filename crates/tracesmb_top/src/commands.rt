@@ -17,11 +17,13 @@ use command_words::Command;
 use loss_report::Done;
 use replay_host::HostFault;
 use scenario_text::{Scenario, ScenarioFault, refusal_line};
-use std::alloc::Global;
+use std::alloc::{AllocError, Global};
 use std::sync::Wait;
 use std::thread::Threads;
 use trace_base::limits::MAX_INPUT;
 use trace_summary::{SummaryFault, put_summary, summarize};
+use tune_lines::put_lines;
+use tune_run::run_tune;
 
 /// Why a command isn't done.
 #[derive(Drop)]
@@ -162,6 +164,31 @@ pub fn generate<T: Sink>(
     }
 }
 
+/// Has users partition pages anew on threads, and writes what that came to. All memory is taken before
+/// the threads begin.
+#[tactic(auto, using(crate::proofs::TuneLemmas::report_layouts))]
+pub fn tune<R: Threads + Sync, T: Sink, G: Gate + Sync>(
+    rt: &R,
+    alloc: Global,
+    users: u8,
+    turns: u32,
+    trace: &mut T,
+    gate: &G,
+) -> Result<Option<Done>, CommandFault>
+    requires { IsWithinLimits (Command.Tune users turns) }
+    ensures ends { (given : List ℕ) → Ended (Command.Tune users turns) given result (T.taken trace.old) (T.taken trace.new) }
+    ensures count { CountsWrites result (T.faults trace.old) (T.faults trace.new) }
+{
+    let report = match run_tune(rt, gate, alloc, users, turns) {
+        Ok(report) => report,
+        Err(AllocError) => return Err(CommandFault::OutOfMemory),
+    };
+    match put_lines(trace, &report) {
+        Ok(()) => Ok(None),
+        Err(WriteFault) => Err(CommandFault::WriteFault),
+    }
+}
+
 /// Does a command with what it was given, and writes on the trace; `replay` and `run` leave their report. All memory is taken before
 /// the first byte.
 pub fn perform<R: Threads + Wait + Sync, T: Sink + Send, G: Gate + Sync>(
@@ -191,6 +218,7 @@ pub fn perform<R: Threads + Wait + Sync, T: Sink + Send, G: Gate + Sync>(
                 writers,
                 packets,
             } => generate(number, writers, packets, trace),
+            Command::Tune { users, turns } => tune(rt, alloc, users, turns, trace, gate),
             _ => unreachable!(),
         },
     }

@@ -58,5 +58,6 @@ pub fn take_input<S: Source>(
             writers: _,
             packets: _,
         } => Ok(Given::Bytes(Vec::new(alloc))),
+        Command::Tune { users: _, turns: _ } => Ok(Given::Bytes(Vec::new(alloc))),
     }
 }

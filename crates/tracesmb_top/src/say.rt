@@ -31,7 +31,7 @@ pub fn say_usage<O: Sink>(text: &mut O) -> u8
 {
     say(
         text,
-        b"usage: tracesmb replay|run|read|check|gen NUMBER WRITERS PACKETS\n",
+        b"usage: tracesmb replay|run|read|check|gen NUMBER WRITERS PACKETS|tune USERS TURNS\n",
     );
     2
 }
