@@ -43,7 +43,8 @@ pub fn replay<T: Sink>(
     said: Result<Scenario, ScenarioFault>,
     trace: &mut T,
 ) -> Result<Option<Done>, CommandFault>
-    requires { IfOk said IsScenario }
+    requires said { IfOk said IsScenario }
+    requires may { T.may_write trace.old }
     ensures ends { (text : List ℕ) → GivesScenario said (scenario_of text)
         → Ended Command.Replay text result (T.taken trace.old) (T.taken trace.new) }
     ensures count { CountsWrites result (T.faults trace.old) (T.faults trace.new) }
@@ -74,7 +75,8 @@ pub fn run<R: Threads + Wait + Sync, T: Sink + Send, G: Gate + Sync>(
     trace: &mut T,
     gate: &G,
 ) -> Result<Option<Done>, CommandFault>
-    requires { IfOk said IsScenario }
+    requires said { IfOk said IsScenario }
+    requires may { T.may_write trace.old }
     ensures ends { (text : List ℕ) → GivesScenario said (scenario_of text)
         → Ended Command.Run text result (T.taken trace.old) (T.taken trace.new) }
     ensures count { CountsWrites result (T.faults trace.old) (T.faults trace.new) }
@@ -105,6 +107,7 @@ pub fn read<T: Sink>(
     records: &[u8],
     out: &mut T,
 ) -> Result<Option<Done>, CommandFault>
+    requires { T.may_write out.old }
     ensures ends { Ended Command.Read records.now result (T.taken out.old) (T.taken out.new) }
     ensures count { CountsWrites result (T.faults out.old) (T.faults out.new) }
 {
@@ -129,7 +132,8 @@ pub fn check<T: Sink>(
     input: &[u8],
     out: &mut T,
 ) -> Result<Option<Done>, CommandFault>
-    requires { length input.now ≤ MAX_INPUT }
+    requires short { length input.now ≤ MAX_INPUT }
+    requires may { T.may_write out.old }
     ensures ends { Ended Command.Check input.now result (T.taken out.old) (T.taken out.new) }
     ensures count { CountsWrites result (T.faults out.old) (T.faults out.new) }
 {
@@ -153,7 +157,8 @@ pub fn generate<T: Sink>(
     packets: u32,
     out: &mut T,
 ) -> Result<Option<Done>, CommandFault>
-    requires { IsWithinLimits (Command.Gen number writers packets) }
+    requires limits { IsWithinLimits (Command.Gen number writers packets) }
+    requires may { T.may_write out.old }
     ensures ends { (given : List ℕ) → Ended (Command.Gen number writers packets) given result (T.taken out.old) (T.taken out.new) }
     ensures count { CountsWrites result (T.faults out.old) (T.faults out.new) }
     ensures memory { IfErr result (λ fault. fault ≡ CommandFault.WriteFault) }
@@ -175,7 +180,8 @@ pub fn tune<R: Threads + Sync, T: Sink, G: Gate + Sync>(
     trace: &mut T,
     gate: &G,
 ) -> Result<Option<Done>, CommandFault>
-    requires { IsWithinLimits (Command.Tune users turns) }
+    requires limits { IsWithinLimits (Command.Tune users turns) }
+    requires may { T.may_write trace.old }
     ensures ends { (given : List ℕ) → Ended (Command.Tune users turns) given result (T.taken trace.old) (T.taken trace.new) }
     ensures count { CountsWrites result (T.faults trace.old) (T.faults trace.new) }
 {
@@ -201,6 +207,7 @@ pub fn perform<R: Threads + Wait + Sync, T: Sink + Send, G: Gate + Sync>(
 ) -> Result<Option<Done>, CommandFault>
     requires limits { IsWithinLimits command }
     requires suits { Suits command given }
+    requires may { T.may_write trace.old }
     ensures ends { (text : List ℕ) → Tells given text → Ended command text result (T.taken trace.old) (T.taken trace.new) }
     ensures count { CountsWrites result (T.faults trace.old) (T.faults trace.new) }
 {

@@ -1,9 +1,9 @@
 //! Playing a scenario, or running it on threads, onto a trace that gathers many short writes into few
 //! long ones.
-ghost use Rattle.std.specs.Prelude.{◌≡◌, ◌≤◌, [], MatchResult};
+ghost use Rattle.std.specs.Prelude.{◌≡◌, ◌≤◌, [], OnOk, IfErr, MatchResult};
 ghost use Rattle.byte_io.specs.Buffered.{pending_bytes};
 ghost use Rattle.scenario_text.specs.Scenario.{IsScenario, parts_of};
-ghost use Rattle.replay_host.specs.Replaying.{CountsOne, CountsStop};
+ghost use Rattle.replay_host.specs.Replaying.{CountsOne, CountsStop, IsStall};
 ghost use Rattle.thread_host.specs.Hosts.{ClosesNone};
 ghost use Rattle.tracesmb_top.specs.Ran.{GathersRun, HandsRun};
 ghost use Rattle.tracesmb_top.specs.Replayed.{Gathers, HasPlayed};
@@ -27,9 +27,12 @@ fn play_gathered<T: Sink>(
 ) -> Result<Done, HostFault>
     requires scenario { IsScenario scenario.now }
     requires empty { pending_bytes pending.old ≡ [] }
+    requires may { T.may_write trace.old }
     ensures gathers { Gathers (parts_of scenario.now) result (T.taken trace.old) (T.taken trace.new) (pending_bytes pending.new) }
     ensures count { MatchResult result (λ _. T.faults trace.new ≡ T.faults trace.old) (λ fault. (T.faults trace.old ≤ T.faults trace.new)
         × CountsOne fault (T.faults trace.old) (T.faults trace.new)) }
+    ensures goes_on { OnOk result (T.may_write trace.new) }
+    ensures stalled { IfErr result (λ fault. IsStall fault → T.may_write trace.new) }
 {
     let mut gathered = BufferedSink::new(trace, pending);
     replay_host::replay(alloc, scenario, &mut gathered)
@@ -37,7 +40,8 @@ fn play_gathered<T: Sink>(
 
 /// Plays a scenario, and writes its trace in long pieces. All memory is taken before the first line is played.
 pub fn play<T: Sink>(alloc: Global, scenario: &Scenario, trace: &mut T) -> Result<Done, HostFault>
-    requires { IsScenario scenario.now }
+    requires scenario { IsScenario scenario.now }
+    requires may { T.may_write trace.old }
     ensures plays { HasPlayed (parts_of scenario.now) result (T.taken trace.old) (T.taken trace.new) }
     ensures count { MatchResult result (λ _. T.faults trace.new ≡ T.faults trace.old) (λ fault. (T.faults trace.old ≤ T.faults trace.new)
         × CountsOne fault (T.faults trace.old) (T.faults trace.new)) }
@@ -72,8 +76,10 @@ fn run_gathered<R: Threads + Wait + Sync, T: Sink + Send, G: Gate + Sync>(
     requires scenario { IsScenario scenario.now }
     requires closes { ClosesNone scenario.now.lines }
     requires empty { pending_bytes pending.old ≡ [] }
+    requires may { T.may_write trace.old }
     ensures gathers { GathersRun (parts_of scenario.now) result (T.taken trace.old) (T.taken trace.new) (pending_bytes pending.new) }
     ensures count { CountsStop (T.faults trace.old) (T.faults trace.new) result }
+    ensures goes_on { OnOk result (T.may_write trace.new) }
 {
     let mut gathered = BufferedSink::new(trace, pending);
     thread_host::run(rt, alloc, scenario, &mut gathered, gate)
@@ -90,6 +96,7 @@ pub fn run<R: Threads + Wait + Sync, T: Sink + Send, G: Gate + Sync>(
 ) -> Result<Done, HostFault>
     requires scenario { IsScenario scenario.now }
     requires closes { ClosesNone scenario.now.lines }
+    requires may { T.may_write trace.old }
     ensures ends { HandsRun (parts_of scenario.now) result (T.taken trace.old) (T.taken trace.new) }
     ensures count { CountsStop (T.faults trace.old) (T.faults trace.new) result }
 {

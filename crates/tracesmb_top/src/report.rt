@@ -17,9 +17,11 @@ fn write_gathered<O: Sink>(
     text: &mut O,
 ) -> Result<(), WriteFault>
     requires empty { pending_bytes pending.old ≡ [] }
+    requires may { O.may_write text.old }
     ensures all { OnOk result (HandsOn (O.taken text.old) (O.taken text.new) (report_of done.now) (pending_bytes pending.new)) }
     ensures part { OnErr result (TakesPart (O.taken text.old) (O.taken text.new) (report_of done.now)) }
     ensures count { CountsFaults (O.faults text.old) (O.faults text.new) result }
+    ensures goes_on { OnOk result (O.may_write text.new) }
 {
     let mut gathered = BufferedSink::new(text, pending);
     put_report(&mut gathered, &done.buffers, &done.sequences, &done.flushes)
@@ -28,9 +30,11 @@ fn write_gathered<O: Sink>(
 /// Writes the report in long pieces. Where no memory is left for that, it writes the short ones as they
 /// come: the trace is written by then, so that want of memory must change nothing.
 pub fn write_report<O: Sink>(alloc: Global, done: &Done, text: &mut O) -> Result<(), WriteFault>
+    requires { O.may_write text.old }
     ensures all { OnOk result (O.taken text.new ≡ after_told (O.taken text.old) (report_of done.now)) }
     ensures part { OnErr result (TakesPart (O.taken text.old) (O.taken text.new) (report_of done.now)) }
     ensures count { CountsFaults (O.faults text.old) (O.faults text.new) result }
+    ensures goes_on { OnOk result (O.may_write text.new) }
 {
     let mut pending = match PendingBytes::new(alloc) {
         Ok(pending) => pending,

@@ -16,6 +16,7 @@ use trace_file::TraceFault;
 
 /// Writes a line. A fault in writing it changes nothing else: it shows in the sink's count alone.
 fn say<O: Sink>(text: &mut O, line: &[u8])
+    requires { O.may_write text.old }
     ensures { Says (O.taken text.old) (O.taken text.new) (O.faults text.old) (O.faults text.new) line.now }
 {
     match put_all(text, line) {
@@ -26,6 +27,7 @@ fn say<O: Sink>(text: &mut O, line: &[u8])
 
 #[tactic(auto, unfolding(crate::specs::Answers::usage_line))]
 pub fn say_usage<O: Sink>(text: &mut O) -> u8
+    requires { O.may_write text.old }
     ensures status { result ≡ 2 }
     ensures says { Says (O.taken text.old) (O.taken text.new) (O.faults text.old) (O.faults text.new) usage_line }
 {
@@ -38,6 +40,7 @@ pub fn say_usage<O: Sink>(text: &mut O) -> u8
 
 #[tactic(auto, unfolding(crate::specs::Answers::memory_line))]
 pub fn say_out_of_memory<O: Sink>(text: &mut O) -> u8
+    requires { O.may_write text.old }
     ensures status { result ≡ 1 }
     ensures says { Says (O.taken text.old) (O.taken text.new) (O.faults text.old) (O.faults text.new) memory_line }
 {
@@ -47,6 +50,7 @@ pub fn say_out_of_memory<O: Sink>(text: &mut O) -> u8
 
 #[tactic(auto, unfolding(crate::specs::Answers::read_line))]
 pub fn say_read_fault<O: Sink>(text: &mut O) -> u8
+    requires { O.may_write text.old }
     ensures status { result ≡ 4 }
     ensures says { Says (O.taken text.old) (O.taken text.new) (O.faults text.old) (O.faults text.new) read_line }
 {
@@ -56,6 +60,7 @@ pub fn say_read_fault<O: Sink>(text: &mut O) -> u8
 
 #[tactic(auto, unfolding(crate::specs::Answers::write_line))]
 pub fn say_write_fault<O: Sink>(text: &mut O) -> u8
+    requires { O.may_write text.old }
     ensures status { result ≡ 5 }
     ensures says { Says (O.taken text.old) (O.taken text.new) (O.faults text.old) (O.faults text.new) write_line }
 {
@@ -65,6 +70,7 @@ pub fn say_write_fault<O: Sink>(text: &mut O) -> u8
 
 #[tactic(auto, unfolding(crate::specs::Answers::long_line))]
 pub fn say_too_long<O: Sink>(text: &mut O) -> u8
+    requires { O.may_write text.old }
     ensures status { result ≡ 7 }
     ensures says { Says (O.taken text.old) (O.taken text.new) (O.faults text.old) (O.faults text.new) long_line }
 {
@@ -74,6 +80,7 @@ pub fn say_too_long<O: Sink>(text: &mut O) -> u8
 
 /// Says why an input is refused.
 pub fn say_refusal<O: Sink>(text: &mut O, line: &[u8]) -> u8
+    requires { O.may_write text.old }
     ensures status { result ≡ 3 }
     ensures says { Says (O.taken text.old) (O.taken text.new) (O.faults text.old) (O.faults text.new) line.now }
 {
@@ -95,6 +102,7 @@ fn stalled_line(writer: u16) -> ArrayVec<u8, 64>
 }
 
 pub fn say_stalled<O: Sink>(text: &mut O, writer: u16) -> u8
+    requires { O.may_write text.old }
     ensures status { result ≡ 6 }
     ensures says { Says (O.taken text.old) (O.taken text.new) (O.faults text.old) (O.faults text.new) (answers.stalled_line writer) }
 {
@@ -102,8 +110,10 @@ pub fn say_stalled<O: Sink>(text: &mut O, writer: u16) -> u8
     6
 }
 
-/// Writes the report of what a replay or a run left.
+/// Writes the report of what a replay or a run left. Where that fails, the line which says so is tried on the same
+/// text, which bears it.
 pub fn say_report<O: Sink>(alloc: Global, text: &mut O, done: &Done) -> u8
+    requires { (sink : O) → O.may_write sink }
     ensures status { (result ≡ 0) ⊎ (result ≡ 5) }
     ensures all { result ≡ 0 → O.taken text.new ≡ after_told (O.taken text.old) (report_of done.now) }
     ensures steady { result ≡ 0 → O.faults text.new ≡ O.faults text.old }
