@@ -1,6 +1,6 @@
 -- Calls of a writer, one behind another.
 use Rattle.std.proofs.Common.{◌≡◌, ◌∙◌, ℕ, false, sym, ap, subst}
-use Rattle.trace_base.specs.declared.policy.WriterPolicy.TheVariants.{Drops}
+use Rattle.trace_base.specs.declared.policy.WriterPolicy.TheVariants.{Drops, Stalls}
 use Rattle.chunk_plain.specs.Setup.{Setup}
 use Rattle.chunk_plain.specs.Meaning.{Meaning, IsWriterStep}
 use Rattle.chunk_plain.proofs.SeatSteps.{steps_follow}
@@ -13,7 +13,8 @@ use Rattle.writer_speed.specs.Going.{IsReady, GoesOn}
 module _ {T W S : Type 0} (means : Meaning T W S) where
   -- it drops packets, and so never stalls
   pub never_stalled : DropsNeverStall → (table : T) (core : WriterCore W) → IsReady means table core → is_stalled core ≡ false
-  never_stalled law table core ready = law (means.setup table) (means.place core.seat) (means.view table core.seat) core.writer ready.agrees ready.drops
+  never_stalled law table core ready = law (means.setup table) (means.place core.seat) (means.view table core.seat) core.writer ready.agrees
+      (λ stalls. let wrong : Drops ≡ Stalls = sym ready.drops ∙ stalls in cc)
 
   -- one call
   pub goes_once : (old : T) (before : WriterCore W) (new : T) (after : WriterCore W)
