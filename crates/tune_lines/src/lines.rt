@@ -55,9 +55,11 @@ fn page_line(page: u64, word: u64) -> ArrayVec<u8, LINE_ROOM>
 
 /// The lines of the users, which count from 1.
 fn put_users<O: Sink>(out: &mut O, users: &[UserCounts]) -> Result<(), WriteFault>
+    requires { O.may_write out.old }
     ensures all { OnOk result (O.taken out.new ≡ after_told (O.taken out.old) (lines_of text.user_line 1 users.now)) }
     ensures part { OnErr result (TakesPart (O.taken out.old) (O.taken out.new) (lines_of text.user_line 1 users.now)) }
     ensures count { CountsFaults (O.faults out.old) (O.faults out.new) result }
+    ensures goes_on { OnOk result (O.may_write out.new) }
 {
     for (i, counts) in users.iter().enumerate() {
         put_all(out, &user_line(i as u64 + 1, counts))?;
@@ -67,10 +69,12 @@ fn put_users<O: Sink>(out: &mut O, users: &[UserCounts]) -> Result<(), WriteFaul
 
 /// The lines of the pages, which count from 1.
 fn put_pages<O: Sink>(out: &mut O, words: &[u64]) -> Result<(), WriteFault>
-    requires { HasLayouts words.now }
+    requires laid_out { HasLayouts words.now }
+    requires may { O.may_write out.old }
     ensures all { OnOk result (O.taken out.new ≡ after_told (O.taken out.old) (lines_of text.page_line 1 words.now)) }
     ensures part { OnErr result (TakesPart (O.taken out.old) (O.taken out.new) (lines_of text.page_line 1 words.now)) }
     ensures count { CountsFaults (O.faults out.old) (O.faults out.new) result }
+    ensures goes_on { OnOk result (O.may_write out.new) }
 {
     for (i, word) in words.iter().enumerate() {
         put_all(out, &page_line(i as u64 + 1, *word))?;
@@ -81,10 +85,12 @@ fn put_pages<O: Sink>(out: &mut O, words: &[u64]) -> Result<(), WriteFault>
 /// Writes the lines of a run.
 #[tactic(auto, using(byte_io::proofs::Told::part_first, byte_io::proofs::Told::part_second, byte_io::proofs::Told::after_told_again))]
 pub fn put_lines<O: Sink>(out: &mut O, report: &TuneReport) -> Result<(), WriteFault>
-    requires { HasLayouts report.now.words.items }
+    requires laid_out { HasLayouts report.now.words.items }
+    requires may { O.may_write out.old }
     ensures all { OnOk result (O.taken out.new ≡ after_told (O.taken out.old) (tune_text report.now)) }
     ensures part { OnErr result (TakesPart (O.taken out.old) (O.taken out.new) (tune_text report.now)) }
     ensures count { CountsFaults (O.faults out.old) (O.faults out.new) result }
+    ensures goes_on { OnOk result (O.may_write out.new) }
 {
     put_users(out, &report.users)?;
     put_all(out, &taken_line(report.taken))?;

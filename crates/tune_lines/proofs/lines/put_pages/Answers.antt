@@ -18,4 +18,5 @@ loop-i-preserved g c =
       taken = lines_more page_line (taken c.args.out.now) (taken c.loop-i.out) (taken c.put_all.new.out) 1 c.loop-i.i c.args.words.now 0
           (omega arith) c.loop-i.invariant.taken (c.in_ok-put_all.ensures.all ∙ ap (λ (bytes : List ℕ). after_told (taken c.loop-i.out) bytes) piece);
       faults = c.in_ok-put_all.ensures.count ∙ c.loop-i.invariant.faults;
+      may = c.in_ok-put_all.ensures.goes_on;
     }

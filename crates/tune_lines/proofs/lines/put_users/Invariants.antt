@@ -9,4 +9,5 @@ abbrev pub invariant-loop-i : goal.invariant-loop-i
 invariant-loop-i g l = record {
   taken : TakesUpTo (g.O.Sink.taken l.fn.out) (g.O.Sink.taken l.out) (lines_of user_line 1 l.users) (lines_of user_line (l.i + 1) (drop l.i l.users));
   faults : g.O.Sink.faults l.out ≡ g.O.Sink.faults l.fn.out;
+  may : g.O.Sink.may_write l.out;
 }
