@@ -57,9 +57,11 @@ fn numbered(before: &[u8], number: u32, behind: &[u8]) -> ArrayVec<u8, 64>
 /// Writes two texts, one behind the other.
 #[tactic(auto, using(byte_io::proofs::Told::part_first, byte_io::proofs::Told::part_second, byte_io::proofs::Told::after_told_again))]
 fn put_two<O: Sink>(out: &mut O, a: &[u8], b: &[u8]) -> Result<(), WriteFault>
+    requires { O.may_write out.old }
     ensures all { OnOk result (O.taken out.new ≡ after_told (O.taken out.old) (a.now ++ b.now)) }
     ensures part { OnErr result (TakesPart (O.taken out.old) (O.taken out.new) (a.now ++ b.now)) }
     ensures count { CountsFaults (O.faults out.old) (O.faults out.new) result }
+    ensures goes_on { OnOk result (O.may_write out.new) }
 {
     put_all(out, a)?;
     put_all(out, b)
@@ -68,9 +70,11 @@ fn put_two<O: Sink>(out: &mut O, a: &[u8], b: &[u8]) -> Result<(), WriteFault>
 /// Writes three texts, one behind another.
 #[tactic(auto, using(byte_io::proofs::Told::part_first, byte_io::proofs::Told::part_second, byte_io::proofs::Told::after_told_again))]
 fn put_three<O: Sink>(out: &mut O, a: &[u8], b: &[u8], c: &[u8]) -> Result<(), WriteFault>
+    requires { O.may_write out.old }
     ensures all { OnOk result (O.taken out.new ≡ after_told (O.taken out.old) (a.now ++ (b.now ++ c.now))) }
     ensures part { OnErr result (TakesPart (O.taken out.old) (O.taken out.new) (a.now ++ (b.now ++ c.now))) }
     ensures count { CountsFaults (O.faults out.old) (O.faults out.new) result }
+    ensures goes_on { OnOk result (O.may_write out.new) }
 {
     put_all(out, a)?;
     put_two(out, b, c)
@@ -78,9 +82,11 @@ fn put_three<O: Sink>(out: &mut O, a: &[u8], b: &[u8], c: &[u8]) -> Result<(), W
 
 #[tactic(auto, using(byte_io::proofs::Told::part_first, byte_io::proofs::Told::part_second, byte_io::proofs::Told::after_told_again))]
 fn put_buffer<O: Sink>(out: &mut O, buffer: &ConfigBuffer) -> Result<(), WriteFault>
+    requires { O.may_write out.old }
     ensures all { OnOk result (O.taken out.new ≡ after_told (O.taken out.old) (buffer_line buffer.now)) }
     ensures part { OnErr result (TakesPart (O.taken out.old) (O.taken out.new) (buffer_line buffer.now)) }
     ensures count { CountsFaults (O.faults out.old) (O.faults out.new) result }
+    ensures goes_on { OnOk result (O.may_write out.new) }
 {
     let size = numbered(b"buffers { size_kb: ", buffer.size_kb, b" fill_policy: ");
     put_two(out, &size, policy_end(buffer.policy))
@@ -88,9 +94,11 @@ fn put_buffer<O: Sink>(out: &mut O, buffer: &ConfigBuffer) -> Result<(), WriteFa
 
 #[tactic(auto, using(byte_io::proofs::Told::part_first, byte_io::proofs::Told::part_second, byte_io::proofs::Told::after_told_again))]
 fn put_producer<O: Sink>(out: &mut O, producer: &ConfigProducer) -> Result<(), WriteFault>
+    requires { O.may_write out.old }
     ensures all { OnOk result (O.taken out.new ≡ after_told (O.taken out.old) (producer_line producer.now)) }
     ensures part { OnErr result (TakesPart (O.taken out.old) (O.taken out.new) (producer_line producer.now)) }
     ensures count { CountsFaults (O.faults out.old) (O.faults out.new) result }
+    ensures goes_on { OnOk result (O.may_write out.new) }
 {
     let memory = numbered(
         b"\" shm_size_kb: ",
@@ -133,11 +141,13 @@ fn put_named<O: Sink>(
     middle: &[u8],
     owner: &[u8],
 ) -> Result<(), WriteFault>
+    requires { O.may_write out.old }
     ensures all { OnOk result (O.taken out.new
         ≡ after_told (O.taken out.old) (head.now ++ (name.now ++ (middle.now ++ (owner.now ++ codes "\" }\n"))))) }
     ensures part { OnErr result (TakesPart (O.taken out.old) (O.taken out.new)
         (head.now ++ (name.now ++ (middle.now ++ (owner.now ++ codes "\" }\n"))))) }
     ensures count { CountsFaults (O.faults out.old) (O.faults out.new) result }
+    ensures goes_on { OnOk result (O.may_write out.new) }
 {
     put_all(out, head)?;
     put_all(out, name)?;
@@ -150,10 +160,12 @@ fn put_source<O: Sink>(
     producers: &[ConfigProducer],
     source: &ConfigSource,
 ) -> Result<(), WriteFault>
-    requires { HasNumber producers.now source.now }
+    requires number { HasNumber producers.now source.now }
+    requires may { O.may_write out.old }
     ensures all { OnOk result (O.taken out.new ≡ after_told (O.taken out.old) (source_line producers.now source.now)) }
     ensures part { OnErr result (TakesPart (O.taken out.old) (O.taken out.new) (source_line producers.now source.now)) }
     ensures count { CountsFaults (O.faults out.old) (O.faults out.new) result }
+    ensures goes_on { OnOk result (O.may_write out.new) }
 {
     let middle = source_middle(source);
     let owner = producer_name(producers, source);
@@ -162,9 +174,11 @@ fn put_source<O: Sink>(
 
 #[tactic(auto, using(byte_io::proofs::Told::after_told_nothing))]
 fn put_buffers<O: Sink>(out: &mut O, buffers: &[ConfigBuffer]) -> Result<(), WriteFault>
+    requires { O.may_write out.old }
     ensures all { OnOk result (O.taken out.new ≡ after_told (O.taken out.old) (flat_map buffer_line buffers.now)) }
     ensures part { OnErr result (TakesPart (O.taken out.old) (O.taken out.new) (flat_map buffer_line buffers.now)) }
     ensures count { CountsFaults (O.faults out.old) (O.faults out.new) result }
+    ensures goes_on { OnOk result (O.may_write out.new) }
 {
     for buffer in buffers {
         put_buffer(out, buffer)?;
@@ -174,9 +188,11 @@ fn put_buffers<O: Sink>(out: &mut O, buffers: &[ConfigBuffer]) -> Result<(), Wri
 
 #[tactic(auto, using(byte_io::proofs::Told::after_told_nothing))]
 fn put_producers<O: Sink>(out: &mut O, producers: &[ConfigProducer]) -> Result<(), WriteFault>
+    requires { O.may_write out.old }
     ensures all { OnOk result (O.taken out.new ≡ after_told (O.taken out.old) (flat_map producer_line producers.now)) }
     ensures part { OnErr result (TakesPart (O.taken out.old) (O.taken out.new) (flat_map producer_line producers.now)) }
     ensures count { CountsFaults (O.faults out.old) (O.faults out.new) result }
+    ensures goes_on { OnOk result (O.may_write out.new) }
 {
     for producer in producers {
         put_producer(out, producer)?;
@@ -190,10 +206,12 @@ fn put_sources<O: Sink>(
     producers: &[ConfigProducer],
     sources: &[ConfigSource],
 ) -> Result<(), WriteFault>
-    requires { All (HasNumber producers.now) sources.now }
+    requires numbers { All (HasNumber producers.now) sources.now }
+    requires may { O.may_write out.old }
     ensures all { OnOk result (O.taken out.new ≡ after_told (O.taken out.old) (flat_map (source_line producers.now) sources.now)) }
     ensures part { OnErr result (TakesPart (O.taken out.old) (O.taken out.new) (flat_map (source_line producers.now) sources.now)) }
     ensures count { CountsFaults (O.faults out.old) (O.faults out.new) result }
+    ensures goes_on { OnOk result (O.may_write out.new) }
 {
     for source in sources {
         put_source(out, producers, source)?;
@@ -204,10 +222,12 @@ fn put_sources<O: Sink>(
 /// Writes a configuration as a text that spells it: a line for each block.
 #[tactic(auto, using(byte_io::proofs::Told::part_first, byte_io::proofs::Told::part_second, byte_io::proofs::Told::after_told_again, crate::proofs::PutLemmas::all_numbered))]
 pub fn put_config<O: Sink>(out: &mut O, config: &Config) -> Result<(), WriteFault>
-    requires { IsWritable (parts_of config.now) }
+    requires writable { IsWritable (parts_of config.now) }
+    requires may { O.may_write out.old }
     ensures all { OnOk result (O.taken out.new ≡ after_told (O.taken out.old) (written_config (parts_of config.now))) }
     ensures part { OnErr result (TakesPart (O.taken out.old) (O.taken out.new) (written_config (parts_of config.now))) }
     ensures count { CountsFaults (O.faults out.old) (O.faults out.new) result }
+    ensures goes_on { OnOk result (O.may_write out.new) }
 {
     put_buffers(out, &config.buffers)?;
     put_producers(out, &config.producers)?;

@@ -22,4 +22,5 @@ loop-buffer-preserved g c =
       taken = lines_more buffer_line (taken c.args.out.now) (taken c.loop-buffer.out) (taken c.put_buffer.new.out) c.args.buffers.now c.loop-buffer.buffer-index none
           c.loop-buffer-test.true c.loop-buffer.invariant.taken c.in_ok-put_buffer.ensures.all;
       faults = c.in_ok-put_buffer.ensures.count ∙ c.loop-buffer.invariant.faults;
+      may = c.in_ok-put_buffer.ensures.goes_on;
     }

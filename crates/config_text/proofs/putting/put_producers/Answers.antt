@@ -17,4 +17,5 @@ loop-producer-preserved g c =
       taken = item_more producer_line (taken c.args.out.now) (taken c.loop-producer.out) (taken c.put_producer.new.out) c.args.producers.now c.loop-producer.producer-index
           c.producer-item.result c.loop-producer-test.true c.producer-item.is c.loop-producer.invariant.taken c.in_ok-put_producer.ensures.all;
       faults = c.in_ok-put_producer.ensures.count ∙ c.loop-producer.invariant.faults;
+      may = c.in_ok-put_producer.ensures.goes_on;
     }

@@ -8,4 +8,5 @@ abbrev pub invariant-loop-producer : goal.invariant-loop-producer
 invariant-loop-producer g l = record {
   taken : g.O.Sink.taken l.out ≡ after_told (g.O.Sink.taken l.fn.out) (flat_map producer_line (take l.producer-index l.producers));
   faults : g.O.Sink.faults l.out ≡ g.O.Sink.faults l.fn.out;
+  may : g.O.Sink.may_write l.out;
 }

@@ -17,4 +17,5 @@ loop-source-preserved g c =
       taken = item_more (source_line c.args.producers.now) (taken c.args.out.now) (taken c.loop-source.out) (taken c.put_source.new.out) c.args.sources.now c.loop-source.source-index
           c.source-item.result c.loop-source-test.true c.source-item.is c.loop-source.invariant.taken c.in_ok-put_source.ensures.all;
       faults = c.in_ok-put_source.ensures.count ∙ c.loop-source.invariant.faults;
+      may = c.in_ok-put_source.ensures.goes_on;
     }

@@ -8,4 +8,5 @@ abbrev pub invariant-loop-source : goal.invariant-loop-source
 invariant-loop-source g l = record {
   taken : g.O.Sink.taken l.out ≡ after_told (g.O.Sink.taken l.fn.out) (flat_map (source_line l.producers) (take l.source-index l.sources));
   faults : g.O.Sink.faults l.out ≡ g.O.Sink.faults l.fn.out;
+  may : g.O.Sink.may_write l.out;
 }
