@@ -1,0 +1,60 @@
+"""Reads FORMATS, "Lines": which form a line has, up to its FIELDS."""
+
+import re
+from dataclasses import dataclass
+
+NUMERAL = rb'(0|[1-9][0-9]*)'
+MOST_DIGITS = 20            # of a number below 2^64; of a longer one no digit matters
+
+FORMS = [(kind, re.compile(form.replace(b'N', NUMERAL))) for kind, form in (
+    ('buffer', rb'buffer N (ring|discard)'),
+    ('producer', rb'producer N N N'),
+    ('writer', rb'writer N N (drop|stall|stall:N)'),
+    ('p', rb'p N'), ('p', rb'p N (.*)'),
+    ('b', rb'b N'), ('e', rb'e N'), ('u', rb'u N'), ('f', rb'f N'),
+    ('a', rb'a N'), ('a', rb'a N (.*)'),
+    ('n', rb'n N N'),
+    ('c', rb'c N'), ('s', rb's N'), ('x', rb'x N'),
+    ('r', rb'r N'), ('r', rb'r N N'),
+    ('q', rb'q'),
+)]
+
+SET_UP = ('buffer', 'producer', 'writer')
+OF_WRITERS = ('p', 'b', 'a', 'n', 'u', 'e', 'f')
+OF_PRODUCERS = ('c', 's', 'x')
+
+
+@dataclass(frozen=True)
+class Form:
+    """A line by its kind, its numbers, its policy, and where its FIELDS begin."""
+    kind: str
+    numbers: tuple[int, ...] = ()
+    policy: str = ''
+    fields: bytes | None = None     # those of `a` and `p`
+    before_fields: int = 0          # how many bytes stand in front of them, and of the FIELD of `n`
+
+
+def number_of(word: bytes) -> int:
+    """A number; one of too many digits is just too large."""
+    return int(word) if len(word) <= MOST_DIGITS else 10 ** MOST_DIGITS
+
+
+def form_of(line: bytes) -> Form | None:
+    """The form of a line, if it has one."""
+    for kind, pattern in FORMS:
+        found = pattern.fullmatch(line)
+        if found:
+            return form_by(kind, line, [word for word in found.groups() if word is not None])
+    return None
+
+
+def form_by(kind: str, line: bytes, words: list[bytes]) -> Form:
+    """The form of a line of this kind, by its words behind the first one."""
+    if kind in ('a', 'p'):
+        fields = words[1] if len(words) > 1 else b'' if kind == 'a' else None
+        return Form(kind, (number_of(words[0]),), fields=fields, before_fields=len(line) - len(fields or b''))
+    if kind == 'n':
+        return Form(kind, (number_of(words[0]), number_of(words[1])), before_fields=len(line) - len(words[1]))
+    policies = [word for word in words if not word[:1].isdigit()]
+    numbers = tuple(number_of(word) for word in words if word[:1].isdigit())
+    return Form(kind, numbers, policies[0].decode().split(':')[0] if policies else '')

@@ -1,0 +1,78 @@
+"""Reads FORMATS, "What is played", of `run`: each writer's lines and the service's are a job, and the jobs go on in some order.
+
+The page promises no order, so this is one of many. It is chosen by a number: line by line a job is drawn of those that have lines left. A
+writer that finds no free chunk has the others go on until it gets one.
+"""
+
+import random
+
+from model.answers import Answer, refused
+from model.replay import is_of_service, play_of_service, play_of_writer
+from model.report import report_of
+from model.scenario import Line, Refused, Scenario, read_scenario
+from model.service import Service
+from model.writers import Writer
+
+NOT_PLAYED = {'x': 'not under run', 'q': 'not built'}
+SERVICE = 0                 # the service's job; a writer's has its number
+
+
+class Jobs:
+    """The lines of the jobs that are left, and what has been written."""
+
+    def __init__(self, scenario: Scenario, order: int):
+        self.service = Service(scenario)
+        self.random = random.Random(order)
+        self.lines: dict[int, list[Line]] = {SERVICE: []}
+        for writer in self.service.writers:
+            self.lines[writer.number] = []
+            writer.help = lambda writer=writer: self.help(writer)
+        for line in scenario.lines:
+            self.lines[SERVICE if is_of_service(line) else line.of].append(line)
+        self.done = {job: False for job in self.lines}
+        self.waiting: list[int] = []        # jobs in the midst of a line
+        self.records: list[bytes] = []
+
+    def help(self, writer: Writer) -> bool:
+        """The service takes chunks; the others go on meanwhile, where the writer waits for one."""
+        freed = self.service.collect(writer.spec.producer) > 0
+        while not freed and writer.spec.tries is None:
+            self.step()
+            freed = self.service.collect(writer.spec.producer) > 0 or not all(writer.claims.claimed)
+        return freed
+
+    def ready(self) -> list[int]:
+        return [job for job, done in self.done.items() if not done and job not in self.waiting]
+
+    def step(self) -> None:
+        """One line of a job, or the flush behind its last one."""
+        job = self.random.choice(self.ready())
+        self.waiting.append(job)
+        line = self.lines[job].pop(0) if self.lines[job] else None
+        if job == SERVICE:
+            self.records += play_of_service(self.service, line) if line else []
+        elif line:
+            play_of_writer(self.service.writers[job - 1], line)
+        else:
+            self.service.writers[job - 1].flush()
+        self.done[job] = line is None
+        self.waiting.remove(job)
+
+
+def play(scenario: Scenario, order: int) -> Answer:
+    jobs = Jobs(scenario, order)
+    while jobs.ready():
+        jobs.step()
+    jobs.records += jobs.service.finish()
+    return Answer(0, b''.join(jobs.records), report_of(jobs.service))
+
+
+def run(text: bytes, order: int = 0) -> Answer:
+    try:
+        scenario = read_scenario(text)
+    except Refused as fault:
+        return refused(fault)
+    for line in scenario.lines:
+        if line.kind in NOT_PLAYED:
+            return refused(Refused(line.number, NOT_PLAYED[line.kind]))
+    return play(scenario, order)
