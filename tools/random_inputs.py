@@ -12,17 +12,19 @@ KILOBYTES = [4, 4, 4, 5, 6, 8, 8, 9, 16, 64, 128]
 FIELDS = [1, 1, 2, 8, 15, 16, 900, 2047, 2048, 536870911]
 NUMBERS = [0, 1, 127, 128, 300, 16383, 16384, 2 ** 32, 2 ** 63, MOST_NUMBER]
 ODD_LINES = [
-    b'', b'# a comment', b'#\xff\x00', b' ', b'p', b'p ', b'p 1 ', b'p  1', b'a 1', b'a 1 ', b'b 1', b'e 1', b'u 1', b'f 1', b'f 1 ', b'n 1 0', b'n 1 01',
-    b'n 1 10', b'n 1 536870912', b'n 1 99999999999999999999999', b'n 1 900', b'q', b'q ', b'x 1', b'x 2', b'c 1', b'c 0', b'c 17', b's 1', b'r 1', b'r 1 0',
-    b'r 1 1', b'r 1 18446744073709551615', b'r 1 18446744073709551616', b'r 99 1', b'r 9', b'buffer 4 ring', b'buffer 3 ring', b'buffer 65536 discard',
-    b'buffer 65537 ring', b'buffer 4 Ring', b'buffer 04 ring', b'producer 1 4096 3', b'producer 65 4096 1', b'producer 1 4097 1', b'producer 0 4096 1',
-    b'producer 1 69632 14', b'producer 1 65536 1', b'writer 1 1 drop', b'writer 1 1 drop ', b'writer 1 1 stall', b'writer 2 1 drop', b'writer 1 9 drop',
-    b'writer 18446744073709551616 1 drop', b'writer 1 1 keep', b'writer 0 0 drop', b'p 0', b'p 65', b'p 18446744073709551616', b'p 1 8:', b'p 1 8:1 ',
-    b'p 1 8:1  9:1', b'p 1 8:01', b'p 1 0:1', b'p 1 536870912:1', b'p 1 8:18446744073709551616', b'p 1 8:18446744073709551615', b'p 1 10:5', b'p 1 1{10:5}',
-    b'p 1 3{1:1}', b'p 1 79:"x"', b'p 1 1:"', b'p 1 1:"\x7f"', b'p 1 1:"\\"', b'p 1 1:"a"*0', b'p 1 1:"a"*1048577', b'p 1 1:"a"*', b'p 1 1:"a"*01',
-    b"p 1 1:x'", b"p 1 1:x'0'", b"p 1 1:x'0G'", b"p 1 1:x'00FF'", b"p 1 1:x''", b'p 1 1{', b'p 1 1{}', b'p 1 1{ }', b'p 1 1{1:1 }', b'p 1 1{}}', b'p 1 1{}{}',
-    b'p 1 ' + b'1{' * 16 + b'}' * 16, b'p 1 ' + b'1{' * 17 + b'}' * 17, b'p 1 ' + b'1{' * 40, b'a 1 ' + b'1{' * 9 + b'}' * 9, b'p 1 1:"x"*1048572',
-    b'p 1 1:"x"*1048573', b'p 1 1:""*1048576', b'p 1 8:1\r', b'\xef\xbb\xbfp 1', b'p\t1', b'P 1', b'==', b'k 1', b'raw 1 1', b'p -1', b'p +1', b'p 1 8:-1',
+    b'', b'# a comment', b'#\xff\x00', b' ', b'p', b'p ', b'p 1 ', b'p  1', b'a 1', b'a 1 ', b'b 1', b'e 1', b'u 1', b'f 1', b'f 1 ',
+    b'n 1 0', b'n 1 01', b'n 1 10', b'n 1 536870912', b'n 1 99999999999999999999999', b'n 1 900', b'q', b'q ', b'x 1', b'x 2', b'c 1',
+    b'c 0', b'c 17', b's 1', b'r 1', b'r 1 0', b'r 1 1', b'r 1 18446744073709551615', b'r 1 18446744073709551616', b'r 99 1', b'r 9',
+    b'buffer 4 ring', b'buffer 3 ring', b'buffer 65536 discard', b'buffer 65537 ring', b'buffer 4 Ring', b'buffer 04 ring',
+    b'producer 1 4096 3', b'producer 65 4096 1', b'producer 1 4097 1', b'producer 0 4096 1', b'producer 1 69632 14',
+    b'producer 1 65536 1', b'writer 1 1 drop', b'writer 1 1 drop ', b'writer 1 1 stall', b'writer 2 1 drop', b'writer 1 9 drop',
+    b'writer 18446744073709551616 1 drop', b'writer 1 1 keep', b'writer 0 0 drop', b'p 0', b'p 65', b'p 18446744073709551616', b'p 1 8:',
+    b'p 1 8:1 ', b'p 1 8:1  9:1', b'p 1 8:01', b'p 1 0:1', b'p 1 536870912:1', b'p 1 8:18446744073709551616',
+    b'p 1 8:18446744073709551615', b'p 1 10:5', b'p 1 1{10:5}', b'p 1 3{1:1}', b'p 1 79:"x"', b'p 1 1:"', b'p 1 1:"\x7f"', b'p 1 1:"\\"',
+    b'p 1 1:"a"*0', b'p 1 1:"a"*1048577', b'p 1 1:"a"*', b'p 1 1:"a"*01', b"p 1 1:x'", b"p 1 1:x'0'", b"p 1 1:x'0G'", b"p 1 1:x'00FF'",
+    b"p 1 1:x''", b'p 1 1{', b'p 1 1{}', b'p 1 1{ }', b'p 1 1{1:1 }', b'p 1 1{}}', b'p 1 1{}{}', b'p 1 ' + b'1{' * 16 + b'}' * 16,
+    b'p 1 ' + b'1{' * 17 + b'}' * 17, b'p 1 ' + b'1{' * 40, b'a 1 ' + b'1{' * 9 + b'}' * 9, b'p 1 1:"x"*1048572', b'p 1 1:"x"*1048573',
+    b'p 1 1:""*1048576', b'p 1 8:1\r', b'\xef\xbb\xbfp 1', b'p\t1', b'P 1', b'==', b'k 1', b'raw 1 1', b'p -1', b'p +1', b'p 1 8:-1',
 ]
 ODD_BYTES = b'\x00\n\r\t "#\'*+-0159:=ABZ\\abcnpqrswx{}\x7f\x80\xff'
 

@@ -5,6 +5,6 @@ decides. Nothing of it is taken from the program's code. It needs Python 3.11 an
 
     python3 tools/model replay|run|read|check|gen NUMBER WRITERS PACKETS
 
-Each module is headed by the section of the page that it reads. To add a command, write a module with a function from the input's bytes to an
-`Answer` (answers.py), and name it in commands.py; to add a kind of line, see forms.py, scenario.py and replay.py.
+Each module is headed by the section of the page that it reads. To add a command, write a module with a function from the input's bytes to
+an `Answer` (answers.py), and name it in commands.py; to add a kind of line, see forms.py, scenario.py and replay.py.
 """

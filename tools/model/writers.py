@@ -169,18 +169,16 @@ class Writer:
         self.next_id += 1
 
     def claim(self) -> int:
-        """A free chunk, by as many rounds of claims as the writer's policy allows."""
-        asks = 0
-        while True:
-            slot = self.claims.claim()
-            if slot is not None:
-                return slot
-            if self.spec.policy == 'drop' or asks == self.spec.tries:
+        """A free chunk. How often a writer may ask that stalls and then drops doesn't matter here: no other job goes on between an ask
+        that frees a chunk and the claim behind it, which gets it, and behind an ask that frees none all others free none too."""
+        slot = self.claims.claim()
+        while slot is None:
+            if self.spec.policy == 'drop':
                 raise OutOfChunks
-            asks += 1
-            freed = self.help()
-            if not freed and self.spec.tries is None:
-                raise Stalled(self.number)
+            if not self.help():
+                raise OutOfChunks if self.spec.tries else Stalled(self.number)
+            slot = self.claims.claim()
+        return slot
 
     def close_fragment(self) -> None:
         self.held.put_at(self.held.fragment_at, four_bytes(self.held.size_of_fragment()))

@@ -1,0 +1,92 @@
+"""Which branches of the model some inputs take: of each `if`, `while` and `for` of a module both ways."""
+
+import ast
+import os
+import sys
+from collections.abc import Callable, Iterator
+from dataclasses import dataclass
+from functools import cache
+
+MODEL = os.path.join(os.path.dirname(os.path.abspath(__file__)), 'model')
+
+
+@dataclass(frozen=True, order=True)
+class Branch:
+    module: str
+    line: int
+    way: str            # `holds` or `fails`; of a loop that is `goes round` or `ends`
+
+    def __str__(self) -> str:
+        return f'{self.module}:{self.line} {self.way}'
+
+
+@dataclass(frozen=True)
+class Fork:
+    """A statement with two ways: the lines of its test, and those on which the first way begins."""
+    line: int
+    test: range
+    first: range
+    ways: tuple[str, ...]
+
+
+def forks_in(tree: ast.AST) -> Iterator[Fork]:
+    for node in ast.walk(tree):
+        if isinstance(node, (ast.If, ast.While)):
+            is_endless = isinstance(node.test, ast.Constant)
+            ways = ('holds', 'fails') if isinstance(node, ast.If) else ('goes round',) if is_endless else ('goes round', 'ends')
+            test = range(node.lineno, node.test.end_lineno + 1)
+        elif isinstance(node, ast.For):
+            ways, test = ('goes round', 'ends'), range(node.lineno, node.iter.end_lineno + 1)
+        else:
+            continue
+        first = node.body[0]
+        yield Fork(node.lineno, test, range(first.lineno, first.end_lineno + 1), ways)
+
+
+@cache
+def forks_of_model() -> dict[str, dict[int, Fork]]:
+    """The forks of each file, by the lines of their tests."""
+    found = {}
+    for name in sorted(os.listdir(MODEL)):
+        if name.endswith('.py'):
+            with open(os.path.join(MODEL, name)) as source:
+                forks = list(forks_in(ast.parse(source.read())))
+            found[os.path.join(MODEL, name)] = {line: fork for fork in forks for line in fork.test}
+    return found
+
+
+class Tracer:
+    """Follows the lines of the model, and notes which way each fork went."""
+
+    def __init__(self):
+        self.forks = forks_of_model()
+        self.taken: set[Branch] = set()
+        self.last: dict[object, int] = {}       # of each frame the line before
+
+    def all(self) -> set[Branch]:
+        return {Branch(os.path.basename(path), fork.line, way) for path, forks in self.forks.items()
+                for fork in forks.values() for way in fork.ways}
+
+    def during(self, call: Callable[[], object]) -> object:
+        sys.settrace(self.enter)
+        try:
+            return call()
+        finally:
+            sys.settrace(None)
+            self.last.clear()
+
+    def enter(self, frame, event, _):
+        return self.step if frame.f_code.co_filename in self.forks else None
+
+    def step(self, frame, event, _):
+        path, last = frame.f_code.co_filename, self.last.pop(frame, None)
+        if event == 'exception':
+            return self.step
+        fork = self.forks[path].get(last)
+        if fork and (event == 'return' or frame.f_lineno not in fork.test or frame.f_lineno in fork.first):
+            is_first = event == 'line' and frame.f_lineno in fork.first
+            way = fork.ways[0] if is_first else fork.ways[-1]
+            self.taken.add(Branch(os.path.basename(path), fork.line, way))
+        if event == 'line':
+            self.last[frame] = frame.f_lineno
+        return self.step
