@@ -39,7 +39,7 @@ class ScenarioMaker:
         self.writers: list[tuple[int, int]] = []        # producer and payload
         self.open: dict[int, int] = {}                  # how many messages are open in the packet of a writer
         self.closed: set[int] = set()
-        self.length: dict[int, int] = {}
+        self.depth = self.random.choice([2, 2, 3, 15])   # of nested messages in FIELDS
 
     def pick(self, *choices):
         return self.random.choice(choices)
@@ -48,14 +48,14 @@ class ScenarioMaker:
         return self.random.random() < of
 
     def set_up(self) -> None:
-        pick = self.random.choice
-        self.buffers = [pick(KILOBYTES) for _ in range(self.pick(1, 1, 1, 2, 3))]
-        self.producers = [pick(PAGES) for _ in range(self.pick(1, 1, 2, 3))]
+        pick, is_wide = self.random.choice, self.chance(.03)
+        self.buffers = [pick(KILOBYTES) for _ in range(8 if is_wide else self.pick(1, 1, 1, 2, 3))]
+        self.producers = [pick(PAGES) for _ in range(16 if is_wide else self.pick(1, 1, 2, 3))]
         for kb in self.buffers:
             self.lines.append(f'buffer {kb} {self.pick("ring", "ring", "discard")}')
         for producer in self.producers:
             self.lines.append('producer {} {} {}'.format(*producer))
-        for _ in range(self.pick(1, 1, 2, 2, 3, 5)):
+        for _ in range(64 if is_wide else self.pick(1, 1, 2, 2, 3, 5)):
             producer, buffer = self.random.randrange(len(self.producers)), self.random.randrange(len(self.buffers))
             self.add_writer(producer, buffer, self.policy())
 
@@ -94,7 +94,7 @@ class ScenarioMaker:
             field, roll = self.random.choice(FIELDS), self.random.random()
             if roll < .4:
                 made.append(f'{field}:{self.number()}')
-            elif roll < .75 or depth >= self.pick(2, 3, 15):
+            elif roll < .75 or depth >= self.depth:
                 made.append(f'{field}:{self.text(payload)}')
             else:
                 made.append(f'{field}{{{self.fields(payload, depth + 1) if self.chance(.9) else ""}}}')

@@ -23,14 +23,10 @@ def play_of_service(service: Service, line: Line) -> list[bytes]:
     """A line of the service: the records that it writes."""
     if line.kind == 'r':
         return service.read(line.of, line.limit)
-    if line.kind == 'c':
-        service.collect(line.of)
-    elif line.kind == 's':
-        service.scrape(line.of)
-    elif line.kind == 'x':
-        service.close(line.of)
-    elif line.kind == 'q':
+    if line.kind == 'q':
         service.request_flush()
+    else:
+        {'c': service.collect, 's': service.scrape, 'x': service.close}[line.kind](line.of)
     return []
 
 
