@@ -14,23 +14,31 @@ MODEL = os.path.join(os.path.dirname(os.path.abspath(__file__)), 'model')
 class Branch:
     module: str
     line: int
+    function: str
     way: str            # `holds` or `fails`; of a loop that is `goes round` or `ends`
 
     def __str__(self) -> str:
-        return f'{self.module}:{self.line} {self.way}'
+        return f'{self.module}:{self.line} in {self.function}: {self.way}'
 
 
 @dataclass(frozen=True)
 class Fork:
     """A statement with two ways: the lines of its test, and those on which the first way begins."""
     line: int
+    function: str
     test: range
     first: range
     ways: tuple[str, ...]
 
 
 def forks_in(tree: ast.AST) -> Iterator[Fork]:
-    for node in ast.walk(tree):
+    for function in ast.walk(tree):
+        if isinstance(function, ast.FunctionDef):
+            yield from forks_of(function)
+
+
+def forks_of(function: ast.FunctionDef) -> Iterator[Fork]:
+    for node in ast.walk(function):
         if isinstance(node, (ast.If, ast.While)):
             is_endless = isinstance(node.test, ast.Constant)
             ways = ('holds', 'fails') if isinstance(node, ast.If) else ('goes round',) if is_endless else ('goes round', 'ends')
@@ -40,7 +48,11 @@ def forks_in(tree: ast.AST) -> Iterator[Fork]:
         else:
             continue
         first = node.body[0]
-        yield Fork(node.lineno, test, range(first.lineno, first.end_lineno + 1), ways)
+        yield Fork(node.lineno, function.name, test, range(first.lineno, first.end_lineno + 1), ways)
+
+
+def branch_of(path: str, fork: Fork, way: str) -> Branch:
+    return Branch(os.path.basename(path), fork.line, fork.function, way)
 
 
 @cache
@@ -64,8 +76,7 @@ class Tracer:
         self.last: dict[object, int] = {}       # of each frame the line before
 
     def all(self) -> set[Branch]:
-        return {Branch(os.path.basename(path), fork.line, way) for path, forks in self.forks.items()
-                for fork in forks.values() for way in fork.ways}
+        return {branch_of(path, fork, way) for path, forks in self.forks.items() for fork in forks.values() for way in fork.ways}
 
     def during(self, call: Callable[[], object]) -> object:
         sys.settrace(self.enter)
@@ -86,7 +97,7 @@ class Tracer:
         if fork and (event == 'return' or frame.f_lineno not in fork.test or frame.f_lineno in fork.first):
             is_first = event == 'line' and frame.f_lineno in fork.first
             way = fork.ways[0] if is_first else fork.ways[-1]
-            self.taken.add(Branch(os.path.basename(path), fork.line, way))
+            self.taken.add(branch_of(path, fork, way))
         if event == 'line':
             self.last[frame] = frame.f_lineno
         return self.step
