@@ -9,7 +9,8 @@
 
 An input is a file NAME.COMMAND. What is expected stands in expected.txt: under each file's name its status, the lines of standard error,
 and the bytes of standard output in hexadecimal, or of many bytes their count and SHA-256. Statuses that no file brings about are tried with
-other streams: a folder as standard input, a full device as standard output, and little memory.
+other words and streams: no command, an input that is too long, a folder as standard input, a full device as standard output, and little
+memory.
 """
 
 import hashlib
@@ -26,8 +27,9 @@ sys.path.insert(0, HERE)
 
 from branches import Tracer         # noqa: E402
 from compare import KINDS, seeds_in     # noqa: E402
-from model.answers import Answer    # noqa: E402
+from model.answers import USAGE_LINE, Answer    # noqa: E402
 from model.commands import answer_to    # noqa: E402
+from model.limits import MOST_INPUT     # noqa: E402
 
 FOLDER = os.path.join(os.path.dirname(HERE), 'examples', 'hostile')
 EXPECTED = os.path.join(FOLDER, 'expected.txt')
@@ -36,6 +38,7 @@ OF_A_LINE = 32
 LITTLE_MEMORY = 60_000_000      # bytes, of which the program's own are a few
 SMALL = b'buffer 4 ring\nproducer 1 4096 14\nwriter 1 1 drop\np 1\n'
 SMALL_TRACE = bytes.fromhex('0a055002d00201')
+
 
 def names() -> list[str]:
     return sorted(name for name in os.listdir(FOLDER) if name.rpartition('.')[2] in ('replay', 'run', 'read', 'check'))
@@ -116,17 +119,21 @@ def tried_streams(program: list[str]) -> Iterator[tuple[str, subprocess.Complete
                (5, None, b'write fault\n'))
         yield ('a full device as standard error', subprocess.run(command, input=SMALL, stdout=subprocess.PIPE, stderr=full, check=False),
                (5, SMALL_TRACE, b''))
-    folder = os.open(FOLDER, os.O_RDONLY)
-    yield 'a folder as standard input', subprocess.run(command, stdin=folder, capture_output=True, check=False), (4, b'', b'read fault\n')
-    os.close(folder)
+    yield ('too long an input', subprocess.run(command, input=b'\n' * (MOST_INPUT + 1), capture_output=True, check=False),
+           (7, b'', b'input too long\n'))
+    yield 'no command', subprocess.run(program, capture_output=True, check=False), (2, b'', USAGE_LINE)
     if is_program(program):
+        folder = os.open(FOLDER, os.O_RDONLY)
+        yield ('a folder as standard input', subprocess.run(command, stdin=folder, capture_output=True, check=False),
+               (4, b'', b'read fault\n'))
+        os.close(folder)
         large = b'buffer 4 ring\nproducer 1 4096 14\nwriter 1 1 drop\n' + b'p 1 1:1\n' * 8_000_000
         yield ('little memory', subprocess.run(command, input=large, capture_output=True, preexec_fn=limited_memory, check=False),
                (1, b'', b'out of memory\n'))
 
 
 def is_program(program: list[str]) -> bool:
-    """The program is one of its own: an interpreter needs memory for itself."""
+    """The program is one of its own: an interpreter wants no folder as standard input, and needs memory for itself."""
     return len(program) == 1
 
 
