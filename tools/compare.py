@@ -10,6 +10,7 @@ standard output and standard error, byte for byte.
     replay    random scenarios                      read, damaged   traces of any fields, and records with some bytes wrong
     broken    scenarios with something wrong        check           scenarios with their traces, some of them spoilt
     gen       small workloads                       words           words of every command, and others
+    tune      turns of users, by the sums that any order has to keep
     settled   `run` of scenarios whose outcome no thread decides
     run       `run` of any: that the trace tells of the scenario, by the second reading's `check`, that each line of the report adds up,
               and that it counts the trace's records; of a refused one the line
@@ -91,8 +92,13 @@ def made_run(seed, tries):
     return ['run'], inputs.scenario(seed, tries, LIVELY if seed % 10 else LIVELY + 'xq')
 
 
+def made_tune(seed, _):
+    chooser = random.Random(seed)
+    return ['tune', str(chooser.choice([1, 1, 2, 3, 8])), str(chooser.choice([1, 2, 3, 10, 100, 2000]))], b''
+
+
 KINDS = {'replay': made_replay, 'broken': made_broken, 'read': made_read, 'damaged': made_damaged, 'check': made_check, 'gen': made_gen,
-         'words': made_words, 'settled': made_settled, 'run': made_run}
+         'words': made_words, 'settled': made_settled, 'run': made_run, 'tune': made_tune}
 
 
 def answer_of(program: list[str], words: list[str], data: bytes) -> Answer:
@@ -127,6 +133,24 @@ def faults_of_run(data: bytes, found: Answer, model: Answer) -> list[str]:
     return faults if len(lines) == len(begun) else [*faults, 'lines of the report are missing']
 
 
+def faults_of_tune(words: list[str], found: Answer, model: Answer) -> list[str]:
+    """What is wrong with the lines of users whose order nobody knows: their words, their turns, and the sums."""
+    lines, others = ([line.split() for line in answer.output.decode(errors='replace').splitlines()] for answer in (found, model))
+    if (found.status, found.text, len(lines)) != (0, b'', len(others)) or any(a[::2] != b[::2] for a, b in zip(lines, others)):
+        return ['another status, text, or other words']
+    faults, sums = [], Counter()
+    for line, other in zip(lines, others):
+        counts, wanted = (dict(zip(words[::2], map(int, words[1::2]))) for words in (line, other))
+        sums.update({word: counts[word] for word in counts if word not in ('user', 'page', 'chunks')})
+        for kind in (('claimed', 'none'), ('retiled', 'refused')):
+            if sum(counts.get(word, 0) for word in kind) != sum(wanted.get(word, 0) for word in kind):
+                faults.append(f'the turns do not add up: {" ".join(line)}')
+    if sums['claimed'] != sums['taken'] or sums['retiled'] != sums['generation']:
+        faults.append(f'the sums differ: {dict(sums)}')
+    # (of one user's first two turns nothing is left to an order)
+    return faults if words[1] != '1' or int(words[2]) > 2 or found == model else [*faults, 'the answers differ']
+
+
 def complete_by_lines(data: bytes) -> set[int]:
     """The sequences of writers that stall and never drop."""
     scenario = read_scenario(data)
@@ -150,6 +174,8 @@ def compared(kind: str, seed: int, program: list[str], tries: bool) -> tuple[lis
             faults = faults_of_stalls(data, found)
         return words, data, found, model, faults
     model = answer_to(words, io.BytesIO(data))
+    if words[:1] == ['tune'] and model.status == 0:
+        return words, data, found, model, faults_of_tune(words, found, model)
     return words, data, found, model, [] if found == model else ['the answers differ']
 
 

@@ -8,14 +8,15 @@ from typing import BinaryIO
 from model import answers
 from model.answers import Answer
 from model.check import check
-from model.limits import GENERATED_PACKETS, GENERATED_WRITERS, MOST_INPUT, MOST_NUMBER
+from model.limits import GENERATED_PACKETS, GENERATED_WRITERS, MOST_INPUT, MOST_NUMBER, TUNING_TURNS, TUNING_USERS
 from model.replay import replay
 from model.run import run
 from model.summary import read
+from model.tune import tune
 from model.workload import workload
 
 OF_INPUT: dict[str, Callable[[bytes], Answer]] = {'replay': replay, 'run': run, 'read': read, 'check': check}
-# To come: `stream` and `clone`, which read an input, and `tune USERS TURNS`, which reads none.
+# To come: `stream` and `clone`, which read an input.
 NUMERAL = re.compile(r'0|[1-9][0-9]*', re.ASCII)
 
 
@@ -34,6 +35,9 @@ def command_of(words: list[str]) -> Callable[[BinaryIO], Answer] | None:
     if words[:1] == ['gen']:
         numbers = numbers_in(words[1:], (range(MOST_NUMBER + 1), GENERATED_WRITERS, GENERATED_PACKETS))
         return (lambda _: workload(*numbers)) if numbers else None
+    if words[:1] == ['tune']:
+        numbers = numbers_in(words[1:], (TUNING_USERS, TUNING_TURNS))
+        return (lambda _: tune(*numbers)) if numbers else None
     return None
 
 

@@ -22,6 +22,9 @@ MOST_PACKETS = 268_435_456      # bytes of all packets of a scenario
 GENERATED_WRITERS = range(1, 64 + 1)
 GENERATED_PACKETS = range(1, 100_000 + 1)
 
+TUNING_USERS = range(1, 8 + 1)
+TUNING_TURNS = range(1, 10_000 + 1)
+
 RESERVED_FIELDS = (3, 10, 33, 35, 36, 42, 50, 79)
 
 
