@@ -19,14 +19,17 @@ struct Ran {
     text: MemSink,
 }
 
-fn run<R: Threads + Wait + Sync + AllocGlobal, G: Gate + Sync>(
+fn call<R: Threads + Wait + Sync + AllocGlobal, G: Gate + Sync>(
     rt: &R,
-    scenario: Vec<u8>,
+    line: &str,
+    input: Vec<u8>,
     gate: &G,
 ) -> Result<Ran, Fail> {
     let mut words = Vec::new(rt.alloc());
-    words.push(String::from_str(rt.alloc(), "run")?)?;
-    let mut input = MemSource::new(scenario);
+    for word in line.split(' ') {
+        words.push(String::from_str(rt.alloc(), word)?)?;
+    }
+    let mut input = MemSource::new(input);
     let mut trace = MemSink::with_room(rt.alloc(), AMPLE)?;
     let mut text = MemSink::with_room(rt.alloc(), AMPLE)?;
     let status = trace_top(
@@ -43,6 +46,14 @@ fn run<R: Threads + Wait + Sync + AllocGlobal, G: Gate + Sync>(
         trace,
         text,
     })
+}
+
+fn run<R: Threads + Wait + Sync + AllocGlobal, G: Gate + Sync>(
+    rt: &R,
+    scenario: Vec<u8>,
+    gate: &G,
+) -> Result<Ran, Fail> {
+    call(rt, "run", scenario, gate)
 }
 
 const TWO_WRITERS: &[u8] =
@@ -223,5 +234,24 @@ fn writers_that_stall_lose_nothing(rt: HostRuntime) -> Result<(), Fail> {
     let ran = run(&rt, scenario, &OpenGate)?;
     assert_eq!(rt; ran.status, 0);
     assert!(rt; ran.text.taken().ends_with(NONE_LOST));
+    Ok(())
+}
+
+const TUNED: &[u8] =
+    b"user 1 claimed 3 none 0 retiled 2 refused 0\ntaken 3\npage 1 generation 0 chunks 14\npage 2 generation 1 chunks 2\npage 3 generation 1 chunks 7\npage 4 generation 0 chunks 14\n";
+
+#[test]
+fn a_user_runs_beside_the_collector(rt: HostRuntime) -> Result<(), Fail> {
+    // The collector waits before its second round until the user begins, which waits for that round.
+    let gate = Both {
+        first: Hold::new(Place { job: 0, line: 2 }, Place { job: 1, line: 1 }),
+        second: Hold::new(Place { job: 1, line: 1 }, Place { job: 0, line: 2 }),
+    };
+    let ran = call(&rt, "tune 1 5", Vec::new(rt.alloc()), &gate)?;
+    assert_eq!(rt; ran.status, 0);
+    assert_eq!(rt; gate.first.ran_out.load(Ordering::SeqCst), 0);
+    assert_eq!(rt; gate.second.ran_out.load(Ordering::SeqCst), 0);
+    assert_eq!(rt; ran.trace.taken(), TUNED);
+    assert_eq!(rt; ran.text.taken(), b"".as_slice());
     Ok(())
 }

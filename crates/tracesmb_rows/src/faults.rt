@@ -129,7 +129,7 @@ fn one_byte_too_many_is_too_long(rt: HostRuntime) -> Result<(), Fail> {
     Ok(())
 }
 
-// `gen` goes on where the input fails, since it reads none.
+// `gen` and `tune` go on where the input fails, since they read none.
 #[test]
 fn gen_reads_nothing(rt: HostRuntime) -> Result<(), Fail> {
     let failing = vec![in rt.alloc(); 1]?;
@@ -142,6 +142,25 @@ fn gen_reads_nothing(rt: HostRuntime) -> Result<(), Fail> {
         5
     );
     assert_eq!(rt; trace.taken(), b"buffer 655".as_slice());
+    assert_eq!(rt; text.taken(), b"write fault\n".as_slice());
+    Ok(())
+}
+
+#[test]
+fn tune_reads_nothing(rt: HostRuntime) -> Result<(), Fail> {
+    let failing = vec![in rt.alloc(); 1]?;
+    let mut input = ScriptSource::new(INPUT.to_vec(rt.alloc())?, 5, failing);
+    let mut trace = MemSink::with_room(rt.alloc(), 49)?;
+    let mut text = MemSink::with_room(rt.alloc(), AMPLE)?;
+    let words = ["tune", "1", "1"];
+    assert_eq!(rt;
+        status_of(&rt, &words, &mut input, &mut trace, &mut text)?,
+        5
+    );
+    assert_eq!(rt;
+        trace.taken(),
+        b"user 1 claimed 1 none 0 retiled 0 refused 0\ntaken".as_slice()
+    );
     assert_eq!(rt; text.taken(), b"write fault\n".as_slice());
     Ok(())
 }

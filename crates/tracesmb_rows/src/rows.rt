@@ -345,7 +345,7 @@ struct Command {
     text: &'static [u8],
 }
 
-static COMMANDS: [Command; 13] = [
+static COMMANDS: [Command; 16] = [
     // A workload, which reads nothing.
     Command {
         line: "gen 0 1 1",
@@ -409,6 +409,28 @@ static COMMANDS: [Command; 13] = [
         trace: b"",
         text: USAGE,
     },
+    // A user alone, in one turn and two, whatever the collector does meanwhile; and one user too many.
+    Command {
+        line: "tune 1 1",
+        input: b"play\n",
+        status: 0,
+        trace: b"user 1 claimed 1 none 0 retiled 0 refused 0\ntaken 1\npage 1 generation 0 chunks 14\npage 2 generation 0 chunks 14\npage 3 generation 0 chunks 14\npage 4 generation 0 chunks 14\n",
+        text: b"",
+    },
+    Command {
+        line: "tune 1 2",
+        input: b"",
+        status: 0,
+        trace: b"user 1 claimed 1 none 0 retiled 1 refused 0\ntaken 1\npage 1 generation 0 chunks 14\npage 2 generation 0 chunks 14\npage 3 generation 1 chunks 7\npage 4 generation 0 chunks 14\n",
+        text: b"",
+    },
+    Command {
+        line: "tune 9 1",
+        input: b"",
+        status: 2,
+        trace: b"",
+        text: USAGE,
+    },
     // `run` of one writer, and of none.
     Command {
         line: "run",
@@ -463,7 +485,8 @@ fn does_other_commands(rt: HostRuntime) -> Result<(), Fail> {
     Ok(())
 }
 
-const USAGE: &[u8] = b"usage: tracesmb replay|run|read|check|gen NUMBER WRITERS PACKETS\n";
+const USAGE: &[u8] =
+    b"usage: tracesmb replay|run|read|check|gen NUMBER WRITERS PACKETS|tune USERS TURNS\n";
 
 static WRONG_WORDS: [&[&str]; 8] = [
     &[],
