@@ -46,6 +46,7 @@ fn play<W: Words, O: Sink>(
     requires size { length image.now.payload.now ≡ size_of (W.means.setup table.old) (producer_of (W.means.setup table.old) 0) }
     requires count { image.now.count ≤ MAX_FRAGMENTS }
     requires flags { image.now.flags ≤ MAX_FLAGS }
+    requires may { O.may_write out.old }
 {
     let taken = service.collect(table, 1);
     let arrived = service.commit(table, 1, image, &[]).ok();

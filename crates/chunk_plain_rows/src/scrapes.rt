@@ -69,6 +69,7 @@ fn play<W: Words, O: Sink>(
     requires seat { W.means.sits table.old seat.old }
     requires chunk { IsChunkOf (W.means.setup table.old) (producer_of (W.means.setup table.old) (W.means.place seat.old)) 0 }
     requires begun { (W.means.view table.old seat.old).begun ≡ [] }
+    requires sink { (sink : O) → O.may_write sink }
 {
     let held = write(table, seat, 0, 0)?;
     let taken = service.scrape(table, 1);

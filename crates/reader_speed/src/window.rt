@@ -25,12 +25,14 @@ impl Window {
 }
 
 impl Sink for Window {
-    ghost use Rattle.std.specs.Prelude.{[]};
+    ghost use Rattle.std.specs.Prelude.{⊤, []};
     ghost use Rattle.byte_io.specs.Bytes.{untold};
 
     ghost taken = { λ _. untold [] };
 
     ghost faults = { λ sink. sink.faults };
+
+    ghost may_write = { λ _. ⊤ };
 
     ghost count_fits = { λ sink. sink.count_fits };
 

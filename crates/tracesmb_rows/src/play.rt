@@ -47,7 +47,9 @@ pub fn status_of<R: Threads + Wait + Sync + AllocGlobal, S: Source, T: Sink + Se
     trace: &mut T,
     text: &mut O,
 ) -> Result<u8, AllocError>
-    requires { S.may_ask input.old }
+    requires input { S.may_ask input.old }
+    requires trace { T.may_write trace.old }
+    requires text { (sink : O) → O.may_write sink }
     ensures unknown { IfOk result (λ status. status ≡ 2 → AskForNothing (map (λ word. word.now) words.now)) }
     ensures writes { IfOk result (λ status. status ≡ 0 → (command : Command) × (given report : List ℕ)
         × Ask (map (λ word. word.now) words.now) command × IsGiven command (S.left input.old) given
