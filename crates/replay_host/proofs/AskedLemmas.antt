@@ -5,14 +5,15 @@ use Rattle.std.proofs.lemmas.Bool.{cases_eq, eq-eqb, ne_eqb, true≢false}
 use Rattle.std.proofs.lemmas.List.{get_or-set_same, get_or-set_other}
 use Rattle.std.proofs.lemmas.Option.{slice_get-get_or, slice_get_within, same_Some}
 use Rattle.trace_base.specs.declared.policy.WriterPolicy.{WriterPolicy}
-use Rattle.trace_base.specs.declared.policy.WriterPolicy.TheVariants.{Drops, Stalls}
+use Rattle.trace_base.specs.declared.policy.WriterPolicy.TheVariants.{Drops, Stalls, StallsThenDrops}
 use Rattle.trace_base.specs.declared.policy.WriterSpec.{WriterSpec}
 use Rattle.trace_model.specs.Calls.{Call, Begun, Number, Bytes, Nested, Ended, GivenUp, Finished, Flushed}
 use Rattle.trace_model.specs.Packets.{Packet}
 use Rattle.scenario_text.specs.Accepted.{Accepts}
 use Rattle.model_laws.specs.Losses.{Loses}
 use Rattle.chunk_plain.specs.Meaning.{Meaning}
-use Rattle.chunk_plain.specs.Setup.{Setup, IsLaid, HasProducer, producer_of}
+use Rattle.chunk_plain.specs.Setup.{Setup, IsLaid, HasProducer, range_of, producer_of}
+use Rattle.chunk_plain.specs.declared.setup.ChunkRange.{ChunkRange}
 use Rattle.chunk_plain.specs.Views.{WriterView}
 use Rattle.chunk_plain.specs.World.{World, writer}
 use Rattle.world_model.specs.FirstBuffers.{payload_at}
@@ -20,12 +21,13 @@ use Rattle.trace_writer.specs.declared.route.Route.{Route}
 use Rattle.trace_writer.specs.declared.writer.WriterCore.{WriterCore}
 use Rattle.trace_writer.specs.Asked.{begun_as, written_as}
 use Rattle.trace_writer.specs.Core.{CoreAgrees, route_of}
-use Rattle.trace_writer.specs.Helping.{refuses}
+use Rattle.trace_writer.specs.Helping.{refuses, loses, rounds_for}
+use Rattle.trace_writer.specs.Losing.{LosesBehind}
 use Rattle.trace_writer.specs.OwnSteps.{IsQuiet}
 use Rattle.trace_writer.specs.Site.{IsRoute}
 use Rattle.service_core.specs.declared.service.ServiceCore.{ServiceCore}
 use Rattle.service_core.specs.Agreement.{spec_at, no_writer}
-use Rattle.replay_model.specs.Does.{MayNeedChunk, Notes, Wrote, dropped_call}
+use Rattle.replay_model.specs.Does.{MayNeedChunk, Notes, Wrote, dropped_call, policy_of}
 use Rattle.replay_host.specs.declared.helper.Collecting.{Collecting}
 use Rattle.replay_host.specs.Asking.{IsReadyFor, AreReady, asked_at, noted_as, IsCalled, KeepsService, DoesAsk}
 use Rattle.replay_host.specs.Helping.{MayHelp, Helps}
@@ -92,35 +94,46 @@ noted_whole policy GivenUp proper = absurd proper
 noted_whole policy Finished proper = refl
 noted_whole policy Flushed proper = refl
 
--- and of one whose packet was dropped
-noted_lost : (policy : WriterPolicy) (call : Call) → policy ≡ Drops → noted_as true policy call ≡ dropped_call call
-noted_lost policy (Begun kept) drops = ap (λ (p : WriterPolicy). begun_as true p) drops
-noted_lost policy (Number field value) drops = ap (λ (p : WriterPolicy). written_as true p (Number field value)) drops
-noted_lost policy (Bytes field text times) drops = ap (λ (p : WriterPolicy). written_as true p (Bytes field text times)) drops
-noted_lost policy (Nested field) drops = ap (λ (p : WriterPolicy). written_as true p (Nested field)) drops
-noted_lost policy Ended drops = ap (λ (p : WriterPolicy). written_as true p Ended) drops
-noted_lost policy GivenUp drops = ap (λ (p : WriterPolicy). written_as true p GivenUp) drops
-noted_lost policy Finished drops = ap (λ (p : WriterPolicy). written_as true p Finished) drops
-noted_lost policy Flushed drops = ap (λ (p : WriterPolicy). written_as true p Flushed) drops
+-- and of one whose packet was lost
+written_lost : (policy : WriterPolicy) (call : Call) → loses policy ≡ true → written_as true policy call ≡ written_as true Drops call
+written_lost Drops call losing = refl
+written_lost Stalls call losing = absurd (true≢false (sym losing))
+written_lost (StallsThenDrops tries) call losing = refl
+
+begun_lost : (policy : WriterPolicy) → loses policy ≡ true → begun_as true policy ≡ begun_as true Drops
+begun_lost Drops losing = refl
+begun_lost Stalls losing = absurd (true≢false (sym losing))
+begun_lost (StallsThenDrops tries) losing = refl
+
+noted_lost : (policy : WriterPolicy) (call : Call) → loses policy ≡ true → noted_as true policy call ≡ dropped_call call
+noted_lost policy (Begun kept) losing = begun_lost policy losing
+noted_lost policy (Number field value) losing = written_lost policy (Number field value) losing
+noted_lost policy (Bytes field text times) losing = written_lost policy (Bytes field text times) losing
+noted_lost policy (Nested field) losing = written_lost policy (Nested field) losing
+noted_lost policy Ended losing = written_lost policy Ended losing
+noted_lost policy GivenUp losing = written_lost policy GivenUp losing
+noted_lost policy Finished losing = written_lost policy Finished losing
+noted_lost policy Flushed losing = written_lost policy Flushed losing
 
 -- either way it is noted for what was asked
-noted_for : (stopped : Bool) (policy : WriterPolicy) (call : Call) → IsProper call → (stopped ≡ true → policy ≡ Drops) → NotesFor call (noted_as stopped policy call)
+noted_for : (stopped : Bool) (policy : WriterPolicy) (call : Call) → IsProper call → (stopped ≡ true → loses policy ≡ true) → NotesFor call (noted_as stopped policy call)
 noted_for stopped policy (Begun kept) proper drops = subst (λ (k : Bool). NotesFor (Begun k) (begun_as stopped policy)) (sym proper) (notes_begun stopped policy drops)
 noted_for stopped policy (Number field value) proper drops = notes_number stopped policy field value
 noted_for stopped policy (Bytes field text times) proper drops = notes_bytes stopped policy field times text
 noted_for stopped policy (Nested field) proper drops = notes_nested stopped policy field
 noted_for false policy Ended proper drops = refl
-noted_for true policy Ended proper drops = subst (λ (p : WriterPolicy). NotesFor Ended (written_as true p Ended)) (sym (drops refl)) refl
+noted_for true policy Ended proper drops = subst (NotesFor Ended) (sym (written_lost policy Ended (drops refl))) refl
 noted_for stopped policy GivenUp proper drops = absurd proper
 noted_for false policy Finished proper drops = refl
-noted_for true policy Finished proper drops = subst (λ (p : WriterPolicy). NotesFor Finished (written_as true p Finished)) (sym (drops refl)) refl
+noted_for true policy Finished proper drops = subst (NotesFor Finished) (sym (written_lost policy Finished (drops refl))) refl
 noted_for false policy Flushed proper drops = refl
-noted_for true policy Flushed proper drops = subst (λ (p : WriterPolicy). NotesFor Flushed (written_as true p Flushed)) (sym (drops refl)) refl
+noted_for true policy Flushed proper drops = subst (NotesFor Flushed) (sym (written_lost policy Flushed (drops refl))) refl
 
-refuses_none : (policy : WriterPolicy) (stopped : Bool) → (stopped ≡ true → policy ≡ Drops) → refuses policy stopped ≡ false
+refuses_none : (policy : WriterPolicy) (stopped : Bool) → (stopped ≡ true → loses policy ≡ true) → refuses policy stopped ≡ false
 refuses_none Drops stopped drops = refl
 refuses_none Stalls false drops = refl
-refuses_none Stalls true drops = absurd (let never : Stalls ≡ Drops = drops refl in cc)
+refuses_none Stalls true drops = absurd (true≢false (sym (drops refl)))
+refuses_none (StallsThenDrops tries) stopped drops = refl
 
 module _ {T W S : Type 0} (means : Meaning T W S) (laws : AreLaws means) (call : Call) (proper : IsProper call) (place : ℕ)
     (old : T) (cores : List (WriterCore W)) (helper : Collecting S) (core : WriterCore W)
@@ -261,9 +274,22 @@ module _ {T W S : Type 0} (means : Meaning T W S) (laws : AreLaws means) (call :
             inr (
               noted (dropped_call call) (ap (λ (b : Bool). noted_as b (route_of core).spec.policy call) is ∙ noted_lost (route_of core).spec.policy call (called.drops is)),
               may_need called.asks is,
-              ap (λ (s : WriterSpec). s.policy) (sym spec_is) ∙ called.drops is,
+              ap (λ (s : WriterSpec). loses s.policy) (sym spec_is) ∙ called.drops is,
               work.2.full is,
+              lost_behind is,
             )
+          where
+            -- its last claims were rounds in vain
+            lost_behind : called.stopped ≡ true
+                → LosesBehind (means.setup old) (range_of (means.setup old) (producer_of (means.setup old) place)) (rounds_for (policy_of (means.setup old) place))
+                (writer was place) (writer work.0 place)
+            lost_behind stops =
+                subst (λ (v : WriterView). LosesBehind (means.setup old) (range_of (means.setup old) (producer_of (means.setup old) place)) (rounds_for (policy_of (means.setup old) place)) (writer was place) v) (sym row_new)
+                (subst (λ (v : WriterView). LosesBehind (means.setup old) (range_of (means.setup old) (producer_of (means.setup old) place)) (rounds_for (policy_of (means.setup old) place)) v (means.view new after.seat)) (sym row_old)
+                (subst (λ (many : ℕ). LosesBehind (means.setup old) (range_of (means.setup old) (producer_of (means.setup old) place)) many (means.view old core.seat) (means.view new after.seat))
+                (ap (λ (s : WriterSpec). rounds_for s.policy) spec_is)
+                (subst (λ (range : ChunkRange). LosesBehind (means.setup old) range (rounds_for (route_of core).spec.policy) (means.view old core.seat) (means.view new after.seat))
+                (sym seated.agrees.writes.route.range) (called.lost stops))))
 
     -- the writer has noted the call, with its packet lost or not
     pub asked_own : (was is : WriterCore W) → slice_get cores place ≡ Some was → slice_get (set cores place after) place ≡ Some is

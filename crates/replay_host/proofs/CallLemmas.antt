@@ -1,7 +1,7 @@
 -- What a writer's call did, in one form for all calls.
 use Rattle.std.proofs.Common.{◌≡◌, ◌∙◌, ℕ, ◌+◌, ◌<◌, ◌≤◌, Bool, true, false, List, ◌∷◌, ◌++◌, length, refl, sym, ap, subst, arith, length-append, inl, inr}
 use Rattle.trace_base.specs.declared.policy.WriterPolicy.{WriterPolicy}
-use Rattle.trace_base.specs.declared.policy.WriterPolicy.TheVariants.{Drops, Stalls}
+use Rattle.trace_base.specs.declared.policy.WriterPolicy.TheVariants.{Drops, Stalls, StallsThenDrops}
 use Rattle.trace_model.specs.Calls.{Call, Begun}
 use Rattle.model_laws.proofs.ChunkCountLemmas.{every_image_is_counted}
 use Rattle.model_laws.proofs.LaterCallLemmas.{more_calls_take_more}
@@ -19,19 +19,20 @@ use Rattle.std.specs.Prelude.{if◌then◌else◌}
 use Rattle.trace_writer.specs.declared.fault.CallFault.{CallFault}
 use Rattle.trace_writer.specs.declared.fault.CallFault.TheVariants as fault
 use Rattle.trace_writer.specs.Core.{CoreAgrees, WriterAgrees, is_stalled, refusal_of, route_of}
-use Rattle.trace_writer.specs.Helping.{LeavesWriters, Works, Done, refuses}
+use Rattle.trace_writer.specs.Helping.{LeavesWriters, Works, Done, refuses, loses}
 use Rattle.trace_writer.specs.Outcomes.{held_images, images_so_far, patches_so_far}
-use Rattle.trace_writer.specs.OwnSteps.{IsQuiet, IsSilent, GetsChunk, IsOutNow}
+use Rattle.trace_writer.specs.OwnSteps.{IsQuiet, IsSilent, GetsChunk, IsInVain, IsOutNow}
 use Rattle.trace_writer.proofs.accounts.CutLaws.{agreeing_is_cut}
 use Rattle.replay_model.specs.Does.{MayNeedChunk}
 use Rattle.replay_host.specs.Asking.{IsReadyFor, IsCalled, IsStalledCall, noted_as}
 use Rattle.replay_host.proofs.ReadyLemmas.{between_is}
 use Rattle.replay_host.proofs.WroteLemmas.{begun_many}
 
--- a call that stopped and isn't refused is one of a writer that drops
-drops_by : (policy : WriterPolicy) (stopped : Bool) → refuses policy stopped ≡ false → stopped ≡ true → policy ≡ Drops
-drops_by Drops stopped none is = refl
-drops_by Stalls stopped none is = absurd (let never : true ≡ false = sym is ∙ none in cc)
+-- a call that stopped and isn't refused is one of a writer that loses packets
+loses_by : (policy : WriterPolicy) (stopped : Bool) → refuses policy stopped ≡ false → stopped ≡ true → loses policy ≡ true
+loses_by Drops stopped none is = refl
+loses_by Stalls stopped none is = absurd (let never : true ≡ false = sym is ∙ none in cc)
+loses_by (StallsThenDrops tries) stopped none is = refl
 
 -- a call that may have asked for chunks
 pub asked_called : {H T W S : Type 0} (means : Meaning T W S) (needs : H → T → Type 0) (helps : H → T → ℕ → Bool → H → T → Type 0)
@@ -46,7 +47,8 @@ asked_called means needs helps call helper old core steps stopped noted left new
   needed = asked.needed;
   others = asked.others;
   stopped = stopped;
-  drops = drops_by (route_of core).spec.policy stopped (sym asked.stalls ∙ going);
+  drops = loses_by (route_of core).spec.policy stopped (sym asked.stalls ∙ going);
+  lost = λ stops. asked.lost stops (loses_by (route_of core).spec.policy stopped (sym asked.stalls ∙ going) stops);
   asks = inl may;
   works = asked.works;
   notes = asked.notes ∙ ap (λ (cs : List Call). (means.view old core.seat).calls ++ cs) is;
@@ -56,6 +58,7 @@ asked_called means needs helps call helper old core steps stopped noted left new
 stalls_by : (policy : WriterPolicy) (stopped : Bool) → refuses policy stopped ≡ true → (policy ≡ Stalls) × (stopped ≡ true)
 stalls_by Drops stopped is = absurd (let never : false ≡ true = is in cc)
 stalls_by Stalls stopped is = (refl, is)
+stalls_by (StallsThenDrops tries) stopped is = absurd (let never : false ≡ true = is in cc)
 
 -- a call in which its writer stalled
 pub asked_stalled : {H T W S : Type 0} (means : Meaning T W S) (needs : H → T → Type 0) (helps : H → T → ℕ → Bool → H → T → Type 0)
@@ -73,7 +76,7 @@ asked_stalled means needs helps call helper old core steps stopped noted left ne
       halted = halted;
       needed = asked.needed;
       others = asked.others;
-      works = subst (λ (b : Bool). Works (route_of core).spec.policy (IsSilent means) (IsQuiet means) (GetsChunk means (route_of core)) (IsOutNow means (route_of core))
+      works = subst (λ (b : Bool). Works (route_of core).spec.policy (IsSilent means) (IsQuiet means) (GetsChunk means (route_of core)) (IsInVain means (route_of core)) (IsOutNow means (route_of core))
           (λ asked table answer behind freed. helps asked table (route_of core).spec.producer answer behind freed × LeavesWriters means table freed)
           helper old core.seat b left new after.seat) by.1 asked.works;
       notes = asked.notes ∙ ap (λ (cs : List Call). (means.view old core.seat).calls ++ cs)
@@ -99,6 +102,7 @@ quiet_called means needs helps call helper old core new after quiet agrees going
   };
   stopped = false;
   drops = λ never. absurd (let wrong : false ≡ true = never in cc);
+  lost = λ never. absurd (let wrong : false ≡ true = never in cc);
   asks = inr (refl, quiet);
   works = Done helper old core.seat new after.seat quiet;
   notes = notes;

@@ -79,7 +79,7 @@ chosen_ready means host place call core producer chosen =
 
 -- the helper that takes the chunks of its producer
 abbrev pub chosen_helper : {T W S : Type 0} → Host T W S → (producer : ℕ) → Collecting S
-chosen_helper host producer = record { service = host.helper.service; producer = producer }
+chosen_helper host producer = record { service = host.helper.service; producer = producer; asks = host.helper.asks }
 
 module _ {T W S : Type 0} (means : Meaning T W S) (laws : AreLaws means) (old : Host T W S) (place : ℕ) (call : Call)
     (core : WriterCore W) (producer : ℕ)

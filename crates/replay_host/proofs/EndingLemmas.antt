@@ -250,7 +250,7 @@ abbrev pub with_service : {T W S : Type 0} → Host T W S → ServiceCore S → 
 with_service host service = record {
   table = host.table;
   writers = host.writers;
-  helper = record { service = service; producer = host.helper.producer };
+  helper = record { service = service; producer = host.helper.producer; asks = host.helper.asks };
   flushes = host.flushes;
   specs = host.specs;
   open_producers = host.open_producers;

@@ -6,8 +6,8 @@ use Rattle.chunk_plain.specs.Meaning.{Meaning, IsWriterStep}
 use Rattle.chunk_plain.specs.Setup.{Setup}
 use Rattle.chunk_plain.specs.Views.{ServiceView}
 use Rattle.trace_writer.specs.declared.route.Route.{Route}
-use Rattle.trace_writer.specs.Helping.{LeavesWriters, Works, Done, Silent, Gets, Helped, Refused, Lost}
-use Rattle.trace_writer.specs.OwnSteps.{IsQuiet, IsSilent, GetsChunk, IsOutNow}
+use Rattle.trace_writer.specs.Helping.{LeavesWriters, Tries, Gains, Again, Ends, Works, Done, Silent, Gets, Helped, Refused, Lost, Tried, GivesUp}
+use Rattle.trace_writer.specs.OwnSteps.{IsQuiet, IsSilent, GetsChunk, IsInVain, IsOutNow}
 use Rattle.service_core.specs.declared.service.ServiceCore.{ServiceCore}
 use Rattle.service_core.specs.Agreement.{KeepsRest}
 use Rattle.service_core.proofs.AgreeLemmas.{keeps_same, keeps_both}
@@ -59,10 +59,48 @@ pub record Keeps {T W S : Type 0} (means : Meaning T W S) (helper : Collecting S
   pub producer : left.producer ≡ helper.producer
   pub serves : means.serves new left.service.seat
 
+-- a writer's own step keeps all of it
+step_keeps : {T W S : Type 0} (means : Meaning T W S) (helper : Collecting S) (old : T) (seat : W) (new : T) (after : W) → IsWriterStep means old seat new after
+    → means.serves old helper.service.seat → Keeps means helper old helper new
+step_keeps means helper old seat new after step serves = record {
+  service = keeps_step means old seat new after helper.service step serves;
+  producer = refl;
+  serves = still_serves means old seat new after helper.service step serves;
+}
+
+-- and so does a help
+help_keeps : {T W S : Type 0} (means : Meaning T W S) (helper helped : Collecting S) (asking freed : T) (producer : ℕ) (answer : Bool)
+    → Helps means helper asking producer answer helped freed → producer ≡ helper.producer → Keeps means helper asking helped freed
+help_keeps means helper helped asking freed producer answer helps at = record {
+  service = keeps_help means helper helped asking freed producer answer helps at;
+  producer = helps.producer_is;
+  serves = helps.step.seat_stays;
+}
+
+keeps_then : {T W S : Type 0} (means : Meaning T W S) (helper middle left : Collecting S) (old mid new : T) → Keeps means helper old middle mid
+    → Keeps means middle mid left new → Keeps means helper old left new
+keeps_then means helper middle left old mid new one two = record {
+  service = keeps_each means old mid new helper.service middle.service left.service one.service two.service;
+  producer = two.producer ∙ one.producer;
+  serves = two.serves;
+}
+
+tries_keep : {T W S : Type 0} (means : Meaning T W S) (route : Route) {left : ℕ} {helper : Collecting S} {old : T} {seat : W} {stopped : Bool} {kept : Collecting S} {new : T} {after : W}
+    → Tries (GetsChunk means route) (IsInVain means route)
+    (λ asked table answer behind freed. Helps means asked table route.spec.producer answer behind freed × LeavesWriters means table freed)
+    left helper old seat stopped kept new after
+    → helper.producer ≡ route.spec.producer → means.serves old helper.service.seat → Keeps means helper old kept new
+tries_keep means route (Gains left helper old seat new after gets) producer serves = step_keeps means helper old seat new after gets.step serves
+tries_keep means route (Again left helper old seat asking asker answer helped freed stopped kept new after vain helps more) producer serves =
+    let help = help_keeps means helper helped asking freed route.spec.producer answer helps.0 (sym producer) in
+    keeps_then means helper helper kept old asking new (step_keeps means helper old seat asking asker vain.step serves)
+    (keeps_then means helper helped kept asking freed new help (tries_keep means route more (help.producer ∙ producer) help.serves))
+tries_keep means route (Ends helper old seat new after vain) producer serves = step_keeps means helper old seat new after vain.step serves
+
 pub works_keep : {T W S : Type 0} (means : Meaning T W S) (route : Route) (last : T → W → T → W → Type 0)
     → ((old : T) (seat : W) (new : T) (after : W) → last old seat new after → IsQuiet means old seat new after)
     → {helper : Collecting S} {old : T} {seat : W} {stopped : Bool} {left : Collecting S} {new : T} {after : W}
-    → Works route.spec.policy (IsSilent means) last (GetsChunk means route) (IsOutNow means route)
+    → Works route.spec.policy (IsSilent means) last (GetsChunk means route) (IsInVain means route) (IsOutNow means route)
     (λ asked table answer behind freed. Helps means asked table route.spec.producer answer behind freed × LeavesWriters means table freed)
     helper old seat stopped left new after
     → helper.producer ≡ route.spec.producer → means.serves old helper.service.seat → Keeps means helper old left new
@@ -86,7 +124,7 @@ works_keep means route last quiet (Gets helper old seat next moved stopped left 
       serves = rest.serves;
     }
 works_keep means route last quiet (Helped helper old seat asking asker helped freed stopped left new after stalls out helps works) producer serves =
-    let step = out.step in
+    let step = out.vain.step in
     let help = keeps_help means helper helped asking freed route.spec.producer true helps.0 (sym producer) in
     let rest = works_keep means route last quiet works (helps.0.producer_is ∙ producer) helps.0.step.seat_stays in
     record {
@@ -96,7 +134,7 @@ works_keep means route last quiet (Helped helper old seat asking asker helped fr
       serves = rest.serves;
     }
 works_keep means route last quiet (Refused helper old seat asking asker left kept new after stalls out helps ends) producer serves =
-    let step = out.step in
+    let step = out.vain.step in
     let help = keeps_help means helper left asking kept route.spec.producer false helps.0 (sym producer) in
     let own = (quiet kept asker new after ends).step in
     record {
@@ -106,7 +144,7 @@ works_keep means route last quiet (Refused helper old seat asking asker left kep
       serves = still_serves means kept asker new after left.service own helps.0.step.seat_stays;
     }
 works_keep means route last quiet (Lost helper old seat mid between new after drops out ends) producer serves =
-    let step = out.step in
+    let step = out.vain.step in
     let own = (quiet mid between new after ends).step in
     let middle = still_serves means old seat mid between helper.service step serves in
     record {
@@ -115,3 +153,9 @@ works_keep means route last quiet (Lost helper old seat mid between new after dr
       producer = refl;
       serves = still_serves means mid between new after helper.service own middle;
     }
+works_keep means route last quiet (Tried helper old seat tries kept next moved stopped left new after trying tried works) producer serves =
+    let one = tries_keep means route tried producer serves in
+    keeps_then means helper kept left old next new one (works_keep means route last quiet works (one.producer ∙ producer) one.serves)
+works_keep means route last quiet (GivesUp helper old seat tries left mid between new after trying tried ends) producer serves =
+    let one = tries_keep means route tried producer serves in
+    keeps_then means helper left left old mid new one (step_keeps means left mid between new after (quiet mid between new after ends).step one.serves)

@@ -5,7 +5,7 @@ use Rattle.std.proofs.lemmas.Bool.{ne_eqb, le-ltb}
 use Rattle.std.proofs.lemmas.Grind.{fold-append}
 use Rattle.trace_base.specs.declared.limits.TheConstants.{MAX_NESTING, MAX_PACKET_LEN}
 use Rattle.trace_base.specs.declared.policy.WriterPolicy.{WriterPolicy}
-use Rattle.trace_base.specs.declared.policy.WriterPolicy.TheVariants.{Drops, Stalls}
+use Rattle.trace_base.specs.declared.policy.WriterPolicy.TheVariants.{Drops, Stalls, StallsThenDrops}
 use Rattle.trace_base.specs.Reserved.{is_reserved}
 use Rattle.trace_model.specs.Calls.{Call, Begun, Number, Bytes, Nested}
 use Rattle.trace_model.specs.Encoding.{nested_tag}
@@ -19,6 +19,7 @@ use Rattle.chunk_plain.specs.Views.{WriterView}
 use Rattle.trace_writer.specs.declared.ids.TheConstants.{PACKET_IDS}
 use Rattle.trace_writer.specs.declared.fault.CallFault.{CallFault}
 use Rattle.trace_writer.specs.Asked.{written_as, begun_as}
+use Rattle.trace_writer.specs.Helping.{loses}
 use Rattle.trace_writer.specs.Core.{in_packet, newest_depth, open_depth, field_fault, nested_fault}
 use Rattle.trace_writer.proofs.accounts.Possible.{open_many}
 use Rattle.trace_writer.specs.Refusals.{field_refusal, nested_refusal}
@@ -126,22 +127,26 @@ ready_still size old new coming same ready = record {
   few = ready.few;
 }
 
-pub notes_begun : (stopped : Bool) (policy : WriterPolicy) → (stopped ≡ true → policy ≡ Drops) → NotesFor (Begun true) (begun_as stopped policy)
+pub notes_begun : (stopped : Bool) (policy : WriterPolicy) → (stopped ≡ true → loses policy ≡ true) → NotesFor (Begun true) (begun_as stopped policy)
 notes_begun false policy only = refl
 notes_begun true Drops only = refl
-notes_begun true Stalls only = absurd (let never : Stalls ≡ Drops = only refl in cc)
+notes_begun true Stalls only = absurd (let never : false ≡ true = only refl in cc)
+notes_begun true (StallsThenDrops tries) only = refl
 
 pub notes_number : (stopped : Bool) (policy : WriterPolicy) (field value : ℕ) → NotesFor (Number field value) (written_as stopped policy (Number field value))
 notes_number false policy field value = refl
 notes_number true Drops field value = refl
 notes_number true Stalls field value = refl
+notes_number true (StallsThenDrops tries) field value = refl
 
 pub notes_bytes : (stopped : Bool) (policy : WriterPolicy) (field times : ℕ) (text : List ℕ) → NotesFor (Bytes field text times) (written_as stopped policy (Bytes field text times))
 notes_bytes false policy field times text = refl
 notes_bytes true Drops field times text = refl
 notes_bytes true Stalls field times text = refl
+notes_bytes true (StallsThenDrops tries) field times text = refl
 
 pub notes_nested : (stopped : Bool) (policy : WriterPolicy) (field : ℕ) → NotesFor (Nested field) (written_as stopped policy (Nested field))
 notes_nested false policy field = refl
 notes_nested true Drops field = refl
 notes_nested true Stalls field = refl
+notes_nested true (StallsThenDrops tries) field = refl

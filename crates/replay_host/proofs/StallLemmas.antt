@@ -3,7 +3,7 @@ use Rattle.std.proofs.Common.{◌≡◌, ◌∙◌, ℕ, ◌<◌, ◌≤◌, ◌
 use Rattle.std.specs.Prelude.{◌≢◌, slice_get, slice_index_or}
 use Rattle.std.proofs.lemmas.Bool.{cases_eq, ne_eqb}
 use Rattle.std.proofs.lemmas.Option.{slice_get-get_or, slice_get_within, same_Some}
-use Rattle.trace_base.specs.declared.policy.WriterPolicy.TheVariants.{Drops, Stalls}
+use Rattle.trace_base.specs.declared.policy.WriterPolicy.TheVariants.{Drops, Stalls, StallsThenDrops}
 use Rattle.trace_base.specs.declared.policy.WriterSpec.{WriterSpec}
 use Rattle.trace_model.specs.Calls.{Call}
 use Rattle.claim_arbiter.specs.Claiming.{range_in}
@@ -17,8 +17,8 @@ use Rattle.chunk_plain.specs.World.{World, Unclaimed, status, writer}
 use Rattle.trace_writer.specs.declared.route.Route.{Route}
 use Rattle.trace_writer.specs.declared.writer.WriterCore.{WriterCore}
 use Rattle.trace_writer.specs.Core.{CoreAgrees, route_of}
-use Rattle.trace_writer.specs.Helping.{LeavesWriters, Works, Done, Silent, Gets, Helped, Refused, Lost}
-use Rattle.trace_writer.specs.OwnSteps.{KeepsChunks, NoneHeld, IsQuiet, IsSilent, GetsChunk, IsOutNow}
+use Rattle.trace_writer.specs.Helping.{LeavesWriters, Works, Done, Silent, Gets, Helped, Refused, Lost, Tried, GivesUp}
+use Rattle.trace_writer.specs.OwnSteps.{KeepsChunks, NoneHeld, IsQuiet, IsSilent, GetsChunk, IsInVain, IsOutNow}
 use Rattle.service_core.proofs.AnswerLemmas.{LeavesTaken, takes_nothing}
 use Rattle.service_core.specs.Agreement.{spec_at}
 use Rattle.service_core.specs.Taking.{places_of}
@@ -83,7 +83,7 @@ pub stalls_world : {T W S : Type 0} (means : Meaning T W S) → AreLaws means �
     → route.spec.policy ≡ policy_of setup place
     → route.spec.policy ≡ Stalls
     → {helper : Collecting S} {old : T} {seat : W} {stopped : Bool} {left : Collecting S} {new : T} {after : W}
-    → Works route.spec.policy (IsSilent means) (IsQuiet means) (GetsChunk means route) (IsOutNow means route)
+    → Works route.spec.policy (IsSilent means) (IsQuiet means) (GetsChunk means route) (IsInVain means route) (IsOutNow means route)
     (λ asked table answer behind freed. Helps means asked table route.spec.producer answer behind freed × LeavesWriters means table freed)
     helper old seat stopped left new after
     → stopped ≡ true → Begins means setup place route helper old seat
@@ -112,15 +112,15 @@ stalls_world means laws setup place route call may range producer policy stalls 
     )
 stalls_world means laws setup place route call may range producer policy stalls
     (Helped helper old seat asking asker helped freed stopped left new after waits out helps works) halted begins was told =
-    let mid = out.none_free was told in
-    let asked = begins_out means setup place route helper old seat asking asker out begins in
+    let mid = out.vain.none_free was told in
+    let asked = begins_out means setup place route helper old seat asking asker out.vain begins in
     let help = helped_world means laws helper helped asking freed route.spec.producer helps.0 (sym begins.producer) mid.0 mid.1 in
     let rest = stalls_world means laws setup place route call may range producer policy stalls works halted
-    (begins_helped means setup place route helper helped asking freed asker true out.step.seat_stays asked helps.0 helps.1) help.0 help.1 in (
+    (begins_helped means setup place route helper helped asking freed asker true out.vain.step.seat_stays asked helps.0 helps.1) help.0 help.1 in (
       rest.0,
       rest.1,
       stalls_from setup place call was help.0 rest.0 rest.2 (acts.Helped was mid.0 help.0 rest.2.asking may (sym policy ∙ stalls)
-          (own_leaves means laws setup place route helper old seat asking asker out.step begins was mid.0 told mid.1)
+          (own_leaves means laws setup place route helper old seat asking asker out.vain.step begins was mid.0 told mid.1)
           (out_is means laws setup place route helper old seat asking asker range out asked mid.0 mid.1 mid.2)
           (subst (λ (p : ℕ). Collects setup p mid.0 help.0) producer
           (subst (λ (s : Setup). Collects s route.spec.producer mid.0 help.0) asked.setup_is help.2))
@@ -128,12 +128,12 @@ stalls_world means laws setup place route call may range producer policy stalls
     )
 stalls_world means laws setup place route call may range producer policy stalls
     (Refused helper old seat asking asker left kept new after waits out helps ends) halted begins was told =
-    let mid = out.none_free was told in
-    let asked = begins_out means setup place route helper old seat asking asker out begins in
+    let mid = out.vain.none_free was told in
+    let asked = begins_out means setup place route helper old seat asking asker out.vain begins in
     let help = collects_world means laws helper left asking kept route.spec.producer false helps.0 (sym begins.producer) mid.0 mid.1 in
-    let behind = begins_helped means setup place route helper left asking kept asker false out.step.seat_stays asked helps.0 helps.1 in
+    let behind = begins_helped means setup place route helper left asking kept asker false out.vain.step.seat_stays asked helps.0 helps.1 in
     let last = ends.frees_none help.0 help.1 in
-    let stays = helps.1.writers_stay asker out.step.seat_stays in
+    let stays = helps.1.writers_stay asker out.vain.step.seat_stays in
     let row_kept = row_is means laws kept help.0 help.1 place asker stays.0 asked.place_is in
     let row_new = row_is means laws new last.0 last.1 place after ends.step.seat_stays (ends.step.place_stays ∙ asked.place_is) in (
       last.0,
@@ -141,7 +141,7 @@ stalls_world means laws setup place route call may range producer policy stalls
       record {
         asking = mid.0;
         kept = help.0;
-        works = acts.Alone was mid.0 (own_leaves means laws setup place route helper old seat asking asker out.step begins was mid.0 told
+        works = acts.Alone was mid.0 (own_leaves means laws setup place route helper old seat asking asker out.vain.step begins was mid.0 told
             mid.1);
         out = out_is means laws setup place route helper old seat asking asker range out asked mid.0 mid.1 mid.2;
         help = subst (λ (p : ℕ). TakesNothing setup p mid.0 help.0) producer
@@ -160,6 +160,12 @@ stalls_world means laws setup place route call may range producer policy stalls
 stalls_world means laws setup place route call may range producer policy stalls (Lost helper old seat mid between new after drops out ends) halted
     begins was told =
     absurd (let never : Stalls ≡ Drops = sym stalls ∙ drops in cc)
+stalls_world means laws setup place route call may range producer policy stalls (Tried helper old seat tries kept next moved stopped left new after trying tried works)
+    halted begins was told =
+    absurd (let never : Stalls ≡ StallsThenDrops tries = sym stalls ∙ trying in cc)
+stalls_world means laws setup place route call may range producer policy stalls (GivesUp helper old seat tries left mid between new after trying tried ends)
+    halted begins was told =
+    absurd (let never : Stalls ≡ StallsThenDrops tries = sym stalls ∙ trying in cc)
 
 -- each of these writers has completed at most as many chunks as there are ids
 abbrev pub FitAll : {W : Type 0} → List (WriterCore W) → Type 0
@@ -301,9 +307,9 @@ module _ {T W S : Type 0} (means : Meaning T W S) (laws : AreLaws means) (call :
           owned = owned_new;
           many = laws.told_writers new to.0 to.1 ∙ ap (λ (s : Setup). length s.writers) stalled.others.setup_stays;
           tidy = tidy_all fits to.0 to.1;
-          full = λ chunk least inside free. none_freed to.2.asking to.2.kept to.2.out.owned to.2.owned_kept to.2.help.0.writers
+          full = λ chunk least inside free. none_freed to.2.asking to.2.kept to.2.out.vain.owned to.2.owned_kept to.2.help.0.writers
               nothing.taken to.2.idle chunk
-              (to.2.frees chunk free) (to.2.out.none_free chunk least inside);
+              (to.2.frees chunk free) (to.2.out.vain.none_free chunk least inside);
           none_left = none_left_still (means.setup old) (producer_of (means.setup old) place) place to.2.kept to.0 to.2.owned_kept owned_new
               to.2.own to.2.chunks to.2.held
               to.2.help.0.none_left;

@@ -1,6 +1,7 @@
 -- A writer's work, with the helps that it asks for, as steps over worlds.
 use Rattle.std.proofs.Common.{◌≡◌, ◌≢◌, ◌∙◌, ℕ, ◌+◌, refl, sym, ap, subst, arith, Bool, true, false, not, ◌==◌, Some, None, []}
 use Rattle.trace_base.specs.declared.policy.WriterPolicy.{WriterPolicy}
+use Rattle.trace_base.specs.declared.policy.WriterPolicy.TheVariants.{StallsThenDrops}
 use Rattle.trace_model.specs.Calls.{Call}
 use Rattle.claim_arbiter.specs.Claiming.{NoneFree, range_in}
 use Rattle.chunk_plain.specs.declared.setup.ChunkRange.{ChunkRange}
@@ -10,12 +11,12 @@ use Rattle.chunk_plain.specs.Meaning.{Meaning, IsWriterStep}
 use Rattle.chunk_plain.specs.World.{World, Unclaimed, status, writer}
 use Rattle.trace_writer.specs.declared.route.Route.{Route}
 use Rattle.trace_writer.specs.Claims.{AreOwnChunks, KeepsClaims}
-use Rattle.trace_writer.specs.Helping.{LeavesWriters, refuses, Works, Done, Silent, Gets, Helped, Refused, Lost}
-use Rattle.trace_writer.specs.OwnSteps.{NoneHeld, IsQuiet, IsSilent, GetsChunk, IsOutNow}
+use Rattle.trace_writer.specs.Helping.{LeavesWriters, refuses, Tries, Gains, Again, Ends, Works, Done, Silent, Gets, Helped, Refused, Lost, Tried, GivesUp}
+use Rattle.trace_writer.specs.OwnSteps.{NoneHeld, IsQuiet, IsSilent, GetsChunk, IsInVain, IsOutNow}
 use Rattle.service_core.specs.Taking.{Takes, places_of}
 use Rattle.service_core.specs.Told.{LeavesNone}
 use Rattle.replay_model.specs.Does as acts
-use Rattle.replay_model.specs.Does.{LeavesRest, HasNoFreeChunk, MayNeedChunk, IsOut, policy_of, AreOpen, Collects}
+use Rattle.replay_model.specs.Does.{LeavesRest, HasNoFreeChunk, MayNeedChunk, IsVainIn, IsOut, policy_of, AreOpen, Collects}
 use Rattle.replay_host.specs.declared.helper.Collecting.{Collecting}
 use Rattle.replay_host.specs.Helping.{Helps, Collected}
 use Rattle.trace_writer.proofs.claims.KeepingClaims.{chunks_kept, chunks_more}
@@ -36,6 +37,8 @@ pub own_first : (setup : Setup) (place : ℕ) {call : Call} (old : World) {mid n
 own_first setup place old first (acts.Alone mid new leaves) = acts.Alone old new (leaves_both place old mid new first leaves)
 own_first setup place old first (acts.Helped mid asking freed new may stalls leaves out collects owned some works) =
     acts.Helped old asking freed new may stalls (leaves_both place old mid asking first leaves) out collects owned some works
+own_first setup place old first (acts.Asked mid asking freed new tries may trying leaves vain collects owned works) =
+    acts.Asked old asking freed new tries may trying (leaves_both place old mid asking first leaves) vain collects owned works
 
 -- where no chunk comes free, none is free behind it
 pub none_free_still : (first last : ℕ) (was is : World) → ((chunk : ℕ) → status is chunk ≡ Unclaimed → status was chunk ≡ Unclaimed)
@@ -130,7 +133,7 @@ module _ {T W S : Type 0} (means : Meaning T W S) (setup : Setup) (place : ℕ) 
             (record { least = omega (arith, first, gets.claims.least); below = omega (arith, first, count, gets.claims.below) }) none.own_chunks);
       }
 
-  none_now : (route : Route) (old : T) (seat : W) (new : T) (after : W) → IsOutNow means route old seat new after → NoneOut setup place (means.view old seat)
+  none_now : (route : Route) (old : T) (seat : W) (new : T) (after : W) → IsInVain means route old seat new after → NoneOut setup place (means.view old seat)
       → NoneOut setup place (means.view new after)
   none_now route old seat new after out none = record {
     unclaimed = out.claimed ∙ none.unclaimed;
@@ -173,7 +176,7 @@ begins_gets means setup place route helper old seat new after range gets begins 
     begins_after means setup place route helper old seat new after gets.step begins (none_gets means setup place route old seat new after range gets begins.none_out)
 
 pub begins_out : {T W S : Type 0} (means : Meaning T W S) (setup : Setup) (place : ℕ) (route : Route) (helper : Collecting S) (old : T) (seat : W) (new : T) (after : W)
-    → IsOutNow means route old seat new after → Begins means setup place route helper old seat → Begins means setup place route helper new after
+    → IsInVain means route old seat new after → Begins means setup place route helper old seat → Begins means setup place route helper new after
 begins_out means setup place route helper old seat new after out begins =
     begins_after means setup place route helper old seat new after out.step begins (none_now means setup place route old seat new after out begins.none_out)
 
@@ -189,21 +192,33 @@ begins_helped means setup place route helper helped asking freed asker answer si
   none_out = subst (NoneOut setup place) (sym (leaves.writers_stay asker sits).1) asked.none_out;
 }
 
--- the writer that asks is out of chunks in the world that is told
+-- the writer's round was in vain in the world that is told
+pub vain_is : {T W S : Type 0} (means : Meaning T W S) → AreLaws means → (setup : Setup) (place : ℕ) (route : Route) (helper : Collecting S)
+    (old : T) (seat : W) (asking : T) (asker : W) → range_of setup (producer_of setup place) ≡ range_in route.arbiter
+    → IsInVain means route old seat asking asker → Begins means setup place route helper asking asker
+    → (world : World) → means.told asking ≡ Some world → NoneFree world route.arbiter.first (route.arbiter.first + route.arbiter.chunks)
+    → IsVainIn setup place world
+vain_is means laws setup place route helper old seat asking asker range vain asked world told none =
+    let row : writer world place ≡ means.view asking asker = row_is means laws asking world told place asker vain.step.seat_stays asked.place_is in
+    record {
+      owned = laws.told_owned asking world told;
+      none_free = full_is setup place route world range none;
+      unclaimed = ap (λ (v : WriterView). v.claimed) row ∙ asked.none_out.unclaimed;
+      unstamped = ap (λ (v : WriterView). v.stamped) row ∙ asked.none_out.unstamped;
+      own_chunks = subst (λ (v : WriterView). AreOwnChunks setup (producer_of setup place) v.begun) (sym row) asked.none_out.own_chunks;
+    }
+
+-- one that holds no chunk is out of chunks there
 pub out_is : {T W S : Type 0} (means : Meaning T W S) → AreLaws means → (setup : Setup) (place : ℕ) (route : Route) (helper : Collecting S)
     (old : T) (seat : W) (asking : T) (asker : W) → range_of setup (producer_of setup place) ≡ range_in route.arbiter
     → IsOutNow means route old seat asking asker → Begins means setup place route helper asking asker
     → (world : World) → means.told asking ≡ Some world → NoneFree world route.arbiter.first (route.arbiter.first + route.arbiter.chunks)
     → IsOut setup place world
 out_is means laws setup place route helper old seat asking asker range out asked world told none =
-    let row : writer world place ≡ means.view asking asker = row_is means laws asking world told place asker out.step.seat_stays asked.place_is in
+    let row : writer world place ≡ means.view asking asker = row_is means laws asking world told place asker out.vain.step.seat_stays asked.place_is in
     record {
-      owned = laws.told_owned asking world told;
-      none_free = full_is setup place route world range none;
+      vain = vain_is means laws setup place route helper old seat asking asker range out.vain asked world told none;
       none_held = subst (λ (v : WriterView). NoneHeld v.begun) (sym row) out.none_held;
-      unclaimed = ap (λ (v : WriterView). v.claimed) row ∙ asked.none_out.unclaimed;
-      unstamped = ap (λ (v : WriterView). v.stamped) row ∙ asked.none_out.unstamped;
-      own_chunks = subst (λ (v : WriterView). AreOwnChunks setup (producer_of setup place) v.begun) (sym row) asked.none_out.own_chunks;
     }
 
 pub own_leaves : {T W S : Type 0} (means : Meaning T W S) → AreLaws means → (setup : Setup) (place : ℕ) (route : Route) (helper : Collecting S)
@@ -228,12 +243,75 @@ quiet_world means laws setup place route call helper old seat stopped new after 
       },
     )
 
+-- the range of a route's chunks has none free behind steps that free none
+none_free_range : (setup : Setup) (place : ℕ) (route : Route) → range_of setup (producer_of setup place) ≡ range_in route.arbiter → (was is : World)
+    → ((chunk : ℕ) → status is chunk ≡ Unclaimed → status was chunk ≡ Unclaimed)
+    → NoneFree was route.arbiter.first (route.arbiter.first + route.arbiter.chunks) → HasNoFreeChunk setup (producer_of setup place) is
+none_free_range setup place route range was is frees none =
+    full_is setup place route is range (none_free_still route.arbiter.first (route.arbiter.first + route.arbiter.chunks) was is frees none)
+
+-- What tries for one chunk come to in the worlds that are told: the writer and its seat go on from there, and where all were in vain
+-- no chunk of its producer is free.
+record TriesTo {T W S : Type 0} (means : Meaning T W S) (setup : Setup) (place : ℕ) (call : Call) (route : Route) (stopped : Bool) (was is : World)
+    (kept : Collecting S) (new : T) (after : W) : Type 0 where
+  begins : Begins means setup place route kept new after
+  works : (later : World) → acts.Works setup place call is later → acts.Works setup place call was later
+  full : stopped ≡ true → NoneFree is route.arbiter.first (route.arbiter.first + route.arbiter.chunks)
+
+tries_world : {T W S : Type 0} (means : Meaning T W S) → AreLaws means → (setup : Setup) (place : ℕ) (route : Route) (call : Call) → MayNeedChunk call
+    → range_of setup (producer_of setup place) ≡ range_in route.arbiter → route.spec.producer ≡ producer_of setup place
+    → (tries : ℕ) → policy_of setup place ≡ StallsThenDrops tries
+    → {count : ℕ} {helper : Collecting S} {old : T} {seat : W} {stopped : Bool} {kept : Collecting S} {new : T} {after : W}
+    → Tries (GetsChunk means route) (IsInVain means route)
+    (λ asked table answer behind freed. Helps means asked table route.spec.producer answer behind freed × LeavesWriters means table freed)
+    count helper old seat stopped kept new after
+    → Begins means setup place route helper old seat → (was : World) → means.told old ≡ Some was
+    → (is : World) × (means.told new ≡ Some is) × TriesTo means setup place call route stopped was is kept new after
+tries_world means laws setup place route call may range producer tries trying (Gains count helper old seat new after gets) begins was told =
+    let next = gets.frees_none was told in (
+      next.0,
+      next.1,
+      record {
+        begins = begins_gets means setup place route helper old seat new after range gets begins;
+        works = λ later works. own_first setup place was (own_leaves means laws setup place route helper old seat new after gets.step begins was next.0 told next.1) works;
+        full = λ stops. absurd (let never : true ≡ false = sym stops in cc);
+      },
+    )
+tries_world means laws setup place route call may range producer tries trying (Again count helper old seat asking asker answer helped freed stopped kept new after vain helps more) begins was told =
+    let mid = vain.none_free was told in
+    let asked = begins_out means setup place route helper old seat asking asker vain begins in
+    let help = collects_world means laws helper helped asking freed route.spec.producer answer helps.0 (sym begins.producer) mid.0 mid.1 in
+    let rest = tries_world means laws setup place route call may range producer tries trying more
+    (begins_helped means setup place route helper helped asking freed asker answer vain.step.seat_stays asked helps.0 helps.1) help.0 help.1 in (
+      rest.0,
+      rest.1,
+      record {
+        begins = rest.2.begins;
+        works = λ later works. acts.Asked was mid.0 help.0 later tries may trying
+            (own_leaves means laws setup place route helper old seat asking asker vain.step begins was mid.0 told mid.1)
+            (vain_is means laws setup place route helper old seat asking asker range vain asked mid.0 mid.1 mid.2)
+            (subst (λ (p : ℕ). Collects setup p mid.0 help.0) producer (subst (λ (s : Setup). Collects s route.spec.producer mid.0 help.0) asked.setup_is help.2))
+            (laws.told_owned freed help.0 help.1) (rest.2.works later works);
+        full = rest.2.full;
+      },
+    )
+tries_world means laws setup place route call may range producer tries trying (Ends helper old seat new after vain) begins was told =
+    let next = vain.none_free was told in (
+      next.0,
+      next.1,
+      record {
+        begins = begins_out means setup place route helper old seat new after vain begins;
+        works = λ later works. own_first setup place was (own_leaves means laws setup place route helper old seat new after vain.step begins was next.0 told next.1) works;
+        full = λ stops. next.2;
+      },
+    )
+
 -- A work that isn't refused, in a call that may need a chunk, leads from the one told world to the other.
 pub works_world : {T W S : Type 0} (means : Meaning T W S) → AreLaws means → (setup : Setup) (place : ℕ) (route : Route) (call : Call) → MayNeedChunk call
     → range_of setup (producer_of setup place) ≡ range_in route.arbiter → route.spec.producer ≡ producer_of setup place → route.spec.policy ≡ policy_of setup place
     → (last : T → W → T → W → Type 0) → ((old : T) (seat : W) (new : T) (after : W) → last old seat new after → IsQuiet means old seat new after)
     → {helper : Collecting S} {old : T} {seat : W} {stopped : Bool} {left : Collecting S} {new : T} {after : W}
-    → Works route.spec.policy (IsSilent means) last (GetsChunk means route) (IsOutNow means route)
+    → Works route.spec.policy (IsSilent means) last (GetsChunk means route) (IsInVain means route) (IsOutNow means route)
     (λ asked table answer behind freed. Helps means asked table route.spec.producer answer behind freed × LeavesWriters means table freed)
     helper old seat stopped left new after
     → refuses route.spec.policy stopped ≡ false → Begins means setup place route helper old seat
@@ -266,16 +344,16 @@ works_world means laws setup place route call may range producer policy last qui
       },
     )
 works_world means laws setup place route call may range producer policy last quiet (Helped helper old seat asking asker helped freed stopped left new after stalls out helps works) going begins was told =
-    let mid = out.none_free was told in
-    let asked = begins_out means setup place route helper old seat asking asker out begins in
+    let mid = out.vain.none_free was told in
+    let asked = begins_out means setup place route helper old seat asking asker out.vain begins in
     let help = helped_world means laws helper helped asking freed route.spec.producer helps.0 (sym begins.producer) mid.0 mid.1 in
     let rest = works_world means laws setup place route call may range producer policy last quiet works going
-    (begins_helped means setup place route helper helped asking freed asker true out.step.seat_stays asked helps.0 helps.1) help.0 help.1 in (
+    (begins_helped means setup place route helper helped asking freed asker true out.vain.step.seat_stays asked helps.0 helps.1) help.0 help.1 in (
       rest.0,
       rest.1,
       record {
         works = acts.Helped was mid.0 help.0 rest.0 may (sym policy ∙ stalls)
-            (own_leaves means laws setup place route helper old seat asking asker out.step begins was mid.0 told mid.1)
+            (own_leaves means laws setup place route helper old seat asking asker out.vain.step begins was mid.0 told mid.1)
             (out_is means laws setup place route helper old seat asking asker range out asked mid.0 mid.1 mid.2)
             (subst (λ (p : ℕ). Collects setup p mid.0 help.0) producer (subst (λ (s : Setup). Collects s route.spec.producer mid.0 help.0) asked.setup_is help.2))
             (laws.told_owned freed help.0 help.1) help.3 rest.2.works;
@@ -286,21 +364,31 @@ works_world means laws setup place route call may range producer policy last qui
     absurd (let never : true ≡ false = ap (λ (p : WriterPolicy). refuses p true) (sym stalls) ∙ going in cc)
 works_world means laws setup place route call may range producer policy last quiet (Lost helper old seat mid between new after drops out ends) going begins was told =
     let step = quiet mid between new after ends in
-    let middle = out.none_free was told in
+    let middle = out.vain.none_free was told in
     let next = step.frees_none middle.0 middle.1 in (
       next.0,
       next.1,
       record {
         works = own_first setup place was
-            (own_leaves means laws setup place route helper old seat mid between out.step begins was middle.0 told middle.1)
+            (own_leaves means laws setup place route helper old seat mid between out.vain.step begins was middle.0 told middle.1)
             (acts.Alone middle.0 next.0 (own_leaves means laws setup place route helper mid between new after step.step
-            (begins_out means setup place route helper old seat mid between out begins) middle.0 next.0 middle.1 next.1));
+            (begins_out means setup place route helper old seat mid between out.vain begins) middle.0 next.0 middle.1 next.1));
         full = λ is. none_free_range setup place route range middle.0 next.0 next.2 middle.2;
       },
     )
-  where
-    none_free_range : (setup : Setup) (place : ℕ) (route : Route) → range_of setup (producer_of setup place) ≡ range_in route.arbiter → (was is : World)
-        → ((chunk : ℕ) → status is chunk ≡ Unclaimed → status was chunk ≡ Unclaimed)
-        → NoneFree was route.arbiter.first (route.arbiter.first + route.arbiter.chunks) → HasNoFreeChunk setup (producer_of setup place) is
-    none_free_range setup place route range was is frees none =
-        full_is setup place route is range (none_free_still route.arbiter.first (route.arbiter.first + route.arbiter.chunks) was is frees none)
+works_world means laws setup place route call may range producer policy last quiet (Tried helper old seat tries kept next moved stopped left new after trying tried works) going begins was told =
+    let mid = tries_world means laws setup place route call may range producer tries (sym policy ∙ trying) tried begins was told in
+    let rest = works_world means laws setup place route call may range producer policy last quiet works going mid.2.begins mid.0 mid.1 in
+    (rest.0, rest.1, record { works = mid.2.works rest.0 rest.2.works; full = rest.2.full })
+works_world means laws setup place route call may range producer policy last quiet (GivesUp helper old seat tries left mid between new after trying tried ends) going begins was told =
+    let step = quiet mid between new after ends in
+    let middle = tries_world means laws setup place route call may range producer tries (sym policy ∙ trying) tried begins was told in
+    let next = step.frees_none middle.0 middle.1 in (
+      next.0,
+      next.1,
+      record {
+        works = middle.2.works next.0
+            (acts.Alone middle.0 next.0 (own_leaves means laws setup place route left mid between new after step.step middle.2.begins middle.0 next.0 middle.1 next.1));
+        full = λ is. none_free_range setup place route range middle.0 next.0 next.2 (middle.2.full refl);
+      },
+    )

@@ -2,7 +2,7 @@
 use Rattle.std.specs.Prelude.{◌≡◌, ℕ, ◌+◌, ◌≤◌, ◌⊎◌, ◌==◌, Bool, true, false, List, ◌∷◌, ◌++◌, length, Some, slice_get, if◌then◌else◌}
 use Rattle.trace_base.specs.declared.limits.TheConstants.{MAX_INPUT}
 use Rattle.trace_base.specs.declared.policy.WriterPolicy.{WriterPolicy}
-use Rattle.trace_base.specs.declared.policy.WriterPolicy.TheVariants.{Drops, Stalls}
+use Rattle.trace_base.specs.declared.policy.WriterPolicy.TheVariants.{Stalls}
 use Rattle.trace_model.specs.Calls.{Call, Begun, Bytes}
 use Rattle.trace_model.specs.Enough.{most_chunks}
 use Rattle.trace_model.specs.Buffers.{Buffer}
@@ -14,14 +14,16 @@ use Rattle.chunk_plain.specs.declared.tokens.TheConstants.{ID_LIMIT}
 use Rattle.chunk_plain.specs.Histories.{history_of}
 use Rattle.chunk_plain.specs.Meaning.{Meaning}
 use Rattle.chunk_plain.specs.Views.{WriterView}
+use Rattle.claim_arbiter.specs.Claiming.{range_in}
 use Rattle.chunk_plain.specs.World.{World}
 use Rattle.world_model.specs.FirstBuffers.{payload_at}
 use Rattle.trace_writer.specs.declared.ids.TheConstants.{PACKET_IDS}
 use Rattle.trace_writer.specs.declared.writer.WriterCore.{WriterCore}
 use Rattle.trace_writer.specs.Asked.{begun_as, written_as}
 use Rattle.trace_writer.specs.Core.{CoreAgrees, is_stalled, route_of}
-use Rattle.trace_writer.specs.Helping.{LeavesOthers, LeavesWriters, Works}
-use Rattle.trace_writer.specs.OwnSteps.{IsQuiet, IsSilent, GetsChunk, IsOutNow}
+use Rattle.trace_writer.specs.Helping.{LeavesOthers, LeavesWriters, Works, loses, rounds_for}
+use Rattle.trace_writer.specs.Losing.{LosesBehind}
+use Rattle.trace_writer.specs.OwnSteps.{IsQuiet, IsSilent, GetsChunk, IsInVain, IsOutNow}
 use Rattle.service_core.specs.declared.service.ServiceCore.{ServiceCore}
 use Rattle.service_core.specs.Agreement.{KeepsRest}
 use Rattle.replay_model.specs.Does.{MayNeedChunk, Asks}
@@ -58,8 +60,8 @@ abbrev pub noted_as : Bool → WriterPolicy → Call → List Call
 noted_as stopped policy (Begun kept) = begun_as stopped policy
 noted_as stopped policy call = written_as stopped policy call
 
--- A call of a writer over any helper, after which it goes on: what it did, and that it noted the call, or that the packet was lost. In a
--- call that needs no chunk it asked for none, and for no help.
+-- A call of a writer over any helper, after which it goes on: what it did, and that it noted the call, or that the packet was lost behind
+-- its rounds of claims in vain. In a call that needs no chunk it asked for none, and for no help.
 pub record IsCalled {H T W S : Type 0} (means : Meaning T W S) (needs : H → T → Type 0) (helps : H → T → ℕ → Bool → H → T → Type 0)
     (call : Call) (helper : H) (old : T) (core : WriterCore W) (left : H) (new : T) (after : WriterCore W) : Type 0 where
   pub agrees : CoreAgrees (means.setup old) (means.place core.seat) (means.view new after.seat) after
@@ -67,9 +69,11 @@ pub record IsCalled {H T W S : Type 0} (means : Meaning T W S) (needs : H → T 
   pub needed : needs left new
   pub others : LeavesOthers means old core.seat new after.seat
   pub stopped : Bool
-  pub drops : stopped ≡ true → (route_of core).spec.policy ≡ Drops
+  pub drops : stopped ≡ true → loses (route_of core).spec.policy ≡ true
+  pub lost : stopped ≡ true → LosesBehind (means.setup old) (range_in (route_of core).arbiter) (rounds_for (route_of core).spec.policy)
+      (means.view old core.seat) (means.view new after.seat)
   pub asks : MayNeedChunk call ⊎ ((stopped ≡ false) × IsQuiet means old core.seat new after.seat)
-  pub works : Works (route_of core).spec.policy (IsSilent means) (IsQuiet means) (GetsChunk means (route_of core)) (IsOutNow means (route_of core))
+  pub works : Works (route_of core).spec.policy (IsSilent means) (IsQuiet means) (GetsChunk means (route_of core)) (IsInVain means (route_of core)) (IsOutNow means (route_of core))
       (λ asked table answer behind freed. helps asked table (route_of core).spec.producer answer behind freed × LeavesWriters means table freed)
       helper old core.seat stopped left new after.seat
   pub notes : (means.view new after.seat).calls ≡ (means.view old core.seat).calls ++ noted_as stopped (route_of core).spec.policy call
@@ -84,7 +88,7 @@ pub record IsStalledCall {H T W S : Type 0} (means : Meaning T W S) (needs : H �
   pub halted : is_stalled after ≡ true
   pub needed : needs left new
   pub others : LeavesOthers means old core.seat new after.seat
-  pub works : Works (route_of core).spec.policy (IsSilent means) (IsQuiet means) (GetsChunk means (route_of core)) (IsOutNow means (route_of core))
+  pub works : Works (route_of core).spec.policy (IsSilent means) (IsQuiet means) (GetsChunk means (route_of core)) (IsInVain means (route_of core)) (IsOutNow means (route_of core))
       (λ asked table answer behind freed. helps asked table (route_of core).spec.producer answer behind freed × LeavesWriters means table freed)
       helper old core.seat true left new after.seat
   pub notes : (means.view new after.seat).calls ≡ (means.view old core.seat).calls ++ noted_as true Stalls call

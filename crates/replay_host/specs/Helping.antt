@@ -1,5 +1,6 @@
 -- What a help of the service is: it takes the complete chunks of the producer whose writers may ask.
 use Rattle.std.specs.Prelude.{◌≡◌, ℕ, Bool, not, ◌==◌, Some}
+use Rattle.trace_model.specs.Counts.{raised}
 use Rattle.chunk_plain.specs.Meaning.{Meaning, IsServiceStep}
 use Rattle.chunk_plain.specs.World.{World}
 use Rattle.service_core.specs.declared.service.ServiceCore.{ServiceCore}
@@ -22,11 +23,12 @@ pub record Collected {T W S : Type 0} (means : Meaning T W S) (producer : ℕ) (
   pub told : (was : World) → means.told old ≡ Some was
       → LeavesNone (means.setup old) producer was (means.told new) (means.service_view new after.seat)
 
--- One help: for the writers that may ask, the taking of their producer's complete chunks, and true exactly where some was taken. Of a help
--- for others it says that the service did no more than a step of its own: no such writer asks.
+-- One help, which is counted: for the writers that may ask, the taking of their producer's complete chunks, and true exactly where some was
+-- taken. Of a help for others it says that the service did no more than a step of its own: no such writer asks.
 pub record Helps {T W S : Type 0} (means : Meaning T W S) (helper : Collecting S) (table : T) (producer : ℕ) (answer : Bool) (after : Collecting S) (left : T) : Type 0 where
   pub may : MayHelp means helper table
   pub producer_is : after.producer ≡ helper.producer
+  pub asked : after.asks ≡ raised helper.asks 1
   pub step : IsServiceStep means table helper.service.seat left after.service.seat
   pub collected : producer ≡ helper.producer → (taken : ℕ) × (answer ≡ not (taken == 0))
       × Collected means producer table helper.service taken left after.service

@@ -1,4 +1,4 @@
-//! Whom a writer that stalls asks for chunks: the service, which takes the complete ones.
+//! Whom a writer asks for chunks: the service, which takes the complete ones.
 use chunk_plain::Words;
 use service_core::ServiceCore;
 use trace_writer::HelperOn;
@@ -9,6 +9,8 @@ pub struct Collecting<S> {
     pub service: ServiceCore<S>,
     /// The producer whose writers may ask.
     pub producer: u16,
+    /// How often it was asked, up to the last value.
+    pub asks: u64,
 }
 
 impl<W: Words> HelperOn<W> for Collecting<W::Service> {
@@ -24,6 +26,10 @@ impl<W: Words> HelperOn<W> for Collecting<W::Service> {
     ghost needs = { λ helper table. MayHelp W.means helper table };
 
     ghost helps = { λ helper table producer answer after left. Helps W.means helper table producer answer after left };
+
+    ghost asked = { λ helper. helper.asks };
+
+    ghost asked_more = { λ helper table producer answer after left helps. helps.asked };
 
     ghost needs_stay = { λ helper old new seat after step may.
         let stays = step.service_stays helper.service.seat may.served.serves in
@@ -41,6 +47,7 @@ impl<W: Words> HelperOn<W> for Collecting<W::Service> {
 
     /// Nothing is done for the writers of other producers.
     fn help(&mut self, table: &mut W, producer: u16) -> bool {
+        self.asks = self.asks.saturating_add(1);
         if producer != self.producer {
             return false;
         }

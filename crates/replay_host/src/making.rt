@@ -157,6 +157,7 @@ pub fn make_host(
         helper: Collecting {
             service,
             producer: 0,
+            asks: 0,
         },
         flushes,
         specs,

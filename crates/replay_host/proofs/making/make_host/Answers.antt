@@ -145,7 +145,7 @@ returns c =
     let host : Host PlainTable PlainWriter PlainService = record {
       table = table;
       writers = c.fill_writers.new.writers;
-      helper = record { service = service; producer = 0 };
+      helper = record { service = service; producer = 0; asks = 0 };
       flushes = c.in_ok-flushes.flushes;
       specs = c.in_ok-specs.specs;
       open_producers = c.in_ok-open_producers.open_producers;
