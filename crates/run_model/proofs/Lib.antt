@@ -1,3 +1,5 @@
+pub mod InTurnLemmas
+pub mod OrderLemmas
 pub mod AskedLemmas
 pub mod ChunkLemmas
 pub mod CompleteLemmas
@@ -9,3 +11,4 @@ pub mod RunLemmas
 pub mod VainLemmas
 pub mod FreshLemmas
 pub mod WorkedLemmas
+pub mod BehindLemmas

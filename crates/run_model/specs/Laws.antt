@@ -17,6 +17,7 @@ use Rattle.replay_model.specs.Played.{records_in, packet_counts, AreBalanced, Co
 use Rattle.run_model.specs.Collected.{may_be_collected}
 use Rattle.run_model.specs.Settled.{IsRun}
 use Rattle.run_model.specs.Stopped.{StopsBefore}
+use Rattle.run_model.specs.Vain.{HasVainRound}
 
 -- The records of a run are faithful to the packets that the lines have writers emit, whatever is lost on the way.
 abbrev pub EveryRunIsFaithful : Type 0
@@ -60,6 +61,20 @@ pub record UncollectedChunksAreUsedOnce : Type 0 where
   pub run : (scenario : Parts) (setup : Setup) (world : World) → IsRun scenario setup world → UsesOnce setup scenario.lines world
   pub stopped : (scenario : Parts) (setup : Setup) (world : World) (next : Delivered) → StopsBefore scenario setup world next
       → UsesOnce setup scenario.lines world
+
+-- Of a producer that no line collects or scrapes, and none of whose writers stalls, a writer begins no chunk behind a loss: what it has begun
+-- it had begun behind the call that lost the packet.
+abbrev pub BeginsNoneBehindLosses : Setup → List NumberedLine → World → Type 0
+BeginsNoneBehindLosses setup lines world =
+    (place calls behind : ℕ) (round : HasVainRound setup place (writer world place) calls behind) → place < length setup.writers
+    → may_be_collected setup lines (producer_of setup place) ≡ false
+    → length (writer world place).begun ≡ length round.front.begun
+
+-- So it is in each run, whole or up to a write that failed.
+pub record NothingIsBegunBehindLosses : Type 0 where
+  pub run : (scenario : Parts) (setup : Setup) (world : World) → IsRun scenario setup world → BeginsNoneBehindLosses setup scenario.lines world
+  pub stopped : (scenario : Parts) (setup : Setup) (world : World) (next : Delivered) → StopsBefore scenario setup world next
+      → BeginsNoneBehindLosses setup scenario.lines world
 
 -- Each claim in vain was made where somebody had the chunk: in a world on the way of a schedule that leads to what was done.
 abbrev pub LosesWhereHad : Setup → World → Type 0

@@ -1,5 +1,5 @@
 -- A scenario that was run on threads, once all is settled: what its writers and its service did, by their views, in whatever order the threads came.
-use Rattle.std.specs.Prelude.{◌≡◌, ℕ, zero, suc, ◌<◌, Bool, true, false, List, [], ◌∷◌, ◌++◌, length}
+use Rattle.std.specs.Prelude.{◌≡◌, ℕ, zero, suc, ◌<◌, Bool, true, false, List, [], ◌∷◌, ◌++◌, length, map}
 use Rattle.std.specs.List.{flat_map}
 use Rattle.trace_base.specs.declared.policy.WriterPolicy.TheVariants.{Stalls}
 use Rattle.trace_model.specs.Buffers.{Buffer}
@@ -9,11 +9,11 @@ use Rattle.trace_model.specs.History as model
 use Rattle.trace_model.specs.History.{buffers_after}
 use Rattle.trace_model.specs.Packets.{packets_of, lost_count}
 use Rattle.model_laws.specs.Losses.{Loses}
-use Rattle.chunk_plain.specs.Setup.{Setup, producer_of, sequence_of}
-use Rattle.chunk_plain.specs.Views.{At, Content, Completed, ServiceView, WriterView, taken_of}
+use Rattle.chunk_plain.specs.Setup.{Setup, sequence_of}
+use Rattle.chunk_plain.specs.Views.{At, Content, Completed, ServiceView, WriterView, chunk_of, taken_of}
 use Rattle.chunk_plain.specs.World.{World, writer}
 use Rattle.chunk_plain.specs.Histories.{history_of}
-use Rattle.chunk_plain.specs.Owned.{IsOwned, held_count}
+use Rattle.chunk_plain.specs.Owned.{IsOwned, held_count, won_chunks}
 use Rattle.chunk_plain.specs.Plain.{first_world}
 use Rattle.chunk_schedules.specs.Schedules.{Leads}
 use Rattle.scenario_text.specs.declared.scenario.NumberedLine.{NumberedLine}
@@ -36,12 +36,14 @@ use Rattle.run_model.specs.Vain.{LosesInVain}
 -- ---- a writer
 
 -- The writer at this place has done its lines: it is between two calls and holds no chunk, and what it has noted is just what the lines ask of it, and
--- then the flush that ends its job. Packets may be lost on the way, each behind a round of claims in vain of its own, but none of one that stalls.
+-- then the flush that ends its job. The chunks that it began are those that its claims won, in their order. Packets may be lost on the way,
+-- each behind a round of claims in vain of its own, but none of one that stalls.
 pub record HasDoneLines (setup : Setup) (lines : List NumberedLine) (place : ℕ) (view : WriterView) : Type 0 where
   pub between : IsBetweenCalls setup place view
   pub asked : done_calls view.calls ≡ calls_asked (suc place) lines ++ Flushed ∷ []
   pub lose : Loses (calls_asked (suc place) lines) view.calls
-  pub vain : LosesInVain setup (producer_of setup place) view.asked view.calls
+  pub in_turn : won_chunks view.asked ≡ map chunk_of view.begun
+  pub vain : LosesInVain setup place view
   pub stalls : (spec_at setup.writers place).policy ≡ Stalls → lost_count (packets_of view.calls) ≡ 0
   pub none_held : held_count view.begun ≡ 0
 

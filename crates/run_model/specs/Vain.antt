@@ -1,25 +1,47 @@
--- Which claims a writer had made in vain where it lost a packet.
-use Rattle.std.specs.Prelude.{◌≡◌, ℕ, suc, ◌<◌, false, List, ◌++◌, length}
+-- Which claims a writer had made in vain where it lost a packet, and what it had done by then.
+use Rattle.std.specs.Prelude.{◌≡◌, ℕ, suc, ◌≤◌, false, List, ◌++◌, length, map}
 use Rattle.std.specs.List.{All}
 use Rattle.trace_model.specs.Calls.{Call, Begun, GivenUp}
-use Rattle.chunk_plain.specs.Setup.{Setup, range_of}
-use Rattle.chunk_plain.specs.Views.{Ask, At}
+use Rattle.chunk_plain.specs.Owned.{won_chunks}
+use Rattle.chunk_plain.specs.Setup.{Setup, producer_of, range_of}
+use Rattle.chunk_plain.specs.Views.{Ask, At, WriterView, chunk_of}
 use Rattle.claim_arbiter.specs.Claiming.{AllClaimed, lost_asks}
+use Rattle.schedule_laws.specs.Resting.{IsBetweenCalls}
 
--- The last claims that were made when so many calls were noted are one whole round in vain: each chunk of the producer was asked for once,
--- in rising order, and found claimed. Those behind them were all made when more calls were noted.
-pub record HasVainRound (setup : Setup) (producer : ℕ) (asks : List Ask) (calls : ℕ) : Type 0 where
+-- What a writer has done goes on: its calls, its claims and its chunks are those before and these more. All of these claims were made once
+-- the calls before were noted, and the chunks that were begun are those that they won, in their order.
+pub record GoesOnInTurn (old new : WriterView) : Type 0 where
+  pub calls : List Call
+  pub asks : List Ask
+  pub calls_are : new.calls ≡ old.calls ++ calls
+  pub asks_are : new.asked ≡ old.asked ++ asks
+  pub chunks_are : map chunk_of new.begun ≡ map chunk_of old.begun ++ won_chunks asks
+  pub later : All (λ (ask : Ask). length old.calls ≤ ask.calls) asks
+
+-- The last of these claims are one whole round in vain, made when so many calls were noted: each chunk of the producer was asked for once,
+-- in rising order, and found claimed.
+pub record EndsInVain (setup : Setup) (producer : ℕ) (asks : List Ask) (calls : ℕ) : Type 0 where
   pub before : List Ask
   -- the page words that the round found
   pub words : List ℕ
-  pub after : List Ask
-  pub asks_are : asks ≡ before ++ lost_asks calls (range_of setup producer).first words ++ after
+  pub asks_are : asks ≡ before ++ lost_asks calls (range_of setup producer).first words
   pub count_is : length words ≡ (range_of setup producer).count
   pub all_claimed : AllClaimed setup (range_of setup producer).first words
-  pub later : All (λ (ask : Ask). calls < ask.calls) after
+
+-- The writer at this place lost a packet in a call that was made when so many calls were noted, and behind which there were so many. What
+-- it had done behind it is an account of a writer between two calls: it had begun just the chunks that its claims had won, in their
+-- order, and the last of its claims were a round in vain. From there it went on to what it has done by now.
+pub record HasVainRound (setup : Setup) (place : ℕ) (view : WriterView) (calls behind : ℕ) : Type 0 where
+  -- what it had done just behind the call that lost the packet
+  pub front : WriterView
+  pub noted : length front.calls ≡ behind
+  pub between : IsBetweenCalls setup place front
+  pub in_turn : won_chunks front.asked ≡ map chunk_of front.begun
+  pub round : EndsInVain setup (producer_of setup place) front.asked calls
+  pub goes_on : GoesOnInTurn front view
 
 -- Each loss has a round of claims in vain of its own. It stands last among the claims of the very call that lost the packet, which is noted
 -- behind them: where one was dropped, that is its begin; where one was given up, the call that is noted just before.
-pub record LosesInVain (setup : Setup) (producer : ℕ) (asks : List Ask) (calls : List Call) : Type 0 where
-  pub dropped : (index : ℕ) → At calls index (Begun false) → HasVainRound setup producer asks index
-  pub given_up : (index : ℕ) → At calls index GivenUp → (call : ℕ) × (index ≡ suc call) × HasVainRound setup producer asks call
+pub record LosesInVain (setup : Setup) (place : ℕ) (view : WriterView) : Type 0 where
+  pub dropped : (index : ℕ) → At view.calls index (Begun false) → HasVainRound setup place view index (suc index)
+  pub given_up : (index : ℕ) → At view.calls index GivenUp → (call : ℕ) × (index ≡ suc call) × HasVainRound setup place view call (suc index)

@@ -1,5 +1,5 @@
 //! The laws: contracts of functions with nothing to do.
-ghost use Rattle.run_model.specs.Laws.{EveryRunIsFaithful, EveryStoppedRunIsFaithful, EveryRunIsBalanced, EveryRunCountsPackets, EveryEnoughRunIsComplete, UncollectedChunksAreUsedOnce, LostClaimsFindHad};
+ghost use Rattle.run_model.specs.Laws.{EveryRunIsFaithful, EveryStoppedRunIsFaithful, EveryRunIsBalanced, EveryRunCountsPackets, EveryEnoughRunIsComplete, UncollectedChunksAreUsedOnce, NothingIsBegunBehindLosses, LostClaimsFindHad};
 ghost use Rattle.run_model.specs.Worked.{OneChunkHoldsOnePacket};
 
 /// The records of a run are faithful to the packets that the lines have writers emit.
@@ -30,6 +30,11 @@ pub fn every_enough_run_is_complete()
 /// Of a producer that nobody has collected each chunk is used once at most.
 pub fn uncollected_chunks_are_used_once()
     ensures { UncollectedChunksAreUsedOnce }
+{}
+
+/// Of a producer that nobody has collected no chunk is begun behind a loss.
+pub fn nothing_is_begun_behind_losses()
+    ensures { NothingIsBegunBehindLosses }
 {}
 
 /// Each claim in vain of a run was made where somebody had the chunk.

@@ -11,7 +11,8 @@ use Rattle.trace_model.specs.Packets.{Packet, packets_of, account_of, with_more,
 use Rattle.field_tree.specs.Nodes.{Shown}
 use Rattle.scenario_text.specs.Accepted.{Accepts, node_call}
 use Rattle.chunk_plain.specs.Setup.{Setup, HasProducer, producer_of, range_of}
-use Rattle.chunk_plain.specs.Views.{WriterView}
+use Rattle.chunk_plain.specs.Owned.{won_chunks}
+use Rattle.chunk_plain.specs.Views.{WriterView, chunk_of}
 use Rattle.chunk_words.specs.declared.host.HostTable.{HostTable}
 use Rattle.chunk_words.specs.declared.shared.Shared.{Shared}
 use Rattle.chunk_words.specs.declared.seats.WriterSeat.{WriterSeat}
@@ -21,10 +22,11 @@ use Rattle.world_model.specs.FirstBuffers.{payload_at}
 use Rattle.claim_arbiter.specs.Claiming.{range_in}
 use Rattle.trace_writer.specs.declared.writer.WriterCore.{WriterCore}
 use Rattle.trace_writer.specs.Asked.{begun_as, written_as}
-use Rattle.trace_writer.specs.Core.{CoreAgrees, route_of}
+use Rattle.trace_writer.specs.Core.{CoreAgrees, WriterAgrees, route_of}
 use Rattle.trace_writer.specs.Helping.{LeavesWriters, Works, Done, Silent, Gets, Helped, Refused, Lost}
 use Rattle.trace_writer.proofs.accounts.Possible.{begin_loses, field_loses, more_keeps, nested_keeps, ended_loses, finished_loses, flushed_loses}
 use Rattle.service_core.specs.Agreement.{spec_at}
+use Rattle.schedule_laws.specs.Resting.{IsBetweenCalls}
 use Rattle.replay_host.specs.Asking.{IsReadyFor, IsCalled, IsStalledCall, noted_as}
 use Rattle.replay_host.proofs.AskedLemmas.{route_is}
 use Rattle.replay_host.proofs.FieldLemmas.{calls_before}
@@ -40,7 +42,7 @@ use Rattle.thread_writer.proofs.Calls.{writes_back}
 use Rattle.thread_writer.proofs.Identity.{works_stay}
 use Rattle.thread_host.specs.Playing.{NeverRefuses, NotesNoLoss, IsGoing, WasAsked}
 use Rattle.thread_host.proofs.Doing.{done_more, call_done}
-use Rattle.thread_host.proofs.InVain.{AsksOn, works_ask, none_noted, vain_on}
+use Rattle.thread_host.proofs.InVain.{AsksOn, works_ask, none_noted, in_turn_on, vain_on}
 
 -- ---- a helper that never refuses
 
@@ -198,6 +200,15 @@ module _ {H : Type 0} (helps : H → ℕ → Bool → H → Type 0) (of_table : 
             (known_by c.seat) (view_in after)) is
             (works_ask helps (setup_in table.now) (producer_of (setup_in table.now) place) (route_of core) range_here refl called.works)
 
+        in_turn : won_chunks (view_in after).asked ≡ map chunk_of (view_in after).begun
+        in_turn = in_turn_on (view_in writer) (view_in after) asks_on going.in_turn
+
+        between : IsBetweenCalls (setup_in table.now) place (view_in after)
+        between = record {
+          writer = (core_of after).writer;
+          agrees = subst (λ (p : ℕ). WriterAgrees (setup_in table.now) p (view_in after) (core_of after).writer) going.place_is agrees;
+        }
+
         -- it goes on behind it
         pub goes_on : IsGoing helps of_table table.now place (asked ++ call ∷ []) coming left after
         goes_on = record {
@@ -207,9 +218,10 @@ module _ {H : Type 0} (helps : H → ℕ → Bool → H → Type 0) (of_table : 
           done = done_more asked (view_in writer).calls (view_in after).calls call (noted_as called.stopped (route_of core).spec.policy call) going.done notes
               (call_done (account_of going.ready.asked).packets called.stopped (route_of core).spec.policy call going.ready.accepted.0 called.drops);
           lose = loses_more asked (view_in writer) (view_in after) call (noted_as called.stopped (route_of core).spec.policy call) going.lose notes notes_it;
-          vain = vain_on (setup_in table.now) (producer_of (setup_in table.now) place) (account_of going.ready.asked).packets called.stopped (route_of core).spec.policy call
+          in_turn = in_turn;
+          vain = vain_on (setup_in table.now) place (account_of going.ready.asked).packets called.stopped (route_of core).spec.policy call
               (view_in writer) (view_in after) going.ready.accepted.0 called.drops asks_on
-              (λ stalls. none_lost (sym (ap (λ (s : WriterSpec). s.policy) policy_is) ∙ stalls)) notes going.vain;
+              (λ stalls. none_lost (sym (ap (λ (s : WriterSpec). s.policy) policy_is) ∙ stalls)) notes between in_turn going.vain;
           none_lost = none_lost;
           whole = whole;
           ready = ready_behind (payload_at (setup_in table.now) place) (view_in writer) (view_in after) call coming (noted_as called.stopped (route_of core).spec.policy call)

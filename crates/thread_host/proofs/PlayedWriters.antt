@@ -1,5 +1,5 @@
 -- A writer before its first line, and behind the flush that ends its job.
-use Rattle.std.proofs.Common.{◌≡◌, ◌∙◌, ℕ, suc, Bool, true, false, not, List, [], ◌∷◌, ◌++◌, length, refl, sym, ap, subst, arith, append-nil}
+use Rattle.std.proofs.Common.{◌≡◌, ◌∙◌, ℕ, suc, Bool, true, false, not, List, [], ◌∷◌, ◌++◌, length, map, refl, sym, ap, subst, arith, append-nil}
 use Rattle.std.specs.Borrow.{Bor}
 use Rattle.atomic_table.specs.Seated.{TableId}
 use Rattle.trace_base.specs.declared.policy.WriterPolicy.TheVariants.{Drops, Stalls}
@@ -8,9 +8,9 @@ use Rattle.trace_model.specs.Calls.{Flushed}
 use Rattle.trace_model.specs.Packets.{packets_of, lost_count}
 use Rattle.model_laws.specs.Losses.{Loses, written_calls}
 use Rattle.model_laws.proofs.LossLemmas.{written_append}
-use Rattle.chunk_plain.specs.Owned.{held_count}
-use Rattle.chunk_plain.specs.Setup.{Setup, producer_of}
-use Rattle.chunk_plain.specs.Views.{Ask, WriterView}
+use Rattle.chunk_plain.specs.Owned.{held_count, won_chunks}
+use Rattle.chunk_plain.specs.Setup.{Setup}
+use Rattle.chunk_plain.specs.Views.{WriterView, chunk_of, newcomer}
 use Rattle.chunk_words.specs.declared.host.HostTable.{HostTable}
 use Rattle.chunk_words.specs.Sits.{setup_in}
 use Rattle.trace_writer.specs.declared.state.State.{State}
@@ -23,6 +23,7 @@ use Rattle.trace_writer.specs.Outcomes.{held_images}
 use Rattle.trace_writer.proofs.accounts.Possible.{flushed_loses}
 use Rattle.scenario_text.specs.declared.scenario.NumberedLine.{NumberedLine}
 use Rattle.scenario_text.specs.Accepted.{calls_asked}
+use Rattle.schedule_laws.specs.Resting.{IsBetweenCalls}
 use Rattle.service_core.specs.Agreement.{spec_at}
 use Rattle.replay_model.proofs.ScrapedLemmas.{counted}
 use Rattle.replay_host.proofs.ReadyLemmas.{between_is}
@@ -38,7 +39,7 @@ use Rattle.thread_host.specs.Hosts.{IsReady, HasPlayed}
 use Rattle.thread_host.specs.Playing.{NeverRefuses, NotesNoLoss, IsGoing}
 use Rattle.thread_host.proofs.Doing.{done_more}
 use Rattle.thread_host.proofs.Going.{spec_is}
-use Rattle.thread_host.proofs.InVain.{none_yet, vain_none, vain_plain}
+use Rattle.thread_host.proofs.InVain.{none_yet, vain_none, vain_flushed, chunks_kept}
 
 -- ---- before its first line
 
@@ -60,8 +61,8 @@ begins helps of_table lines table place number help writer is ready of_this neve
   going = ready.going;
   done = ap (λ (view : WriterView). done_calls view.calls) ready.fresh;
   lose = ap (λ (view : WriterView). written_calls view.calls) ready.fresh;
-  vain = subst (λ (view : WriterView). LosesInVain (setup_in table) (producer_of (setup_in table) place) view.asked view.calls) (sym ready.fresh)
-      (vain_none (setup_in table) (producer_of (setup_in table) place) [] [] none_yet);
+  in_turn = subst (λ (view : WriterView). won_chunks view.asked ≡ map chunk_of view.begun) (sym ready.fresh) refl;
+  vain = subst (λ (view : WriterView). LosesInVain (setup_in table) place view) (sym ready.fresh) (vain_none (setup_in table) place newcomer none_yet);
   none_lost = λ stalls. subst (λ (view : WriterView). NotesNoLoss view.calls) (sym ready.fresh) none_yet;
   whole = λ stalls. ap (λ (view : WriterView). lost_count (packets_of view.calls)) ready.fresh;
   ready = rw is ready.ready;
@@ -108,6 +109,15 @@ module _ {H : Type 0} (helps : H → ℕ → Bool → H → Type 0) (of_table : 
         place_is : (core_of after).seat.place ≡ place
         place_is = flushed.quiet.step.place_stays ∙ going.place_is
 
+        between : IsBetweenCalls (setup_in table.now) place (view_in after)
+        between = record {
+          writer = (core_of after).writer;
+          agrees = subst (λ (p : ℕ). WriterAgrees (setup_in table.now) p (view_in after) (core_of after).writer) place_is writes.agrees;
+        }
+
+        in_turn : won_chunks (view_in after).asked ≡ map chunk_of (view_in after).begun
+        in_turn = ap won_chunks flushed.quiet.asked ∙ going.in_turn ∙ sym (chunks_kept (view_in writer).begun (view_in after).begun flushed.quiet.chunks)
+
         -- it has done its lines
         pub has_played : HasPlayed lines table.now place after
         has_played = record {
@@ -115,18 +125,12 @@ module _ {H : Type 0} (helps : H → ℕ → Bool → H → Type 0) (of_table : 
           place_is = place_is;
           going = flushed.goes ∙ going.going;
           done = record {
-            between = record {
-              writer = (core_of after).writer;
-              agrees = subst (λ (p : ℕ). WriterAgrees (setup_in table.now) p (view_in after) (core_of after).writer) place_is writes.agrees;
-            };
+            between = between;
             asked = subst (λ (n : ℕ). done_calls (view_in after).calls ≡ calls_asked n lines ++ Flushed ∷ []) is
                 (done_more (calls_asked number lines) (view_in writer).calls (view_in after).calls Flushed (Flushed ∷ []) going.done notes refl);
             lose = subst (λ (n : ℕ). Loses (calls_asked n lines) (view_in after).calls) is lose;
-            vain =
-                let setup : Setup = setup_in table.now in
-                subst (λ (asks : List Ask). LosesInVain setup (producer_of setup place) asks (view_in after).calls) (sym flushed.quiet.asked)
-                (subst (LosesInVain setup (producer_of setup place) (view_in writer).asked) (sym notes)
-                (vain_plain setup (producer_of setup place) (view_in writer).asked (view_in writer).calls going.vain Flushed tt));
+            in_turn = in_turn;
+            vain = vain_flushed (setup_in table.now) place (view_in writer) (view_in after) flushed.quiet.asked flushed.quiet.chunks notes between in_turn going.vain;
             stalls = λ stalls. flushed_loses (view_in writer) (view_in after) notes ∙ going.whole stalls;
             none_held = none_held (setup_in table.now) (core_of after).seat.place (view_in after) (core_of after).writer writes.agrees.writes none_held_now;
           };
