@@ -49,16 +49,17 @@ pub record HasDoneLines (setup : Setup) (lines : List NumberedLine) (place : ℕ
 
 -- ---- all of them
 
--- The writers and the service are those of one owned world. A schedule of their steps leads to it from a table as it is made, by way of the
--- world in which the threads were done. Each writer has done its lines, and all that it completed was taken. What was noted on each sequence
--- is in order, and they are all closed, or none is. Finished fragments of a chunk before it was complete were noted only where a line scrapes
--- the writer's producer.
+-- The writers and the service are those of one owned world, in which the service is reading no chunk. A schedule of their steps leads to it
+-- from a table as it is made, by way of a world in which each writer had completed all that it completes. Each writer has done its lines,
+-- and all that it completed was taken. What was noted on each sequence is in order, and they are all closed, or none is. Finished fragments
+-- of a chunk before it was complete were noted only where a line scrapes the writer's producer.
 pub record HasDoneAll (scenario : Parts) (setup : Setup) (world : World) (closed : Bool) : Type 0 where
   pub setup_is : IsSetupOf scenario setup
   pub many : length world.writers ≡ length setup.writers
   pub owned : ∥ ((other : World) × IsOwned other × (other.writers ≡ world.writers) × (other.service ≡ world.service)) ∥₁
-  -- The world once the threads were done: a schedule of steps leads to it from a table as it is made, and one goes on from it to these
-  -- views. Each chunk that a writer has completed it had completed by then.
+  pub free : world.service.reading ≡ []
+  -- A world that is marked once the threads are done: a schedule of steps leads to it from a table as it is made, and one goes on from it to
+  -- these views. Each chunk that a writer has completed it had completed by then.
   pub stood : World
   pub reached : Leads (first_world setup) stood
   pub leads : ∥ ((other : World) × Leads stood other × (other.writers ≡ world.writers) × (other.service ≡ world.service)) ∥₁
@@ -104,12 +105,12 @@ pub record HasClosedAll (scenario : Parts) (setup : Setup) (world : World) : Typ
 
 -- ---- all of it
 
--- The scenario was run, and all is settled. Its writers and its service are those of one owned world, to which a schedule of their steps leads
--- from a table as it is made, by way of the world in which the threads were done. Each writer has done its lines, and all that it
--- completed was taken. What was noted on each sequence is in order, and finished fragments of a chunk before it was complete
--- only where a line scrapes the writer's producer. Nothing of a producer that no line collects or scrapes, and none of whose writers
--- stalls, was taken before the threads were done, and what was left then was taken producer by producer in rising number. The reads are
--- those of the read lines in their order, each by what its buffer held when the line was played, and then those of the end, where each
+-- The scenario was run, and all is settled. Its writers and its service are those of one owned world, to which a schedule of their steps
+-- leads from a table as it is made, by way of a world in which each writer had completed all that it completes. Each writer has done its
+-- lines, and all that it completed was taken. What was noted on each sequence is in order, and finished fragments of a chunk before it was
+-- complete only where a line scrapes the writer's producer. Nothing of a producer that no line collects or scrapes, and none of whose
+-- writers stalls, was taken before the threads were done, and what was left then was taken producer by producer in rising number. The reads
+-- are those of the read lines in their order, each by what its buffer held when the line was played, and then those of the end, where each
 -- producer is closed and then each buffer read without limit.
 pub record IsRun (scenario : Parts) (setup : Setup) (world : World) : Type 0 where
   pub before : HasClosedAll scenario setup world

@@ -125,6 +125,7 @@ module _ (scenario : Parts) (settled : Settled) (is : IsSettled scenario settled
         many = length-map settled.seats.items known_by ∙ is.many;
         owned = ∥∥₁_map account (λ (one : (other : World) × IsOwned other × IsLed setup marks other × (other.writers ≡ views_of settled.seats.items) × (other.service ≡ view)).
             (one.0, one.1, one.3, one.4));
+        free = serves.agrees.none_read;
         stood = is.stood;
         reached = is.reached;
         leads = ∥∥₁_map account (λ (one : (other : World) × IsOwned other × IsLed setup marks other × (other.writers ≡ views_of settled.seats.items) × (other.service ≡ view)).
