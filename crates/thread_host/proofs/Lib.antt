@@ -1,3 +1,4 @@
+pub mod Counted
 pub mod Doing
 pub mod InVain
 pub mod Telling

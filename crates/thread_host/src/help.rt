@@ -5,32 +5,39 @@ ghost use Rattle.thread_host.specs.Keeping.{IsNamed, named_prop};
 
 use crate::locked::Locked;
 use crate::name::HostName;
+use crate::takings::Takings;
 use chunk_words::HostTable;
+use std::sync::ledger::Ledger;
 use std::sync::{Mutex, Wait};
 use thread_writer::Helper;
 
-/// Helps by the lock, as often as a `u64` counts, and then waits for ever.
+/// Helps by the lock, as often as a `u64` counts, and then waits for ever. It counts how often it had
+/// chunks taken.
 #[derive(Drop)]
-pub struct LockHelp<'a, N: HostName, R: Wait> {
+pub struct LockHelp<'a, N: HostName, R: Wait, L: Ledger> {
     rt: &'a R,
     table: &'a HostTable,
     service: &'a Mutex<Locked<N>>,
     producer: u16,
     left: u64,
+    takings: Takings<L>,
     ghost named: { IsNamed N.table N.setup table.now } by { named_prop N.table N.setup table.now },
     ghost asked: { may_be_collected N.setup N.lines producer ≡ true },
 }
 
-impl<'a, N: HostName, R: Wait> LockHelp<'a, N, R> {
+impl<'a, N: HostName, R: Wait, L: Ledger> LockHelp<'a, N, R, L> {
     /// Of a writer of this producer.
     pub fn new(
         rt: &'a R,
         table: &'a HostTable,
         service: &'a Mutex<Locked<N>>,
         producer: u16,
-    ) -> LockHelp<'a, N, R>
+        takings: Takings<L>,
+    ) -> LockHelp<'a, N, R, L>
         requires table { IsNamed N.table N.setup table.now }
         requires asked { may_be_collected N.setup N.lines producer ≡ true }
+        ensures turns { result.left ≡ u64.MAX }
+        ensures takings { result.takings ≡ takings }
     {
         LockHelp {
             rt,
@@ -38,18 +45,20 @@ impl<'a, N: HostName, R: Wait> LockHelp<'a, N, R> {
             service,
             producer,
             left: u64::MAX,
+            takings,
         }
     }
 }
 
-impl<'a, N: HostName, R: Wait> Helper for LockHelp<'a, N, R> {
+impl<'a, N: HostName, R: Wait, L: Ledger> Helper for LockHelp<'a, N, R, L> {
     ghost use Rattle.std.specs.Prelude.{◌≡◌, true, suc};
 
     ghost turns = { λ help. help.left };
 
     ghost of_table = { λ _ id. id ≡ N.table };
 
-    ghost helps = { λ help _ answer after. (answer ≡ true) × (help.left ≡ suc after.left) };
+    // The service was asked once to take chunks.
+    ghost helps = { λ help _ answer after. (answer ≡ true) × (help.left ≡ suc after.left) × (after.takings ≡ suc help.takings) };
 
     // The writer asks for no producer but its own.
     fn help(&mut self, _table: &HostTable, _producer: u16) -> bool {
@@ -61,7 +70,7 @@ impl<'a, N: HostName, R: Wait> Helper for LockHelp<'a, N, R> {
         let _taken = self
             .service
             .lock(self.rt)
-            .collect(self.table, self.producer);
+            .collect(self.table, self.producer, &mut self.takings);
         true
     }
 }

@@ -21,6 +21,7 @@ use scenario_text::Scenario;
 use std::alloc::{AllocError, Global};
 use std::marker::Brand;
 use std::sync::Wait;
+use std::sync::ledger::Blank;
 use std::thread::Threads;
 use thread_service::Service;
 use thread_writer::TraceWriter;
@@ -81,7 +82,7 @@ impl Host {
     /// lines. The sink takes the records of the reads. After a write fault the service plays no more. What
     /// the service knows grows by what is collected, scraped and read, and by nothing else. A line scrapes each
     /// producer that is scraped; and one collects or scrapes each that is collected, or a writer of the
-    /// producer stalls.
+    /// producer asks for help.
     pub fn run<R: Threads + Wait + Sync, T: Sink + Send, G: Gate + Sync>(
         &mut self,
         rt: &R,
@@ -111,7 +112,7 @@ impl Host {
         };
         let many = u16::try_from(self.specs.len()).unwrap_or(u16::MAX);
         let own = scenario.lines.by_writers(self.alloc, many);
-        let (service, told) = run_named::<Brand, R, G, T>(
+        let (service, told) = run_named::<Brand, R, G, T, Brand>(
             rt,
             gate,
             &self.table,
@@ -122,6 +123,7 @@ impl Host {
             &mut self.pass,
             out,
             writers.as_mut_slice(),
+            Blank::new(1),
         );
         self.service = Some(service);
         told

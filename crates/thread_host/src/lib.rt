@@ -19,6 +19,7 @@ mod name;
 mod playing;
 mod running;
 mod settled;
+mod takings;
 mod whole;
 mod writing;
 
@@ -28,5 +29,6 @@ pub use job::service_job;
 pub use locked::Locked;
 pub use name::HostName;
 pub use settled::Settled;
+pub use takings::Takings;
 pub use whole::run;
 pub use writing::writer_job;

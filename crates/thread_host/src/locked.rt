@@ -1,5 +1,5 @@
 //! The service behind a lock.
-ghost use Rattle.std.specs.Prelude.{◌≡◌, true, List, IfOk, OnErr, OnOk};
+ghost use Rattle.std.specs.Prelude.{◌≡◌, ◌+◌, true, List, IfOk, OnErr, OnOk};
 ghost use Rattle.byte_io.specs.Bytes.{CountsFaults};
 ghost use Rattle.trace_model.specs.History as model;
 ghost use Rattle.chunk_words.specs.Knows.{Away, with_stage};
@@ -19,10 +19,12 @@ ghost use Rattle.thread_host.specs.Keeping.{IsNamed, ServesNamed, AllOpen, Began
 ghost use Rattle.thread_host.specs.Keeping.{serves_named_prop, began_prop, own_prop};
 
 use crate::name::HostName;
+use crate::takings::Takings;
 use byte_io::put::WriteFault;
 use byte_io::traits::Sink;
 use chunk_words::{HostTable, ReadPass};
 use std::marker::PhantomData;
+use std::sync::ledger::Ledger;
 use thread_service::Service;
 
 /// The service of the table that its type names, none of whose sequences is closed. No image came by a
@@ -69,26 +71,40 @@ impl<N: HostName> Locked<N> {
 
     /// Takes the complete chunks of the producer's writers. Answers how many. A line, or a writer of the
     /// producer that stalls, may ask for it.
-    pub fn collect(&mut self, table: &HostTable, producer: u16) -> u64
+    pub fn collect<L: Ledger>(
+        &mut self,
+        table: &HostTable,
+        producer: u16,
+        takings: &mut Takings<L>,
+    ) -> u64
         requires table { IsNamed N.table N.setup table.now }
         requires asked { may_be_collected N.setup N.lines producer ≡ true }
         ensures keeps { KeepsRest N.setup (core_of self.old.service) (core_of self.new.service) }
         ensures takes { Takes N.setup (places_of producer 0 N.setup.writers) result
             (view_in self.old.service) (view_in self.new.service) }
         ensures desk { desk_in self.new.service ≡ desk_in self.old.service }
+        ensures counts { takings.new ≡ takings.old + 1 }
     {
+        takings.count();
         self.service.collect(table, producer)
     }
 
     /// Takes them, and then the finished fragments of the chunks that the writers hold. A line scrapes
     /// the producer.
-    pub fn scrape(&mut self, table: &HostTable, producer: u16) -> u64
+    pub fn scrape<L: Ledger>(
+        &mut self,
+        table: &HostTable,
+        producer: u16,
+        takings: &mut Takings<L>,
+    ) -> u64
         requires table { IsNamed N.table N.setup table.now }
         requires line { is_scraped_by N.lines producer ≡ true }
         ensures keeps { KeepsRest N.setup (core_of self.old.service) (core_of self.new.service) }
         ensures scrapes { TakesAndScrapes N.setup producer result (view_in self.old.service) (view_in self.new.service) }
         ensures desk { desk_in self.new.service ≡ desk_in self.old.service }
+        ensures counts { takings.new ≡ takings.old + 1 }
     {
+        takings.count();
         self.service.scrape(table, producer)
     }
 

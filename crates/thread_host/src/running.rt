@@ -12,11 +12,13 @@ ghost use Rattle.thread_host.specs.Keeping.{IsNamed, ServesNamed, AllOpen, Began
 use crate::job::service_job;
 use crate::locked::Locked;
 use crate::name::HostName;
+use crate::takings::Takings;
 use crate::writing::writer_job;
 use byte_io::put::WriteFault;
 use byte_io::traits::{Gate, Sink};
 use chunk_words::{HostTable, ReadPass};
 use scenario_text::{LineList, LinesByWriter};
+use std::sync::ledger::{Blank, Ledger};
 use std::sync::{Mutex, Wait};
 use std::thread::{Threads, join_mut};
 use thread_service::Service;
@@ -112,12 +114,13 @@ fn start_both<N: HostName + Send + Sync, R: Threads + Wait + Sync, G: Gate + Syn
 }
 
 /// The service plays its lines beside the writers, each of which plays its own. The service comes back
-/// as one of the same table.
+/// as one of the same table. How often it has chunks taken stands on this blank's ledger.
 pub fn run_named<
     N: HostName + Send + Sync,
     R: Threads + Wait + Sync,
     G: Gate + Sync,
     O: Sink + Send,
+    L: Ledger + Send,
 >(
     rt: &R,
     gate: &G,
@@ -129,6 +132,7 @@ pub fn run_named<
     pass: &mut ReadPass,
     out: &mut O,
     writers: &mut [TraceWriter],
+    takings: Blank,
 ) -> (Service, Result<(), WriteFault>)
     requires table { IsNamed N.table N.setup table.now }
     requires specs { specs.now ≡ N.setup.writers }
@@ -142,6 +146,9 @@ pub fn run_named<
     requires known { IsKnownWhole (known_by_pass pass.old) }
     requires may { O.may_write out.old }
     requires ready { AreReadyFrom own.now table.now 0 writers.old }
+    requires takings_name { takings.name ≡ L.name }
+    requires takings_parts { takings.parts ≡ L.parts }
+    requires takings_part { 0 < L.parts }
     ensures serves { ServesNamed N.table N.setup result.0 }
     ensures open { AllOpen N.setup result.0 }
     ensures began { BeganWith N.setup N.first result.0 }
@@ -159,9 +166,10 @@ pub fn run_named<
     ensures played { HavePlayedFrom own.now table.now 0 writers.old writers.new }
 {
     let locked = Mutex::new(Locked::<N>::new(service));
+    let mut takings = Takings::<L>::new(takings);
     let (told, ()) = join_mut(
         rt,
-        &mut || service_job(rt, gate, table, &locked, lines, pass, out),
+        &mut || service_job(rt, gate, table, &locked, lines, pass, out, &mut takings),
         &mut ||
             requires { IsNamed N.table N.setup table.now × (specs.now ≡ N.setup.writers) × AreReadyFrom own.now table.now 0 writers.now }
         { writers_from(rt, gate, table, &locked, specs, own, 0, writers) },

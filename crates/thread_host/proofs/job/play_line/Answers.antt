@@ -1,5 +1,6 @@
-use Rattle.std.proofs.Common.{refl}
+use Rattle.std.proofs.Common.{refl, arith}
 use Rattle.chunk_words.specs.Sits.{known_by_pass}
+use Rattle.thread_host.proofs.Counted.{none_asked}
 use Rattle.thread_host.proofs.Telling.{collect_tells, scrape_tells, unread_tells}
 use Rattle.thread_host.proofs.job.play_line.Goals as goal
 
@@ -23,4 +24,5 @@ returns g c = record {
   stands = refl;
   count = refl;
   goes_on = c.requires.may;
+  asks = let none = none_asked c.args.line.now c.in_default.not-Collect c.in_default.not-Scrape in omega (arith, none);
 }

@@ -1,9 +1,10 @@
 -- Each line is played behind those before it.
-use Rattle.std.proofs.Common.{◌≡◌, ◌∙◌, List, [], ◌∷◌, ◌++◌, refl, sym, ap, subst, append-nil, append_assoc}
+use Rattle.std.proofs.Common.{◌≡◌, ◌∙◌, ◌+◌, ◌≤◌, List, [], ◌∷◌, ◌++◌, refl, sym, ap, subst, append-nil, append_assoc, arith}
 use Rattle.chunk_words.specs.Sits.{known_by_pass}
 use Rattle.scenario_text.specs.declared.scenario.NumberedLine.{NumberedLine}
-use Rattle.thread_host.specs.Jobs.{FailsLines, TellsLines}
+use Rattle.thread_host.specs.Jobs.{FailsLines, TellsLines, takings_of, takings_in}
 use Rattle.thread_host.proofs.Collected.{collected_here}
+use Rattle.thread_host.proofs.Counted.{takings_more, takings_front}
 use Rattle.thread_host.proofs.Parts.{scraped_here}
 use Rattle.thread_host.proofs.Telling.{fails_behind, on_err, tells_none, tells_more}
 use Rattle.thread_host.proofs.job.service_job.Goals as goal
@@ -16,6 +17,7 @@ lines-init g c = record {
   known = c.requires.known;
   told = tells_none g.N.HostName.setup g.N.HostName.first (known_by_pass c.args.pass.now) (g.O.Sink.taken c.args.out.now);
   stands = refl;
+  asks = omega arith;
   steady = refl;
   may = c.requires.may;
 }
@@ -43,6 +45,9 @@ lines-preserved g c =
           (known_by_pass c.play_line.new.pass) (g.O.Sink.taken c.args.out.now) (g.O.Sink.taken c.lines.out) (g.O.Sink.taken c.play_line.new.out)
           c.lines.invariant.told c.in_ok-play_line.ensures.told;
       stands = c.in_ok-play_line.ensures.stands ∙ c.lines.invariant.stands;
+      asks =
+          let more = takings_more before line in
+          omega (arith, more, c.in_ok-play_line.ensures.asks, c.lines.invariant.asks);
       steady = c.in_ok-play_line.ensures.count ∙ c.lines.invariant.steady;
       may = c.in_ok-play_line.ensures.goes_on;
     }
@@ -69,3 +74,28 @@ returns-clause-told g c =
     sym (append-nil before) ∙ ap (λ (ls : List NumberedLine). before ++ ls) (sym none.0) ∙ c.lines.invariant.all in
     subst (λ (ls : List NumberedLine). TellsLines g.N.HostName.setup g.N.HostName.first ls (known_by_pass c.args.pass.now) (known_by_pass c.lines.pass)
     (g.O.Sink.taken c.args.out.now) (g.O.Sink.taken c.lines.out)) all c.lines.invariant.told
+
+pub returns-in_err-play_line-clause-most : goal.returns-in_err-play_line-clause-most
+returns-in_err-play_line-clause-most g c =
+    let before : List NumberedLine = c.lines.invariant.before in
+    let line : NumberedLine = c.in-Some.line in
+    let all : before ++ line ∷ c.next.new.self ≡ c.args.lines.now =
+    ap (λ (ls : List NumberedLine). before ++ ls) (sym c.in-Some.ensures.first) ∙ c.lines.invariant.all in
+    let front = subst (λ (ls : List NumberedLine). takings_in before + takings_of line.what ≤ takings_in ls) all (takings_front before line c.next.new.self) in
+    omega (arith, front, c.in_err-play_line.ensures.asks, c.lines.invariant.asks)
+
+pub returns-clause-asks : goal.returns-clause-asks
+returns-clause-asks g c =
+    let before : List NumberedLine = c.lines.invariant.before in
+    let none = rw c.in_default.is at c.next.ensures.none in
+    let all : before ≡ c.args.lines.now =
+    sym (append-nil before) ∙ ap (λ (ls : List NumberedLine). before ++ ls) (sym none.0) ∙ c.lines.invariant.all in
+    subst (λ (ls : List NumberedLine). c.lines.takings ≡ c.args.takings.now + takings_in ls) all c.lines.invariant.asks
+
+pub returns-clause-most : goal.returns-clause-most
+returns-clause-most g c =
+    let before : List NumberedLine = c.lines.invariant.before in
+    let none = rw c.in_default.is at c.next.ensures.none in
+    let all : before ≡ c.args.lines.now =
+    sym (append-nil before) ∙ ap (λ (ls : List NumberedLine). before ++ ls) (sym none.0) ∙ c.lines.invariant.all in
+    subst (λ (ls : List NumberedLine). c.lines.takings ≤ c.args.takings.now + takings_in ls) all (omega (arith, c.lines.invariant.asks))

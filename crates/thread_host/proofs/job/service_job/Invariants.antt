@@ -1,9 +1,9 @@
 -- The lines before those that are still to come were played.
-use Rattle.std.proofs.Common.{◌≡◌, List, ◌++◌, length}
+use Rattle.std.proofs.Common.{◌≡◌, List, ◌+◌, ◌++◌, length}
 use Rattle.chunk_words.specs.Sits.{Passes, known_by_pass}
 use Rattle.scenario_text.specs.declared.scenario.NumberedLine.{NumberedLine}
 use Rattle.thread_service.specs.Reading.{IsKnownWhole}
-use Rattle.thread_host.specs.Jobs.{KeepsLoans, TellsLines}
+use Rattle.thread_host.specs.Jobs.{KeepsLoans, TellsLines, takings_in}
 use Rattle.thread_host.proofs.job.service_job.Given as goal
 
 abbrev pub invariant-lines : goal.invariant-lines
@@ -15,6 +15,7 @@ invariant-lines g l = record {
   told : TellsLines g.N.HostName.setup g.N.HostName.first before (known_by_pass l.fn.pass) (known_by_pass l.pass)
       (g.O.Sink.taken l.fn.out) (g.O.Sink.taken l.out);
   stands : KeepsLoans (g.O.Sink.taken l.fn.out) (g.O.Sink.taken l.out);
+  asks : l.takings ≡ l.fn.takings + takings_in before;
   steady : g.O.Sink.faults l.out ≡ g.O.Sink.faults l.fn.out;
   may : g.O.Sink.may_write l.out;
 }

@@ -1,15 +1,18 @@
--- The table of the host, the buffers of its service as they were made, and what it knows.
+-- The table of the host, the buffers of its service as they were made, and what it knows. The ledger is that of the blank.
 use Rattle.chunk_words.specs.Named.{identity_of}
 use Rattle.chunk_words.specs.Sits.{setup_in}
 use Rattle.service_core.specs.Agreement.{first_of}
 use Rattle.thread_service.specs.Serving.{core_of, view_in}
 use Rattle.thread_host.proofs.host.Host.run.Given as goal
 
-abbrev pub ghosts-run_named : goal.ghosts-run_named
-ghosts-run_named g a = record {
+abbrev pub ghosts-run_named-N-HostName : goal.ghosts-run_named-N-HostName
+ghosts-run_named-N-HostName g a = record {
   table = identity_of a.table.now;
   setup = setup_in a.table.now;
   first = first_of (setup_in a.table.now) (core_of a.service);
   start = view_in a.service;
   lines = a.lines.now;
 }
+
+abbrev pub ghosts-run_named-L-Ledger : goal.ghosts-run_named-L-Ledger
+ghosts-run_named-L-Ledger g a = record { name = a.takings.name; parts = a.takings.parts }
