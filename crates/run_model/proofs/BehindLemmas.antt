@@ -1,10 +1,14 @@
 -- Of a producer that nobody may have collected a writer begins no chunk behind a loss: each was claimed by then, and none came free.
 use Rattle.std.proofs.Common.{◌≡◌, ◌∙◌, ℕ, zero, suc, ◌+◌, ◌-◌, ◌<◌, ◌≤◌, ◌⊎◌, inl, inr, Bool, true, false, List, [], ◌∷◌, ◌++◌, length, map, get_or, refl, sym, ap, subst, arith, append-nil}
+use Rattle.std.specs.List.{All, flat_map}
 use Rattle.std.proofs.Math.Logic.{∥∥₁_elim}
 use Rattle.std.proofs.Math.Nat.{ℕ_set}
 use Rattle.std.proofs.lemmas.Bool.{cases_lt}
 use Rattle.std.proofs.lemmas.List.{get_or_past, length-map}
+use Rattle.std.proofs.lemmas.List.Elements.{All-head}
 use mathlib.Core.Option.{some-injective, some-ne-none}
+use Rattle.trace_base.specs.declared.policy.WriterPolicy.{WriterPolicy}
+use Rattle.trace_base.specs.declared.policy.WriterPolicy.TheVariants.{Drops, Stalls, StallsThenDrops}
 use Rattle.trace_model.specs.Delivery.{Delivered}
 use Rattle.chunk_plain.specs.declared.setup.ChunkRange.{ChunkRange}
 use Rattle.chunk_plain.specs.Laying.{ranges_of}
@@ -14,15 +18,17 @@ use Rattle.chunk_plain.specs.Views.{At, Ask, BegunChunk, Held, Completed, Conten
 use Rattle.chunk_plain.specs.World.{World, writer}
 use Rattle.chunk_plain.proofs.LayingLemmas.{ranges_apart}
 use Rattle.chunk_plain.proofs.Lists.{at_inside, at_seam}
-use Rattle.claim_arbiter.specs.Claiming.{lost_asks}
+use Rattle.claim_arbiter.specs.Claiming.{AllClaimed, lost_asks}
 use Rattle.scenario_text.specs.Scenario.{Parts}
 use Rattle.trace_writer.specs.Claims.{AreOwnChunks}
+use Rattle.trace_writer.specs.Helping.{rounds_for}
+use Rattle.service_core.specs.Agreement.{spec_at}
 use Rattle.schedule_laws.proofs.BetweenLemmas.{has_producer}
 use Rattle.run_model.specs.Collected.{CollectedByLines, may_be_collected}
 use Rattle.run_model.specs.Laws.{BeginsNoneBehindLosses, NothingIsBegunBehindLosses}
 use Rattle.run_model.specs.Settled.{HasDoneAll}
 use Rattle.run_model.specs.Stopped.{StopsBefore}
-use Rattle.run_model.specs.Vain.{HasVainRound}
+use Rattle.run_model.specs.Vain.{HasVainRounds}
 use Rattle.run_model.proofs.ChunkLemmas.{uses_once}
 use Rattle.run_model.proofs.OrderLemmas.{StandsAt, stands_at, among_own, at_front, at_back, at_within, lost_at, won_at, entry_at}
 
@@ -31,6 +37,12 @@ less_both a b c low high = omega (arith, low, high)
 
 less_by : (i j m n : ℕ) → i ≡ j → m ≡ n → j < m → i < n
 less_by i j m n one two less = omega (arith, one, two, less)
+
+-- each loss has a round at least
+some_rounds : (policy : WriterPolicy) → 0 < rounds_for policy
+some_rounds Drops = omega arith
+some_rounds Stalls = omega arith
+some_rounds (StallsThenDrops tries) = omega arith
 
 -- what a writer has begun is of its producer
 own_at : (setup : Setup) (producer : ℕ) (begun : List BegunChunk) → AreOwnChunks setup producer begun → (j chunk : ℕ) → At (map chunk_of begun) j chunk
@@ -86,17 +98,27 @@ module _ (scenario : Parts) (setup : Setup) (world : World) (closed : Bool) (don
       let entry = entry_at (writer world place).begun lines.none_held there.0 ask.chunk begun in
       (there.0, entry.0, entry.1, own_at setup (producer_of setup place) (writer world place).begun lines.between.agrees.claims.own_chunks there.0 ask.chunk begun)
 
-  module _ (order : AreInOrder world.writers) (place calls behind : ℕ) (round : HasVainRound setup place (writer world place) calls behind)
+  module _ (order : AreInOrder world.writers) (place calls behind : ℕ) (round : HasVainRounds setup place (writer world place) calls behind)
       (inside : place < length setup.writers) (nobody : may_be_collected setup scenario.lines (producer_of setup place) ≡ false) where
-    -- its claim in the round stands among those of the front
+    -- its claim in the first round stands among those of the front
     lost_here : (chunk : ℕ) → IsChunkOf setup (producer_of setup place) chunk
         → (n : ℕ) × (ask : Ask) × At round.front.asked n ask × (ask.won ≡ false) × (ask.chunk ≡ chunk)
-    lost_here chunk own =
-        let first : ℕ = (range_of setup (producer_of setup place)).first in
-        let least = own.least in let below = own.below in let many = round.round.count_is in
-        let lost = lost_at calls first round.round.words (chunk - first) (omega (arith, least, below, many)) in
-        let there = at_back round.round.before (lost_asks calls first round.round.words) (chunk - first) lost.0 lost.1 in
-        (there.0, lost.0, subst (λ (l : List Ask). At l there.0 lost.0) (sym round.round.asks_are) there.1, lost.2, lost.3 ∙ omega (arith, least))
+    lost_here chunk own = by_rounds round.rounds.rounds round.rounds.count_is round.rounds.each round.rounds.asks_are
+      where
+        by_rounds : (rounds : List (List ℕ)) → length rounds ≡ rounds_for (spec_at setup.writers place).policy
+            → All (λ (words : List ℕ). (length words ≡ (range_of setup (producer_of setup place)).count) × AllClaimed setup (range_of setup (producer_of setup place)).first words) rounds
+            → round.front.asked ≡ round.rounds.before ++ flat_map (lost_asks calls (range_of setup (producer_of setup place)).first) rounds
+            → (n : ℕ) × (ask : Ask) × At round.front.asked n ask × (ask.won ≡ false) × (ask.chunk ≡ chunk)
+        by_rounds [] none each is = absurd (let some = some_rounds (spec_at setup.writers place).policy in omega (arith, none, some))
+        by_rounds (words ∷ rounds) count each is =
+            let first : ℕ = (range_of setup (producer_of setup place)).first in
+            let later : List Ask = flat_map (lost_asks calls first) rounds in
+            let least = own.least in let below = own.below in
+            let many = (All-head (λ (ws : List ℕ). (length ws ≡ (range_of setup (producer_of setup place)).count) × AllClaimed setup first ws) words rounds each).0 in
+            let lost = lost_at calls first words (chunk - first) (omega (arith, least, below, many)) in
+            let there = at_back round.rounds.before (lost_asks calls first words ++ later) (chunk - first) lost.0
+            (at_front (lost_asks calls first words) later (chunk - first) lost.0 lost.1) in
+            (there.0, lost.0, subst (λ (l : List Ask). At l there.0 lost.0) (sym is) there.1, lost.2, lost.3 ∙ omega (arith, least))
 
     -- a chunk that the writer has begun it had won before the round
     won_by_then : (id chunk : ℕ) → At (map chunk_of (writer world place).begun) id chunk

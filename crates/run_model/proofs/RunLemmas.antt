@@ -1,10 +1,10 @@
 -- What a run's writers wrote and its service noted: an account of each sequence.
-use Rattle.std.proofs.Common.{◌≡◌, ◌∙◌, ℕ, suc, ◌+◌, ◌<◌, Bool, false, List, [], length, Some, refl, sym, ap, subst, arith}
+use Rattle.std.proofs.Common.{◌≡◌, ◌∙◌, ℕ, suc, ◌+◌, ◌<◌, Bool, true, false, List, [], length, Some, refl, sym, ap, subst, arith}
 use Rattle.std.specs.Prelude.{slice_get}
 use Rattle.std.proofs.lemmas.Option.{slice_get_within}
 use Rattle.std.proofs.lemmas.Slice.Zip.{AllZip-long}
 use Rattle.trace_base.specs.declared.policy.WriterPolicy.{WriterPolicy}
-use Rattle.trace_base.specs.declared.policy.WriterPolicy.TheVariants.{Drops, Stalls}
+use Rattle.trace_base.specs.declared.policy.WriterPolicy.TheVariants.{Drops, Stalls, StallsThenDrops}
 use Rattle.trace_base.specs.declared.policy.WriterSpec.{WriterSpec}
 use Rattle.trace_model.specs.Packets.{packets_of, lost_count}
 use Rattle.trace_model.specs.Cut.{newest_goes_on}
@@ -22,6 +22,7 @@ use Rattle.world_model.proofs.FaithfulLemmas.{order_events}
 use Rattle.scenario_text.specs.Scenario.{Parts}
 use Rattle.scenario_text.specs.Accepted.{calls_asked}
 use Rattle.scenario_text.specs.Limits.{IsSetUp}
+use Rattle.trace_writer.specs.Helping.{loses}
 use Rattle.service_core.specs.Agreement.{spec_at}
 use Rattle.replay_model.specs.Played.{IsSpecOf, IsSetupOf}
 use Rattle.replay_model.specs.Written.{HasWritten}
@@ -56,13 +57,14 @@ module _ (scenario : Parts) (setup : Setup) (world : World) (closed : Bool) (don
   pub shape : (place : ℕ) → place < length setup.writers → HasShapeOf (calls_asked (suc place) scenario.lines) (writer world place).calls
   shape place inside = losses_change_no_shape (calls_asked (suc place) scenario.lines) (writer world place).calls (done.writers place inside).lose
 
-  -- only one that drops loses a packet
-  drops_lose : (place : ℕ) → place < length setup.writers → 0 < lost_count (packets_of (writer world place).calls)
-      → (spec_at setup.writers place).policy ≡ Drops
-  drops_lose place inside some = by_policy (spec_at setup.writers place).policy refl
+  -- one that stalls for ever loses no packet
+  loses_by : (place : ℕ) → place < length setup.writers → 0 < lost_count (packets_of (writer world place).calls)
+      → loses (spec_at setup.writers place).policy ≡ true
+  loses_by place inside some = by_policy (spec_at setup.writers place).policy refl
     where
-      by_policy : (policy : WriterPolicy) → (spec_at setup.writers place).policy ≡ policy → (spec_at setup.writers place).policy ≡ Drops
-      by_policy Drops is = is
+      by_policy : (policy : WriterPolicy) → (spec_at setup.writers place).policy ≡ policy → loses (spec_at setup.writers place).policy ≡ true
+      by_policy Drops is = ap loses is
+      by_policy (StallsThenDrops tries) is = ap loses is
       by_policy Stalls is = let none = (done.writers place inside).stalls is in absurd (omega (arith, none, some))
 
   module _ (laid : IsLaid setup) (place : ℕ) (inside : place < length setup.writers) where
@@ -86,7 +88,7 @@ module _ (scenario : Parts) (setup : Setup) (world : World) (closed : Bool) (don
     many = done.many;
     owned = done.owned;
     shape = shape;
-    drops = drops_lose;
+    loses_by = loses_by;
     claims = λ place inside. (done.writers place inside).between.agrees.claims;
     wrote = wrote laid;
     order = history_in_order laid;

@@ -114,6 +114,7 @@ a_writer lines = record {
   producer_is = refl;
   buffer_is = refl;
   fits = omega arith;
+  tries = tt;
 }
 
 set_up : (writers : List WriterSpec) (lines : List NumberedLine) → length writers ≤ MAX_WRITERS

@@ -2,7 +2,7 @@
 use Rattle.std.specs.Prelude.{◌≡◌, ℕ, ◌<◌, ◌==◌, ◌&&◌, ◌||◌, Bool, true, false, List, length}
 use Rattle.std.specs.List.{list_any}
 use Rattle.trace_base.specs.declared.policy.WriterPolicy.{WriterPolicy}
-use Rattle.trace_base.specs.declared.policy.WriterPolicy.TheVariants.{Drops, Stalls}
+use Rattle.trace_base.specs.declared.policy.WriterPolicy.TheVariants.{Drops, Stalls, StallsThenDrops}
 use Rattle.trace_base.specs.declared.policy.WriterSpec.{WriterSpec}
 use Rattle.chunk_plain.specs.Setup.{Setup, producer_of}
 use Rattle.chunk_plain.specs.Views.{ServiceView, taken_of}
@@ -21,17 +21,18 @@ collects producer other = false
 abbrev pub is_collected_by : List NumberedLine → ℕ → Bool
 is_collected_by lines producer = list_any (λ line. collects producer line.what) lines
 
--- whether a writer with this policy stalls where it finds no free chunk
-abbrev pub is_stalling : WriterPolicy → Bool
-is_stalling Drops = false
-is_stalling Stalls = true
+-- whether a writer with this policy asks for help where it finds no free chunk
+abbrev pub asks_help : WriterPolicy → Bool
+asks_help Drops = false
+asks_help Stalls = true
+asks_help (StallsThenDrops tries) = true
 
--- whether it is a writer of the producer that stalls, and so has the producer collected where it finds no free chunk
+-- whether it is a writer of the producer that asks for help, and so has the producer collected where it finds no free chunk
 abbrev pub asks_for : (producer : ℕ) → WriterSpec → Bool
-asks_for producer spec = (producer == spec.producer) && is_stalling spec.policy
+asks_for producer spec = (producer == spec.producer) && asks_help spec.policy
 
 -- Somebody may have the producer's chunks taken while the threads run: a line that collects it; one that scrapes it, which collects first;
--- or one of its own writers, which stalls. (No line of a run closes a producer.)
+-- or one of its own writers, which asks for help. (No line of a run closes a producer.)
 abbrev pub may_be_collected : Setup → List NumberedLine → (producer : ℕ) → Bool
 may_be_collected setup lines producer =
     is_collected_by lines producer || (is_scraped_by lines producer || list_any (asks_for producer) setup.writers)

@@ -17,7 +17,7 @@ use Rattle.replay_model.specs.Played.{records_in, packet_counts, AreBalanced, Co
 use Rattle.run_model.specs.Collected.{may_be_collected}
 use Rattle.run_model.specs.Settled.{IsRun}
 use Rattle.run_model.specs.Stopped.{StopsBefore}
-use Rattle.run_model.specs.Vain.{HasVainRound}
+use Rattle.run_model.specs.Vain.{HasVainRounds}
 
 -- The records of a run are faithful to the packets that the lines have writers emit, whatever is lost on the way.
 abbrev pub EveryRunIsFaithful : Type 0
@@ -48,7 +48,7 @@ abbrev pub EveryEnoughRunIsComplete : Type 0
 EveryEnoughRunIsComplete = (scenario : Parts) (setup : Setup) (world : World) → IsRun scenario setup world
     → IsPlayable scenario → HasEnough scenario → IsComplete (emitted_in scenario) (records_in scenario setup world)
 
--- Each chunk of a producer that no line collects or scrapes, and none of whose writers stalls, is begun once at most, by one of its writers.
+-- Each chunk of a producer that no line collects or scrapes, and none of whose writers asks for help, is begun once at most, by one of its writers.
 abbrev pub UsesOnce : Setup → List NumberedLine → World → Type 0
 UsesOnce setup lines world =
     (place other id more chunk : ℕ) (content known : Content) → place < length setup.writers → other < length setup.writers
@@ -62,13 +62,13 @@ pub record UncollectedChunksAreUsedOnce : Type 0 where
   pub stopped : (scenario : Parts) (setup : Setup) (world : World) (next : Delivered) → StopsBefore scenario setup world next
       → UsesOnce setup scenario.lines world
 
--- Of a producer that no line collects or scrapes, and none of whose writers stalls, a writer begins no chunk behind a loss: what it has begun
+-- Of a producer that no line collects or scrapes, and none of whose writers asks for help, a writer begins no chunk behind a loss: what it has begun
 -- it had begun behind the call that lost the packet.
 abbrev pub BeginsNoneBehindLosses : Setup → List NumberedLine → World → Type 0
 BeginsNoneBehindLosses setup lines world =
-    (place calls behind : ℕ) (round : HasVainRound setup place (writer world place) calls behind) → place < length setup.writers
+    (place calls behind : ℕ) (loss : HasVainRounds setup place (writer world place) calls behind) → place < length setup.writers
     → may_be_collected setup lines (producer_of setup place) ≡ false
-    → length (writer world place).begun ≡ length round.front.begun
+    → length (writer world place).begun ≡ length loss.front.begun
 
 -- So it is in each run, whole or up to a write that failed.
 pub record NothingIsBegunBehindLosses : Type 0 where

@@ -37,7 +37,7 @@ use Rattle.run_model.specs.Vain.{LosesInVain}
 
 -- The writer at this place has done its lines: it is between two calls and holds no chunk, and what it has noted is just what the lines ask of it, and
 -- then the flush that ends its job. The chunks that it began are those that its claims won, in their order. Packets may be lost on the way,
--- each behind a round of claims in vain of its own, but none of one that stalls.
+-- each behind rounds of claims in vain of its own, but none of one that stalls.
 pub record HasDoneLines (setup : Setup) (lines : List NumberedLine) (place : ℕ) (view : WriterView) : Type 0 where
   pub between : IsBetweenCalls setup place view
   pub asked : done_calls view.calls ≡ calls_asked (suc place) lines ++ Flushed ∷ []
@@ -89,7 +89,7 @@ ReadsTo setup first (suc number) reads old new =
     (reads ≡ earlier ++ here) × (new ≡ noted_more between (flat_map noted_read here)))
 
 -- All was done and taken, and then each producer closed. Nothing of a producer that no line collects or scrapes, and none of whose writers
--- stalls, was taken before the threads were done, and what was left then was taken producer by producer in rising number. The reads until
+-- asks for help, was taken before the threads were done, and what was left then was taken producer by producer in rising number. The reads until
 -- then are those of the read lines in their order, each by what its buffer held when the line was played.
 pub record HasClosedAll (scenario : Parts) (setup : Setup) (world : World) : Type 0 where
   pub done : HasDoneAll scenario setup world true
@@ -109,7 +109,7 @@ pub record HasClosedAll (scenario : Parts) (setup : Setup) (world : World) : Typ
 -- leads from a table as it is made, by way of a world in which each writer had completed all that it completes. Each writer has done its
 -- lines, and all that it completed was taken. What was noted on each sequence is in order, and finished fragments of a chunk before it was
 -- complete only where a line scrapes the writer's producer. Nothing of a producer that no line collects or scrapes, and none of whose
--- writers stalls, was taken before the threads were done, and what was left then was taken producer by producer in rising number. The reads
+-- writers asks for help, was taken before the threads were done, and what was left then was taken producer by producer in rising number. The reads
 -- are those of the read lines in their order, each by what its buffer held when the line was played, and then those of the end, where each
 -- producer is closed and then each buffer read without limit.
 pub record IsRun (scenario : Parts) (setup : Setup) (world : World) : Type 0 where

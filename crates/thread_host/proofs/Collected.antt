@@ -4,11 +4,9 @@ use Rattle.std.specs.Prelude.{◌&&◌, ◌||◌}
 use Rattle.std.specs.List.{list_any}
 use Rattle.std.specs.Coded.{Coded-set, codes}
 use Rattle.std.proofs.Math.Logic.{∥∥₁_elim}
-use Rattle.std.proofs.lemmas.Bool.{eq-eqb}
+use Rattle.std.proofs.lemmas.Bool.{eq-eqb, true≢false}
 use Rattle.std.proofs.Math.Bool.{or-true}
 use Rattle.std.proofs.lemmas.List.Folds.{list_any-append}
-use Rattle.trace_base.specs.declared.policy.WriterPolicy.{WriterPolicy}
-use Rattle.trace_base.specs.declared.policy.WriterPolicy.TheVariants.{Drops, Stalls}
 use Rattle.trace_base.specs.declared.policy.WriterSpec.{WriterSpec}
 use Rattle.chunk_plain.specs.Setup.{Setup, producer_of}
 use Rattle.chunk_plain.specs.Views.{ServiceView, Taken, taken_of}
@@ -18,7 +16,7 @@ use Rattle.scenario_text.specs.declared.scenario.NumberedLine.{NumberedLine}
 use Rattle.service_core.specs.Agreement.{spec_at}
 use Rattle.service_core.specs.Scraping.{ScrapesOne, ScrapesEach, TakesAndScrapes}
 use Rattle.service_core.specs.Taking.{Takes, places_of}
-use Rattle.run_model.specs.Collected.{CollectedByLines, asks_for, collects, is_collected_by, is_stalling, may_be_collected}
+use Rattle.run_model.specs.Collected.{CollectedByLines, asks_for, collects, asks_help, is_collected_by, may_be_collected}
 use Rattle.run_model.specs.Scraped.{is_scraped_by}
 use Rattle.thread_service.proofs.SettlingLemmas.{rounds_look}
 use Rattle.thread_host.specs.Growing.{GrowsOnce, GrowsBy, Grows}
@@ -101,18 +99,18 @@ collected_here setup before later lines one producer all is =
         ∙ ap (λ (b : Bool). is_collected_by before producer || (b || is_collected_by later producer)) (eq-eqb producer producer refl)
         ∙ or-true (is_collected_by before producer)
 
--- the writer that stalls
-asks_here : (producer : ℕ) (specs : List WriterSpec) (place : ℕ) → (spec_at specs place).producer ≡ producer → (spec_at specs place).policy ≡ Stalls
+-- a writer that asks for help
+asks_here : (producer : ℕ) (specs : List WriterSpec) (place : ℕ) → (spec_at specs place).producer ≡ producer → asks_help (spec_at specs place).policy ≡ true
     → list_any (asks_for producer) specs ≡ true
-asks_here producer [] place own stalls = absurd (let wrong : Drops ≡ Stalls = stalls in cc)
+asks_here producer [] place own stalls = absurd (true≢false (sym stalls))
 asks_here producer (spec ∷ specs) zero own stalls =
-    ap (λ (b : Bool). (b && is_stalling spec.policy) || list_any (asks_for producer) specs) (eq-eqb producer spec.producer (sym own))
-    ∙ ap (λ (p : WriterPolicy). is_stalling p || list_any (asks_for producer) specs) stalls
+    ap (λ (b : Bool). (b && asks_help spec.policy) || list_any (asks_for producer) specs) (eq-eqb producer spec.producer (sym own))
+    ∙ ap (λ (b : Bool). b || list_any (asks_for producer) specs) stalls
 asks_here producer (spec ∷ specs) (suc place) own stalls =
     ap (λ (b : Bool). asks_for producer spec || b) (asks_here producer specs place own stalls)
     ∙ or-true (asks_for producer spec)
 
-pub asked_here : (setup : Setup) (lines : List NumberedLine) (place : ℕ) → (spec_at setup.writers place).policy ≡ Stalls
+pub asked_here : (setup : Setup) (lines : List NumberedLine) (place : ℕ) → asks_help (spec_at setup.writers place).policy ≡ true
     → may_be_collected setup lines (spec_at setup.writers place).producer ≡ true
 asked_here setup lines place stalls =
     let producer : ℕ = (spec_at setup.writers place).producer in

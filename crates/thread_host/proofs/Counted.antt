@@ -1,6 +1,7 @@
--- How often lines ask the service to take chunks.
-use Rattle.std.proofs.Common.{◌≡◌, ◌≤◌, ◌+◌, ℕ, List, [], ◌∷◌, ◌++◌, refl, arith}
+-- How often lines ask the service to take chunks, and how often a helper was asked.
+use Rattle.std.proofs.Common.{◌≡◌, ◌≤◌, ◌+◌, ◌-◌, ℕ, suc, List, [], ◌∷◌, ◌++◌, refl, arith}
 use Rattle.std.proofs.lemmas.List.Sums.{sum_by-append, sum_by-cons}
+use Rattle.trace_model.specs.Counts.{raised, last_count}
 use Rattle.scenario_text.specs.declared.scenario.LineKind.{LineKind}
 use Rattle.scenario_text.specs.declared.scenario.LineKind.TheVariants.{Packet, Begin, Add, Nest, Unnest, End, Flush, Collect, Scrape, Close, Read, Request}
 use Rattle.scenario_text.specs.declared.scenario.NumberedLine.{NumberedLine}
@@ -34,3 +35,7 @@ none_asked (Scrape producer) collects scrapes = absurd (scrapes producer refl)
 none_asked (Close producer) collects scrapes = refl
 none_asked (Read buffer limit) collects scrapes = refl
 none_asked Request collects scrapes = refl
+
+-- Of the turns that a helper has at most, one more is gone.
+pub raised_once : (left after : ℕ) → left ≡ suc after → left ≤ last_count → last_count - after ≡ raised (last_count - left) 1
+raised_once left after is most = omega (arith, is, most)

@@ -1,15 +1,17 @@
 -- What a call makes of a writer that goes on: it never stalls, and what it has noted is what was asked of it.
-use Rattle.std.proofs.Common.{◌≡◌, ◌∙◌, ◌⊎◌, inl, inr, ℕ, Bool, true, false, List, [], ◌∷◌, ◌++◌, map, refl, sym, ap, subst, append-nil, append_assoc}
+use Rattle.std.proofs.Common.{◌≡◌, ◌∙◌, ◌⊎◌, inl, inr, ℕ, Bool, true, false, List, [], ◌∷◌, ◌++◌, length, map, refl, sym, ap, subst, append-nil, append_assoc}
+use Rattle.std.proofs.lemmas.Bool.{true≢false}
 use Rattle.std.specs.Borrow.{Bor}
 use Rattle.atomic_table.specs.Seated.{TableId}
 use Rattle.trace_base.specs.declared.policy.WriterPolicy.{WriterPolicy}
-use Rattle.trace_base.specs.declared.policy.WriterPolicy.TheVariants.{Drops, Stalls}
+use Rattle.trace_base.specs.declared.policy.WriterPolicy.TheVariants.{Drops, Stalls, StallsThenDrops}
 use Rattle.trace_base.specs.declared.policy.WriterSpec.{WriterSpec}
 use Rattle.trace_model.specs.Calls.{Call, Begun, Number, Bytes, Nested, Ended, GivenUp, Finished, Flushed}
 use Rattle.trace_model.specs.Encoding.{number_field, bytes_field}
 use Rattle.trace_model.specs.Packets.{Packet, packets_of, account_of, with_more, with_nested, lost_count}
 use Rattle.field_tree.specs.Nodes.{Shown}
 use Rattle.scenario_text.specs.Accepted.{Accepts, node_call}
+use Rattle.chunk_plain.specs.declared.setup.ChunkRange.{ChunkRange}
 use Rattle.chunk_plain.specs.Setup.{Setup, HasProducer, producer_of, range_of}
 use Rattle.chunk_plain.specs.Owned.{won_chunks}
 use Rattle.chunk_plain.specs.Views.{WriterView, chunk_of}
@@ -21,9 +23,10 @@ use Rattle.chunk_words.specs.Sits.{setup_in, known_by}
 use Rattle.world_model.specs.FirstBuffers.{payload_at}
 use Rattle.claim_arbiter.specs.Claiming.{range_in}
 use Rattle.trace_writer.specs.declared.writer.WriterCore.{WriterCore}
-use Rattle.trace_writer.specs.Asked.{begun_as, written_as}
+use Rattle.trace_writer.specs.Asked.{begun_as}
 use Rattle.trace_writer.specs.Core.{CoreAgrees, WriterAgrees, route_of}
-use Rattle.trace_writer.specs.Helping.{LeavesWriters, Works, Done, Silent, Gets, Helped, Refused, Lost}
+use Rattle.trace_writer.specs.Helping.{LeavesWriters, Works, Done, Silent, Gets, Helped, Refused, Lost, Tried, GivesUp, loses, rounds_for}
+use Rattle.trace_writer.specs.Losing.{LosesBehind}
 use Rattle.trace_writer.proofs.accounts.Possible.{begin_loses, field_loses, more_keeps, nested_keeps, ended_loses, finished_loses, flushed_loses}
 use Rattle.service_core.specs.Agreement.{spec_at}
 use Rattle.schedule_laws.specs.Resting.{IsBetweenCalls}
@@ -32,6 +35,8 @@ use Rattle.replay_host.proofs.AskedLemmas.{route_is}
 use Rattle.replay_host.proofs.FieldLemmas.{calls_before}
 use Rattle.replay_host.proofs.ReadyLemmas.{NotesFor, loses_more, ready_behind, notes_begun, notes_number, notes_bytes, notes_nested}
 use Rattle.replay_host.proofs.WroteLemmas.{size_is}
+use Rattle.run_model.specs.Vain.{GoesOnInTurn, EndsInVain}
+use Rattle.run_model.proofs.InTurnLemmas.{in_turn_behind}
 use Rattle.thread_writer.specs.declared.helper.Asks.{Asks}
 use Rattle.thread_writer.specs.declared.writer.TraceWriter.{TraceWriter}
 use Rattle.thread_writer.specs.Asking.{MayAsk, IsHelp}
@@ -40,17 +45,17 @@ use Rattle.thread_writer.specs.Lent.{lent}
 use Rattle.thread_writer.specs.Writing.{core_of, view_in, Writes}
 use Rattle.thread_writer.proofs.Calls.{writes_back}
 use Rattle.thread_writer.proofs.Identity.{works_stay}
-use Rattle.thread_host.specs.Playing.{NeverRefuses, NotesNoLoss, IsGoing, WasAsked}
+use Rattle.thread_host.specs.Playing.{NeverRefuses, IsGoing, WasAsked}
 use Rattle.thread_host.proofs.Doing.{done_more, call_done}
-use Rattle.thread_host.proofs.InVain.{AsksOn, works_ask, none_noted, in_turn_on, vain_on}
+use Rattle.thread_host.proofs.InVain.{AsksOn, works_ask, ends_behind, goes_by, vain_on}
 
 -- ---- a helper that never refuses
 
 -- what a writer of this policy does with such a helper never ends since no chunk came free
-works_on : {H : Type 0} (helps : H → ℕ → Bool → H → Type 0) (producer : ℕ) {policy : WriterPolicy} {silent last gets out : Shared → WriterSeat → Shared → WriterSeat → Type 0}
+works_on : {H : Type 0} (helps : H → ℕ → Bool → H → Type 0) (producer : ℕ) {policy : WriterPolicy} {silent last gets vain out : Shared → WriterSeat → Shared → WriterSeat → Type 0}
     {helper left : Asks H} {old new : Shared} {seat after : WriterSeat} {stopped : Bool}
     → NeverRefuses helps policy → policy ≡ Stalls
-    → Works policy silent last gets out
+    → Works policy silent last gets vain out
     (λ asks table answer behind freed. IsHelp helps asks table producer answer behind freed × LeavesWriters shared.means table freed)
     helper old seat stopped left new after
     → stopped ≡ false
@@ -63,23 +68,32 @@ works_on helps producer never stalls (Refused helper old seat asking asker left 
     absurd (never stalls helper.help producer left.help helped_it.0.1)
 works_on helps producer never stalls (Lost helper old seat mid between new after drops out last) =
     absurd (let wrong : Drops ≡ Stalls = sym drops ∙ stalls in cc)
+works_on helps producer never stalls (Tried helper old seat tries kept next moved stopped left new after trying tried more) = works_on helps producer never stalls more
+works_on helps producer never stalls (GivesUp helper old seat tries left mid between new after trying tried last) =
+    absurd (let wrong : StallsThenDrops tries ≡ Stalls = sym trying ∙ stalls in cc)
 
 -- ---- what is noted
 
 -- a call is noted for what was asked
-notes_for : (packets : List Packet) (stopped : Bool) (policy : WriterPolicy) (call : Call) → Accepts packets call → (stopped ≡ true → policy ≡ Drops)
+notes_for : (packets : List Packet) (stopped : Bool) (policy : WriterPolicy) (call : Call) → Accepts packets call → (stopped ≡ true → loses policy ≡ true)
     → NotesFor call (noted_as stopped policy call)
 notes_for packets stopped policy (Begun kept) accepts drops = subst (λ (k : Bool). NotesFor (Begun k) (begun_as stopped policy)) (sym accepts.0) (notes_begun stopped policy drops)
 notes_for packets stopped policy (Number field value) accepts drops = notes_number stopped policy field value
 notes_for packets stopped policy (Bytes field text times) accepts drops = notes_bytes stopped policy field times text
 notes_for packets stopped policy (Nested field) accepts drops = notes_nested stopped policy field
 notes_for packets false policy Ended accepts drops = refl
-notes_for packets true policy Ended accepts drops = subst (λ (p : WriterPolicy). NotesFor Ended (written_as true p Ended)) (sym (drops refl)) refl
+notes_for packets true Drops Ended accepts drops = refl
+notes_for packets true Stalls Ended accepts drops = refl
+notes_for packets true (StallsThenDrops tries) Ended accepts drops = refl
 notes_for packets stopped policy GivenUp accepts drops = absurd accepts
 notes_for packets false policy Finished accepts drops = refl
-notes_for packets true policy Finished accepts drops = subst (λ (p : WriterPolicy). NotesFor Finished (written_as true p Finished)) (sym (drops refl)) refl
+notes_for packets true Drops Finished accepts drops = refl
+notes_for packets true Stalls Finished accepts drops = refl
+notes_for packets true (StallsThenDrops tries) Finished accepts drops = refl
 notes_for packets false policy Flushed accepts drops = refl
-notes_for packets true policy Flushed accepts drops = subst (λ (p : WriterPolicy). NotesFor Flushed (written_as true p Flushed)) (sym (drops refl)) refl
+notes_for packets true Drops Flushed accepts drops = refl
+notes_for packets true Stalls Flushed accepts drops = refl
+notes_for packets true (StallsThenDrops tries) Flushed accepts drops = refl
 
 -- one that didn't stop lost nothing
 kept_by : {A B : Type 0} {stopped : Bool} → A ⊎ (B × (stopped ≡ true)) → stopped ≡ false → A
@@ -102,9 +116,9 @@ loses_none view new policy packets GivenUp accepts notes = absurd accepts
 loses_none view new policy packets Finished accepts notes = finished_loses view new notes
 loses_none view new policy packets Flushed accepts notes = flushed_loses view new notes
 
-stops_not : (policy : WriterPolicy) (stopped : Bool) → (stopped ≡ true → policy ≡ Drops) → policy ≡ Stalls → stopped ≡ false
+stops_not : (policy : WriterPolicy) (stopped : Bool) → (stopped ≡ true → loses policy ≡ true) → policy ≡ Stalls → stopped ≡ false
 stops_not policy false drops stalls = refl
-stops_not policy true drops stalls = absurd (let wrong : Drops ≡ Stalls = sym (drops refl) ∙ stalls in cc)
+stops_not policy true drops stalls = absurd (true≢false (sym (drops refl) ∙ ap loses stalls))
 
 -- ---- one call
 
@@ -181,27 +195,31 @@ module _ {H : Type 0} (helps : H → ℕ → Bool → H → Type 0) (of_table : 
             (subst (λ (b : Bool). (view_in after).calls ≡ (view_in writer).calls ++ noted_as b (route_of core).spec.policy call) goes notes)
             ∙ going.whole stalls
 
-        none_lost : (spec_at (setup_in table.now).writers place).policy ≡ Stalls → NotesNoLoss (view_in after).calls
-        none_lost stalls =
-            let goes : called.stopped ≡ false = stops_not (route_of core).spec.policy called.stopped called.drops (ap (λ (s : WriterSpec). s.policy) policy_is ∙ stalls) in
-            subst NotesNoLoss (sym notes)
-            (subst (λ (b : Bool). NotesNoLoss ((view_in writer).calls ++ noted_as b (route_of core).spec.policy call)) (sym goes)
-            (none_noted (account_of going.ready.asked).packets (route_of core).spec.policy (view_in writer).calls call going.ready.accepted.0 (going.none_lost stalls)))
-
         range_here : range_of (setup_in table.now) (producer_of (setup_in table.now) place) ≡ range_in (route_of core).arbiter
         range_here =
             let setup : Setup = setup_in table.now in
             subst (λ (c : WriterCore WriterSeat). range_of setup (producer_of setup place) ≡ range_in (route_of c).arbiter) (sym is)
             (subst (λ (p : ℕ). range_of setup (producer_of setup p) ≡ range_in (route_of (core_of writer)).arbiter) going.place_is going.writes.agrees.writes.route.range)
 
-        asks_on : AsksOn (route_of core).spec.policy (setup_in table.now) (producer_of (setup_in table.now) place) called.stopped (view_in writer) (view_in after)
-        asks_on =
-            subst (λ (c : WriterCore WriterSeat). AsksOn (route_of core).spec.policy (setup_in table.now) (producer_of (setup_in table.now) place) called.stopped
-            (known_by c.seat) (view_in after)) is
-            (works_ask helps (setup_in table.now) (producer_of (setup_in table.now) place) (route_of core) range_here refl called.works)
+        asks_on : AsksOn (view_in writer) (view_in after)
+        asks_on = subst (λ (c : WriterCore WriterSeat). AsksOn (known_by c.seat) (view_in after)) is (works_ask helps (route_of core) called.works)
+
+        -- where it loses its packet its last claims were its rounds in vain
+        ends : called.stopped ≡ true → EndsInVain (setup_in table.now) (producer_of (setup_in table.now) place)
+            (rounds_for (spec_at (setup_in table.now).writers place).policy) (view_in after).asked (length (view_in writer).calls)
+        ends stops =
+            let setup : Setup = setup_in table.now in
+            ends_behind setup (producer_of setup place) (rounds_for (spec_at setup.writers place).policy) (view_in writer) (view_in after)
+            (subst (λ (r : ChunkRange). LosesBehind setup r (rounds_for (spec_at setup.writers place).policy) (view_in writer) (view_in after)) (sym range_here)
+            (subst (λ (s : WriterSpec). LosesBehind setup (range_in (route_of core).arbiter) (rounds_for s.policy) (view_in writer) (view_in after)) policy_is
+            (subst (λ (c : WriterCore WriterSeat). LosesBehind setup (range_in (route_of core).arbiter) (rounds_for (route_of core).spec.policy) (known_by c.seat) (view_in after)) is
+            (called.lost stops))))
+
+        goes : GoesOnInTurn (view_in writer) (view_in after)
+        goes = goes_by (view_in writer) (view_in after) (noted_as called.stopped (route_of core).spec.policy call) asks_on notes
 
         in_turn : won_chunks (view_in after).asked ≡ map chunk_of (view_in after).begun
-        in_turn = in_turn_on (view_in writer) (view_in after) asks_on going.in_turn
+        in_turn = in_turn_behind (view_in writer) (view_in after) goes going.in_turn
 
         between : IsBetweenCalls (setup_in table.now) place (view_in after)
         between = record {
@@ -220,9 +238,7 @@ module _ {H : Type 0} (helps : H → ℕ → Bool → H → Type 0) (of_table : 
           lose = loses_more asked (view_in writer) (view_in after) call (noted_as called.stopped (route_of core).spec.policy call) going.lose notes notes_it;
           in_turn = in_turn;
           vain = vain_on (setup_in table.now) place (account_of going.ready.asked).packets called.stopped (route_of core).spec.policy call
-              (view_in writer) (view_in after) going.ready.accepted.0 called.drops asks_on
-              (λ stalls. none_lost (sym (ap (λ (s : WriterSpec). s.policy) policy_is) ∙ stalls)) notes between in_turn going.vain;
-          none_lost = none_lost;
+              (view_in writer) (view_in after) going.ready.accepted.0 called.drops goes notes ends between in_turn going.vain;
           whole = whole;
           ready = ready_behind (payload_at (setup_in table.now) place) (view_in writer) (view_in after) call coming (noted_as called.stopped (route_of core).spec.policy call)
               going.ready notes notes_it;

@@ -1,36 +1,35 @@
--- Where a call loses a packet, its writer has just claimed each chunk of its producer in vain.
-use Rattle.std.proofs.Common.{◌≡◌, ◌∙◌, ℕ, suc, ◌+◌, ◌≤◌, ◌⊎◌, inl, inr, ⊎_elim, Bool, true, false, List, [], ◌∷◌, ◌++◌, length, map, refl, sym, ap, subst, arith, append-nil, append_assoc, length-append}
+-- Where a call loses a packet, its writer has just claimed each chunk of its producer in vain, round for round.
+use Rattle.std.proofs.Common.{◌≡◌, ◌∙◌, ℕ, suc, ◌+◌, ◌⊎◌, inl, inr, ⊎_elim, Bool, true, false, List, [], ◌∷◌, ◌++◌, length, map, refl, sym, ap, subst, arith, append-nil, append_assoc, length-append}
 use Rattle.std.specs.List.{All}
 use Rattle.std.proofs.lemmas.Bool.{true≢false}
 use Rattle.std.proofs.lemmas.List.{map-append}
 use Rattle.std.proofs.lemmas.List.Elements.{All-nil, All-cons, All-append}
 use Rattle.trace_base.specs.declared.policy.WriterPolicy.{WriterPolicy}
-use Rattle.trace_base.specs.declared.policy.WriterPolicy.TheVariants.{Drops, Stalls}
+use Rattle.trace_base.specs.declared.policy.WriterPolicy.TheVariants.{Drops, Stalls, StallsThenDrops}
 use Rattle.trace_model.specs.Calls.{Call, Begun, Number, Bytes, Nested, Ended, GivenUp, Finished, Flushed}
 use Rattle.trace_model.specs.Packets.{Packet}
 use Rattle.scenario_text.specs.Accepted.{Accepts}
-use Rattle.chunk_plain.specs.declared.setup.ChunkRange.{ChunkRange}
 use Rattle.chunk_plain.specs.Owned.{won_chunks}
 use Rattle.chunk_plain.specs.Setup.{Setup, producer_of, range_of}
-use Rattle.chunk_plain.specs.Views.{Ask, At, BegunChunk, Held, Completed, WriterView, chunk_of, fresh}
+use Rattle.chunk_plain.specs.Views.{Ask, At, BegunChunk, Held, Completed, WriterView, chunk_of, fresh, newcomer}
 use Rattle.chunk_plain.proofs.Lists.{at_more, at_inside}
 use Rattle.chunk_words.specs.declared.shared.Shared.{Shared}
 use Rattle.chunk_words.specs.declared.seats.WriterSeat.{WriterSeat}
 use Rattle.chunk_words.specs.contracts.shared.SharedWords.TheImpl.{ghosts as shared}
 use Rattle.chunk_words.specs.Sits.{known_by}
-use Rattle.claim_arbiter.specs.Claiming.{AllClaimed, lost_asks, range_in}
+use Rattle.claim_arbiter.specs.Claiming.{ClaimsInTurn, lost_asks}
 use Rattle.trace_writer.specs.declared.route.Route.{Route}
-use Rattle.trace_writer.specs.Helping.{LeavesWriters, Works, Done, Silent, Gets, Helped, Refused, Lost}
-use Rattle.trace_writer.specs.OwnSteps.{KeepsChunks, IsQuiet, IsSilent, GetsChunk, IsOutNow}
-use Rattle.trace_writer.proofs.holding.KeptChunks.{keeps_both}
+use Rattle.trace_writer.specs.Helping.{LeavesWriters, Tries, Gains, Again, Ends, Works, Done, Silent, Gets, Helped, Refused, Lost, Tried, GivesUp, loses, rounds_for}
+use Rattle.trace_writer.specs.Losing.{LosesBehind}
+use Rattle.trace_writer.specs.OwnSteps.{KeepsChunks, IsQuiet, IsSilent, GetsChunk, IsInVain, IsOutNow}
 use Rattle.replay_host.specs.Asking.{noted_as}
-use Rattle.run_model.specs.Vain.{GoesOnInTurn, EndsInVain, HasVainRound, LosesInVain}
+use Rattle.run_model.specs.Vain.{GoesOnInTurn, EndsInVain, HasVainRounds, LosesInVain}
 use Rattle.run_model.proofs.InTurnLemmas.{won_append, lost_won, goes_none, goes_both}
+use Rattle.service_core.specs.Agreement.{spec_at}
 use Rattle.schedule_laws.specs.Resting.{IsBetweenCalls}
 use Rattle.thread_writer.specs.declared.helper.Asks.{Asks}
 use Rattle.thread_writer.specs.Asking.{IsHelp}
 use Rattle.replay_host.proofs.AskedLemmas.{IsProper}
-use Rattle.thread_host.specs.Playing.{NotesNoLoss}
 
 -- ---- claims
 
@@ -112,46 +111,53 @@ notes_written calls call plain = record {
 
 -- so it is with what each call notes
 pub noted_losses : (packets : List Packet) (calls : List Call) (stopped : Bool) (policy : WriterPolicy) (call : Call) → Accepts packets call
-    → (stopped ≡ true → policy ≡ Drops) → NotesLosses calls (noted_as stopped policy call) stopped
+    → (stopped ≡ true → loses policy ≡ true) → NotesLosses calls (noted_as stopped policy call) stopped
 noted_losses packets calls false policy (Begun kept) accepts only = notes_plain calls (Begun true) false refl
 noted_losses packets calls true Drops (Begun kept) accepts only = notes_dropped calls
-noted_losses packets calls true Stalls (Begun kept) accepts only = absurd (let never : Stalls ≡ Drops = only refl in cc)
+noted_losses packets calls true Stalls (Begun kept) accepts only = absurd (true≢false (sym (only refl)))
+noted_losses packets calls true (StallsThenDrops tries) (Begun kept) accepts only = notes_dropped calls
 noted_losses packets calls stopped policy GivenUp accepts only = absurd accepts
 noted_losses packets calls false policy (Number field value) accepts only = notes_plain calls (Number field value) false tt
 noted_losses packets calls true Drops (Number field value) accepts only = notes_written calls (Number field value) tt
+noted_losses packets calls true (StallsThenDrops tries) (Number field value) accepts only = notes_written calls (Number field value) tt
 noted_losses packets calls true Stalls (Number field value) accepts only = notes_plain calls (Number field value) true tt
 noted_losses packets calls false policy (Bytes field text times) accepts only = notes_plain calls (Bytes field text times) false tt
 noted_losses packets calls true Drops (Bytes field text times) accepts only = notes_written calls (Bytes field text times) tt
+noted_losses packets calls true (StallsThenDrops tries) (Bytes field text times) accepts only = notes_written calls (Bytes field text times) tt
 noted_losses packets calls true Stalls (Bytes field text times) accepts only = notes_plain calls (Bytes field text times) true tt
 noted_losses packets calls false policy (Nested field) accepts only = notes_plain calls (Nested field) false tt
 noted_losses packets calls true Drops (Nested field) accepts only = notes_written calls (Nested field) tt
+noted_losses packets calls true (StallsThenDrops tries) (Nested field) accepts only = notes_written calls (Nested field) tt
 noted_losses packets calls true Stalls (Nested field) accepts only = notes_plain calls (Nested field) true tt
 noted_losses packets calls false policy Ended accepts only = notes_plain calls Ended false tt
 noted_losses packets calls true Drops Ended accepts only = notes_written calls Ended tt
+noted_losses packets calls true (StallsThenDrops tries) Ended accepts only = notes_written calls Ended tt
 noted_losses packets calls true Stalls Ended accepts only = notes_plain calls Ended true tt
 noted_losses packets calls false policy Finished accepts only = notes_plain calls Finished false tt
 noted_losses packets calls true Drops Finished accepts only = notes_written calls Finished tt
+noted_losses packets calls true (StallsThenDrops tries) Finished accepts only = notes_written calls Finished tt
 noted_losses packets calls true Stalls Finished accepts only = notes_plain calls Finished true tt
 noted_losses packets calls false policy Flushed accepts only = notes_plain calls Flushed false tt
 noted_losses packets calls true Drops Flushed accepts only = notes_written calls Flushed tt
+noted_losses packets calls true (StallsThenDrops tries) Flushed accepts only = notes_written calls Flushed tt
 noted_losses packets calls true Stalls Flushed accepts only = notes_plain calls Flushed true tt
 
 -- ---- going on
 
-round_on : (setup : Setup) (place : ℕ) (old new : WriterView) (calls behind : ℕ) → GoesOnInTurn old new → HasVainRound setup place old calls behind
-    → HasVainRound setup place new calls behind
+round_on : (setup : Setup) (place : ℕ) (old new : WriterView) (calls behind : ℕ) → GoesOnInTurn old new → HasVainRounds setup place old calls behind
+    → HasVainRounds setup place new calls behind
 round_on setup place old new calls behind on round = record {
   front = round.front;
   noted = round.noted;
   between = round.between;
   in_turn = round.in_turn;
-  round = round.round;
+  rounds = round.rounds;
   goes_on = goes_both round.front old new round.goes_on on;
 }
 
--- what was lost is lost in vain still behind more calls, and so is the packet of one that stops, where its last claims were a round in vain
+-- what was lost is lost in vain still behind more calls, and so is the packet of one that stops, where its last claims were its rounds in vain
 pub vain_more : (setup : Setup) (place : ℕ) (old new : WriterView) (noted : List Call) (stopped : Bool) → NotesLosses old.calls noted stopped → GoesOnInTurn old new
-    → new.calls ≡ old.calls ++ noted → (stopped ≡ true → EndsInVain setup (producer_of setup place) new.asked (length old.calls))
+    → new.calls ≡ old.calls ++ noted → (stopped ≡ true → EndsInVain setup (producer_of setup place) (rounds_for (spec_at setup.writers place).policy) new.asked (length old.calls))
     → IsBetweenCalls setup place new → won_chunks new.asked ≡ map chunk_of new.begun
     → LosesInVain setup place old → LosesInVain setup place new
 vain_more setup place old new noted stopped losses on notes ends between in_turn before = record {
@@ -162,7 +168,7 @@ vain_more setup place old new noted stopped losses on notes ends between in_turn
         noted = let many = ap length notes in let both = length-append old.calls noted in let one = fresh.1 in let more = fresh.2 in omega (arith, many, both, one, more);
         between = between;
         in_turn = in_turn;
-        round = subst (EndsInVain setup (producer_of setup place) new.asked) (sym fresh.1) (ends fresh.0);
+        rounds = subst (EndsInVain setup (producer_of setup place) (rounds_for (spec_at setup.writers place).policy) new.asked) (sym fresh.1) (ends fresh.0);
         goes_on = goes_none new;
       })
       (losses.dropped index (subst (λ (l : List Call). At l index (Begun false)) notes there));
@@ -176,183 +182,154 @@ vain_more setup place old new noted stopped losses on notes ends between in_turn
           noted = let many = ap length notes in let both = length-append old.calls noted in let one = fresh.1 in let more = fresh.2 in omega (arith, many, both, one, more);
           between = between;
           in_turn = in_turn;
-          round = ends fresh.0;
+          rounds = ends fresh.0;
           goes_on = goes_none new;
         },
       ))
       (losses.given_up index (subst (λ (l : List Call). At l index GivenUp) notes there));
 }
 
--- ---- where no loss is noted
+-- ---- before the first call
 
-pub none_yet : NotesNoLoss []
-none_yet index = (
-  λ there. let inside = at_inside [] (Begun false) index there in omega (arith, inside),
-  λ there. let inside = at_inside [] GivenUp index there in omega (arith, inside),
-)
-
-none_plain : (calls : List Call) (call : Call) → IsProper call → NotesNoLoss calls → NotesNoLoss (calls ++ call ∷ [])
-none_plain calls call plain before index = (
-  λ there. ⊎_elim (before index).0 (λ new. not_dropped call plain new.1) (at_more calls call (Begun false) index there),
-  λ there. ⊎_elim (before index).1 (λ new. not_given_up call plain new.1) (at_more calls call GivenUp index there),
-)
-
--- a call that doesn't stop notes none
-pub none_noted : (packets : List Packet) (policy : WriterPolicy) (calls : List Call) (call : Call) → Accepts packets call → NotesNoLoss calls
-    → NotesNoLoss (calls ++ noted_as false policy call)
-none_noted packets policy calls (Begun kept) accepts before = none_plain calls (Begun true) refl before
-none_noted packets policy calls GivenUp accepts before = absurd accepts
-none_noted packets policy calls (Number field value) accepts before = none_plain calls (Number field value) tt before
-none_noted packets policy calls (Bytes field text times) accepts before = none_plain calls (Bytes field text times) tt before
-none_noted packets policy calls (Nested field) accepts before = none_plain calls (Nested field) tt before
-none_noted packets policy calls Ended accepts before = none_plain calls Ended tt before
-none_noted packets policy calls Finished accepts before = none_plain calls Finished tt before
-none_noted packets policy calls Flushed accepts before = none_plain calls Flushed tt before
-
-pub vain_none : (setup : Setup) (place : ℕ) (view : WriterView) → NotesNoLoss view.calls → LosesInVain setup place view
-vain_none setup place view none = record {
-  dropped = λ index there. absurd ((none index).0 there);
-  given_up = λ index there. absurd ((none index).1 there);
+pub vain_none : (setup : Setup) (place : ℕ) → LosesInVain setup place newcomer
+vain_none setup place = record {
+  dropped = λ index there. absurd (let inside = at_inside [] (Begun false) index there in omega (arith, inside));
+  given_up = λ index there. absurd (let inside = at_inside [] GivenUp index there in omega (arith, inside));
 }
 
 -- ---- what a call does
 
--- what is added to the claims, while no further call is noted, and which chunks are begun; where the call stops too, its round stands last
-pub record AsksOn (policy : WriterPolicy) (setup : Setup) (producer : ℕ) (stopped : Bool) (old new : WriterView) : Type 0 where
+-- what is added to the claims, while no further call is noted, and which chunks are begun
+pub record AsksOn (old new : WriterView) : Type 0 where
   pub more : List Ask
   pub asked : new.asked ≡ old.asked ++ more
   pub chunks : map chunk_of new.begun ≡ map chunk_of old.begun ++ won_chunks more
-  pub now : policy ≡ Drops → AllNow (length old.calls) more
-  pub all : policy ≡ Drops → stopped ≡ true → EndsInVain setup producer new.asked (length old.calls)
+  pub now : AllNow (length old.calls) more
 
-chunks_then : (old mid new : List BegunChunk) (first more : List Ask) → map chunk_of mid ≡ map chunk_of old ++ won_chunks first
-    → map chunk_of new ≡ map chunk_of mid ++ won_chunks more → map chunk_of new ≡ map chunk_of old ++ won_chunks (first ++ more)
-chunks_then old mid new first more one two =
-    two ∙ ap (λ (l : List ℕ). l ++ won_chunks more) one ∙ append_assoc (map chunk_of old) (won_chunks first) (won_chunks more)
-    ∙ ap (λ (l : List ℕ). map chunk_of old ++ l) (sym (won_append first more))
+asks_then : (old mid new : WriterView) → AsksOn old mid → mid.calls ≡ old.calls → AsksOn mid new → AsksOn old new
+asks_then old mid new one same two = record {
+  more = one.more ++ two.more;
+  asked = two.asked ∙ ap (λ (l : List Ask). l ++ two.more) one.asked ∙ append_assoc old.asked one.more two.more;
+  chunks = two.chunks ∙ ap (λ (l : List ℕ). l ++ won_chunks two.more) one.chunks
+      ∙ append_assoc (map chunk_of old.begun) (won_chunks one.more) (won_chunks two.more)
+      ∙ ap (λ (l : List ℕ). map chunk_of old.begun ++ l) (sym (won_append one.more two.more));
+  now = All-append (λ (ask : Ask). ask.calls ≡ length old.calls) one.more two.more one.now
+      (subst (λ (calls : List Call). AllNow (length calls) two.more) same two.now);
+}
 
-asks_then : (policy : WriterPolicy) (setup : Setup) (producer : ℕ) (stopped : Bool) (old mid new : WriterView) (first : List Ask)
-    → mid.asked ≡ old.asked ++ first → map chunk_of mid.begun ≡ map chunk_of old.begun ++ won_chunks first → AllNow (length old.calls) first
-    → mid.calls ≡ old.calls → AsksOn policy setup producer stopped mid new → AsksOn policy setup producer stopped old new
-asks_then policy setup producer stopped old mid new first adds begins now same on =
-    let many : length mid.calls ≡ length old.calls = ap length same in
+asks_none : (old new : WriterView) → new.asked ≡ old.asked → KeepsChunks old.begun new.begun → AsksOn old new
+asks_none old new same keeps = record {
+  more = [];
+  asked = same ∙ sym (append-nil old.asked);
+  chunks = none_won old.begun new.begun [] keeps refl;
+  now = none_now (length old.calls);
+}
+
+-- a round in vain
+asks_vain : (first : ℕ) (words : List ℕ) (old new : WriterView) → new.asked ≡ old.asked ++ lost_asks (length old.calls) first words → KeepsChunks old.begun new.begun
+    → AsksOn old new
+asks_vain first words old new asked keeps = record {
+  more = lost_asks (length old.calls) first words;
+  asked = asked;
+  chunks = none_won old.begun new.begun (lost_asks (length old.calls) first words) keeps (lost_won (length old.calls) first words);
+  now = lost_now (length old.calls) first words;
+}
+
+-- the claims until one wins
+asks_gets : (setup : Setup) (first count chunk : ℕ) (old new : WriterView) → ClaimsInTurn setup first count chunk old new → AsksOn old new
+asks_gets setup first count chunk old new claims =
+    let calls : ℕ = length old.calls in
+    let lost : List Ask = lost_asks calls first claims.words in
+    let won : Ask = record { chunk = chunk; found = claims.found; won = true; calls = calls } in
     record {
-      more = first ++ on.more;
-      asked = on.asked ∙ ap (λ (l : List Ask). l ++ on.more) adds ∙ append_assoc old.asked first on.more;
-      chunks = chunks_then old.begun mid.begun new.begun first on.more begins on.chunks;
-      now = λ drops. All-append (λ (ask : Ask). ask.calls ≡ length old.calls) first on.more now (subst (λ (n : ℕ). AllNow n on.more) many (on.now drops));
-      all = λ drops stops. subst (EndsInVain setup producer new.asked) many (on.all drops stops);
+      more = lost ++ won ∷ [];
+      asked = ap (λ (v : WriterView). v.asked) claims.view ∙ append_assoc old.asked lost (won ∷ []);
+      chunks = ap (λ (v : WriterView). map chunk_of v.begun) claims.view ∙ map-append chunk_of old.begun (Held chunk (fresh claims.payload) ∷ [])
+          ∙ ap (λ (l : List ℕ). map chunk_of old.begun ++ l)
+          (sym (won_append lost (won ∷ []) ∙ ap (λ (l : List ℕ). l ++ chunk ∷ []) (lost_won calls first claims.words)));
+      now = All-append (λ (ask : Ask). ask.calls ≡ calls) lost (won ∷ []) (lost_now calls first claims.words)
+          (All-cons (λ (ask : Ask). ask.calls ≡ calls) won [] refl (none_now calls));
     }
 
-module _ {H : Type 0} (helps : H → ℕ → Bool → H → Type 0) (setup : Setup) (producer : ℕ) (route : Route) (range : range_of setup producer ≡ range_in route.arbiter) where
-  -- a round in vain, where the writer is out of chunks
-  out_round : (old : Shared) (seat : WriterSeat) (new : Shared) (after : WriterSeat) → shared.means.setup old ≡ setup
-      → IsOutNow shared.means route old seat new after → (asks : List Ask) → asks ≡ (known_by after).asked
-      → EndsInVain setup producer asks (length (known_by seat).calls)
-  out_round old seat new after same out asks is =
-      let calls : ℕ = length (known_by seat).calls in
-      let first : (range_of setup producer).first ≡ route.arbiter.first = ap (λ (r : ChunkRange). r.first) range in
-      record {
-        before = (known_by seat).asked;
-        words = out.words;
-        asks_are = is ∙ out.asked ∙ ap (λ (n : ℕ). (known_by seat).asked ++ lost_asks calls n out.words) (sym first);
-        count_is = out.count_is ∙ sym (ap (λ (r : ChunkRange). r.count) range);
-        all_claimed = subst (λ (n : ℕ). AllClaimed setup n out.words) (sym first)
-            (subst (λ (s : Setup). AllClaimed s route.arbiter.first out.words) same out.all_claimed);
-      }
+module _ {H : Type 0} (helps : H → ℕ → Bool → H → Type 0) (route : Route) where
+  tries_ask : {left : ℕ} {helper kept : Asks H} {old new : Shared} {seat after : WriterSeat} {stopped : Bool}
+      → Tries (GetsChunk shared.means route) (IsInVain shared.means route)
+      (λ asks table answer behind freed. IsHelp helps asks table route.spec.producer answer behind freed × LeavesWriters shared.means table freed)
+      left helper old seat stopped kept new after
+      → AsksOn (known_by seat) (known_by after) × ((known_by after).calls ≡ (known_by seat).calls)
+  tries_ask (Gains left helper old seat new after gets) = (
+    asks_gets (shared.means.setup old) route.arbiter.first route.arbiter.chunks gets.chunk (known_by seat) (known_by after) gets.claims,
+    ap (λ (v : WriterView). v.calls) gets.claims.view,
+  )
+  tries_ask (Again left helper old seat asking asker answer helped freed stopped kept new after vain helped_it more) =
+      let on = tries_ask more in (
+        asks_then (known_by seat) (known_by asker) (known_by after) (asks_vain route.arbiter.first vain.words (known_by seat) (known_by asker) vain.asked vain.chunks) vain.calls on.0,
+        on.1 ∙ vain.calls,
+      )
+  tries_ask (Ends helper old seat new after vain) = (asks_vain route.arbiter.first vain.words (known_by seat) (known_by after) vain.asked vain.chunks, vain.calls)
 
-  -- what a writer does for a call adds to its claims; one that drops and stops has made a round in vain, before it noted the call, and no claim behind it
-  pub works_ask : {policy : WriterPolicy} {helper left : Asks H} {old new : Shared} {seat after : WriterSeat} {stopped : Bool} → shared.means.setup old ≡ setup
-      → Works policy (IsSilent shared.means) (IsQuiet shared.means) (GetsChunk shared.means route) (IsOutNow shared.means route)
+  -- what a writer does for a call adds to its claims, before it notes the call
+  pub works_ask : {policy : WriterPolicy} {helper left : Asks H} {old new : Shared} {seat after : WriterSeat} {stopped : Bool}
+      → Works policy (IsSilent shared.means) (IsQuiet shared.means) (GetsChunk shared.means route) (IsInVain shared.means route) (IsOutNow shared.means route)
       (λ asks table answer behind freed. IsHelp helps asks table route.spec.producer answer behind freed × LeavesWriters shared.means table freed)
       helper old seat stopped left new after
-      → AsksOn policy setup producer stopped (known_by seat) (known_by after)
-  works_ask same (Done helper old seat new after last) = record {
-    more = [];
-    asked = last.asked ∙ sym (append-nil (known_by seat).asked);
-    chunks = none_won (known_by seat).begun (known_by after).begun [] last.chunks refl;
-    now = λ drops. none_now (length (known_by seat).calls);
-    all = λ drops stops. absurd (true≢false (sym stops));
-  }
-  works_ask {policy} same (Silent helper old seat next moved stopped left new after silent more) =
-      asks_then policy setup producer stopped (known_by seat) (known_by moved) (known_by after) []
-      (silent.quiet.asked ∙ sym (append-nil (known_by seat).asked)) (none_won (known_by seat).begun (known_by moved).begun [] silent.quiet.chunks refl)
-      (none_now (length (known_by seat).calls))
-      silent.calls (works_ask (silent.quiet.step.setup_stays ∙ same) more)
-  works_ask {policy} same (Gets helper old seat next moved stopped left new after gets more) =
-      let calls : ℕ = length (known_by seat).calls in
-      let lost : List Ask = lost_asks calls route.arbiter.first gets.claims.words in
-      let won : Ask = record { chunk = gets.chunk; found = gets.claims.found; won = true; calls = calls } in
-      asks_then policy setup producer stopped (known_by seat) (known_by moved) (known_by after) (lost ++ won ∷ [])
-      (ap (λ (v : WriterView). v.asked) gets.claims.view ∙ append_assoc (known_by seat).asked lost (won ∷ []))
-      (ap (λ (v : WriterView). map chunk_of v.begun) gets.claims.view ∙ map-append chunk_of (known_by seat).begun (Held gets.chunk (fresh gets.claims.payload) ∷ [])
-      ∙ ap (λ (l : List ℕ). map chunk_of (known_by seat).begun ++ l)
-      (sym (won_append lost (won ∷ []) ∙ ap (λ (l : List ℕ). l ++ gets.chunk ∷ []) (lost_won calls route.arbiter.first gets.claims.words))))
-      (All-append (λ (ask : Ask). ask.calls ≡ calls) lost (won ∷ []) (lost_now calls route.arbiter.first gets.claims.words)
-      (All-cons (λ (ask : Ask). ask.calls ≡ calls) won [] refl (none_now calls)))
-      (ap (λ (v : WriterView). v.calls) gets.claims.view) (works_ask (gets.step.setup_stays ∙ same) more)
-  works_ask {policy} same (Helped helper old seat asking asker helped freed stopped left new after stalls out helped_it more) =
-      let lost : List Ask = lost_asks (length (known_by seat).calls) route.arbiter.first out.words in
-      let on = works_ask (helped_it.1.setup_stays ∙ out.step.setup_stays ∙ same) more in
-      record {
-        more = lost ++ on.more;
-        asked = on.asked ∙ ap (λ (l : List Ask). l ++ on.more) out.asked ∙ append_assoc (known_by seat).asked lost on.more;
-        chunks = chunks_then (known_by seat).begun (known_by asker).begun (known_by after).begun lost on.more
-            (none_won (known_by seat).begun (known_by asker).begun lost out.chunks (lost_won (length (known_by seat).calls) route.arbiter.first out.words)) on.chunks;
-        now = λ drops. absurd (let wrong : Drops ≡ Stalls = sym drops ∙ stalls in cc);
-        all = λ drops. absurd (let wrong : Drops ≡ Stalls = sym drops ∙ stalls in cc);
-      }
-  works_ask same (Refused helper old seat asking asker left kept new after stalls out helped_it last) =
-      let calls : ℕ = length (known_by seat).calls in
-      record {
-        more = lost_asks calls route.arbiter.first out.words;
-        asked = last.asked ∙ out.asked;
-        chunks = none_won (known_by seat).begun (known_by after).begun (lost_asks calls route.arbiter.first out.words)
-            (keeps_both (known_by seat).begun (known_by asker).begun (known_by after).begun out.chunks last.chunks) (lost_won calls route.arbiter.first out.words);
-        now = λ drops. lost_now calls route.arbiter.first out.words;
-        all = λ drops. absurd (let wrong : Drops ≡ Stalls = sym drops ∙ stalls in cc);
-      }
-  works_ask same (Lost helper old seat mid between new after drops out last) =
-      let calls : ℕ = length (known_by seat).calls in
-      record {
-        more = lost_asks calls route.arbiter.first out.words;
-        asked = last.asked ∙ out.asked;
-        chunks = none_won (known_by seat).begun (known_by after).begun (lost_asks calls route.arbiter.first out.words)
-            (keeps_both (known_by seat).begun (known_by between).begun (known_by after).begun out.chunks last.chunks) (lost_won calls route.arbiter.first out.words);
-        now = λ drops. lost_now calls route.arbiter.first out.words;
-        all = λ is stops. out_round old seat mid between same out (known_by after).asked last.asked;
-      }
+      → AsksOn (known_by seat) (known_by after)
+  works_ask (Done helper old seat new after last) = asks_none (known_by seat) (known_by after) last.asked last.chunks
+  works_ask (Silent helper old seat next moved stopped left new after silent more) =
+      asks_then (known_by seat) (known_by moved) (known_by after) (asks_none (known_by seat) (known_by moved) silent.quiet.asked silent.quiet.chunks) silent.calls (works_ask more)
+  works_ask (Gets helper old seat next moved stopped left new after gets more) =
+      asks_then (known_by seat) (known_by moved) (known_by after)
+      (asks_gets (shared.means.setup old) route.arbiter.first route.arbiter.chunks gets.chunk (known_by seat) (known_by moved) gets.claims)
+      (ap (λ (v : WriterView). v.calls) gets.claims.view) (works_ask more)
+  works_ask (Helped helper old seat asking asker helped freed stopped left new after stalls out helped_it more) =
+      asks_then (known_by seat) (known_by asker) (known_by after)
+      (asks_vain route.arbiter.first out.vain.words (known_by seat) (known_by asker) out.vain.asked out.vain.chunks) out.vain.calls (works_ask more)
+  works_ask (Refused helper old seat asking asker left kept new after stalls out helped_it last) =
+      asks_then (known_by seat) (known_by asker) (known_by after)
+      (asks_vain route.arbiter.first out.vain.words (known_by seat) (known_by asker) out.vain.asked out.vain.chunks) out.vain.calls
+      (asks_none (known_by asker) (known_by after) last.asked last.chunks)
+  works_ask (Lost helper old seat mid between new after drops out last) =
+      asks_then (known_by seat) (known_by between) (known_by after)
+      (asks_vain route.arbiter.first out.vain.words (known_by seat) (known_by between) out.vain.asked out.vain.chunks) out.vain.calls
+      (asks_none (known_by between) (known_by after) last.asked last.chunks)
+  works_ask (Tried helper old seat tries kept next moved stopped left new after trying tried more) =
+      let on = tries_ask tried in asks_then (known_by seat) (known_by moved) (known_by after) on.0 on.1 (works_ask more)
+  works_ask (GivesUp helper old seat tries left mid between new after trying tried last) =
+      let on = tries_ask tried in
+      asks_then (known_by seat) (known_by between) (known_by after) on.0 on.1 (asks_none (known_by between) (known_by after) last.asked last.chunks)
+
+-- the rounds that a loss has behind it
+pub ends_behind : (setup : Setup) (producer many : ℕ) (old new : WriterView) → LosesBehind setup (range_of setup producer) many old new
+    → EndsInVain setup producer many new.asked (length old.calls)
+ends_behind setup producer many old new loss = record {
+  before = old.asked ++ loss.before;
+  rounds = loss.rounds;
+  count_is = loss.count_is;
+  each = loss.each;
+  asks_are = loss.asked;
+}
 
 -- ---- one call
 
 -- what a writer has done goes on by a call
-pub goes_by : (setup : Setup) (producer : ℕ) (stopped : Bool) (old new : WriterView) (noted : List Call) → AsksOn Drops setup producer stopped old new
-    → new.calls ≡ old.calls ++ noted → GoesOnInTurn old new
-goes_by setup producer stopped old new noted on notes = record {
+pub goes_by : (old new : WriterView) (noted : List Call) → AsksOn old new → new.calls ≡ old.calls ++ noted → GoesOnInTurn old new
+goes_by old new noted on notes = record {
   calls = noted;
   asks = on.more;
   calls_are = notes;
   asks_are = on.asked;
   chunks_are = on.chunks;
-  later = λ k d inside. let now = on.now refl k d inside in omega (arith, now);
+  later = λ k d inside. let now = on.now k d inside in omega (arith, now);
 }
-
--- its chunks are begun in turn behind it
-pub in_turn_on : {policy : WriterPolicy} {setup : Setup} {producer : ℕ} {stopped : Bool} (old new : WriterView) → AsksOn policy setup producer stopped old new
-    → won_chunks old.asked ≡ map chunk_of old.begun → won_chunks new.asked ≡ map chunk_of new.begun
-in_turn_on old new on before =
-    ap won_chunks on.asked ∙ won_append old.asked on.more ∙ ap (λ (l : List ℕ). l ++ won_chunks on.more) before ∙ sym on.chunks
 
 -- what it lost is lost in vain behind its next call too
 pub vain_on : (setup : Setup) (place : ℕ) (packets : List Packet) (stopped : Bool) (policy : WriterPolicy) (call : Call) (old new : WriterView)
-    → Accepts packets call → (stopped ≡ true → policy ≡ Drops) → AsksOn policy setup (producer_of setup place) stopped old new
-    → (policy ≡ Stalls → NotesNoLoss new.calls) → new.calls ≡ old.calls ++ noted_as stopped policy call
+    → Accepts packets call → (stopped ≡ true → loses policy ≡ true) → GoesOnInTurn old new → new.calls ≡ old.calls ++ noted_as stopped policy call
+    → (stopped ≡ true → EndsInVain setup (producer_of setup place) (rounds_for (spec_at setup.writers place).policy) new.asked (length old.calls))
     → IsBetweenCalls setup place new → won_chunks new.asked ≡ map chunk_of new.begun
     → LosesInVain setup place old → LosesInVain setup place new
-vain_on setup place packets stopped Drops call old new accepts only on none notes between in_turn before =
-    vain_more setup place old new (noted_as stopped Drops call) stopped (noted_losses packets old.calls stopped Drops call accepts only)
-    (goes_by setup (producer_of setup place) stopped old new (noted_as stopped Drops call) on notes) notes (on.all refl) between in_turn before
-vain_on setup place packets stopped Stalls call old new accepts only on none notes between in_turn before = vain_none setup place new (none refl)
+vain_on setup place packets stopped policy call old new accepts only on notes ends between in_turn before =
+    vain_more setup place old new (noted_as stopped policy call) stopped (noted_losses packets old.calls stopped policy call accepts only) on notes ends between in_turn before
 
 -- and behind a flush by which it asks for no chunk
 pub vain_flushed : (setup : Setup) (place : ℕ) (old new : WriterView) → new.asked ≡ old.asked → KeepsChunks old.begun new.begun → new.calls ≡ old.calls ++ Flushed ∷ []
@@ -360,12 +337,5 @@ pub vain_flushed : (setup : Setup) (place : ℕ) (old new : WriterView) → new.
     → LosesInVain setup place old → LosesInVain setup place new
 vain_flushed setup place old new asked keeps notes between in_turn before =
     vain_more setup place old new (Flushed ∷ []) false (notes_plain old.calls Flushed false tt)
-    (record {
-      calls = Flushed ∷ [];
-      asks = [];
-      calls_are = notes;
-      asks_are = asked ∙ sym (append-nil old.asked);
-      chunks_are = none_won old.begun new.begun [] keeps refl;
-      later = All-nil (λ (ask : Ask). length old.calls ≤ ask.calls);
-    })
+    (goes_by old new (Flushed ∷ []) (asks_none old new asked keeps) notes)
     notes (λ stops. absurd (true≢false (sym stops))) between in_turn before

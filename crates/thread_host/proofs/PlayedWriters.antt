@@ -10,7 +10,7 @@ use Rattle.model_laws.specs.Losses.{Loses, written_calls}
 use Rattle.model_laws.proofs.LossLemmas.{written_append}
 use Rattle.chunk_plain.specs.Owned.{held_count, won_chunks}
 use Rattle.chunk_plain.specs.Setup.{Setup}
-use Rattle.chunk_plain.specs.Views.{WriterView, chunk_of, newcomer}
+use Rattle.chunk_plain.specs.Views.{WriterView, chunk_of}
 use Rattle.chunk_words.specs.declared.host.HostTable.{HostTable}
 use Rattle.chunk_words.specs.Sits.{setup_in}
 use Rattle.trace_writer.specs.declared.state.State.{State}
@@ -36,10 +36,10 @@ use Rattle.chunk_words.specs.Named.{identity_of}
 use Rattle.thread_writer.specs.Lent.{lent}
 use Rattle.thread_writer.specs.Writing.{core_of, view_in, Writes, IsQuietCall}
 use Rattle.thread_host.specs.Hosts.{IsReady, HasPlayed}
-use Rattle.thread_host.specs.Playing.{NeverRefuses, NotesNoLoss, IsGoing}
+use Rattle.thread_host.specs.Playing.{NeverRefuses, IsGoing}
 use Rattle.thread_host.proofs.Doing.{done_more}
 use Rattle.thread_host.proofs.Going.{spec_is}
-use Rattle.thread_host.proofs.InVain.{none_yet, vain_none, vain_flushed, chunks_kept}
+use Rattle.thread_host.proofs.InVain.{vain_none, vain_flushed, chunks_kept}
 
 -- ---- before its first line
 
@@ -62,8 +62,7 @@ begins helps of_table lines table place number help writer is ready of_this neve
   done = ap (λ (view : WriterView). done_calls view.calls) ready.fresh;
   lose = ap (λ (view : WriterView). written_calls view.calls) ready.fresh;
   in_turn = subst (λ (view : WriterView). won_chunks view.asked ≡ map chunk_of view.begun) (sym ready.fresh) refl;
-  vain = subst (λ (view : WriterView). LosesInVain (setup_in table) place view) (sym ready.fresh) (vain_none (setup_in table) place newcomer none_yet);
-  none_lost = λ stalls. subst (λ (view : WriterView). NotesNoLoss view.calls) (sym ready.fresh) none_yet;
+  vain = subst (λ (view : WriterView). LosesInVain (setup_in table) place view) (sym ready.fresh) (vain_none (setup_in table) place);
   whole = λ stalls. ap (λ (view : WriterView). lost_count (packets_of view.calls)) ready.fresh;
   ready = rw is ready.ready;
   of_this = of_this;

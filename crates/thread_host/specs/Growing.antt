@@ -11,7 +11,7 @@ use Rattle.service_core.specs.Taking.{Takes, noted_more, places_of}
 use Rattle.run_model.specs.Collected.{may_be_collected}
 use Rattle.run_model.specs.Scraped.{is_scraped_by}
 
--- Complete chunks of a producer's writers were taken; somebody may have it collected: a line, or one of its writers, which stalls.
+-- Complete chunks of a producer's writers were taken; somebody may have it collected: a line, or one of its writers, which asks for help.
 abbrev pub IsCollect : Setup → List NumberedLine → ServiceView → ServiceView → Type 0
 IsCollect setup lines old new =
     (producer taken : ℕ) × (may_be_collected setup lines producer ≡ true) × Takes setup (places_of producer 0 setup.writers) taken old new

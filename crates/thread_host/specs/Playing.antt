@@ -3,12 +3,11 @@ use Rattle.std.specs.Prelude.{◌≡◌, ℕ, Bool, false, List, ◌++◌, map}
 use Rattle.atomic_table.specs.Seated.{TableId}
 use Rattle.trace_base.specs.declared.policy.WriterPolicy.{WriterPolicy}
 use Rattle.trace_base.specs.declared.policy.WriterPolicy.TheVariants.{Stalls}
-use Rattle.trace_model.specs.Calls as call
 use Rattle.trace_model.specs.Calls.{Call}
 use Rattle.trace_model.specs.Packets.{packets_of, lost_count}
 use Rattle.model_laws.specs.Losses.{Loses}
 use Rattle.chunk_plain.specs.Owned.{won_chunks}
-use Rattle.chunk_plain.specs.Views.{At, chunk_of}
+use Rattle.chunk_plain.specs.Views.{chunk_of}
 use Rattle.chunk_words.specs.declared.host.HostTable.{HostTable}
 use Rattle.chunk_words.specs.Sits.{setup_in}
 use Rattle.world_model.specs.FirstBuffers.{payload_at}
@@ -22,16 +21,12 @@ use Rattle.thread_writer.specs.declared.writer.TraceWriter.{TraceWriter}
 use Rattle.chunk_words.specs.Named.{identity_of}
 use Rattle.thread_writer.specs.Writing.{core_of, view_in, Writes}
 
--- Whoever asks such a helper for a writer of this policy is never told that nothing came free. A writer that drops asks nobody.
+-- Whoever asks such a helper for a writer of this policy is never told that nothing came free. A writer that drops asks nobody, and one that tries so often stalls for no answer.
 abbrev pub NeverRefuses : {H : Type 0} → (H → ℕ → Bool → H → Type 0) → WriterPolicy → Type 0
 NeverRefuses {H} helps policy = policy ≡ Stalls → (helper : H) (producer : ℕ) (after : H) → helps helper producer false after → ⊥
 
--- none of these calls says of a packet that it was lost
-abbrev pub NotesNoLoss : List Call → Type 0
-NotesNoLoss calls = (index : ℕ) → (At calls index (call.Begun false) → ⊥) × (At calls index call.GivenUp → ⊥)
-
 -- What the writer at this place has noted is just what was asked of it, and it has begun just the chunks that its claims won, in their order. Packets may
--- be lost, each behind a round of claims in vain, but none of one that stalls. It isn't stalled, it accepts what is to come, and it has a helper of its
+-- be lost, each behind rounds of claims in vain, but none of one that stalls. It isn't stalled, it accepts what is to come, and it has a helper of its
 -- table, which never refuses it.
 pub record IsGoing {H : Type 0} (helps : H → ℕ → Bool → H → Type 0) (of_table : H → TableId → Type 0) (table : HostTable) (place : ℕ)
     (asked coming : List Call) (help : Asks H) (writer : TraceWriter) : Type 0 where
@@ -42,7 +37,6 @@ pub record IsGoing {H : Type 0} (helps : H → ℕ → Bool → H → Type 0) (o
   pub lose : Loses asked (view_in writer).calls
   pub in_turn : won_chunks (view_in writer).asked ≡ map chunk_of (view_in writer).begun
   pub vain : LosesInVain (setup_in table) place (view_in writer)
-  pub none_lost : (spec_at (setup_in table).writers place).policy ≡ Stalls → NotesNoLoss (view_in writer).calls
   pub whole : (spec_at (setup_in table).writers place).policy ≡ Stalls → lost_count (packets_of (view_in writer).calls) ≡ 0
   pub ready : IsReadyFor (payload_at (setup_in table) place) (view_in writer) coming
   pub of_this : of_table help.help (identity_of table)

@@ -1,4 +1,4 @@
-//! The helper of a writer that stalls: it takes the service's lock and has the writer's producer collected.
+//! The helper of a writer that stalls, for ever or so often: it takes the service's lock and has the writer's producer collected.
 ghost use Rattle.std.specs.Prelude.{◌≡◌, true};
 ghost use Rattle.run_model.specs.Collected.{may_be_collected};
 ghost use Rattle.thread_host.specs.Keeping.{IsNamed, named_prop};
@@ -22,7 +22,7 @@ pub struct LockHelp<'a, N: HostName, R: Wait, L: Ledger> {
     left: u64,
     takings: Takings<L>,
     ghost named: { IsNamed N.table N.setup table.now } by { named_prop N.table N.setup table.now },
-    ghost asked: { may_be_collected N.setup N.lines producer ≡ true },
+    ghost wanted: { may_be_collected N.setup N.lines producer ≡ true },
 }
 
 impl<'a, N: HostName, R: Wait, L: Ledger> LockHelp<'a, N, R, L> {
@@ -51,16 +51,24 @@ impl<'a, N: HostName, R: Wait, L: Ledger> LockHelp<'a, N, R, L> {
 }
 
 impl<'a, N: HostName, R: Wait, L: Ledger> Helper for LockHelp<'a, N, R, L> {
-    ghost use Rattle.std.specs.Prelude.{◌≡◌, true, suc};
+    ghost use Rattle.std.specs.Prelude.{◌≡◌, ◌-◌, true, suc};
+    ghost use Rattle.trace_model.specs.Counts.{raised, last_count};
 
     ghost turns = { λ help. help.left };
 
     ghost of_table = { λ _ id. id ≡ N.table };
 
-    // The service was asked once to take chunks.
-    ghost helps = { λ help _ answer after. (answer ≡ true) × (help.left ≡ suc after.left) × (after.takings ≡ suc help.takings) };
+    // The service was asked once to take chunks, and one turn fewer is left.
+    ghost helps = { λ help _ answer after. (answer ≡ true) × (help.left ≡ suc after.left) × (after.takings ≡ suc help.takings)
+        × (last_count - after.left ≡ raised (last_count - help.left) 1) };
+
+    // the turns that it had, less those that are left
+    ghost asked = { λ help. last_count - help.left };
+
+    ghost asked_more = { λ _ _ _ _ helped. helped.3 };
 
     // The writer asks for no producer but its own.
+    #[tactic(auto, using(crate::proofs::Counted::raised_once))]
     fn help(&mut self, _table: &HostTable, _producer: u16) -> bool {
         if self.left == 0 {
             for _ in self.rt.forever() {}

@@ -1,6 +1,6 @@
 //! The host of threads: it plays a scenario with each writer on a thread of its own, beside the service's
-//! lines. The service stands behind a lock for so long, and a writer that stalls has a helper that takes
-//! it.
+//! lines. The service stands behind a lock for so long, and a writer that stalls, for ever or so often,
+//! has a helper that takes it.
 //! A layer above may rely on this: where `run` answers Ok, the sink has taken exactly the records of an
 //! account to which the scenario leads, and the counts are that account's; where a write failed, it has
 //! taken those of one up to there, and a front part of the next at most. No writer ends stalled. The

@@ -30,7 +30,7 @@ use thread_service::Service;
 /// The service of the table that its type names, none of whose sequences is closed. No image came by a
 /// commit. What it knows is what the type says that it knew, and what was collected, scraped and read
 /// since. Of the lines that the type names, one scrapes each producer that was scraped; and one collects or
-/// scrapes each that was collected, or a writer of the producer stalls.
+/// scrapes each that was collected, or a writer of the producer asks for help.
 #[derive(Drop)]
 pub struct Locked<N: HostName> {
     pub(crate) service: Service,
@@ -70,7 +70,7 @@ impl<N: HostName> Locked<N> {
     }
 
     /// Takes the complete chunks of the producer's writers. Answers how many. A line, or a writer of the
-    /// producer that stalls, may ask for it.
+    /// producer, may ask for it.
     pub fn collect<L: Ledger>(
         &mut self,
         table: &HostTable,

@@ -21,7 +21,7 @@ use trace_base::policy::{WriterPolicy, WriterSpec};
 use trace_writer::NoHelp;
 
 /// Plays the writer's lines, in their order, and then a flush, and passes the gate before each. A writer
-/// that drops takes no lock.
+/// that drops takes no lock; one that stalls, for ever or so often, takes it where it asks for chunks.
 pub fn writer_job<N: HostName, R: Wait, G: Gate>(
     rt: &R,
     gate: &G,
