@@ -3,7 +3,7 @@
 
     bench/config.py            builds crates/config_speed where that is needed, and times it on five kinds of text
 
-Each text has about 10 MB. The best of five runs counts, by processor time. The time is that of the whole program, which also
+Each text has about 10 MB but the last, whose source looks for its producer among 100,000 of other names, by as many entries. The best of five runs counts, by processor time. The time is that of the whole program, which also
 takes the text in; `taking in` is what a text of as many bytes takes that is refused at its first byte. The memory is the most
 that a run had, the text's own 10 MB among it.
 """
@@ -37,7 +37,8 @@ TEXTS = {
     'unknown blocks': repeated(BUFFER, b'statsd_metadata { triggering_alert_id: 1 triggering_config { uid: -7 } }\n'),
     'blocks in blocks': BUFFER + b'a{' * (SIZE // 3) + b'}' * (SIZE // 3),
     'comments': repeated(BUFFER, b'# a comment of some length, as one would write it\n'),
-    'producers': BUFFER + b'producers { producer_name: "b" }\n' * ENTRIES + b'data_sources {\n' + b'producer_name_filter: "a"\n' * ENTRIES + b'}\n',
+    'producers': BUFFER + b'data_sources {\n' + b''.join(b'producer_name_filter: "a%d"\n' % n for n in range(ENTRIES)) + b'}\n'
+    + b''.join(b'producers { producer_name: "b%d" }\n' % n for n in range(ENTRIES)),
 }
 
 

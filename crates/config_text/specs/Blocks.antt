@@ -42,7 +42,7 @@ pub record Block : Type 0 where
 abbrev pub is : List ℕ → List ℕ → Bool
 is name word = bytes_eq name word
 
--- what a block without fields says: 256 KB of shared memory, pages of 4 KB, the first buffer
+-- what a buffer without fields says: no size, and that it overwrites
 unfoldable pub no_buffer : BufferSaid
 no_buffer = record { size_kb = None; policy = Ring }
 

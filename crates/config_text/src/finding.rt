@@ -49,7 +49,8 @@ fn first_wanted(producers: &[KeptProducer<'_>], wanted: &HashSet<&[u8]>) -> usiz
 }
 
 /// The place of the producer that a source with this filter belongs to. It takes as many steps as there
-/// are entries and producers.
+/// are entries and producers, unless entries are chosen so that they meet in the hash set, whose seed is
+/// fixed.
 #[tactic(auto, using(crate::proofs::FindingLemmas::named_as, crate::proofs::FindingLemmas::named_none))]
 pub(crate) fn producer_place(
     alloc: Global,

@@ -173,7 +173,7 @@ const ROWS: [Row; 28] = [
         line: 9,
         reason: ConfigReason::MissingSize,
     },
-    // missing size before no such buffer
+    // no such buffer in an earlier block than a missing size
     Row {
         times: 0,
         repeated: b"",
@@ -197,7 +197,7 @@ const ROWS: [Row; 28] = [
         line: 9,
         reason: ConfigReason::OutOfRange,
     },
-    // out of range before no such buffer
+    // no such buffer in an earlier block than out of range
     Row {
         times: 0,
         repeated: b"",

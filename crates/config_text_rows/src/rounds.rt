@@ -48,16 +48,31 @@ fn skips_deep_blocks(rt: HostRuntime) -> Result<(), Fail> {
     Ok(())
 }
 
+/// Four letters for a number below 456,976, others for each.
+fn letters(index: u32) -> [u8; 4] {
+    [
+        b'a' + (index / 17_576 % 26) as u8,
+        b'a' + (index / 676 % 26) as u8,
+        b'a' + (index / 26 % 26) as u8,
+        b'a' + (index % 26) as u8,
+    ]
+}
+
+// No entry names a producer, and no two are alike.
 #[test]
 fn looks_up_many_producers(rt: HostRuntime) -> Result<(), Fail> {
     let mut text = Vec::new(rt.alloc());
     text.extend_from_slice(b"buffers { size_kb: 4 }\ndata_sources {\n")?;
-    for _ in 0..50_000 {
-        text.extend_from_slice(b"producer_name_filter: \"a\"\n")?;
+    for index in 0..50_000u32 {
+        text.extend_from_slice(b"producer_name_filter: \"a")?;
+        text.extend_from_slice(&letters(index))?;
+        text.extend_from_slice(b"\"\n")?;
     }
     text.extend_from_slice(b"}\n")?;
-    for _ in 0..50_000 {
-        text.extend_from_slice(b"producers { producer_name: \"b\" }\n")?;
+    for index in 0..50_000u32 {
+        text.extend_from_slice(b"producers { producer_name: \"b")?;
+        text.extend_from_slice(&letters(index))?;
+        text.extend_from_slice(b"\" }\n")?;
     }
     assert!(rt; text.len() <= MAX_INPUT);
     let found = read_config(rt.alloc(), &text).err();
