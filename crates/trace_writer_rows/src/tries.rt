@@ -13,9 +13,9 @@ use trace_base::steps::Steps;
 
 /// A writer that asks three times. Of two chunks that nobody takes it finds no third: for a text,
 /// which it gives up, and for two packets, which it drops. Of one chunk it finds no second while it
-/// holds it, though a collector stands by; behind a packet it finds it again. Of two chunks that are
-/// taken it finds all that it needs.
-fn tried<R: Abort, L: Ledger>(rt: &R, alloc: Global, blank: Blank) -> Result<[(Left, u64); 4], Fail>
+/// holds it, though a collector stands by; behind a packet it finds it again, also where it still held
+/// it at the next one's begin. Of two chunks that are taken it finds all that it needs.
+fn tried<R: Abort, L: Ledger>(rt: &R, alloc: Global, blank: Blank) -> Result<[(Left, u64); 5], Fail>
     requires name { blank.name ≡ L.name }
     requires parts { blank.parts ≡ L.parts }
     requires some_part { 0 < L.parts }
@@ -24,6 +24,7 @@ fn tried<R: Abort, L: Ledger>(rt: &R, alloc: Global, blank: Blank) -> Result<[(L
     let tries = WriterPolicy::StallsThenDrops { tries: 3 };
     let long = [PACKET, text(1, 5000), text(1, 5000), FINISH];
     let small = [PACKET, number(8, 1), FINISH, FLUSH];
+    let full = [PACKET, text(1, 4070), FINISH];
     let longer = [PACKET, text(1, 50_000), FINISH, FLUSH];
     Ok([
         left_asking(
@@ -54,6 +55,7 @@ fn tried<R: Abort, L: Ledger>(rt: &R, alloc: Global, blank: Blank) -> Result<[(L
             &mut steps,
         )?,
         left_asking(rt, alloc, 2, tries, false, [&longer, &[], &[]], &mut steps)?,
+        left_asking(rt, alloc, 1, tries, false, [&full, &small, &[]], &mut steps)?,
     ])
 }
 
@@ -91,5 +93,11 @@ fn drops_behind_so_many_asks(rt: HostRuntime) -> Result<(), Fail> {
         ..NOTHING
     };
     assert_eq!(rt; left[3], (all, 23), "one for each chunk but the first two");
+    let both = Left {
+        begun: 2,
+        completed: 2,
+        ..NOTHING
+    };
+    assert_eq!(rt; left[4], (both, 1), "one behind the completed chunk");
     Ok(())
 }
