@@ -27,8 +27,9 @@ pub record HaveTold (table : TuneTable) (turns count : ℕ) (collector : Collect
   pub counts_are : length counts ≡ count
   pub each : (user : ℕ) (seat : TuneSeat) → At seats user seat → HasToldAll table turns user collector (count_at counts user) seat
 
--- What a run of so many users comes to: each user's turns are counted, all of them completed as many chunks as were collected, and partitioned
--- pages anew as often as the words of the four pages count; and no chunk is used.
+-- The numbers that a run of so many users comes to have these sums: of each user claims and claims in vain together, and retiles and refusals
+-- together, are its turns of each kind; as many chunks were collected as all users claimed; and the words of the four pages count together all
+-- users' retiles. And no chunk is used.
 pub record IsReport (users turns : ℕ) (report : TuneReport) : Type 0 where
   pub many : length report.users.items ≡ users
   pub pages : length report.words.items ≡ 4
