@@ -75,6 +75,7 @@ module _ (users : ℕ) (world : World) (page place : ℕ) (is : Status) (old vie
     generation = owned.generation;
     sights = λ user p q below. by_status (λ r o s. o < 14 → IsMine user s → seen_in r (world.users user).sights ≡ (world.layouts r, world.generations r)) p q
         (λ inside mine. absurd (t.nobodys user mine)) (λ r _ inside mine. owned.sights user r q inside mine) below;
+    laid = owned.laid;
     layout_least = owned.layout_least;
     layout_most = owned.layout_most;
     outside = λ p q. by_status (λ r o s. chunks_of (world.layouts r) ≤ o → s ≡ Outside) p q (λ past. absurd (t.was_in (owned.outside page place past))) (λ r _ past. owned.outside r q past);
@@ -212,6 +213,7 @@ looks_allowed shape count id page place made joined watch v inside place_in s r 
           balance = λ p q below. owned.balance p q below ∙ ap (λ (c : CollectView). times (spot p q) c.taken + waits_of (world.status p q)) (sym f.0);
           generation = owned.generation;
           sights = owned.sights;
+          laid = owned.laid;
           layout_least = owned.layout_least;
           layout_most = owned.layout_most;
           outside = owned.outside;

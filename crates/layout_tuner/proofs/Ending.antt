@@ -15,14 +15,15 @@ use Rattle.chunk_plain.proofs.Lists.{at_seam, at_some, at_one, at_inside, same_m
 use Rattle.layout_tuner.specs.declared.table.Shape.{Shape}
 use Rattle.layout_tuner.specs.declared.table.TuneTable.{TuneTable}
 use Rattle.layout_tuner.specs.declared.seats.TuneSeat.{TuneSeat}
-use Rattle.layout_tuner.specs.PageWords.{spot, line, chunks_of, generation_in}
+use Rattle.layout_tuner.specs.PageWords.{spot, line, chunks_of, layout_in, generation_in}
 use Rattle.layout_tuner.specs.Knows.{UserView, CollectView, Watch, Collector, told_by}
-use Rattle.layout_tuner.specs.World.{Status, Outside, Unclaimed, Claimed, Held, Complete, Reading, low_of, high_of, claim_of, claims_of, holds_of, reads_of, waits_of, total, World}
+use Rattle.layout_tuner.specs.World.{Status, Outside, Unclaimed, Claimed, Held, Complete, Reading, low_of, high_of, claim_of, claims_of, holds_of, reads_of, waits_of, total, World, IsLaid}
 use Rattle.layout_tuner.specs.Rule.{ShowsPage, Fits, IsTuned}
 use Rattle.layout_tuner.specs.Collecting.{IsCaughtUp}
 use Rattle.layout_tuner.specs.Sits.{Sits, known_by}
 use Rattle.layout_tuner.specs.Closed.{IsDone, HasAllSeats, IsUnused, view_at, views_of}
 use Rattle.layout_tuner.proofs.Puts.{total-same, total-change}
+use Rattle.layout_tuner.proofs.Laid.{laid_as, laid_by}
 use Rattle.layout_tuner.proofs.Making.{total-zero}
 use Rattle.layout_tuner.proofs.WorldTurns.{claims_of-mine, holds_of-mine}
 use Rattle.layout_tuner.proofs.SeatTurns.{Pages}
@@ -158,6 +159,7 @@ module _ (shape : Shape) (id : ℕ) (views : List UserView) (watch : Watch) (col
       unused shows = record {
         layout_least = subst (λ l. 1 ≤ l) (sym shows.layout_is) (rule.owned.layout_least page);
         layout_most = subst (λ l. l ≤ 5) (sym shows.layout_is) (rule.owned.layout_most page);
+        spare = shows.spare;
         states = λ bit inside. dite (ℕ_discrete (bit % 2) 0)
             (λ even. let here : 2 * (bit / 2) ≡ bit = omega (arith, even) in let low : bit / 2 < 14 = omega (arith, inside) in
             subst (λ b. bit_at (get_or last.words (line page) 0) b ≡ 0) here (shows.low (bit / 2) low ∙ (free page (bit / 2) low).low))
@@ -174,6 +176,12 @@ module _ (shape : Shape) (id : ℕ) (views : List UserView) (watch : Watch) (col
   -- each page's generation is the number of its retiles
   pub word_generation : (page : ℕ) → page < shape.pages → generation_in (get_or words (line page) 0) ≡ total shape.users (λ user. times page (world.users user).retiled)
   word_generation page below = ap (λ l. generation_in (get_or l (line page) 0)) (sym final.2) ∙ ((rule.shows page below).generation_is ∙ sym (rule.owned.generation page))
+
+  -- each page is laid out as users saw it
+  pub word_laid : (page : ℕ) → page < shape.pages → IsLaid shape.users world.users page (layout_in (get_or words (line page) 0)) (generation_in (get_or words (line page) 0))
+  word_laid page below = subst (λ l. IsLaid shape.users world.users page (layout_in (get_or l (line page) 0)) (generation_in (get_or l (line page) 0))) final.2
+      (laid_as shape.users world.users page (layout_in (get_or last.words (line page) 0)) (generation_in (get_or last.words (line page) 0)) (world.layouts page) (world.generations page)
+      (rule.shows page below).layout_is (rule.shows page below).generation_is (rule.owned.laid page))
 
   pub all_taken : total shape.users (λ user. length (world.users user).completed) ≡ length collector.taken
   all_taken = sym (length-all_of shape.users (λ user. (world.users user).completed))
@@ -201,6 +209,7 @@ pub record Ends (shape : Shape) (seats : List TuneSeat) (collector : CollectView
   pub taken : (at : ℕ) → total shape.users (λ user. times at (view_at seats user).completed) ≡ times at collector.taken
   pub all_taken : total shape.users (λ user. length (view_at seats user).completed) ≡ length collector.taken
   pub generations : (page : ℕ) → page < shape.pages → generation_in (get_or words (line page) 0) ≡ total shape.users (λ user. times page (view_at seats user).retiled)
+  pub laid : (page : ℕ) → page < shape.pages → IsLaid shape.users (λ user. view_at seats user) page (layout_in (get_or words (line page) 0)) (generation_in (get_or words (line page) 0))
   pub all_retiled : total shape.pages (λ page. generation_in (get_or words (line page) 0)) ≡ total shape.users (λ user. length (view_at seats user).retiled)
 
 pub table_ends : (table : TuneTable) (id : ℕ) (seats : List TuneSeat) (watch : Watch) (collector : CollectView) (words slots : List ℕ)
@@ -226,5 +235,7 @@ table_ends table id seats watch collector words slots final all none caught =
       taken = λ at. alike (λ v. times at v.completed) ∙ balanced shape id views watch collector words slots final count seat_at none caught at;
       all_taken = alike (λ v. length v.completed) ∙ all_taken shape id views watch collector words slots final count seat_at none caught;
       generations = λ page below. word_generation shape id views watch collector words slots final count seat_at none caught page below ∙ sym (alike (λ v. times page v.retiled));
+      laid = λ page below. laid_by shape.users world.users (λ user. view_at seats user) page (layout_in (get_or words (line page) 0)) (generation_in (get_or words (line page) 0)) known
+          (word_laid shape id views watch collector words slots final count seat_at none caught page below);
       all_retiled = all_retiled shape id views watch collector words slots final count seat_at none caught ∙ sym (alike (λ v. length v.retiled));
     }

@@ -98,6 +98,7 @@ hears_tuned shape id made other user joined watch v completed s r at apart there
         balance = λ p q below. owned.balance p q below ∙ ap (λ (c : CollectView). times (14 * p + q) c.taken + waits_of (world.status p q)) (sym f.0);
         generation = owned.generation;
         sights = owned.sights;
+        laid = owned.laid;
         layout_least = owned.layout_least;
         layout_most = owned.layout_most;
         outside = owned.outside;

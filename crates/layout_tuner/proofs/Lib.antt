@@ -1,6 +1,7 @@
 pub mod Puts
 pub mod WordBits
 pub mod Spots
+pub mod Laid
 pub mod WorldTurns
 pub mod SeatTurns
 pub mod UserTurns

@@ -60,6 +60,11 @@ first_owned users = record {
   balance = λ page place below. total-zero users ∙ sym (free_by (λ s. 0 + waits_of s ≡ 0) 14 place refl refl);
   generation = λ page. total-zero users;
   sights = λ user page place below mine. absurd (free_by (λ s. IsMine user s → ⊥) 14 place (λ x. x) (λ x. x) mine);
+  laid = λ page. record {
+    first = λ _. refl;
+    last = λ some. absurd (omega (arith, some));
+    past = λ user k sight below at is. absurd (some-ne-none sight (sym at));
+  };
   layout_least = λ page. omega arith;
   layout_most = λ page. omega arith;
   outside = λ page place past. free_out 14 place past;

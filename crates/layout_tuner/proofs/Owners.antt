@@ -1,12 +1,17 @@
 -- The rule of a table in the words of page words and of what seats know.
-use Rattle.std.proofs.Common.{◌≡◌, ◌≢◌, ℕ, ◌<◌, ◌≤◌, get_or, subst, sym, refl, ap, ◌∙◌, arith}
+use Rattle.std.proofs.Common.{◌≡◌, ◌≢◌, ℕ, ◌<◌, ◌≤◌, get_or, subst, sym, refl, ap, ◌∙◌, arith, inl, inr, lt_of_not-le}
+use native.Mathlib.Decide.{dec_le}
+use mathlib.Core.Logic.{dite}
+use Rattle.chunk_plain.specs.Views.{At}
 use Rattle.chunk_plain.specs.Owned.{times}
+use Rattle.chunk_plain.proofs.Lists.{at_some}
 use Rattle.layout_tuner.specs.declared.table.Shape.{Shape}
-use Rattle.layout_tuner.specs.PageWords.{spot, line, chunks_of, layout_in}
-use Rattle.layout_tuner.specs.Knows.{User, Collector}
+use Rattle.layout_tuner.specs.PageWords.{spot, line, chunks_of, layout_in, generation_in}
+use Rattle.layout_tuner.specs.Knows.{UserView, User, Collector}
 use Rattle.layout_tuner.specs.World.{Status, Outside, Unclaimed, Claimed, Held, Complete, Reading, low_of, high_of, claim_of, claims_of, holds_of, reads_of, waits_of, World, IsOwned}
 use Rattle.layout_tuner.specs.Rule.{ShowsPage, IsTuned}
 use Rattle.layout_tuner.specs.Laws.{IsNobodys, IsClaimedByOne, IsHeldByOne, IsReadOnce, PageOwnership, TunedOwnership}
+use Rattle.layout_tuner.proofs.Laid.{laid_as}
 use Rattle.layout_tuner.proofs.Puts.{few_chunks}
 use Rattle.layout_tuner.proofs.WorldTurns.{claimed_of, held_of, mine_of, claims_of-mine, holds_of-mine, unclaimed_of}
 use Rattle.layout_tuner.proofs.SeatTurns.{Pages}
@@ -149,6 +154,7 @@ page_ownership users world page word owned shows =
       seen = λ user place inside has.
           let claimed = owned.claimed user page place inside in let held = owned.held user page place inside in
           owned.sights user page place inside (mine_of user (world.status page place) (omega (arith, has, claimed, held))) ∙ (λ i. (sym shows.layout_is i, sym shows.generation_is i));
+      laid = laid_as users world.users page (layout_in word) (generation_in word) (world.layouts page) (world.generations page) shows.layout_is shows.generation_is (owned.laid page);
       generation = shows.generation_is ∙ sym (owned.generation page);
       waiting = λ place inside bits.
           let full = complete_of (world.status page place) (sym (shows.low place inside) ∙ bits.low) (sym (shows.high place inside) ∙ bits.high) in
@@ -159,13 +165,24 @@ page_ownership users world page word owned shows =
     }
 
 pub tuned_ownership : (shape : Shape) (state : Pages) → IsTuned shape state → TunedOwnership shape state
-tuned_ownership shape s r = record {
-  users = r.world.users;
-  collector = r.world.collector;
-  pages = λ page below. page_ownership shape.users r.world page (get_or s.words (line page) 0) r.owned (r.shows page below);
-  user_views = λ seat number view at. (r.manned.each seat (User number view) at).0;
-  one_seat = λ seat other number view known at there. sym (r.manned.each seat (User number view) at).1 ∙ (r.manned.each other (User number known) there).1;
-  collector_view = λ seat made joined watch view at. (r.manned.each seat (Collector made joined watch view) at).0;
-  one_collector = λ seat other made more joined other_joined watch watched view known at there.
-      sym (r.manned.each seat (Collector made joined watch view) at).1 ∙ (r.manned.each other (Collector more other_joined watched known) there).1;
-}
+tuned_ownership shape s r =
+    let staffed = r.manned.staffed in
+    let fits = r.manned.each r.roll.server (Collector r.roll.made staffed.0 staffed.1 r.world.collector) staffed.2 in
+    record {
+      users = r.world.users;
+      collector = r.world.collector;
+      pages = λ page below. page_ownership shape.users r.world page (get_or s.words (line page) 0) r.owned (r.shows page below);
+      user_views = λ seat number view at. (r.manned.each seat (User number view) at).0;
+      one_seat = λ seat other number view known at there. sym (r.manned.each seat (User number view) at).1 ∙ (r.manned.each other (User number known) there).1;
+      collector_view = λ seat made joined watch view at. (r.manned.each seat (Collector made joined watch view) at).0;
+      one_collector = λ seat other made more joined other_joined watch watched view known at there.
+          sym (r.manned.each seat (Collector made joined watch view) at).1 ∙ (r.manned.each other (Collector more other_joined watched known) there).1;
+      has_collector = record { seat = r.roll.server; made = r.roll.made; joined = staffed.0; watch = staffed.1; at = staffed.2 };
+      each_user = λ user below. dite (dec_le r.roll.made user)
+          (λ past. inl (r.manned.fresh user past))
+          (λ under. inr (dite (dec_le r.roll.joined user)
+          (λ low. inl (r.roll.seats user, r.manned.seated user low (lt_of_not-le under)))
+          (λ early. inr (let there = at_some staffed.0 user (let count = fits.3.count in let less = lt_of_not-le early in omega (arith, count, less)) in
+          subst (λ (v : UserView). At staffed.0 user v) (fits.3.each user there.0 there.1) there.1))));
+      no_others = λ user past. r.manned.fresh user (let most = r.manned.most in omega (arith, past, most));
+    }

@@ -22,6 +22,7 @@ use Rattle.layout_tuner.specs.Plays.{HasPlace, HasPage, After}
 use Rattle.layout_tuner.proofs.Puts.{few_chunks, some_chunks}
 use Rattle.layout_tuner.proofs.WordBits.{shown_place, or_set, clear_bit, set_bit}
 use Rattle.layout_tuner.proofs.Spots.{is_of-here, is_of-other, times-elsewhere_here, times-elsewhere_other, times-first_spots, times-first_spots_behind, times-first_spots_other}
+use Rattle.layout_tuner.proofs.Laid.{sight_of, Sees, sees_same, sees_more}
 use Rattle.layout_tuner.proofs.WorldTurns.{Turns, PlaceTurn, place_turns, unclaimed_of, claimed_of, held_of, mine_of, claims_of-mine, holds_of-mine, claims_of-other, holds_of-other}
 use Rattle.layout_tuner.proofs.SeatTurns.{Pages, user_keeps}
 
@@ -71,6 +72,7 @@ module _ (users : ℕ) (world : World) (user page place : ℕ) (v : UserView) (o
     generation_else = λ other differs. refl;
     sights_here = λ q below mine. ap (λ (w : UserView). seen_in page w.sights) known ∙ owned.sights user page q below mine;
     sights_else = λ other differs. refl;
+    sees = sees_same page (world.layouts page) (world.generations page) v.sights;
     others_saw = λ other q differs mine. (mine, refl, refl);
     layout_least = owned.layout_least page;
     layout_most = owned.layout_most page;
@@ -101,6 +103,9 @@ module _ (users : ℕ) (world : World) (user page place : ℕ) (v : UserView) (o
     sights_here = let here : nat_eq page page ≡ true = eq-eqb page page refl in
         ap (λ b. let x : ℕ × ℕ = if b then (layout_in found, generation_in found) else seen_in page v.sights in x) here ∙ (λ i. (layout_is i, generation_is i));
     sights_else = λ other differs. ap (λ b. let x : ℕ × ℕ = if b then (layout_in found, generation_in found) else seen_in other v.sights in x) (ne_eqb page other (λ e. differs (sym e)));
+    sees = subst (λ l. Sees page (world.layouts page) (world.generations page) (world.layouts page) (world.generations page) v.sights (sight_of page l (generation_in found) ∷ v.sights)) (sym layout_is)
+        (subst (λ g. Sees page (world.layouts page) (world.generations page) (world.layouts page) (world.generations page) v.sights (sight_of page (world.layouts page) g ∷ v.sights)) (sym generation_is)
+        (sees_more page (world.layouts page) (world.generations page) (world.layouts page) (world.generations page) v.sights (omega arith) (λ _. refl)));
     full = λ is. absurd (let clash : Unclaimed ≡ Complete = sym free ∙ is in cc);
   }
 
@@ -126,6 +131,7 @@ module _ (users : ℕ) (world : World) (user page place : ℕ) (v : UserView) (o
     retiled = refl;
     sights_here = saw (omega (arith, has));
     sights_else = λ other differs. refl;
+    sees = sees_same page (world.layouts page) (world.generations page) v.sights;
     full = λ full. absurd (let clash : Claimed user ≡ Complete = sym is ∙ full in cc);
   }
 
@@ -149,6 +155,7 @@ module _ (users : ℕ) (world : World) (user page place : ℕ) (v : UserView) (o
     retiled = refl;
     sights_here = saw (omega (arith, has));
     sights_else = λ other differs. refl;
+    sees = sees_same page (world.layouts page) (world.generations page) v.sights;
     full = λ full. refl;
   }
 
@@ -172,6 +179,7 @@ module _ (users : ℕ) (world : World) (user page place : ℕ) (v : UserView) (o
     retiled = refl;
     sights_here = saw (omega (arith, has));
     sights_else = λ other differs. refl;
+    sees = sees_same page (world.layouts page) (world.generations page) v.sights;
     full = λ full. absurd (let clash : Claimed user ≡ Complete = sym is ∙ full in cc);
   }
 
@@ -370,6 +378,7 @@ module _ (users : ℕ) (world : World) (user page old_layout generation layout :
     generation_else = λ other differs. times-other other page v.retiled differs;
     sights_here = λ place below mine. ap (λ b. let x : ℕ × ℕ = if b then (layout, generation + 1) else seen_in page v.sights in x) (eq-eqb page page refl);
     sights_else = λ other differs. ap (λ b. let x : ℕ × ℕ = if b then (layout, generation + 1) else seen_in other v.sights in x) (ne_eqb page other (λ e. differs (sym e)));
+    sees = let old = generation_is in sees_more page layout (generation + 1) (world.layouts page) (world.generations page) v.sights (omega (arith, old)) (λ e. absurd (omega (arith, old, e)));
     others_saw = λ other place differs. tiled_by (λ s. IsMine other s → IsMine other (world.status page place) × (layout ≡ world.layouts page) × (generation + 1 ≡ world.generations page)) user chunks place
         (λ _ mine. absurd (differs (sym mine))) (λ _ mine. absurd mine);
     layout_least = least;

@@ -1,5 +1,5 @@
 -- The claims of a page's chunks, one behind another.
-use Rattle.std.proofs.Common.{◌≡◌, ℕ, suc, ◌+◌, ◌<◌, ◌≤◌, true, false, List, [], ◌∷◌, ◌++◌, subst, sym, refl, ap, ◌∙◌, arith, ⊎_elim, append_assoc, append-nil, eq-eqb, ne_eqb}
+use Rattle.std.proofs.Common.{◌≡◌, ℕ, suc, ◌+◌, ◌<◌, ◌≤◌, true, false, List, [], ◌∷◌, ◌++◌, replicate, subst, sym, refl, ap, ◌∙◌, arith, ⊎_elim, append_assoc, append-nil, eq-eqb, ne_eqb}
 use Rattle.std.specs.Prelude.{if◌then◌else◌}
 use Rattle.std.proofs.lemmas.List.{length-append}
 use native.Mathlib.Decide.{ℕ_discrete}
@@ -12,6 +12,7 @@ use Rattle.layout_tuner.specs.Knows.{Ask, UserView, seen_in, first_spots}
 use Rattle.layout_tuner.specs.Plays.{HasPage, Claims}
 use Rattle.layout_tuner.specs.Retiling.{WinsFirst, GivesBack, FindsBusy, FindsWorn}
 use Rattle.layout_tuner.proofs.Spots.{times-first_spots}
+use Rattle.layout_tuner.proofs.Laid.{sight_of}
 use Rattle.layout_tuner.proofs.Asking.{won_is, lost_is}
 
 pub wins_none : (page layout generation : ℕ) (view : UserView) → WinsFirst page 0 layout generation view view
@@ -27,6 +28,7 @@ wins_none page layout generation view = record {
   retiled = refl;
   seen = λ some. absurd (omega (arith, some));
   elsewhere = λ other differs. refl;
+  sights = refl;
 }
 
 -- the user has each place that it won
@@ -73,6 +75,8 @@ wins_more page count layout generation found old view new wins few is clear layo
           ∙ (ap (λ b. let x : ℕ × ℕ = if b then (layout_in found, generation_in found) else seen_in page view.sights in x) (eq-eqb page page refl) ∙ (λ i. (layout_is i, generation_is i)));
       elsewhere = λ other differs. ap (λ (v : UserView). seen_in other v.sights) now
           ∙ (ap (λ b. let x : ℕ × ℕ = if b then (layout_in found, generation_in found) else seen_in other view.sights in x) (ne_eqb page other (λ e. differs (sym e))) ∙ wins.elsewhere other differs);
+      sights = ap (λ (v : UserView). v.sights) now ∙ ((λ i. sight_of page (layout_is i) (generation_is i) ∷ wins.sights i)
+          ∙ ap (λ n. replicate n (sight_of page layout generation) ++ old.sights) (let e : suc count ≡ count + 1 = omega arith in e));
     }
 
 -- the first claim tells layout and generation
@@ -86,6 +90,7 @@ pub record IsGiven (page count : ℕ) (old new : UserView) : Type 0 where
   pub held : new.held ≡ old.held
   pub completed : new.completed ≡ old.completed
   pub retiled : new.retiled ≡ old.retiled
+  pub sights : new.sights ≡ old.sights
 
 pub given_back : (page count layout generation : ℕ) (old view lost new : UserView) → WinsFirst page count layout generation old view → lost.claimed ≡ view.claimed → lost.held ≡ view.held
     → lost.completed ≡ view.completed → lost.retiled ≡ view.retiled → IsGiven page count lost new → GivesBack old new
@@ -109,6 +114,7 @@ finds_busy page place layout generation word old view lost new wins is taken ins
       taken = taken;
       inside = inside;
       asked = given.asked ∙ ap (λ (v : UserView). v.asked) asks;
+      sights = given.sights ∙ ap (λ (v : UserView). v.sights) asks;
       back = given_back page place layout generation old view lost new wins (ap (λ (v : UserView). v.claimed) asks) (ap (λ (v : UserView). v.held) asks)
           (ap (λ (v : UserView). v.completed) asks) (ap (λ (v : UserView). v.retiled) asks) given;
     }
@@ -122,7 +128,7 @@ has_page page layout generation old view wins some few = record {
 
 -- nothing is given back where nothing was won
 pub given_none : (page : ℕ) (view : UserView) → IsGiven page 0 view view
-given_none page view = record { claimed = λ kept is none. is ∙ append-nil kept; asked = refl; held = refl; completed = refl; retiled = refl }
+given_none page view = record { claimed = λ kept is none. is ∙ append-nil kept; asked = refl; held = refl; completed = refl; retiled = refl; sights = refl }
 
 pub finds_worn : (page layout generation : ℕ) (old view new : UserView) → WinsFirst page (chunks_of layout) layout generation old view → generation ≡ 262143 → 0 < chunks_of layout
     → IsGiven page (chunks_of layout) view new → FindsWorn page old new
@@ -132,6 +138,7 @@ finds_worn page layout generation old view new wins last some given = record {
   wins = subst (λ g. WinsFirst page (chunks_of layout) layout g old view) last wins;
   some = some;
   asked = given.asked;
+  sights = given.sights;
   back = given_back page (chunks_of layout) layout generation old view view new wins refl refl refl refl given;
 }
 

@@ -8,6 +8,7 @@ use Rattle.chunk_plain.specs.Owned.{times}
 use Rattle.layout_tuner.specs.PageWords.{spot, chunks_of}
 use Rattle.layout_tuner.specs.Knows.{UserView, seen_in, told_by}
 use Rattle.layout_tuner.specs.World.{Status, Outside, Unclaimed, Claimed, Held, Complete, Reading, claim_of, claims_of, holds_of, reads_of, waits_of, IsMine, put, total, World, IsOwned}
+use Rattle.layout_tuner.proofs.Laid.{Sees, laid_turn}
 use Rattle.layout_tuner.proofs.Puts.{put_at, put_here, put_else, total-change}
 use Rattle.layout_tuner.proofs.Spots.{apart, apart_places}
 
@@ -39,6 +40,7 @@ pub record Turns (users : ℕ) (world : World) (user page : ℕ) (places : ℕ �
   pub generation_else : (other : ℕ) → other ≢ page → times other view.retiled ≡ times other old.retiled
   pub sights_here : (place : ℕ) → place < 14 → IsMine user (places place) → seen_in page view.sights ≡ (layout, generation)
   pub sights_else : (other : ℕ) → other ≢ page → seen_in other view.sights ≡ seen_in other old.sights
+  pub sees : Sees page layout generation (world.layouts page) (world.generations page) old.sights view.sights
   pub others_saw : (other place : ℕ) → other ≢ user → IsMine other (places place)
       → IsMine other (world.status page place) × (layout ≡ world.layouts page) × (generation ≡ world.generations page)
   pub layout_least : 1 ≤ layout
@@ -121,6 +123,8 @@ module _ (users : ℕ) (world : World) (user page : ℕ) (places : ℕ → Statu
         (λ differs. let all : next.status p ≡ world.status p = put_else world.status page places p differs in
         owned.sights u p q below (subst (λ (f : ℕ → Status). IsMine u (f q)) all mine)
         ∙ pair (world.layouts p) (next.layouts p) (world.generations p) (next.generations p) (sym (put_else world.layouts page layout p differs)) (sym (put_else world.generations page generation p differs)))));
+    laid = laid_turn users world.users world.layouts world.generations user page layout generation view t.user_in
+        (subst (λ (v : UserView). Sees page layout generation (world.layouts page) (world.generations page) v.sights view.sights) t.old_is t.sees) owned.laid;
     layout_least = λ p. put_at (λ _ l. 1 ≤ l) world.layouts page layout p t.layout_least (λ differs. owned.layout_least p);
     layout_most = λ p. put_at (λ _ l. l ≤ 5) world.layouts page layout p t.layout_most (λ differs. owned.layout_most p);
     outside = λ p q. dite (ℕ_discrete p page)
@@ -159,6 +163,7 @@ pub record PlaceTurn (world : World) (user page place : ℕ) (is : Status) (old 
   pub retiled : view.retiled ≡ old.retiled
   pub sights_here : seen_in page view.sights ≡ (world.layouts page, world.generations page)
   pub sights_else : (other : ℕ) → other ≢ page → seen_in other view.sights ≡ seen_in other old.sights
+  pub sees : Sees page (world.layouts page) (world.generations page) (world.layouts page) (world.generations page) old.sights view.sights
   pub full : world.status page place ≡ Complete → is ≡ Complete
 
 pub place_turns : (users : ℕ) (world : World) (user page place : ℕ) (is : Status) (old view : UserView) → IsOwned users world → user < users → PlaceTurn world user page place is old view
@@ -183,6 +188,7 @@ place_turns users world user page place is old view owned user_in t = record {
   generation_else = λ other differs. ap (times other) t.retiled;
   sights_here = λ q below mine. t.sights_here;
   sights_else = t.sights_else;
+  sees = t.sees;
   others_saw = λ other q differs mine. (put_at (λ r s. IsMine other s → IsMine other (world.status page r)) (world.status page) place is q (t.others_have other differs) (λ _ x. x) mine, refl, refl);
   layout_least = owned.layout_least page;
   layout_most = owned.layout_most page;

@@ -31,10 +31,11 @@ view_at [] user = newcomer
 view_at (seat ∷ seats) zero = known_by seat
 view_at (seat ∷ seats) (suc user) = view_at seats user
 
--- no chunk of the page is used: all state bits are clear, and of the claim bits just those of places that are no chunks are set
+-- no chunk of the page is used: all state bits and bit 31 are clear, and of the claim bits just those of places that are no chunks are set
 pub record IsUnused (word : ℕ) : Type 0 where
   pub layout_least : 1 ≤ layout_in word
   pub layout_most : layout_in word ≤ 5
+  pub spare : bit_at word 31 ≡ 0
   pub states : (bit : ℕ) → bit < LAYOUT_BIT → bit_at word bit ≡ 0
   pub claims : (place : ℕ) → place < 14 → bit_at word (CLAIM_BIT + place) ≡ (if nat_lt place (chunks_of (layout_in word)) then 0 else 1)
 

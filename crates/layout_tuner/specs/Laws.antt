@@ -1,5 +1,5 @@
 -- What the rule of a table says, in the words of page words and of what seats know, between any two steps of any seats.
-use Rattle.std.specs.Prelude.{◌≡◌, ℕ, ◌+◌, ◌<◌, ◌≤◌, List, slice_index_or}
+use Rattle.std.specs.Prelude.{◌≡◌, ℕ, ◌+◌, ◌<◌, ◌≤◌, ◌⊎◌, List, slice_index_or}
 use Rattle.std.specs.Int.{bit_at}
 use Rattle.atomic_table.specs.Table.{State}
 use Rattle.page_geometry.specs.declared.page_word.TheConstants.{CLAIM_BIT}
@@ -9,9 +9,9 @@ use Rattle.chunk_plain.specs.Views.{At}
 use Rattle.chunk_plain.specs.Owned.{times}
 use Rattle.layout_tuner.specs.declared.table.Shape.{Shape}
 use Rattle.layout_tuner.specs.PageWords.{spot, line, chunks_of, layout_in, generation_in}
-use Rattle.layout_tuner.specs.Knows.{UserView, CollectView, Watch, Knows, User, Collector, seen_in}
+use Rattle.layout_tuner.specs.Knows.{UserView, newcomer, CollectView, Watch, Knows, User, Collector, seen_in}
 use Rattle.layout_tuner.specs.Plays.{HasPlace}
-use Rattle.layout_tuner.specs.World.{total}
+use Rattle.layout_tuner.specs.World.{total, IsLaid}
 use Rattle.layout_tuner.specs.Rule.{IsTuned}
 
 -- nobody has the place
@@ -62,6 +62,8 @@ pub record PageOwnership (count page word : ℕ) (users : ℕ → UserView) (col
       → (bit_at word (CLAIM_BIT + place) ≡ 1) × HasState word place Free × IsNobodys users collector (spot page place)
   -- a user that has a chunk of the page saw it as it is laid out
   pub seen : (user place : ℕ) → place < 14 → HasPlace (users user) page place → seen_in page (users user).sights ≡ (layout_in word, generation_in word)
+  -- each page is laid out as users saw it
+  pub laid : IsLaid count users page (layout_in word) (generation_in word)
   -- the generation counts how often the users partitioned the page anew
   pub generation : generation_in word ≡ total count (λ user. times page (users user).retiled)
   -- of each place as many chunks were completed as taken, and one more where it is complete
@@ -70,7 +72,16 @@ pub record PageOwnership (count page word : ℕ) (users : ℕ → UserView) (col
   pub none_waits : (place : ℕ) → place < 14 → (HasState word place Complete → ⊥)
       → total count (λ user. times (spot page place) (users user).completed) ≡ times (spot page place) collector.taken
 
--- Each page is owned in these parts, and each user and the collector have one seat at most, whose view is the one meant there.
+-- the collector's seat is there, with this view
+pub record HasCollector (state : State ℕ Knows) (collector : CollectView) : Type 0 where
+  pub seat : ℕ
+  pub made : ℕ
+  pub joined : List UserView
+  pub watch : Watch
+  pub at : At state.views seat (Collector made joined watch collector)
+
+-- Each page is owned in these parts, and each user and the collector have one seat at most, whose view is the one meant there. The
+-- collector has one; a user that has none has done nothing, or its seat came back, and the collector's has its view.
 pub record TunedOwnership (shape : Shape) (state : State ℕ Knows) : Type 0 where
   pub users : ℕ → UserView
   pub collector : CollectView
@@ -83,6 +94,12 @@ pub record TunedOwnership (shape : Shape) (state : State ℕ Knows) : Type 0 whe
   pub one_collector : (seat other made more : ℕ) (joined other_joined : List UserView) (watch watched : Watch) (view known : CollectView)
       → At state.views seat (Collector made joined watch view) → At state.views other (Collector more other_joined watched known)
       → seat ≡ other
+  pub has_collector : HasCollector state collector
+  -- a user of the table
+  pub each_user : (user : ℕ) → user < shape.users
+      → (users user ≡ newcomer) ⊎ ((seat : ℕ) × At state.views seat (User user (users user))) ⊎ At has_collector.joined user (users user)
+  -- there are no other ones
+  pub no_others : (user : ℕ) → shape.users ≤ user → users user ≡ newcomer
 
 -- Each step is allowed by the rule alone, so this holds between any two steps of any number of threads.
 abbrev pub TunedIsOwnership : Type 0

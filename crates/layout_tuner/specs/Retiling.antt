@@ -1,5 +1,5 @@
 -- What a page that is partitioned anew, or isn't, does to the view of its user.
-use Rattle.std.specs.Prelude.{◌≡◌, ◌≢◌, ℕ, ◌+◌, ◌-◌, ◌*◌, ◌<◌, ◌++◌, true, false, List, [], ◌∷◌, length}
+use Rattle.std.specs.Prelude.{◌≡◌, ◌≢◌, ℕ, ◌+◌, ◌-◌, ◌*◌, ◌<◌, ◌++◌, true, false, List, [], ◌∷◌, length, replicate}
 use Rattle.chunk_plain.specs.Views.{At}
 use Rattle.chunk_plain.specs.Owned.{times}
 use Rattle.layout_tuner.specs.declared.table.TheConstants.{LAST_GENERATION}
@@ -24,6 +24,7 @@ pub record WinsFirst (page count layout generation : ℕ) (old new : UserView) :
   pub retiled : new.retiled ≡ old.retiled
   pub seen : 0 < count → seen_in page new.sights ≡ (layout, generation)
   pub elsewhere : (other : ℕ) → other ≢ page → seen_in other new.sights ≡ seen_in other old.sights
+  pub sights : new.sights ≡ replicate count (record { page = page; layout = layout; generation = generation }) ++ old.sights
 
 -- All that the user had it has again, and it has nothing else.
 pub record GivesBack (old new : UserView) : Type 0 where
@@ -53,6 +54,7 @@ pub record FindsBusy (page word : ℕ) (old new : UserView) : Type 0 where
   pub taken : is_clear word place ≡ false
   pub inside : place < chunks_of (layout_in word)
   pub asked : new.asked ≡ between.asked ++ record { page = page; place = place; found = word } ∷ []
+  pub sights : new.sights ≡ between.sights
   pub back : GivesBack old new
 
 -- The user won all chunks of a page, whose generation is the last one. It gave them back.
@@ -62,6 +64,7 @@ pub record FindsWorn (page : ℕ) (old new : UserView) : Type 0 where
   pub wins : WinsFirst page (chunks_of layout) layout LAST_GENERATION old between
   pub some : 0 < chunks_of layout
   pub asked : new.asked ≡ between.asked
+  pub sights : new.sights ≡ between.sights
   pub back : GivesBack old new
 
 -- the cause of a refusal

@@ -1,8 +1,9 @@
 -- What a table is about: how each page is laid out, who has each place of it, and what users and the collector have done.
 use Rattle.std.specs.Prelude.{◌≡◌, ◌≢◌, ℕ, zero, suc, ◌+◌, ◌<◌, ◌≤◌, ◌==◌, nat_lt, if◌then◌else◌}
+use Rattle.chunk_plain.specs.Views.{At}
 use Rattle.chunk_plain.specs.Owned.{times}
 use Rattle.layout_tuner.specs.PageWords.{spot, chunks_of}
-use Rattle.layout_tuner.specs.Knows.{UserView, newcomer, CollectView, new_collector, seen_in, told_by}
+use Rattle.layout_tuner.specs.Knows.{Sight, UserView, newcomer, CollectView, new_collector, seen_in, told_by}
 
 -- who has a place of a page
 pub data Status : Type 0 where
@@ -85,6 +86,21 @@ free_place chunks place = if nat_lt place chunks then Unclaimed else Outside
 abbrev pub first_world : World
 first_world = record { layouts = λ _. 5; generations = λ _. 0; status = λ _ place. free_place 14 place; users = λ _. newcomer; collector = new_collector }
 
+-- one of the first users saw a page laid out so
+pub record HasSeen (count : ℕ) (users : ℕ → UserView) (sight : Sight) : Type 0 where
+  pub user : ℕ
+  pub inside : user < count
+  pub place : ℕ
+  pub at : At (users user).sights place sight
+
+-- A page is laid out as the first users saw it: it has 14 chunks until one partitions it anew, then one saw it laid out so. None saw it
+-- partitioned more often, nor so often and laid out otherwise.
+pub record IsLaid (count : ℕ) (users : ℕ → UserView) (page layout generation : ℕ) : Type 0 where
+  pub first : generation ≡ 0 → layout ≡ 5
+  pub last : 0 < generation → HasSeen count users (record { page = page; layout = layout; generation = generation })
+  pub past : (user k : ℕ) (sight : Sight) → user < count → At (users user).sights k sight → sight.page ≡ page
+      → (sight.generation ≤ generation) × (sight.generation ≡ generation → sight.layout ≡ layout)
+
 -- Who has each place, in a table with so many users. A status names one user, so that one seat at most has a place is true by the form.
 pub record IsOwned (users : ℕ) (world : World) : Type 0 where
   pub claimed : (user page place : ℕ) → place < 14 → times (spot page place) (world.users user).claimed ≡ claims_of user (world.status page place)
@@ -98,6 +114,8 @@ pub record IsOwned (users : ℕ) (world : World) : Type 0 where
   -- a user that has a place of a page saw the page as it is laid out
   pub sights : (user page place : ℕ) → place < 14 → IsMine user (world.status page place)
       → seen_in page (world.users user).sights ≡ (world.layouts page, world.generations page)
+  -- each page is laid out as users saw it
+  pub laid : (page : ℕ) → IsLaid users world.users page (world.layouts page) (world.generations page)
   pub layout_least : (page : ℕ) → 1 ≤ world.layouts page
   pub layout_most : (page : ℕ) → world.layouts page ≤ 5
   -- a page's places from its number of chunks on are outside, and no other ones

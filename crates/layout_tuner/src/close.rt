@@ -1,9 +1,9 @@
 //! A table whose seats are all back is closed.
 ghost use Rattle.std.specs.Prelude.{◌≡◌, ℕ, ◌+◌, ◌*◌, ◌<◌, [], length, slice_index_or};
 ghost use Rattle.chunk_plain.specs.Owned.{times};
-ghost use Rattle.layout_tuner.specs.PageWords.{generation_in};
+ghost use Rattle.layout_tuner.specs.PageWords.{layout_in, generation_in};
 ghost use Rattle.layout_tuner.specs.Knows.{Collector, made_of, joined_of, watch_of, collector_of};
-ghost use Rattle.layout_tuner.specs.World.{total};
+ghost use Rattle.layout_tuner.specs.World.{total, IsLaid};
 ghost use Rattle.layout_tuner.specs.Collecting.{IsCaughtUp};
 ghost use Rattle.layout_tuner.specs.Closed.{HasAllSeats, IsUnused, view_at, views_of, with_view};
 ghost use Rattle.layout_tuner.specs.Plays.{IsUser};
@@ -40,6 +40,8 @@ impl TuneTable {
             ≡ length (known_by_collector collect).taken }
         ensures generations { (page : ℕ) → page < self.shape.pages → generation_in (slice_index_or result.items page 0)
             ≡ total self.shape.users (λ user. times page (view_at seats.items user).retiled) }
+        ensures laid { (page : ℕ) → page < self.shape.pages → IsLaid self.shape.users (λ user. view_at seats.items user) page
+            (layout_in (slice_index_or result.items page 0)) (generation_in (slice_index_or result.items page 0)) }
         ensures all_retiled { total self.shape.pages (λ page. generation_in (slice_index_or result.items page 0))
             ≡ total self.shape.users (λ user. length (view_at seats.items user).retiled) }
     {

@@ -78,6 +78,7 @@ impl TuneTable {
         ensures held { (known_by seat.new).held ≡ (known_by seat.old).held }
         ensures completed { (known_by seat.new).completed ≡ (known_by seat.old).completed }
         ensures retiled { (known_by seat.new).retiled ≡ (known_by seat.old).retiled }
+        ensures sights { (known_by seat.new).sights ≡ (known_by seat.old).sights }
         ensures steps { steps.new ≡ steps.old + count }
         ensures seat { Sits self.now seat.new }
         ensures number { seat.new.number ≡ seat.old.number }

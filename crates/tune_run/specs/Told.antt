@@ -3,7 +3,7 @@ use Rattle.std.specs.Prelude.{◌≡◌, ℕ, ◌+◌, ◌<◌, List, length, sl
 use Rattle.chunk_plain.specs.Views.{At}
 use Rattle.layout_tuner.specs.declared.table.TuneTable.{TuneTable}
 use Rattle.layout_tuner.specs.declared.seats.TuneSeat.{TuneSeat}
-use Rattle.layout_tuner.specs.PageWords.{generation_in}
+use Rattle.layout_tuner.specs.PageWords.{layout_in, generation_in}
 use Rattle.layout_tuner.specs.Knows.{newcomer, CollectView, told_by}
 use Rattle.layout_tuner.specs.World.{total}
 use Rattle.layout_tuner.specs.Closed.{IsUnused}
@@ -29,11 +29,13 @@ pub record HaveTold (table : TuneTable) (turns count : ℕ) (collector : Collect
 
 -- The numbers that a run of so many users comes to have these sums: of each user claims and claims in vain together, and retiles and refusals
 -- together, are its turns of each kind; as many chunks were collected as all users claimed; and the words of the four pages count together all
--- users' retiles. And no chunk is used.
+-- users' retiles. No chunk is used, and a page that no user gave another layout has 14 chunks.
 pub record IsReport (users turns : ℕ) (report : TuneReport) : Type 0 where
   pub many : length report.users.items ≡ users
   pub pages : length report.words.items ≡ 4
   pub counted : (user : ℕ) → user < users → CountsTurns (user + 1) turns (count_at report.users.items user)
   pub taken : total users (λ user. (count_at report.users.items user).claimed) ≡ report.taken
   pub retiled : total 4 (λ page. generation_in (slice_index_or report.words.items page 0)) ≡ total users (λ user. (count_at report.users.items user).retiled)
+  pub first : (page : ℕ) → page < 4 → generation_in (slice_index_or report.words.items page 0) ≡ 0
+      → layout_in (slice_index_or report.words.items page 0) ≡ 5
   pub unused : (page : ℕ) → page < 4 → IsUnused (slice_index_or report.words.items page 0)

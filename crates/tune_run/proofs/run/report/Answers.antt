@@ -27,5 +27,6 @@ returns c =
           ∙ (let more = c.collect-late.ensures.count in let same = ap length made.ensures.taken in let early = c.requires.taken in let late = c.from.ensures in omega (arith, more, same, early, late)));
       retiled = subst (λ n. total n (λ page. generation_in (get_or words page 0)) ≡ total table.shape.users (λ user. length (view_at seats user).retiled)) c.requires.pages closed.all_retiled
           ∙ all_retiled table turns collector counts seats told;
+      first = λ page below. (closed.laid page (subst (λ n. page < n) (sym c.requires.pages) below)).first;
       unused = λ page below. closed.unused page (subst (λ n. page < n) (sym c.requires.pages) below);
     }

@@ -5,11 +5,12 @@ use Rattle.std.proofs.Common.{◌≡◌, ℕ, ◌<◌, ◌∙◌, get_or, set, l
 use Rattle.std.specs.Mem.Slots.{slots_items}
 use Rattle.atomic_table.specs.Table.{Final, Seen}
 use Rattle.layout_tuner.specs.declared.table.Shape.{Shape}
-use Rattle.layout_tuner.specs.PageWords.{line, generation_in}
+use Rattle.layout_tuner.specs.PageWords.{line, layout_in, generation_in}
 use Rattle.layout_tuner.specs.Knows.{Knows, Collector, watch_of, collector_of}
+use Rattle.layout_tuner.specs.World.{IsLaid}
 use Rattle.layout_tuner.specs.Rule.{IsTuned}
 use Rattle.layout_tuner.specs.Plays.{Mine}
-use Rattle.layout_tuner.specs.Closed.{IsUnused, views_of}
+use Rattle.layout_tuner.specs.Closed.{IsUnused, view_at, views_of}
 use Rattle.layout_tuner.proofs.Puts.{total-same}
 use Rattle.layout_tuner.proofs.Ending.{at_get, Ends, table_ends}
 use Rattle.layout_tuner.proofs.table.TuneTable.close.Goals as goal
@@ -57,6 +58,10 @@ returns-clause-all_taken c = (ends c).all_taken
 
 pub returns-clause-generations : goal.returns-clause-generations
 returns-clause-generations c page below = ap generation_in (word_of c page below) ∙ (ends c).generations page below
+
+pub returns-clause-laid : goal.returns-clause-laid
+returns-clause-laid c page below =
+    subst (λ w. IsLaid c.args.self.shape.users (λ user. view_at c.args.seats.items user) page (layout_in w) (generation_in w)) (sym (word_of c page below)) ((ends c).laid page below)
 
 pub returns-clause-all_retiled : goal.returns-clause-all_retiled
 returns-clause-all_retiled c =

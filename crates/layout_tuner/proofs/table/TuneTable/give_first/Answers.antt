@@ -32,4 +32,5 @@ loop-left-preserved t c =
       held = ap (λ (v : UserView). v.held) view ∙ invariant.held;
       completed = ap (λ (v : UserView). v.completed) view ∙ invariant.completed;
       retiled = ap (λ (v : UserView). v.retiled) view ∙ invariant.retiled;
+      sights = ap (λ (v : UserView). v.sights) view ∙ invariant.sights;
     }

@@ -19,6 +19,7 @@ invariant-loop-left t l = record {
   held : (known_by l.seat).held ≡ (known_by l.fn.seat).held;
   completed : (known_by l.seat).completed ≡ (known_by l.fn.seat).completed;
   retiled : (known_by l.seat).retiled ≡ (known_by l.fn.seat).retiled;
+  sights : (known_by l.seat).sights ≡ (known_by l.fn.seat).sights;
 }
 
 abbrev pub decreases-loop-left : goal.decreases-loop-left

@@ -44,7 +44,7 @@ returns-then-claimed-2-clause-refused t c =
     let count : c.chunk_count-old_chunks.result ≡ chunks_of (layout_in first) = c.chunk_count-old_chunks.ensures.is ∙ ap chunks_of c.layout_of-old_layout.ensures in
     finds_busy page at (layout_in first) (generation_in first) found old view lost new wins claims (taken_word found at (c.claimed-in-loop-place.ensures.0 c.if-claimed-2.true))
     (subst (λ l. at < chunks_of l) (sym same.0) (omega (arith, less, count)))
-    (record { claimed = given.claimed; asked = given.asked; held = given.held; completed = given.completed; retiled = given.retiled })
+    (record { claimed = given.claimed; asked = given.asked; held = given.held; completed = given.completed; retiled = given.retiled; sights = given.sights })
 
 pub returns-then-claimed-2-clause-steps_refused : goal.returns-then-claimed-2-clause-steps_refused
 returns-then-claimed-2-clause-steps_refused t c =
@@ -90,7 +90,7 @@ returns-then-generation-eq-LAST_GENERATION-clause-refused t c =
     (wins_all page at layout (generation_in first) old view c.loop-place.invariant.wins all)
     (sym c.generation_of-generation.ensures.is ∙ c.if-generation-eq-LAST_GENERATION.true) (omega (arith, some, count))
     (subst (λ n. IsGiven page n view (known_by c.give_first-then-generation-eq-LAST_GENERATION.new.seat)) count
-    (record { claimed = given.claimed; asked = given.asked; held = given.held; completed = given.completed; retiled = given.retiled }))
+    (record { claimed = given.claimed; asked = given.asked; held = given.held; completed = given.completed; retiled = given.retiled; sights = given.sights }))
 
 pub step_retile-requires-clause-has : goal.step_retile-requires-clause-has
 step_retile-requires-clause-has t c =
