@@ -61,21 +61,22 @@ fn eight_users_end_with_counts_that_add_up(rt: HostRuntime) -> Result<(), Fail> 
 /// Loads that are more than any other job needs to begin.
 const PATIENCE: u32 = 1_000_000_000;
 
-/// Holds each of three jobs at its beginning until all of them have come there.
+/// Holds each job at its beginning until so many of them have come there.
 #[derive(Drop)]
-struct AllThree {
+struct AllJobs {
+    jobs: u64,
     come: AtomicU64,
     ran_out: AtomicU64,
 }
 
-impl Gate for AllThree {
+impl Gate for AllJobs {
     fn pass(&self, _job: u16, line: u64) {
         if line != 1 {
             return;
         }
         self.come.fetch_add(1, Ordering::SeqCst);
         for _ in 0..PATIENCE {
-            if self.come.load(Ordering::SeqCst) == 3 {
+            if self.come.load(Ordering::SeqCst) == self.jobs {
                 return;
             }
         }
@@ -85,12 +86,27 @@ impl Gate for AllThree {
 
 #[test]
 fn users_and_the_collector_run_beside_each_other(rt: HostRuntime) -> Result<(), Fail> {
-    let gate = AllThree {
+    let gate = AllJobs {
+        jobs: 3,
         come: AtomicU64::new(0),
         ran_out: AtomicU64::new(0),
     };
     let report = run_tune(&rt, &gate, rt.alloc(), 2, 5)?;
     assert_eq!(rt; gate.ran_out.load(Ordering::SeqCst), 0);
     assert_eq!(rt; report.users.len(), 2);
+    Ok(())
+}
+
+#[test]
+fn eight_users_and_the_collector_are_there_at_once(rt: HostRuntime) -> Result<(), Fail> {
+    let gate = AllJobs {
+        jobs: 9,
+        come: AtomicU64::new(0),
+        ran_out: AtomicU64::new(0),
+    };
+    let report = run_tune(&rt, &gate, rt.alloc(), 8, 9)?;
+    assert_eq!(rt; gate.ran_out.load(Ordering::SeqCst), 0);
+    assert_eq!(rt; gate.come.load(Ordering::SeqCst), 9);
+    assert_eq!(rt; report.users.len(), 8);
     Ok(())
 }

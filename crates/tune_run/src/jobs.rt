@@ -104,6 +104,7 @@ fn collect_rounds<G: Gate>(
     requires rounds { rounds ≤ MAX_TURNS }
     ensures taken { length (known_by_collector collect.new).taken ≡ length (known_by_collector collect.old).taken + result }
     ensures most { result ≤ 56 * rounds }
+    ensures looks { length (known_by_collector collect.new).looks ≡ length (known_by_collector collect.old).looks + 56 * rounds }
     ensures collect { Attends table.now collect.new }
 {
     let mut taken = 0;
@@ -131,6 +132,7 @@ pub(crate) fn run_beside<R: Threads + Sync, G: Gate + Sync>(
     requires most_turns { turns ≤ MAX_TURNS }
     ensures taken { length (known_by_collector collect.new).taken ≡ length (known_by_collector collect.old).taken + result }
     ensures most { result ≤ 56 * turns }
+    ensures looks { length (known_by_collector collect.new).looks ≡ length (known_by_collector collect.old).looks + 56 * turns }
     ensures collect { Attends table.now collect.new }
     ensures played { ArePlayed table.now turns jobs.new }
 {
@@ -140,6 +142,7 @@ pub(crate) fn run_beside<R: Threads + Sync, G: Gate + Sync>(
             requires { (table.now.shape.pages ≡ 4) × Attends table.now collect.now × (turns ≤ MAX_TURNS) }
             ensures taken { length (known_by_collector collect.exit.now).taken ≡ length (known_by_collector collect.entry.now).taken + result }
             ensures most { result ≤ 56 * turns }
+            ensures looks { length (known_by_collector collect.exit.now).looks ≡ length (known_by_collector collect.entry.now).looks + 56 * turns }
             ensures collect { Attends table.entry.now collect.exit.now }
         { collect_rounds(gate, table, collect, turns) },
         &mut ||

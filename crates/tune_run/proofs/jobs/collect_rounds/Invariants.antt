@@ -8,4 +8,5 @@ invariant-loop-round t l = record {
   collect : Attends l.fn.table l.collect;
   taken : length (known_by_collector l.collect).taken ≡ length (known_by_collector l.fn.collect).taken + l.taken;
   most : l.taken ≤ 56 * l.round;
+  looks : length (known_by_collector l.collect).looks ≡ length (known_by_collector l.fn.collect).looks + 56 * l.round;
 }
