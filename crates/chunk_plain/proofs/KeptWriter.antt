@@ -1,5 +1,5 @@
 -- Each other step of a writer of the table of one thread keeps what the table keeps.
-use Rattle.std.proofs.Common.{◌≡◌, ℕ, zero, suc, ◌+◌, ◌-◌, ◌<◌, ◌≤◌, Option, Some, None, List, [], ◌∷◌, length, set, get_or, subst, sym, refl, ap, ◌∙◌, arith, length-set}
+use Rattle.std.proofs.Common.{◌≡◌, ℕ, zero, suc, ◌+◌, ◌-◌, ◌<◌, ◌≤◌, Option, Some, None, List, [], ◌∷◌, ◌++◌, length, set, get_or, subst, sym, refl, ap, ◌∙◌, arith, length-set}
 use Rattle.std.proofs.lemmas.List.{get_or-set_same, get_or-set_other}
 use Rattle.trace_model.specs.Calls as call
 use Rattle.page_geometry.specs.PageBits.{HasState, SetsState, KeepsOthers}
@@ -7,7 +7,7 @@ use Rattle.page_geometry.specs.declared.chunk_state.ChunkState.TheVariants as st
 use Rattle.commit_body.specs.declared.body.CommitBody.{CommitBody}
 use Rattle.chunk_plain.specs.Setup.{Setup, spot, IsLaid}
 use Rattle.chunk_plain.specs.Payload.{byte_at, sealed_to, HasFragments}
-use Rattle.chunk_plain.specs.Views.{Head, no_head, fresh}
+use Rattle.chunk_plain.specs.Views.{Head, no_head, fresh, Letters, WriterView}
 use Rattle.chunk_plain.specs.World.{World, Status, Unclaimed, Claimed, Stamped, Writing, Ready, Reading, status, writer}
 use Rattle.chunk_plain.specs.Steps.{stamps, begins, redrafts, with_head, with_words, completes, notes_call, drafted, moved, with_writer_view}
 use Rattle.chunk_plain.specs.Owned.{times, IsOwned}
@@ -16,7 +16,7 @@ use Rattle.chunk_plain.specs.Stored.{Stored, stored_at}
 use Rattle.chunk_plain.specs.Shows.{state_of, claim_of, NeverAsked, ShowsPage, ShowsHeader, ShowsSlot, IsHeader, IsFreeBody, content_of, page_word, header_word}
 use Rattle.chunk_plain.specs.Plain.{IsLent, StandsWhole, IsKept}
 use Rattle.chunk_plain.proofs.Owned.{claimed_status}
-use Rattle.chunk_plain.proofs.WriterSteps.{stamps_owned, begins_owned, notes_call_owned}
+use Rattle.chunk_plain.proofs.WriterSteps.{stamps_owned, begins_owned, notes_owned}
 use Rattle.chunk_plain.proofs.EntrySteps.{heads_owned, stores_owned, completes_owned}
 use Rattle.chunk_plain.proofs.PageSteps.{sets_page, same_page}
 use Rattle.chunk_plain.proofs.Sealing.{length-ends_from}
@@ -258,12 +258,13 @@ complete_kept setup words slots world place chunk id new body laid kept inside_w
       writers = length-set world.writers place view ∙ kept.writers;
     }
 
--- ---- note_call
+-- ---- calls and letters
 
-pub call_kept : (setup : Setup) (words : List ℕ) (slots : List Stored) (world : World) (place : ℕ) (noted_call : call.Call)
-    → IsKept setup words slots world → place < length setup.writers → IsKept setup words slots (with_writer_view world place (notes_call (writer world place) noted_call))
-call_kept setup words slots world place noted_call kept inside_w =
-    let shown = kept.shown in let view = notes_call (writer world place) noted_call in
+pub noted_kept : (setup : Setup) (words : List ℕ) (slots : List Stored) (world : World) (place : ℕ) (calls : List call.Call) (letters : Letters)
+    → IsKept setup words slots world → place < length setup.writers
+    → IsKept setup words slots (with_writer_view world place (record (writer world place) { calls = calls; letters = letters }))
+noted_kept setup words slots world place calls letters kept inside_w =
+    let shown = kept.shown in let view : WriterView = record (writer world place) { calls = calls; letters = letters } in
     let w_inside : place < length world.writers = let many = kept.writers in omega arith in
     let next = with_writer_view world place view in
     let never : (number : ℕ) → NeverAsked setup world number → NeverAsked setup next number = never_same setup world place view world.chunks world.service w_inside refl in
@@ -276,6 +277,11 @@ call_kept setup words slots world place noted_call kept inside_w =
         header = shown.header;
         slot = shown.slot;
       };
-      owned = notes_call_owned world place noted_call kept.owned w_inside;
+      owned = notes_owned world place calls letters kept.owned w_inside;
       writers = length-set world.writers place view ∙ kept.writers;
     }
+
+pub call_kept : (setup : Setup) (words : List ℕ) (slots : List Stored) (world : World) (place : ℕ) (noted_call : call.Call)
+    → IsKept setup words slots world → place < length setup.writers → IsKept setup words slots (with_writer_view world place (notes_call (writer world place) noted_call))
+call_kept setup words slots world place noted_call kept inside_w =
+    noted_kept setup words slots world place ((writer world place).calls ++ noted_call ∷ []) (writer world place).letters kept inside_w

@@ -119,3 +119,9 @@ pub at_some : {A : Type 0} (xs : List A) (i : ℕ) → i < length xs → (x : A)
 at_some [] i inside = absurd (omega arith)
 at_some (x ∷ xs) zero inside = (x, refl)
 at_some (x ∷ xs) (suc i) inside = at_some xs i (omega arith)
+
+-- what stands at a place is what a read there gives
+pub at_get : {A : Type 0} (xs : List A) (i : ℕ) (d x : A) → At xs i x → get_or xs i d ≡ x
+at_get [] i d x at = absurd (some-ne-none x (sym at))
+at_get (z ∷ zs) zero d x at = some-injective z x at
+at_get (z ∷ zs) (suc i) d x at = at_get zs i d x at

@@ -6,7 +6,7 @@ use mathlib.Core.Logic.{dite}
 use Rattle.atomic_table.proofs.Lists.{at_set}
 use Rattle.trace_model.specs.Calls.{Call}
 use Rattle.chunk_plain.specs.Setup.{Setup, producer_of, IsChunkOf}
-use Rattle.chunk_plain.specs.Views.{Ask, Draft, fresh, Content, BegunChunk, chunk_of, Held, WriterView, ServiceView, Taken, none_taken, taken_of, newcomer}
+use Rattle.chunk_plain.specs.Views.{Ask, Draft, fresh, Content, BegunChunk, chunk_of, Held, Letters, WriterView, ServiceView, Taken, none_taken, taken_of, newcomer}
 use Rattle.chunk_plain.specs.World.{World, Stamped, Writing, writer}
 use Rattle.chunk_plain.specs.Steps.{claims, stamps, begins, redrafts, notes_call, takes_in, learns, moved}
 use Rattle.chunk_plain.specs.Owned.{times}
@@ -87,8 +87,11 @@ module _ (setup : Setup) (place : ℕ) (view : WriterView) (rests : IsAtRest set
         (at_set view.begun id i entry other at);
   }
 
+  pub noted_rest : (calls : List Call) (letters : Letters) → IsAtRest setup place (record view { calls = calls; letters = letters })
+  noted_rest calls letters = record { inside = rests.inside; stamped = rests.stamped; asked = rests.asked; claimed = rests.claimed; begun = rests.begun }
+
   pub notes_rest : (call : Call) → IsAtRest setup place (notes_call view call)
-  notes_rest call = record { inside = rests.inside; stamped = rests.stamped; asked = rests.asked; claimed = rests.claimed; begun = rests.begun }
+  notes_rest call = noted_rest (view.calls ++ call ∷ []) view.letters
 
 -- the service has the content of the chunk that it took, when its take ends
 pub takes_serving : (setup : Setup) (view : ServiceView) (place chunk : ℕ) (content : Content) → IsServing setup view → place < length setup.writers

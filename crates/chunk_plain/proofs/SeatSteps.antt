@@ -11,6 +11,7 @@ module _ {T W S : Type 0} (means : Meaning T W S) where
     writers_stay = λ other there _. (there, refl);
     service_stays = λ other there. (there, refl);
     reads_stay = λ other takes. takes;
+    letters_stay = refl;
   }
 
   pub steps_follow : (old : T) (before : W) (mid : T) (between : W) (new : T) (after : W)
@@ -28,6 +29,7 @@ module _ {T W S : Type 0} (means : Meaning T W S) where
         let second = two.service_stays other first.0 in
         (second.0, second.1 ∙ first.1);
     reads_stay = λ other takes. two.reads_stay other (one.reads_stay other takes);
+    letters_stay = two.letters_stay ∙ one.letters_stay;
   }
 
   pub serves_on : (table : T) (seat : S) → means.serves table seat → IsServiceStep means table seat table seat
@@ -36,6 +38,7 @@ module _ {T W S : Type 0} (means : Meaning T W S) where
     seat_stays = serves_;
     writers_stay = λ other there. (there, refl);
     reads_stay = λ takes. takes;
+    letters_stay = refl;
   }
 
   pub services_follow : (old : T) (before : S) (mid : T) (between : S) (new : T) (after : S)
@@ -48,4 +51,5 @@ module _ {T W S : Type 0} (means : Meaning T W S) where
         let second = two.writers_stay other first.0 in
         (second.0, second.1 ∙ first.1);
     reads_stay = λ takes. two.reads_stay (one.reads_stay takes);
+    letters_stay = two.letters_stay ∙ one.letters_stay;
   }

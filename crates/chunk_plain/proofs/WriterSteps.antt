@@ -6,7 +6,7 @@ use native.Mathlib.Decide.{ℕ_discrete}
 use mathlib.Core.Logic.{dite}
 use Rattle.atomic_table.proofs.Lists.{at_longer, at_last}
 use Rattle.trace_model.specs.Calls.{Call}
-use Rattle.chunk_plain.specs.Views.{At, Ask, fresh, BegunChunk, chunk_of, Held, Completed, Stamp, WriterView, newcomer}
+use Rattle.chunk_plain.specs.Views.{At, Ask, fresh, BegunChunk, chunk_of, Held, Completed, Letters, Stamp, WriterView, newcomer}
 use Rattle.chunk_plain.specs.World.{World, Status, Unclaimed, Claimed, Stamped, Writing, status, writer}
 use Rattle.chunk_plain.specs.Steps.{without, claims, stamps, begins, notes_call, moved, with_writer_view}
 use Rattle.chunk_plain.specs.Drafts.{IsDraft}
@@ -102,16 +102,22 @@ misses_owned world place chunk found o inside taken =
     (order_grows world place (claims v chunk found false) ask o.ordered inside refl (λ _. o.claimed_won chunk taken))
     (λ about found there. record { entry = there.entry; at = there.at; has = there.has })
 
--- a call is noted
-pub notes_call_owned : (world : World) (place : ℕ) (call : Call) → IsOwned world → place < length world.writers → IsOwned (with_writer_view world place (notes_call (writer world place) call))
-notes_call_owned world place call o inside =
+-- calls and letters are noted
+pub notes_owned : (world : World) (place : ℕ) (calls : List Call) (letters : Letters) → IsOwned world → place < length world.writers
+    → IsOwned (with_writer_view world place (record (writer world place) { calls = calls; letters = letters }))
+notes_owned world place calls letters o inside =
     let q = o.counts place in
-    noted_owned world place (notes_call (writer world place) call) o inside
+    let view : WriterView = record (writer world place) { calls = calls; letters = letters } in
+    noted_owned world place view o inside
     (λ other p. record { claimed = p.claimed; stamp_is = p.stamp_is; stamped_is = p.stamped_is; held_is = p.held_is; writing_is = p.writing_is; completed_is = p.completed_is; ready_is = p.ready_is; reading_is = p.reading_is })
     record { wins = q.wins; next = q.next; named = q.named; drafts = q.drafts; wholes = q.wholes; completed = q.completed; learnt = q.learnt; level = q.level }
     (λ i old at. at)
-    (order_stays world.writers place (notes_call (writer world place) call) o.ordered inside refl)
+    (order_stays world.writers place view o.ordered inside refl)
     (λ about found there. record { entry = there.entry; at = there.at; has = there.has })
+
+-- a call is noted
+pub notes_call_owned : (world : World) (place : ℕ) (call : Call) → IsOwned world → place < length world.writers → IsOwned (with_writer_view world place (notes_call (writer world place) call))
+notes_call_owned world place call o inside = notes_owned world place ((writer world place).calls ++ call ∷ []) (writer world place).letters o inside
 
 -- the header of a claimed chunk is stored
 pub stamps_owned : (world : World) (place chunk : ℕ) → IsOwned world → place < length world.writers → chunk < length world.chunks

@@ -5,9 +5,9 @@ use Rattle.trace_model.specs.Calls.{Call}
 use Rattle.trace_model.specs.Pages.{framed}
 use Rattle.chunk_plain.specs.Setup.{Setup, sequence_of}
 use Rattle.chunk_plain.specs.Payload.{byte_of, byte_at, byte_in, sealed_to, HasFragments, ends_from}
-use Rattle.chunk_plain.specs.Views.{At, Head, Draft, fresh, Content, Held, Completed, Found, ServiceView, taken_of}
+use Rattle.chunk_plain.specs.Views.{At, Head, Draft, fresh, Content, Held, Completed, Letters, Found, ServiceView, taken_of}
 use Rattle.chunk_plain.specs.World.{World, Unclaimed, Claimed, Stamped, Writing, Ready, Reading, status, writer}
-use Rattle.chunk_plain.specs.Steps.{claims, stamps, begins, redrafts, with_head, with_word, completes, notes_call, looks_at, takes_in, learns, lets_go, moved, served, with_writer_view, serviced}
+use Rattle.chunk_plain.specs.Steps.{claims, stamps, begins, redrafts, with_head, with_word, completes, looks_at, takes_in, learns, lets_go, moved, served, with_writer_view, serviced}
 use Rattle.chunk_plain.specs.Owned.{times, IsOwned}
 use Rattle.chunk_plain.specs.Drafts.{MayFollow, IsDraft, IsFound, IsThere, head_of}
 use Rattle.chunk_plain.specs.Stored.{Stored}
@@ -38,7 +38,8 @@ pub record WriterStepsKeep (world : World) (place chunk : ℕ) : Type 0 where
       → sealed_to draft.ends ≤ length content.image.payload
       → ((j : ℕ) → j < sealed_to draft.ends → byte_at draft.words j ≡ byte_in content.image.payload j)
       → IsOwned (moved world place (completes (writer world place) chunk id content) chunk (Ready place id content))
-  pub notes_it : (call : Call) → IsOwned (with_writer_view world place (notes_call (writer world place) call))
+  -- what it notes: a call, a request that it heard of, an answer
+  pub notes_it : (calls : List Call) (letters : Letters) → IsOwned (with_writer_view world place (record (writer world place) { calls = calls; letters = letters }))
 
 -- and so does each step of the service
 pub record ServiceStepsKeep (world : World) (place chunk : ℕ) : Type 0 where

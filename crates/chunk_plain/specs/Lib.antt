@@ -3,6 +3,7 @@ pub mod Histories
 pub mod Laws
 pub mod Laying
 pub mod Made
+pub mod Letters
 pub mod Meaning
 pub mod Owned
 pub mod Ownership

@@ -1,6 +1,6 @@
 -- What each seat of a table of chunks knows: its view. A view is a history of what the seat did, with what it still holds. No value of it
 -- exists when the program runs. Writers are told apart by their place in the list that the table was made with, counted from 0.
-use Rattle.std.specs.Prelude.{◌≡◌, ℕ, Bool, Option, None, List, [], slice_index_or}
+use Rattle.std.specs.Prelude.{◌≡◌, ℕ, ◌+◌, Bool, Option, None, List, [], ◌∷◌, slice_index_or}
 use mathlib.Core.Option.{some}
 use lib.ListN.{get_elem?}
 use Rattle.trace_model.specs.Calls.{Call}
@@ -67,6 +67,21 @@ pub record Stamp : Type 0 where
   pub chunk : ℕ
   pub id : ℕ
 
+-- an answer of a writer to a flush request: to this one and those before it, with so many chunks completed and so many calls noted by then
+pub record Reply : Type 0 where
+  pub flush : ℕ
+  pub chunks : ℕ
+  pub calls : ℕ
+
+-- what a writer knows of flush requests: how many were made, of those that it heard of; and its answers, in their order
+pub record Letters : Type 0 where
+  pub known : ℕ
+  pub answers : List Reply
+
+-- a writer that heard of no request
+abbrev pub no_letters : Letters
+no_letters = record { known = 0; answers = [] }
+
 -- what a writer's seat has done
 pub record WriterView : Type 0 where
   -- its claims, in their order
@@ -78,10 +93,11 @@ pub record WriterView : Type 0 where
   pub begun : List BegunChunk
   -- the calls that it noted
   pub calls : List Call
+  pub letters : Letters
 
 -- the view of a seat that has done nothing
 abbrev pub newcomer : WriterView
-newcomer = record { asked = []; claimed = []; stamped = None; begun = []; calls = [] }
+newcomer = record { asked = []; claimed = []; stamped = None; begun = []; calls = []; letters = no_letters }
 
 -- The service
 
@@ -131,6 +147,18 @@ pub record Committed : Type 0 where
   pub image : Image
   pub patches : List Patch
 
+-- What the service did for flush requests: it made the next one; or it read of the writer at this place this answer, where 0 is the number
+-- of none.
+pub data Letter : Type 0 where
+  Asked : Letter
+  Heard : (place flush chunks : ℕ) → Letter
+
+-- how many requests it made
+abbrev pub asked_in : List Letter → ℕ
+asked_in [] = 0
+asked_in (Asked ∷ letters) = asked_in letters + 1
+asked_in (Heard place flush chunks ∷ letters) = asked_in letters
+
 -- what the service's seat has done
 pub record ServiceView : Type 0 where
   pub looks : List Look
@@ -140,6 +168,8 @@ pub record ServiceView : Type 0 where
   pub reading : List ℕ
   pub events : List Noted
   pub commits : List Committed
+  -- what it did for flush requests, in its order
+  pub letters : List Letter
 
 -- what was taken of a writer
 abbrev pub taken_of : ServiceView → ℕ → Taken
@@ -147,4 +177,4 @@ taken_of service writer = slice_index_or service.taken writer none_taken
 
 -- the service before its first step, where nothing was taken of any writer
 abbrev pub newcomer_service : ServiceView
-newcomer_service = record { looks = []; taken = []; reading = []; events = []; commits = [] }
+newcomer_service = record { looks = []; taken = []; reading = []; events = []; commits = []; letters = [] }

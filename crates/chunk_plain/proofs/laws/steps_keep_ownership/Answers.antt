@@ -14,7 +14,7 @@ returns c = λ world place chunk owned inside_w inside_c. (
     heads_it = λ id draft head ends at follows good. entry.heads_owned world place chunk id draft head ends owned inside_w inside_c at follows good;
     publishes_it = λ id index word draft at inside same. entry.publishes_owned world place chunk id index word draft owned inside_w inside_c at inside same;
     completes_it = λ id draft content at id_is sequence_is head_is inside same. entry.completes_owned world place chunk id draft content owned inside_w inside_c at id_is sequence_is head_is inside same;
-    notes_it = λ call. writer_steps.notes_call_owned world place call owned inside_w;
+    notes_it = λ calls letters. writer_steps.notes_owned world place calls letters owned inside_w;
   },
   record {
     looks_it = λ word header found finds. looks_owned world chunk word header found owned finds;

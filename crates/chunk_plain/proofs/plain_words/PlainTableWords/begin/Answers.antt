@@ -1,7 +1,7 @@
 use Rattle.std.proofs.lemmas.List.{get_or-set_same}
 use Rattle.std.proofs.Common.{◌≡◌, ◌*◌, ◌≤◌, ◌∙◌, arith, ap, sym, subst, refl, length, List, Some, IsSome}
 use Rattle.chunk_plain.specs.Setup.{spot}
-use Rattle.chunk_plain.specs.Views.{fresh}
+use Rattle.chunk_plain.specs.Views.{fresh, WriterView}
 use Rattle.chunk_plain.specs.World.{World, Unclaimed, Writing, status, writer}
 use Rattle.chunk_plain.specs.Steps.{stamps, begins, moved}
 use Rattle.chunk_plain.specs.Drafts.{draft_at}
@@ -79,6 +79,7 @@ returns-clause-step c =
       writers_stay = λ other there differs. resting.others_stay self.layout _ self.told.world next place view other.place layout_is writers_are there differs;
       service_stays = λ other serves. resting.serving_stays self.layout _ self.told.world.service next.service layout_is (ap (λ (w : World). w.service) last_is) serves;
       reads_stay = λ other takes. takes;
+      letters_stay = ap (λ (v : WriterView). v.letters) (known.view_now self.layout self.words.items self.slots.items self.told.world self.kept next place view c.requires.seat.inside writers_are);
     }
 
 pub returns-clause-told : goal.returns-clause-told

@@ -7,6 +7,7 @@ use Rattle.chunk_plain.proofs.plain_words.PlainTableWords.claim_try.Goals as goa
 use Rattle.std.proofs.Common.{Some}
 use Rattle.page_geometry.specs.PageBits.{IsClaimed}
 use Rattle.chunk_plain.specs.declared.step.Step.TheVariants.{Claim}
+use Rattle.chunk_plain.specs.Views.{WriterView}
 use Rattle.chunk_plain.specs.World.{World, Unclaimed, Claimed, status, writer}
 use Rattle.chunk_plain.specs.Steps.{claims, moved, with_writer_view}
 use Rattle.chunk_plain.specs.Plain.{world_after}
@@ -104,6 +105,7 @@ returns-then-claimed-clause-step c =
       writers_stay = λ other there differs. resting.others_stay self.layout _ self.told.world next place view other.place refl writers_are there differs;
       service_stays = λ other serves. resting.serving_stays self.layout _ self.told.world.service next.service refl (ap (λ (w : World). w.service) next_is) serves;
       reads_stay = λ other takes. takes;
+      letters_stay = ap (λ (v : WriterView). v.letters) (known.view_now self.layout self.words.items self.slots.items self.told.world self.kept next place view c.requires.seat.inside writers_are);
     }
 
 pub returns-clause-step : goal.returns-clause-step
@@ -120,4 +122,5 @@ returns-clause-step c =
       writers_stay = λ other there differs. resting.others_stay self.layout _ self.told.world next place view other.place refl writers_are there differs;
       service_stays = λ other serves. resting.serving_stays self.layout _ self.told.world.service next.service refl (ap (λ (w : World). w.service) next_is) serves;
       reads_stay = λ other takes. takes;
+      letters_stay = ap (λ (v : WriterView). v.letters) (known.view_now self.layout self.words.items self.slots.items self.told.world self.kept next place view c.requires.seat.inside writers_are);
     }

@@ -1,6 +1,6 @@
 use Rattle.std.proofs.Common.{◌≡◌, ◌∙◌, ap, subst, refl}
 use Rattle.commit_body.specs.declared.body.CommitBody.{CommitBody}
-use Rattle.chunk_plain.specs.Views.{Completed}
+use Rattle.chunk_plain.specs.Views.{Completed, WriterView}
 use Rattle.chunk_plain.specs.World.{World, Ready, writer}
 use Rattle.chunk_plain.specs.Steps.{completes, moved}
 use Rattle.chunk_plain.specs.Drafts.{head_at}
@@ -34,4 +34,5 @@ returns-clause-step c =
       writers_stay = λ other there differs. resting.others_stay self.layout _ self.told.world next place view other.place layout_is writers_are there differs;
       service_stays = λ other serves. resting.serving_stays self.layout _ self.told.world.service next.service layout_is (ap (λ (w : World). w.service) world_is) serves;
       reads_stay = λ other takes. takes;
+      letters_stay = ap (λ (v : WriterView). v.letters) (known.view_now self.layout self.words.items self.slots.items self.told.world self.kept next place view c.requires.seat.inside writers_are);
     }

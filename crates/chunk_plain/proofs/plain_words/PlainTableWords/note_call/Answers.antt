@@ -3,6 +3,7 @@ use Rattle.chunk_plain.proofs.Resting as resting
 use Rattle.std.proofs.Common.{ap}
 use Rattle.chunk_plain.proofs.Known as known
 use Rattle.chunk_plain.proofs.plain_words.PlainTableWords.note_call.Goals as goal
+use Rattle.chunk_plain.specs.Views.{WriterView}
 use Rattle.chunk_plain.specs.World.{World, writer}
 use Rattle.chunk_plain.specs.Steps.{notes_call}
 use Rattle.chunk_plain.specs.Words.{call_of}
@@ -28,4 +29,5 @@ returns-clause-step c =
       writers_stay = λ other there differs. resting.others_stay self.layout _ self.told.world next place view other.place refl writers_are there differs;
       service_stays = λ other serves. resting.serving_stays self.layout _ self.told.world.service next.service refl (ap (λ (w : World). w.service) c.make_step.ensures.world) serves;
       reads_stay = λ other takes. takes;
+      letters_stay = ap (λ (v : WriterView). v.letters) (known.view_now self.layout self.words.items self.slots.items self.told.world self.kept next place view c.requires.inside writers_are);
     }

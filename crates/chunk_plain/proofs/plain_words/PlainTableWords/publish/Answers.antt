@@ -1,6 +1,6 @@
 use Rattle.std.proofs.Common.{◌≡◌, ℕ, ◌/◌, ◌≤◌, ◌∙◌, List, length, refl, ap, sym, subst, arith, Some}
 use Rattle.chunk_plain.specs.Payload.{StoredUpTo}
-use Rattle.chunk_plain.specs.Views.{Draft, Held}
+use Rattle.chunk_plain.specs.Views.{Draft, Held, WriterView}
 use Rattle.chunk_plain.specs.World.{World, Writing, writer}
 use Rattle.chunk_plain.specs.Steps.{redrafts, with_words, moved}
 use Rattle.chunk_plain.specs.Drafts.{draft_at}
@@ -60,6 +60,7 @@ returns-clause-step c =
       writers_stay = λ other there differs. resting.others_stay self.layout _ self.told.world next place view other.place layout_is writers_are there differs;
       service_stays = λ other serves. resting.serving_stays self.layout _ self.told.world.service next.service layout_is (ap (λ (w : World). w.service) world_is) serves;
       reads_stay = λ other takes. takes;
+      letters_stay = ap (λ (v : WriterView). v.letters) (known.view_now self.layout self.words.items self.slots.items self.told.world self.kept next place view c.requires.seat.inside writers_are);
     }
 
 pub returns-clause-told : goal.returns-clause-told

@@ -1,7 +1,7 @@
 use Rattle.std.proofs.Common.{◌≡◌, refl, ap, subst, Some}
 use Rattle.chunk_plain.proofs.Resting as resting
 use Rattle.chunk_plain.specs.World.{World, Writing, writer}
-use Rattle.chunk_plain.specs.Views.{Held}
+use Rattle.chunk_plain.specs.Views.{Held, WriterView}
 use Rattle.chunk_plain.specs.Steps.{redrafts, with_head, moved}
 use Rattle.chunk_plain.specs.Drafts.{draft_at, ends_by}
 use Rattle.std.proofs.Common.{◌<◌, length, arith}
@@ -34,6 +34,7 @@ returns-clause-step c =
       writers_stay = λ other there differs. resting.others_stay self.layout _ self.told.world next place view other.place refl writers_are there differs;
       service_stays = λ other serves. resting.serving_stays self.layout _ self.told.world.service next.service refl (ap (λ (w : World). w.service) c.make_step.ensures.world) serves;
       reads_stay = λ other takes. takes;
+      letters_stay = ap (λ (v : WriterView). v.letters) (known.view_now self.layout self.words.items self.slots.items self.told.world self.kept next place view c.requires.seat.inside writers_are);
     }
 
 pub returns-clause-told : goal.returns-clause-told

@@ -9,7 +9,7 @@ use Rattle.commit_body.specs.declared.body.CommitBody.{CommitBody}
 use Rattle.chunk_plain.specs.declared.setup.Spot.{Spot}
 use Rattle.chunk_plain.specs.Setup.{spot}
 use Rattle.chunk_plain.specs.Payload.{byte_at, byte_in}
-use Rattle.chunk_plain.specs.Views.{Head, Content, taken_of}
+use Rattle.chunk_plain.specs.Views.{Head, Content, taken_of, ServiceView}
 use Rattle.chunk_plain.specs.World.{World, Ready, Reading, status}
 use Rattle.chunk_plain.specs.Steps.{served, serviced}
 use Rattle.chunk_plain.specs.Stored.{Stored, stored_at}
@@ -180,6 +180,7 @@ returns-clause-step c =
       seat_stays = resting.serves_stays self.layout _ _ next.service layout_is service_is (taking.taken_serves self.layout self.told.world.service place chunk seen.word.0 header full_content c.requires.seat inside_w);
       writers_stay = λ other there. resting.all_stay self.layout _ self.told.world next other.place layout_is writers_are there;
       reads_stay = λ takes. takes;
+      letters_stay = ap (λ (v : ServiceView). v.letters) service_is;
     }
 
 pub returns-clause-told_taken : goal.returns-clause-told_taken
