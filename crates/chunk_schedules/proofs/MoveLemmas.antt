@@ -2,14 +2,15 @@
 use Rattle.std.proofs.Common.{◌≡◌, ℕ, length, None, refl, sym, ap, subst, length-set}
 use Rattle.chunk_plain.specs.World.{World, Status, Unclaimed, Claimed, Stamped, Writing, Ready, Reading, status, writer}
 use Rattle.chunk_plain.specs.Steps.{looks_at, takes_in, notes, notes_commit, served, serviced}
+use Rattle.chunk_plain.specs.Letters.{answers_with, requests, hears_answer}
 use Rattle.chunk_plain.specs.Owned.{IsOwned}
 use Rattle.chunk_plain.specs.Drafts.{draft_at, ends_by}
 use Rattle.chunk_plain.specs.Plain.{read_as}
-use Rattle.chunk_plain.proofs.WriterSteps.{claims_owned, misses_owned, notes_call_owned, stamps_owned, begins_owned}
+use Rattle.chunk_plain.proofs.WriterSteps.{claims_owned, misses_owned, notes_owned, notes_call_owned, stamps_owned, begins_owned}
 use Rattle.chunk_plain.proofs.EntrySteps.{heads_owned, publishes_owned, completes_owned}
 use Rattle.chunk_plain.proofs.ServiceSteps.{takes_owned, learns_owned, lets_go_owned}
 use Rattle.chunk_plain.proofs.Owned.{serviced_owned, looks_owned}
-use Rattle.chunk_schedules.specs.Moves.{Move, Claims, Stamps, Begins, SetsHeader, Publishes, Completes, Calls, Looks, Takes, Learns, Releases, Notes, Commits, MayMove, IsWriter, IsChunk, IsNext, claimed_in, behind}
+use Rattle.chunk_schedules.specs.Moves.{Move, Claims, Stamps, Begins, SetsHeader, Publishes, Completes, Calls, Looks, Takes, Learns, Releases, Notes, Commits, HearsOf, Answers, Requests, ReadsAnswer, MayMove, IsWriter, IsChunk, IsNext, claimed_in, behind}
 
 -- a claim, by what the chunk is used for
 claims_keep : (world : World) (place chunk found : ℕ) → IsOwned world → IsWriter world place → IsChunk world chunk → (is : Status) → status world chunk ≡ is
@@ -44,12 +45,19 @@ move_keeps world (Completes place chunk id content) may owned =
     completes_owned world place chunk id (draft_at (writer world place) id) content owned may.0 may.1 may.2
     may.3.id_is may.3.sequence_is may.3.head_is may.3.inside may.3.bytes
 move_keeps world (Calls place call) may owned = notes_call_owned world place call owned may
-move_keeps world (Looks chunk word header found) may owned = looks_owned world chunk word header found owned may
+move_keeps world (Looks chunk word header found) may owned = looks_owned world chunk word header found owned may.there
 move_keeps world (Takes place chunk word header) may owned = takes_keep world place chunk word header owned may.0 may.1 may.2
 move_keeps world (Learns place chunk content) may owned = learns_owned world place chunk content owned may.0 may.1.taken may.1.completed
 move_keeps world (Releases chunk) may owned = lets_go_owned world chunk may.1.0 may.1.1 may.1.2 owned may.0 may.1.3
 move_keeps world (Notes event) may owned = serviced_owned world (notes world.service event) owned refl refl refl
 move_keeps world (Commits committed) may owned = serviced_owned world (notes_commit world.service committed) owned refl refl refl
+move_keeps world (HearsOf place number) may owned =
+    notes_owned world place (writer world place).calls (record (writer world place).letters { known = number }) owned may.0
+move_keeps world (Answers place flush chunks) may owned =
+    notes_owned world place (writer world place).calls (answers_with (writer world place) flush chunks).letters owned may.0
+move_keeps world Requests may owned = serviced_owned world (requests world.service) owned refl refl refl
+move_keeps world (ReadsAnswer place flush chunks) may owned =
+    serviced_owned world (hears_answer world.service place flush chunks) owned refl refl refl
 
 -- as many writers
 
@@ -75,6 +83,10 @@ move_writers world (Learns place chunk content) = refl
 move_writers world (Releases chunk) = refl
 move_writers world (Notes event) = refl
 move_writers world (Commits committed) = refl
+move_writers world (HearsOf place number) = length-set world.writers place _
+move_writers world (Answers place flush chunks) = length-set world.writers place _
+move_writers world Requests = refl
+move_writers world (ReadsAnswer place flush chunks) = refl
 
 -- and as many chunks
 
@@ -100,3 +112,7 @@ move_chunks world (Learns place chunk content) = refl
 move_chunks world (Releases chunk) = length-set world.chunks chunk _
 move_chunks world (Notes event) = refl
 move_chunks world (Commits committed) = refl
+move_chunks world (HearsOf place number) = refl
+move_chunks world (Answers place flush chunks) = refl
+move_chunks world Requests = refl
+move_chunks world (ReadsAnswer place flush chunks) = refl

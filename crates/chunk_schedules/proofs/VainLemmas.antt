@@ -8,7 +8,7 @@ use Rattle.chunk_plain.specs.Steps.{claims}
 use Rattle.chunk_plain.specs.Plain.{first_world}
 use Rattle.chunk_plain.proofs.Lists.{changed, at_more}
 use Rattle.chunk_plain.proofs.MadeLemmas.{all_same}
-use Rattle.chunk_schedules.specs.Moves.{Move, Claims, Stamps, Begins, SetsHeader, Publishes, Completes, Calls, Looks, Takes, Learns, Releases, Notes, Commits, MayMove, IsWriter, claimed_in, behind}
+use Rattle.chunk_schedules.specs.Moves.{Move, Claims, Stamps, Begins, SetsHeader, Publishes, Completes, Calls, Looks, Takes, Learns, Releases, Notes, Commits, HearsOf, Answers, Requests, ReadsAnswer, MayMove, IsWriter, claimed_in, behind}
 use Rattle.chunk_schedules.specs.Schedules.{IsSchedule}
 use Rattle.chunk_schedules.specs.Laws.{ClaimsInVainFindHad, FindsHad}
 
@@ -85,14 +85,19 @@ stood_or_made world (Learns mover chunk content) place number ask may lost at = 
 stood_or_made world (Releases chunk) place number ask may lost at = inl at
 stood_or_made world (Notes event) place number ask may lost at = inl at
 stood_or_made world (Commits committed) place number ask may lost at = inl at
+stood_or_made world (HearsOf mover requests) place number ask may lost at = keeps_asked world (HearsOf mover requests) mover place number _ ask may.0 refl at
+stood_or_made world (Answers mover flush chunks) place number ask may lost at = keeps_asked world (Answers mover flush chunks) mover place number _ ask may.0 refl at
+stood_or_made world Requests place number ask may lost at = inl at
+stood_or_made world (ReadsAnswer mover flush chunks) place number ask may lost at = inl at
 
 -- a move is put before the moves that lead to the claim
-found_later : (old new : World) (move : Move) (place number : ℕ) (ask : Ask) → MayMove old move → FindsHad (behind old move) new place number ask
-    → FindsHad old new place number ask
-found_later old new move place number ask may found = record {
+found_later : (old new : World) (move : Move) (moves : List Move) (place number : ℕ) (ask : Ask) → MayMove old move
+    → FindsHad moves (behind old move) new place number ask → FindsHad (move ∷ moves) old new place number ask
+found_later old new move moves place number ask may found = record {
   mid = found.mid;
   before = move ∷ found.before;
   after = found.after;
+  moves_are = ap (λ (l : List Move). move ∷ l) found.moves_are;
   first = (may, found.first);
   then = found.then;
   count = found.count;
@@ -101,7 +106,7 @@ found_later old new move place number ask may found = record {
 
 -- a claim in vain at the end of a schedule was there before it, or was made where somebody had the chunk
 finds_had : (old new : World) (moves : List Move) (place number : ℕ) (ask : Ask) → IsSchedule old moves new → ask.won ≡ false
-    → At (writer new place).asked number ask → At (writer old place).asked number ask ⊎ FindsHad old new place number ask
+    → At (writer new place).asked number ask → At (writer old place).asked number ask ⊎ FindsHad moves old new place number ask
 finds_had old new [] place number ask same lost at = inl (subst (λ (world : World). At (writer world place).asked number ask) same at)
 finds_had old new (move ∷ moves) place number ask schedule lost at =
     ⊎_elim
@@ -110,13 +115,14 @@ finds_had old new (move ∷ moves) place number ask schedule lost at =
       mid = old;
       before = [];
       after = moves;
+      moves_are = ap (λ (one : Move). one ∷ moves) made.is;
       first = refl;
       then = subst (λ (one : Move). IsSchedule old (one ∷ moves) new) made.is schedule;
       count = made.count;
       had = made.had;
     }))
     (stood_or_made old move place number ask schedule.0 lost stood))
-    (λ found. inr (found_later old new move place number ask schedule.0 found))
+    (λ found. inr (found_later old new move moves place number ask schedule.0 found))
     (finds_had (behind old move) new moves place number ask schedule.1 lost at)
 
 pub claims_in_vain_find_had : ClaimsInVainFindHad

@@ -22,18 +22,20 @@ abbrev pub SchedulesKeepOwnership : Type 0
 SchedulesKeepOwnership = (old new : World) (moves : List Move) → IsOwned old → IsSchedule old moves new
     → IsOwned new × (length new.writers ≡ length old.writers) × (length new.chunks ≡ length old.chunks)
 
--- A world on the way of a schedule in which the writer at this place makes its claim with this number, and somebody has the chunk.
-pub record FindsHad (old new : World) (place number : ℕ) (ask : Ask) : Type 0 where
+-- The given moves have the writer's claim with this number among them: it is the one between those before and those after, and in the world
+-- to which those before lead somebody has the chunk.
+pub record FindsHad (moves : List Move) (old new : World) (place number : ℕ) (ask : Ask) : Type 0 where
   pub mid : World
   pub before : List Move
   pub after : List Move
+  pub moves_are : moves ≡ before ++ Claims place ask.chunk ask.found ∷ after
   pub first : IsSchedule old before mid
   pub then : IsSchedule mid (Claims place ask.chunk ask.found ∷ after) new
   pub count : length (writer mid place).asked ≡ number
   pub had : status mid ask.chunk ≡ Unclaimed → ⊥
 
--- Each claim in vain was made where somebody had the chunk.
+-- Each claim in vain of a schedule is one of its moves, made where somebody had the chunk.
 abbrev pub ClaimsInVainFindHad : Type 0
 ClaimsInVainFindHad = (setup : Setup) (moves : List Move) (world : World) → IsSchedule (first_world setup) moves world
     → (place number : ℕ) (ask : Ask) → At (writer world place).asked number ask → ask.won ≡ false
-    → FindsHad (first_world setup) world place number ask
+    → FindsHad moves (first_world setup) world place number ask

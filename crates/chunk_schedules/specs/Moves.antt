@@ -1,18 +1,24 @@
 -- The atomic steps that writers and the service make on a table of chunks, as moves of its world. Each is made by one of them and changes
 -- that seat's view and one chunk at most. A step that changes no view, as when a page word or a payload word is loaded, is no move.
-use Rattle.std.specs.Prelude.{◌≡◌, ℕ, ◌+◌, ◌*◌, ◌<◌, ◌≤◌, true, false, Option, Some, None, List, length, slice_index_or}
+use Rattle.std.specs.Prelude.{◌≡◌, ℕ, ◌+◌, ◌*◌, ◌^◌, ◌<◌, ◌≤◌, true, false, Option, Some, None, List, length, slice_index_or}
+use Rattle.page_geometry.specs.declared.chunk_state.ChunkState.{ChunkState}
+use Rattle.page_geometry.specs.declared.chunk_state.ChunkState.TheVariants.{BeingWritten, Complete}
+use Rattle.page_geometry.specs.Header.{packed}
+use Rattle.page_geometry.specs.PageBits.{HasState}
 use Rattle.trace_model.specs.Calls.{Call}
 use Rattle.chunk_plain.specs.Setup.{sequence_of}
 use Rattle.chunk_plain.specs.Payload.{byte_of, byte_at, byte_in, sealed_to}
-use Rattle.chunk_plain.specs.Views.{At, Head, Draft, fresh, Content, Completed, Found, Noted, Commit, Committed, taken_of}
+use Rattle.chunk_plain.specs.Views.{At, Head, no_head, Draft, fresh, Content, Completed, WriterView, asked_in, Found, Noted, Commit, Committed, taken_of}
 use Rattle.chunk_plain.specs.World.{World, Status, Unclaimed, Claimed, Stamped, Writing, Ready, Reading, status, writer}
 use Rattle.chunk_plain.specs.Steps.{claims, stamps, begins, with_head, with_word, completes, notes_call, looks_at, takes_in, learns, lets_go, notes, notes_commit, drafted, moved, served, with_writer_view, serviced}
+use Rattle.chunk_plain.specs.Letters.{last_reply, last_flush, knows_request, answers_with, requests, hears_answer}
 use Rattle.chunk_plain.specs.Owned.{times}
 use Rattle.chunk_plain.specs.Drafts.{MayFollow, IsDraft, IsFound, IsThere, IsHolding, head_of, draft_at, ends_by}
 use Rattle.chunk_plain.specs.Plain.{read_as}
 
--- A writer is named by its place, from 0. The page words and header words that a step found are kept in views; what they say of the chunk
--- is said by the world, so that they are free here.
+-- A writer is named by its place, from 0. The page words and header words that a step found are kept in views. A header word is what the
+-- world says of the chunk, where a writer stored it; a page word is one of an earlier time, and which of its bits are the chunk's is said
+-- by a set-up, which a world doesn't have.
 pub data Move : Type 0 where
   -- a writer sets the claim bit of a chunk, and found this page word
   Claims : (place chunk found : ℕ) → Move
@@ -40,6 +46,14 @@ pub data Move : Type 0 where
   Notes : Noted → Move
   -- it notes a commit
   Commits : Committed → Move
+  -- a writer hears of flush requests, of which so many were made
+  HearsOf : (place number : ℕ) → Move
+  -- it answers the request with this number and those before it, with so many chunks
+  Answers : (place flush chunks : ℕ) → Move
+  -- the service makes the next request
+  Requests : Move
+  -- it reads this answer of a writer, where 0 is the number of none
+  ReadsAnswer : (place flush chunks : ℕ) → Move
 
 -- What each move makes of a world
 
@@ -68,6 +82,10 @@ behind world (Learns place chunk content) = serviced world (learns world.service
 behind world (Releases chunk) = served world (lets_go world.service chunk) chunk Unclaimed
 behind world (Notes event) = serviced world (notes world.service event)
 behind world (Commits committed) = serviced world (notes_commit world.service committed)
+behind world (HearsOf place number) = with_writer_view world place (knows_request (writer world place) number)
+behind world (Answers place flush chunks) = with_writer_view world place (answers_with (writer world place) flush chunks)
+behind world Requests = serviced world (requests world.service)
+behind world (ReadsAnswer place flush chunks) = serviced world (hears_answer world.service place flush chunks)
 
 -- Where each move is possible
 
@@ -101,6 +119,34 @@ pub record MayComplete (place id : ℕ) (draft : Draft) (content : Content) : Ty
 abbrev pub FindsWhatIsThere : World → (chunk : ℕ) → Option Found → Type 0
 FindsWhatIsThere world chunk found = (one : Found) → found ≡ Some one → IsFound one × IsThere (writer world one.place) chunk one
 
+-- the header word that says this of a chunk: whose it is, under which id, and with which head
+abbrev pub header_of : (place id : ℕ) → Head → ℕ
+header_of place id head = packed (record { chunk_id = id; writer_id = place + 1; count = head.count; flags = head.flags })
+
+-- a chunk's header word is the one that its use says; of a chunk for which none was stored it is any
+abbrev pub SaysUse : (header : ℕ) → Status → Type 0
+SaysUse header (Stamped place id) = header ≡ header_of place id no_head
+SaysUse header (Writing place id draft) = header ≡ header_of place id draft.head
+SaysUse header (Ready place id content) = header ≡ header_of place id (head_of content)
+SaysUse header (Reading place id content) = header ≡ header_of place id (head_of content)
+SaysUse header _ = Unit {0}
+
+-- some chunk of the page has this state in the page word
+abbrev pub SaysState : (word : ℕ) → ChunkState → Type 0
+SaysState word state = (at : ℕ) × HasState word at state
+
+-- what was found of a chunk is what its header word says; the page word has a chunk that is being written; and the id isn't taken
+pub record FindsWritten (world : World) (word header : ℕ) (one : Found) : Type 0 where
+  pub header_is : header ≡ header_of one.place one.id one.head
+  pub written : SaysState word BeingWritten
+  pub untaken : (taken_of world.service one.place).count ≤ one.id
+
+-- a look has the chunk's header word, and what it found of the chunk, if anything, is there and is what that says
+pub record MayLook (world : World) (chunk word header : ℕ) (found : Option Found) : Type 0 where
+  pub there : FindsWhatIsThere world chunk found
+  pub used : SaysUse header (status world chunk)
+  pub says : (one : Found) → found ≡ Some one → FindsWritten world word header one
+
 -- the chunk is complete, and the next one of this writer to be taken
 abbrev pub IsNext : World → (place chunk : ℕ) → Type 0
 IsNext world place chunk = (content : Content) × (status world chunk ≡ Ready place (taken_of world.service place).count content)
@@ -118,6 +164,23 @@ IsRead world chunk = (place : ℕ) × (id : ℕ) × (content : Content) × (stat
 abbrev pub IsPlainNote : Noted → Type 0
 IsPlainNote (Commit place) = ⊥
 IsPlainNote _ = Unit {0}
+
+-- so many requests were made at least, and the writer knew of no more
+pub record MayHear (world : World) (place number : ℕ) : Type 0 where
+  pub rises : (writer world place).letters.known ≤ number
+  pub made : number ≤ asked_in world.service.letters
+
+-- the writer knows of the request, hasn't answered it or a later one, and began as many chunks
+pub record MayAnswer (view : WriterView) (flush chunks : ℕ) : Type 0 where
+  pub known : flush ≡ view.letters.known
+  pub newer : last_flush view.letters.answers < flush
+  pub begun : chunks ≤ length view.begun
+  pub small : chunks < 2 ^ 32
+
+-- it is the last answer of the writer
+pub record IsLastOf (view : WriterView) (flush chunks : ℕ) : Type 0 where
+  pub flush_is : flush ≡ last_flush view.letters.answers
+  pub chunks_is : chunks ≡ (last_reply view.letters.answers).chunks
 
 -- Whether a move is possible in a world: the table's words allow it, and the seat that makes it has what it is about.
 abbrev pub MayMove : World → Move → Type 0
@@ -137,9 +200,14 @@ MayMove world (Completes place chunk id content) =
     IsWriter world place × IsChunk world chunk × IsHolding (writer world place) chunk id
     × MayComplete place id (draft_at (writer world place) id) content
 MayMove world (Calls place call) = IsWriter world place
-MayMove world (Looks chunk word header found) = FindsWhatIsThere world chunk found
-MayMove world (Takes place chunk word header) = IsWriter world place × IsChunk world chunk × IsNext world place chunk
+MayMove world (Looks chunk word header found) = MayLook world chunk word header found
+MayMove world (Takes place chunk word header) =
+    IsWriter world place × IsChunk world chunk × IsNext world place chunk × SaysUse header (status world chunk) × SaysState word Complete
 MayMove world (Learns place chunk content) = IsWriter world place × MayLearn world place chunk content
 MayMove world (Releases chunk) = IsChunk world chunk × IsRead world chunk
 MayMove world (Notes event) = IsPlainNote event
 MayMove world (Commits committed) = Unit {0}
+MayMove world (HearsOf place number) = IsWriter world place × MayHear world place number
+MayMove world (Answers place flush chunks) = IsWriter world place × MayAnswer (writer world place) flush chunks
+MayMove world Requests = Unit {0}
+MayMove world (ReadsAnswer place flush chunks) = IsWriter world place × IsLastOf (writer world place) flush chunks
