@@ -23,7 +23,8 @@ use Rattle.chunk_words.specs.Moves.{Mine, is_clear, Asks, Claims}
 use Rattle.chunk_words.proofs.Bodies.{with_hand, in_before, bodies_stay}
 use Rattle.chunk_words.proofs.Turns.{IsWriterChange, noted_change, same_change, writer_turn}
 use Rattle.chunk_words.proofs.Leads.{claim_is, bit_held}
-use Rattle.chunk_words.proofs.WriterMoves.{page_is, writer_inside, world_inside, chunk_inside, hand_none}
+use Rattle.chunk_words.proofs.MailWords.{KeepsLetters, mail_loaded, mail_by_writer}
+use Rattle.chunk_words.proofs.WriterMoves.{claims_keep, page_is, writer_inside, world_inside, chunk_inside, hand_none}
 use Rattle.chunk_words.proofs.WriterEnds.{words_loaded}
 
 -- the world behind it
@@ -37,7 +38,11 @@ asked_view view chunk found clear = if clear then view else claims view chunk fo
 asked_change : (world : World) (place chunk found : ℕ) (clear : Bool) → place < length world.writers
     → IsWriterChange world (asked_world world place chunk found clear) place (asked_view (writer world place) chunk found clear)
 asked_change world place chunk found true inside = same_change world place
-asked_change world place chunk found false inside = noted_change world place (claims (writer world place) chunk found false) inside refl
+asked_change world place chunk found false inside = noted_change world place (claims (writer world place) chunk found false) inside refl (omega arith)
+
+asked_keep : (view : WriterView) (chunk found : ℕ) (clear : Bool) → KeepsLetters view (asked_view view chunk found clear)
+asked_keep view chunk found true = record { letters = refl; begun = omega arith; calls = omega arith }
+asked_keep view chunk found false = claims_keep view chunk found false
 
 asked_kept : (setup : Setup) (words : List ℕ) (slots : List Stored) (world : World) (place chunk found : ℕ) (clear : Bool)
     → IsLaid setup → IsKept setup words slots world → place < length setup.writers → chunk < length setup.spots
@@ -66,8 +71,9 @@ asks_allowed setup count id k chunk v inside s r deep at small =
     let set_ : clear ≡ false → IsClaimed found at_.place = λ unclear. grind (arith, nat_tests, unclear) in
     let bit = subst (λ w. bit_at w (32 + at_.place) ≡ claim_of (status world chunk)) (sym (page_is setup s r chunk inside)) (r.kept.shown.page chunk inside).claim in
     let held : clear ≡ false → status world chunk ≡ Unclaimed → ⊥ = λ unclear. bit_held found at_.place (status world chunk) bit (set_ unclear) in
+    let change = asked_change world k chunk found clear w_inside in
     let turn = writer_turn setup world next r.roll s.views id k 0 0 v (asked_view (writer world k) chunk found clear) r.manned at
-    (asked_change world k chunk found clear w_inside) (λ d e. absurd (omega arith)) in (
+    change (λ d e. absurd (omega arith)) in (
       Writer k 0 (asked_view v chunk found clear),
       keeps,
       tt,
@@ -80,6 +86,8 @@ asks_allowed setup count id k chunk v inside s r deep at small =
         led = asked_led setup r.roll.marks world k chunk found clear r.led w_inside c_inside held;
         kept = asked_kept setup r.front r.slots world k chunk found clear r.laid r.kept inside_w inside (page_is setup s r chunk inside) set_;
         words = words_loaded setup s.words r.front r.slots (front_place at_.page) r.words;
+        mail = mail_by_writer setup world next (set s.words (front_place at_.page) found) k (asked_view (writer world k) chunk found clear) change
+            (asked_keep (writer world k) chunk found clear) (mail_loaded setup world s.words (front_place at_.page) r.mail);
         bodies = bodies_stay setup s.homes r.slots r.slots r.roll roll r.bodies (λ d. refl) (λ d. in_before r.roll k 0 d (hand_none r.roll k d f.2));
         manned = subst (λ z. IsManned setup next roll (set s.views id (Writer k 0 (asked_view z chunk found clear)))) (sym f.0) turn;
       },

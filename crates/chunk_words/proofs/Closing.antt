@@ -15,11 +15,11 @@ use Rattle.chunk_plain.specs.Views.{At, Draft, BegunChunk, Held, Completed, Writ
 use Rattle.chunk_plain.specs.World.{World, Status, Unclaimed, Claimed, Stamped, Writing, Ready, Reading, status, writer}
 use Rattle.chunk_plain.specs.Owned.{times, claims_of, reads_of, held_count, IsOwned}
 use Rattle.chunk_plain.specs.Shows.{ShowsPage, page_word}
-use Rattle.chunk_plain.proofs.Lists.{at_inside, at_one, at_more, at_seam, at_some}
+use Rattle.chunk_plain.proofs.Lists.{at_inside, at_one, at_more, at_seam, at_some, at_get}
 use Rattle.chunk_plain.proofs.Owned.{claims_of-mine}
 use Rattle.chunk_words.specs.GoesOn.{GoesOn}
 use Rattle.chunk_schedules.specs.Schedules.{IsLed}
-use Rattle.chunk_words.specs.Knows.{Watch, Here, Desk, Knows, Spent, Writer, Service, Pass, Report, place_of, view_of, with_view, with_views}
+use Rattle.chunk_words.specs.Knows.{Watch, Here, Desk, Knows, Spent, Writer, Service, Pass, Report, Notice, place_of, view_of, with_view, with_views}
 use Rattle.chunk_words.specs.Places.{front_place}
 use Rattle.chunk_words.specs.Rule.{Roll, HasJoined, IsMade, Fits, IsShared}
 use Rattle.chunk_words.specs.Closed.{IsDone, AllTaken, HasAllSeats, views_of, IsUnused, IsAccount}
@@ -40,7 +40,8 @@ joins_fits setup world roll j k other (Writer p hand view) same seat apart serve
     more : (p : ℕ) → roll.joined ≤ p → p ≢ k → k + 1 ≤ p
     more p low differs = omega (arith, same, low, differs)
 joins_fits setup world roll j k other (Pass view) same seat apart server fits = fits
-joins_fits setup world roll j k other (Report place begun) same seat apart server fits = fits
+joins_fits setup world roll j k other (Report place begun flush) same seat apart server fits = fits
+joins_fits setup world roll j k other (Notice requests) same seat apart server fits = fits
 joins_fits setup world roll j k other (Service hand made desk watch view) same seat apart server fits = absurd (server fits.1)
 
 pub joins_shared : (setup : Setup) (id k made other : ℕ) (desk : Desk) (watch : Watch) (v : ServiceView) (w : WriterView) → k ≡ length desk.joined
@@ -71,6 +72,7 @@ joins_shared setup id k made other desk watch v w count s r at apart there =
       kept = r.kept;
       led = r.led;
       words = r.words;
+      mail = r.mail;
       bodies = record { count = r.bodies.count; home_is = λ chunk below in_now. r.bodies.home_is chunk below (record { with_none = in_now.with_none; not_service = in_now.not_service }) };
       manned = record {
         most = r.manned.most;
@@ -130,11 +132,6 @@ idle_free world chunk (Reading k i m) owned done unstamped none was = absurd (
 
 -- ---- lists
 
-at_get : {A : Type 0} (xs : List A) (k : ℕ) (d x : A) → At xs k x → get_or xs k d ≡ x
-at_get [] k d x at = absurd (some-ne-none x (sym at))
-at_get (z ∷ zs) zero d x at = some-injective z x at
-at_get (z ∷ zs) (suc k) d x at = at_get zs k d x at
-
 get_past : {A : Type 0} (xs : List A) (k : ℕ) (d : A) → length xs ≤ k → get_or xs k d ≡ d
 get_past [] k d past = refl
 get_past (z ∷ zs) zero d past = absurd (omega arith)
@@ -175,7 +172,7 @@ module _ (setup : Setup) (id made : ℕ) (desk : Desk) (views : List WriterView)
       subst (λ v. At rule.world.writers k v) (sym (at_get rule.world.writers k newcomer there.0 there.1) ∙ sym (known k view at)) there.1)
 
   pub closed_account : IsAccount setup desk.marks views service
-  closed_account = ∣ (rule.world, rule.kept.owned, subst (λ marks. IsLed setup marks rule.world) fits.8 rule.led, writers_are, sym fits.0) ∣₁
+  closed_account = ∣ (rule.world, rule.kept.owned, subst (λ marks. IsLed setup marks rule.world) fits.8 rule.led, writers_are, sym fits.0, rule.mail.letters) ∣₁
 
   -- the service has the reading pass
   pub closed_goes : (known : ServiceView) → desk.stage ≡ Here known → GoesOn known service

@@ -4,6 +4,7 @@ pub mod Bodies
 pub mod Passing
 pub mod Telling
 pub mod Turns
+pub mod MailWords
 pub mod WriterMoves
 pub mod WriterEnds
 pub mod Asking
@@ -15,6 +16,8 @@ pub mod Storing
 pub mod Loading
 pub mod TakingUp
 pub mod Staging
+pub mod MailSteps
+pub mod MailPass
 pub mod Making
 pub mod Owners
 pub mod Closing

@@ -15,7 +15,8 @@ use Rattle.atomic_table.proofs.Lists.{at_longer, at_last, at_map, set_here, set_
 use Rattle.commit_body.specs.declared.body.CommitBody.{CommitBody}
 use Rattle.chunk_plain.specs.declared.setup.Spot.{Spot}
 use Rattle.chunk_plain.specs.Setup.{Setup, spot, no_spot, IsLaid}
-use Rattle.chunk_plain.specs.Views.{At, ServiceView, newcomer, newcomer_service}
+use Rattle.chunk_plain.specs.Views.{At, WriterView, Heard, ServiceView, newcomer, newcomer_service}
+use Rattle.chunk_plain.specs.Letters.{AreAnswers}
 use Rattle.chunk_plain.specs.World.{World, writer}
 use Rattle.chunk_plain.specs.Stored.{Stored, stored_at}
 use Rattle.chunk_plain.specs.Shows.{IsFreeBody}
@@ -25,9 +26,9 @@ use Rattle.chunk_plain.specs.Plain.{first_world}
 use Rattle.chunk_plain.proofs.Lists.{at_inside, at_one, at_more}
 use Rattle.chunk_plain.proofs.MadeLemmas.{all_same, first_kept, first_sits}
 use Rattle.chunk_schedules.proofs.Leading.{led_first}
-use Rattle.chunk_words.specs.Knows.{Watch, Nothing, Unmade, Desk, first_desk, Knows, Spent, Writer, Service, Pass, Report, put, view_of}
-use Rattle.chunk_words.specs.Places.{words_for, words_before, front_place, front_count, payload_start, payload_words, word_total}
-use Rattle.chunk_words.specs.Rule.{Roll, IsIn, Fits, IsShared, first_of}
+use Rattle.chunk_words.specs.Knows.{Watch, Nothing, Unmade, Desk, first_desk, Knows, Spent, Writer, Service, Pass, Report, Notice, put, view_of}
+use Rattle.chunk_words.specs.Places.{words_for, words_before, front_place, front_count, payload_start, payload_words, request_place, answer_place, word_total}
+use Rattle.chunk_words.specs.Rule.{Roll, IsIn, Fits, IsShared, answer_word, first_of}
 use Rattle.chunk_words.specs.Made.{HasStarts, HasFreeBodies, HasWriterSeats}
 use Rattle.chunk_words.specs.declared.host.HostTable.{HostTable}
 use Rattle.chunk_words.specs.declared.seats.WriterSeat.{WriterSeat}
@@ -126,6 +127,19 @@ starts_shared setup words bodies laid zero_ o =
         count = λ chunk below. ap (λ (l : List ℕ). length l) (free.each chunk below).words ∙ length-replicate (payload_words setup chunk) 0;
         payload_is = λ chunk i below under. word (payload_start setup chunk + i) ∙ (sym (zeros (payload_words setup chunk) i) ∙ ap (λ (l : List ℕ). get_or l i 0) (sym (free.each chunk below).words));
       };
+      mail = record {
+        letters = record {
+          known = λ k. subst (λ (v : WriterView). v.letters.known ≤ 0) (sym (fresh k)) (omega arith);
+          answers = λ k. subst AreAnswers (sym (fresh k)) (record {
+            rising = λ n m one other less at. absurd (some-ne-none one (sym at));
+            each = λ n one at. absurd (some-ne-none one (sym at));
+          });
+          heard = λ n k flush chunks at. absurd (some-ne-none (Heard k flush chunks) (sym at));
+        };
+        few = omega arith;
+        request = word (request_place setup);
+        answer = λ k inside. word (answer_place setup k) ∙ ap (λ (v : WriterView). answer_word v.letters.answers) (sym (fresh k));
+      };
       bodies = record {
         count = length-map bodies some ∙ o.count_is;
         home_is = λ chunk below in_. let one = o.each chunk below in at_map some bodies chunk (Some one.0) one.1
@@ -173,6 +187,7 @@ splits_shared setup id made desk watch v inside s r at =
       kept = r.kept;
       led = r.led;
       words = r.words;
+      mail = r.mail;
       bodies = record { count = r.bodies.count; home_is = λ chunk below in_now. r.bodies.home_is chunk below (same_in chunk in_now) };
       manned = record {
         most = let many = r.kept.writers in omega arith;
@@ -217,7 +232,8 @@ splits_shared setup id made desk watch v inside s r at =
     still_fits setup world roll j made seat (Writer k hand view) same fits apart =
         let below = fits.3 in (fits.0, put_other roll.seats made seat k (λ e. absurd (omega arith)) ∙ fits.1, fits.2, omega arith, fits.4)
     still_fits setup world roll j made seat (Pass view) same fits apart = fits
-    still_fits setup world roll j made seat (Report place begun) same fits apart = fits
+    still_fits setup world roll j made seat (Report place begun flush) same fits apart = fits
+    still_fits setup world roll j made seat (Notice requests) same fits apart = fits
     still_fits setup world roll j made seat (Service hand n desk watch view) same fits apart = absurd (apart fits.1)
 
 -- ---- the seats

@@ -16,6 +16,7 @@ shared_ownership setup state r = record {
   slots = r.slots;
   roll = r.roll;
   words = r.words;
+  mail = r.mail;
   bodies = r.bodies;
   parts = ownership setup r.front r.slots r.world r.kept;
   reached = r.led.reached;

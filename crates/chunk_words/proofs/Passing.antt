@@ -4,7 +4,7 @@ use Rattle.std.specs.List.{All}
 use Rattle.std.proofs.lemmas.List.Elements.{All-nil, All-cons, All-append}
 use Rattle.chunk_plain.specs.declared.notes.ServiceEvent.{ServiceEvent}
 use Rattle.chunk_plain.specs.declared.notes.ServiceEvent.TheVariants as event
-use Rattle.chunk_plain.specs.Views.{Content, Found, Noted, Commit, Committed, Taken, none_taken, ServiceView, taken_of}
+use Rattle.chunk_plain.specs.Views.{Content, Found, Noted, Commit, Committed, Taken, none_taken, asked_in, ServiceView, taken_of}
 use Rattle.chunk_plain.specs.Steps.{looks_at, takes_in, learns, lets_go, notes, notes_commit}
 use Rattle.chunk_plain.specs.Words.{event_of, IsReadEvent}
 use Rattle.chunk_words.specs.GoesOn.{IsFront, IsReadNote, GoesOn}
@@ -35,22 +35,24 @@ front_set (one ∷ all) (suc place) (suc other) taken front = front_set all plac
 -- ---- a view goes on
 
 -- nothing is noted
-goes_quietly : (view next : ServiceView) → next.events ≡ view.events → IsFront view.looks next.looks
-    → ((place : ℕ) → IsFront (taken_of view place).contents (taken_of next place).contents) → IsFront view.commits next.commits → GoesOn view next
-goes_quietly view next same looks contents commits = record {
+pub goes_quietly : (view next : ServiceView) → next.events ≡ view.events → IsFront view.looks next.looks
+    → ((place : ℕ) → IsFront (taken_of view place).contents (taken_of next place).contents) → IsFront view.commits next.commits
+    → asked_in next.letters ≡ asked_in view.letters → GoesOn view next
+goes_quietly view next same looks contents commits asked = record {
   rest = [];
   events = same ∙ sym (append-nil view.events);
   no_read = All-nil (λ note. IsReadNote note → ⊥);
   looks = looks;
   contents = contents;
   commits = commits;
+  asked = asked;
 }
 
-contents_stay : (view : ServiceView) (place : ℕ) → IsFront (taken_of view place).contents (taken_of view place).contents
+pub contents_stay : (view : ServiceView) (place : ℕ) → IsFront (taken_of view place).contents (taken_of view place).contents
 contents_stay view place = front_same (taken_of view place).contents
 
 pub goes_same : (view : ServiceView) → GoesOn view view
-goes_same view = goes_quietly view view refl (front_same view.looks) (contents_stay view) (front_same view.commits)
+goes_same view = goes_quietly view view refl (front_same view.looks) (contents_stay view) (front_same view.commits) refl
 
 pub goes_further : (one two three : ServiceView) → GoesOn one two → GoesOn two three → GoesOn one three
 goes_further one two three first then = record {
@@ -60,22 +62,23 @@ goes_further one two three first then = record {
   looks = front_on one.looks two.looks three.looks first.looks then.looks;
   contents = λ place. front_on (taken_of one place).contents (taken_of two place).contents (taken_of three place).contents (first.contents place) (then.contents place);
   commits = front_on one.commits two.commits three.commits first.commits then.commits;
+  asked = then.asked ∙ first.asked;
 }
 
 pub goes_look : (view : ServiceView) (chunk word header : ℕ) (found : Option Found) → GoesOn view (looks_at view chunk word header found)
 goes_look view chunk word header found =
-    goes_quietly view (looks_at view chunk word header found) refl (front_more view.looks _) (contents_stay view) (front_same view.commits)
+    goes_quietly view (looks_at view chunk word header found) refl (front_more view.looks _) (contents_stay view) (front_same view.commits) refl
 
 pub goes_take : (view : ServiceView) (place chunk : ℕ) → GoesOn view (takes_in view place chunk)
 goes_take view place chunk =
-    goes_quietly view (takes_in view place chunk) refl (front_same view.looks) (λ other. front_set view.taken place other _ (contents_stay view place)) (front_same view.commits)
+    goes_quietly view (takes_in view place chunk) refl (front_same view.looks) (λ other. front_set view.taken place other _ (contents_stay view place)) (front_same view.commits) refl
 
 pub goes_learn : (view : ServiceView) (place : ℕ) (content : Content) → GoesOn view (learns view place content)
 goes_learn view place content = goes_quietly view (learns view place content) refl (front_same view.looks)
-    (λ other. front_set view.taken place other _ (front_more (taken_of view place).contents (content ∷ []))) (front_same view.commits)
+    (λ other. front_set view.taken place other _ (front_more (taken_of view place).contents (content ∷ []))) (front_same view.commits) refl
 
 pub goes_free : (view : ServiceView) (chunk : ℕ) → GoesOn view (lets_go view chunk)
-goes_free view chunk = goes_quietly view (lets_go view chunk) refl (front_same view.looks) (contents_stay view) (front_same view.commits)
+goes_free view chunk = goes_quietly view (lets_go view chunk) refl (front_same view.looks) (contents_stay view) (front_same view.commits) refl
 
 one_quiet : (note : Noted) → (IsReadNote note → ⊥) → All (λ one. IsReadNote one → ⊥) (note ∷ [])
 one_quiet note quiet = All-cons (λ one. IsReadNote one → ⊥) note [] quiet (All-nil (λ one. IsReadNote one → ⊥))
@@ -88,6 +91,7 @@ goes_note view note quiet = record {
   looks = front_same view.looks;
   contents = contents_stay view;
   commits = front_same view.commits;
+  asked = refl;
 }
 
 pub goes_commit : (view : ServiceView) (committed : Committed) → GoesOn view (notes_commit view committed)
@@ -98,6 +102,7 @@ goes_commit view committed = record {
   looks = front_same view.looks;
   contents = contents_stay view;
   commits = front_more view.commits (committed ∷ []);
+  asked = refl;
 }
 
 -- a read is noted by the event of a read alone

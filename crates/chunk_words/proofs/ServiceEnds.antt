@@ -24,7 +24,8 @@ use Rattle.chunk_words.proofs.Passing.{goes_same, goes_learn, goes_free}
 use Rattle.chunk_words.specs.Moves.{Serves, Lifts}
 use Rattle.chunk_words.proofs.Standing.{words_front, words_body}
 use Rattle.chunk_words.proofs.Bodies.{with_service_hand, in_before_service, bodies_out, bodies_back, body_here, body_else}
-use Rattle.chunk_words.proofs.Turns.{served_change, serviced_change, service_turn}
+use Rattle.chunk_words.proofs.MailWords.{mail_apart, mail_loaded, mail_by_service}
+use Rattle.chunk_words.proofs.Turns.{served_change, serviced_change, same_service, service_turn}
 use Rattle.chunk_words.proofs.WriterMoves.{front_many, page_front, page_is, chunk_inside}
 use Rattle.chunk_words.proofs.WriterEnds.{words_loaded}
 use Rattle.chunk_words.proofs.ServiceMoves.{no_slot, serviced_allowed}
@@ -53,7 +54,7 @@ module _ (setup : Setup) (count id made : ℕ) (desk : Desk) where
       let w_inside : place < length world.writers = let many = r.kept.writers in omega arith in
       let completed = ((r.kept.owned.owns place chunk).reading_is (length (taken_of world.service place).contents) content reading).0 in
       let roll = with_service_hand r.roll 0 in
-      let turn = service_turn setup world next r.roll s.views id (hand_with chunk) 0 made desk (Lifted chunk place i content) Nothing v view r.manned at (serviced_change world view)
+      let turn = service_turn setup world next r.roll s.views id (hand_with chunk) 0 made desk (Lifted chunk place i content) Nothing v view r.manned at (serviced_change world view (omega arith))
       (λ _. goes_learn world.service place content) (λ i tale there true_. true_.1) (λ d e. absurd (omega arith)) tt in (
         Service 0 made desk Nothing (learns v place content),
         gives,
@@ -67,6 +68,7 @@ module _ (setup : Setup) (count id made : ℕ) (desk : Desk) where
           kept = kept';
           led = led_on setup r.roll.marks world next (LearnsMove place chunk content) r.led (w_inside, record { taken = omega arith; completed = completed }) refl;
           words = words_body setup (set s.words index (get_or s.words index 0)) r.front r.slots chunk kept_body inside deep_slots (words_loaded setup s.words r.front r.slots index r.words);
+          mail = mail_by_service setup world next (set s.words index (get_or s.words index 0)) refl refl (mail_loaded setup world s.words index r.mail);
           bodies = bodies_back setup s.homes r.slots slots r.roll roll chunk kept_body r.bodies inside (body_here r.slots chunk kept_body (omega arith))
               (λ d differs. body_else r.slots chunk d kept_body differs)
               (λ d differs. in_before_service r.roll 0 d (slot_else r.roll chunk d f.2 differs));
@@ -90,7 +92,7 @@ module _ (setup : Setup) (count id made : ℕ) (desk : Desk) where
       } in
       let roll = with_service_hand r.roll (hand_with chunk) in
       let turn = service_turn setup world world r.roll s.views id 0 (hand_with chunk) made desk watch Nothing v world.service r.manned at
-      (record { service = refl; writers = refl; still = λ other d x. x }) (λ _. goes_same world.service) (λ i tale there true_. true_.1)
+      (same_service world) (λ _. goes_same world.service) (λ i tale there true_. true_.1)
       (λ d e. let same : chunk ≡ d = omega arith in subst (λ c. IsRead (status world c)) same (subst IsRead (sym was.3) tt)) tt in (
         Service (hand_with chunk) made desk Nothing v,
         takes chunk (stored_at r.slots chunk).body,
@@ -104,6 +106,7 @@ module _ (setup : Setup) (count id made : ℕ) (desk : Desk) where
           kept = r.kept;
           led = r.led;
           words = words_loaded setup s.words r.front r.slots index r.words;
+          mail = mail_loaded setup world s.words index r.mail;
           bodies = bodies_out setup s.homes r.slots r.roll roll chunk r.bodies (λ in_now. in_now.not_service refl)
               (λ d _. in_before_service r.roll (hand_with chunk) d (no_slot r.roll d f.2));
           manned = subst (λ z. IsManned setup world roll (set s.views id (Service (hand_with chunk) made desk Nothing z))) (sym f.0) turn;
@@ -135,7 +138,7 @@ module _ (setup : Setup) (count id made : ℕ) (desk : Desk) where
       let front = set r.front at_.page new in
       let roll = with_service_hand r.roll 0 in
       let turn = service_turn setup world next r.roll s.views id (hand_with chunk) 0 made desk watch Nothing v view r.manned at
-      (served_change world chunk view Unclaimed c_inside (λ other has. absurd (subst (IsOf other) was.3 has))) (λ _. goes_free world.service chunk) (λ i tale there true_. true_.1) (λ d e. absurd (omega arith)) tt in (
+      (served_change world chunk view Unclaimed c_inside (λ other has. absurd (subst (IsOf other) was.3 has)) (omega arith)) (λ _. goes_free world.service chunk) (λ i tale there true_. true_.1) (λ d e. absurd (omega arith)) tt in (
         Service 0 made desk Nothing (lets_go v chunk),
         gives,
         tt,
@@ -149,6 +152,8 @@ module _ (setup : Setup) (count id made : ℕ) (desk : Desk) where
           led = led_on setup r.roll.marks world next (ReleasesMove chunk) r.led (c_inside, was) refl;
           words = words_front setup s.words r.front slots at_.page new (page_front setup s r chunk inside) (front_many setup s r)
               (words_body setup s.words r.front r.slots chunk (Some body) inside deep_slots r.words);
+          mail = mail_by_service setup world next (set s.words (front_place at_.page) new) refl refl
+              (mail_apart setup world s.words (front_place at_.page) new (let low = page_front setup s r chunk inside in omega (arith, low)) r.mail);
           bodies = bodies_back setup s.homes r.slots slots r.roll roll chunk (Some body) r.bodies inside here
               (λ d differs. body_else r.slots chunk d (Some body) differs)
               (λ d differs. in_before_service r.roll 0 d (slot_else r.roll chunk d f.2 differs));
@@ -171,10 +176,11 @@ module _ (setup : Setup) (count id made : ℕ) (desk : Desk) where
 
   pub notes_allowed : (index : ℕ) (step : ServiceView → ServiceView) (watch : Watch) (v : ServiceView)
       → ((view : ServiceView) → (step view).looks ≡ view.looks) → ((view : ServiceView) → (step view).taken ≡ view.taken) → ((view : ServiceView) → (step view).reading ≡ view.reading)
+      → ((view : ServiceView) → (step view).letters ≡ view.letters)
       → ((view : ServiceView) → IsMade desk.stage → GoesOn view (step view))
       → ((world : World) → (move : Move) × MayMove world move × (behind world move ≡ serviced world (step world.service)))
       → Allows (IsShared setup) count id (Service 0 made desk watch v, []) index (λ found. found) (λ _. Serves step (Service 0 made desk watch v, []))
-  notes_allowed index step watch v looks taken reading goes moves s r deep at small =
+  notes_allowed index step watch v looks taken reading letters goes moves s r deep at small =
       let f = r.manned.each id (Service 0 made desk watch v) at in
       let view = step r.world.service in
       let kept = serviced_kept setup r.front r.slots r.world view r.kept (looks r.world.service) (taken r.world.service) (reading r.world.service) in (
@@ -184,6 +190,6 @@ module _ (setup : Setup) (count id made : ℕ) (desk : Desk) where
         subst (λ z. IsShared setup (record { words = set s.words index (get_or s.words index 0); homes = s.homes; views = set s.views id (Service 0 made desk Nothing (step z)) })) (sym f.0)
             (serviced_allowed setup s r id index made desk watch Nothing v view at kept (goes r.world.service)
             (λ i tale there true_ n id_ look content since at_look. true_.1 n id_ look content since (subst (λ (l : List Look). At l n look) (looks r.world.service) at_look)) tt
-            (let one = moves r.world in led_on setup r.roll.marks r.world (serviced r.world view) one.0 r.led one.1 one.2)),
+            (let one = moves r.world in led_on setup r.roll.marks r.world (serviced r.world view) one.0 r.led one.1 one.2) (letters r.world.service)),
         record { new_is = refl; seen = ∣ (serviced r.world view, kept.owned, ap step (sym f.0)) ∣₁ },
       )

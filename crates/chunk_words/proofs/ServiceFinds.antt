@@ -3,13 +3,13 @@ use Rattle.std.proofs.Common.{◌≡◌, ◌≢◌, ℕ, ◌+◌, ◌*◌, ◌/�
 use Rattle.std.specs.Int.{bit_at}
 use native.Mathlib.Decide.{ℕ_discrete}
 use mathlib.Core.Logic.{dite}
-use Rattle.page_geometry.specs.Header.{unpacked}
+use Rattle.page_geometry.specs.Header.{packed, unpacked}
 use Rattle.page_geometry.specs.PageBits.{HasState}
 use Rattle.page_geometry.specs.declared.chunk_header.ChunkHeader.{ChunkHeader}
 use Rattle.page_geometry.specs.declared.chunk_state.ChunkState.TheVariants as state
 use Rattle.chunk_plain.specs.Setup.{Setup, spot}
 use Rattle.chunk_plain.specs.Payload.{byte_of, byte_at, byte_in, first_bytes, sealed_to}
-use Rattle.chunk_plain.specs.Views.{Head, Content, Held, Completed, Found}
+use Rattle.chunk_plain.specs.Views.{Head, no_head, Content, Held, Completed, Found}
 use Rattle.chunk_plain.specs.World.{World, Status, Unclaimed, Claimed, Stamped, Writing, Ready, Reading, status, writer}
 use Rattle.chunk_plain.specs.Drafts.{IsFound, IsThere, StillHas, head_of}
 use Rattle.chunk_plain.specs.Stored.{Stored, stored_at}
@@ -20,6 +20,8 @@ use Rattle.chunk_plain.proofs.Lists.{at_one}
 use Rattle.chunk_plain.proofs.Sealing.{reads_same, length-first_bytes, first_byte}
 use Rattle.chunk_plain.proofs.OwnershipLemmas.{as_found, found_inside}
 use Rattle.chunk_plain.proofs.KeptService.{held_untaken, finished, header_reads, reading_of}
+use Rattle.chunk_schedules.specs.Moves as moves
+use Rattle.chunk_schedules.specs.Moves.{SaysUse}
 use Rattle.chunk_words.specs.Knows.{Watch, Nothing, Lifted}
 use Rattle.chunk_words.specs.Rule.{IsStarted, StaysFound, IsWatched}
 use Rattle.chunk_words.specs.Moves.{Tells}
@@ -44,6 +46,7 @@ pub record FindsStarted (setup : Setup) (world : World) (chunk header : ℕ) : T
   pub one : Found
   pub found : IsFound one
   pub there : IsThere (writer world one.place) chunk one
+  pub is_header : IsHeader setup header one.place one.id one.head
   pub of_header : IsOfHeader setup (unpacked header) world.service one
 
 starts_of : (setup : Setup) (front : List ℕ) (slots : List Stored) (world : World) (chunk : ℕ) (is : Status) → IsKept setup front slots world → chunk < length setup.spots
@@ -66,6 +69,7 @@ starts_of setup front slots world chunk (Writing k i draft) kept inside was star
         at = at;
         has = (refl, record { count_grows = omega arith; front_stays = λ some. refl }, omega arith, λ j below. sym (first_byte (byte_at draft.words) n j (omega arith)));
       };
+      is_header = shows;
       of_header = record {
         place_is = sym (ap (λ (h : ChunkHeader). h.writer_id) reads);
         id_is = sym (ap (λ (h : ChunkHeader). h.chunk_id) reads);
@@ -96,6 +100,7 @@ starts_of setup front slots world chunk (Ready k i content) kept inside was star
         at = owns.0;
         has = (refl, record { count_grows = omega arith; front_stays = λ some. refl }, omega arith, λ j below. sym (first_byte (byte_in payload) n j (omega arith)));
       };
+      is_header = shows;
       of_header = record {
         place_is = sym (ap (λ (h : ChunkHeader). h.writer_id) reads);
         id_is = sym (ap (λ (h : ChunkHeader). h.chunk_id) reads);
@@ -109,23 +114,42 @@ starts_of setup front slots world chunk (Ready k i content) kept inside was star
 pub record Finds (setup : Setup) (world : World) (chunk word header : ℕ) : Type 0 where
   pub found : Option Found
   pub there : (one : Found) → found ≡ Some one → IsFound one × IsThere (writer world one.place) chunk one
+  pub written : (one : Found) → found ≡ Some one → moves.FindsWritten world word (packed (unpacked header)) one
   pub says : FindsWritten setup chunk word (unpacked header) world.service found
+
+-- the word is packed from its fields
+pub packed_back : (setup : Setup) (word place id : ℕ) (head : Head) → IsHeader setup word place id head → packed (unpacked word) ≡ word
+packed_back setup word place id head is = ap packed (header_reads setup word place id head is) ∙ sym is.word_is
+
+-- the header word that is loaded says what the chunk is used for
+pub says_use : (setup : Setup) (header : ℕ) (is : Status) → ShowsHeader setup header is → SaysUse (packed (unpacked header)) is
+says_use setup header Unclaimed shows = tt
+says_use setup header (Claimed k) shows = tt
+says_use setup header (Stamped k i) shows = packed_back setup header k i no_head shows ∙ shows.word_is
+says_use setup header (Writing k i draft) shows = packed_back setup header k i draft.head shows ∙ shows.word_is
+says_use setup header (Ready k i content) shows = packed_back setup header k i (head_of content) shows ∙ shows.word_is
+says_use setup header (Reading k i content) shows = packed_back setup header k i (head_of content) shows ∙ shows.word_is
 
 pub finds_by : (setup : Setup) (front : List ℕ) (slots : List Stored) (world : World) (chunk word : ℕ) → IsKept setup front slots world → chunk < length setup.spots
     → StaysFound word (spot setup chunk).place (status world chunk) → Finds setup world chunk word (header_word setup front chunk)
 finds_by setup front slots world chunk word kept inside stays =
     let low = bit_at word (2 * (spot setup chunk).place) in let high = bit_at word (2 * (spot setup chunk).place + 1) in
     dite (ℕ_discrete low 0)
-    (λ zero_. record { found = None; there = λ one e. absurd cc; says = record { some = λ (s : HasState word (spot setup chunk).place state.BeingWritten). absurd (let one : low ≡ 1 = s.low in omega arith); none = λ _. refl } })
+    (λ zero_. record { found = None; there = λ one e. absurd cc; written = λ one e. absurd cc; says = record { some = λ (s : HasState word (spot setup chunk).place state.BeingWritten). absurd (let one : low ≡ 1 = s.low in omega arith); none = λ _. refl } })
     (λ low_set. dite (ℕ_discrete high 0)
     (λ none. let written : HasState word (spot setup chunk).place state.BeingWritten = record { low = low_one word (2 * (spot setup chunk).place) low_set; high = none } in
     let finds = starts_of setup front slots world chunk (status world chunk) kept inside refl (stays.started written) in
     record {
       found = Some finds.one;
       there = λ one e. subst (λ (f : Found). IsFound f × IsThere (writer world f.place) chunk f) (let same : finds.one ≡ one = cc in same) (finds.found, finds.there);
+      written = λ one e. subst (moves.FindsWritten world word (packed (unpacked (header_word setup front chunk)))) (let same : finds.one ≡ one = cc in same) (record {
+        header_is = packed_back setup (header_word setup front chunk) finds.one.place finds.one.id finds.one.head finds.is_header ∙ finds.is_header.word_is;
+        written = ((spot setup chunk).place, written);
+        untaken = finds.of_header.untaken;
+      });
       says = record { some = λ _. (finds.one, refl, finds.of_header); none = λ no_. absurd (no_ written) };
     })
-    (λ high_set. record { found = None; there = λ one e. absurd cc; says = record { some = λ (s : HasState word (spot setup chunk).place state.BeingWritten). absurd (high_set s.high); none = λ _. refl } }))
+    (λ high_set. record { found = None; there = λ one e. absurd cc; written = λ one e. absurd cc; says = record { some = λ (s : HasState word (spot setup chunk).place state.BeingWritten). absurd (high_set s.high); none = λ _. refl } }))
   where
     low_one : (word at : ℕ) → bit_at word at ≢ 0 → bit_at word at ≡ 1
     low_one word at set_ = let below = Rattle.std.proofs.lemmas.Nat.Bits.bit_at-lt word at in omega (arith, set_)

@@ -8,7 +8,7 @@ use Rattle.page_geometry.specs.declared.chunk_header.ChunkHeader.{ChunkHeader}
 use Rattle.page_geometry.specs.declared.chunk_state.ChunkState.TheVariants as state
 use Rattle.commit_body.specs.declared.body.CommitBody.{CommitBody}
 use Rattle.chunk_plain.specs.Setup.{Setup, spot}
-use Rattle.chunk_plain.specs.Views.{At, Head, Content, ServiceView, taken_of}
+use Rattle.chunk_plain.specs.Views.{At, Head, Content, asked_in, ServiceView, taken_of}
 use Rattle.chunk_plain.specs.World.{World, Status, Unclaimed, Ready, Reading, status}
 use Rattle.chunk_plain.specs.Steps.{looks_at, takes_in, served, serviced}
 use Rattle.chunk_plain.specs.Drafts.{head_of}
@@ -18,7 +18,7 @@ use Rattle.chunk_plain.specs.Words.{LooksAt}
 use Rattle.chunk_plain.specs.Plain.{read_as, IsKept}
 use Rattle.chunk_plain.proofs.Owned.{looks_owned}
 use Rattle.chunk_plain.proofs.KeptService.{serviced_shown, header_reads, take_kept}
-use Rattle.chunk_schedules.specs.Moves.{Looks as LooksMove, Takes as TakesMove}
+use Rattle.chunk_schedules.specs.Moves.{Looks as LooksMove, Takes as TakesMove, MayLook, SaysUse}
 use Rattle.chunk_schedules.specs.Schedules.{IsLed}
 use Rattle.chunk_schedules.proofs.Leading.{led_on}
 use Rattle.chunk_words.specs.Knows.{Watch, Tale, Desk, Nothing, Peeked, Known, Lifted, Service, hand_with}
@@ -26,15 +26,16 @@ use Rattle.chunk_words.specs.Places.{front_place, payload_start, payload_words}
 use Rattle.chunk_words.specs.Rule.{Roll, IsIn, IsOf, IsRead, IsCompleteChunk, IsWatched, HasHeader, IsMade, IsTrue, IsManned, IsShared}
 use Rattle.chunk_words.specs.GoesOn.{GoesOn}
 use Rattle.chunk_words.specs.Told.{ShowsTold, TellsComplete}
-use Rattle.chunk_words.proofs.Telling.{told_ready, packed_back, look_shows}
+use Rattle.chunk_words.proofs.Telling.{told_ready, look_shows}
 use Rattle.chunk_words.proofs.Passing.{goes_same, goes_further, goes_look, goes_take}
 use Rattle.chunk_words.specs.Moves.{Mine, IsSeen, IsTakenWith, Peeks, ReadsHeader, Recalls, Looks, Misses, Serves, Takes, Loads}
 use Rattle.chunk_words.proofs.Standing.{words_front}
 use Rattle.chunk_words.proofs.Bodies.{with_service_hand, in_before_service, bodies_stay, bodies_out}
-use Rattle.chunk_words.proofs.Turns.{served_change, serviced_change, service_turn}
+use Rattle.chunk_words.proofs.MailWords.{mail_apart, mail_loaded, mail_by_service}
+use Rattle.chunk_words.proofs.Turns.{served_change, serviced_change, same_service, service_turn}
 use Rattle.chunk_words.proofs.WriterMoves.{Table, front_many, page_front, page_is, chunk_inside}
 use Rattle.chunk_words.proofs.WriterEnds.{words_loaded}
-use Rattle.chunk_words.proofs.ServiceFinds.{stays_found, finds_by, watch_on, watch_on_true, tells_of}
+use Rattle.chunk_words.proofs.ServiceFinds.{Finds, stays_found, finds_by, packed_back, says_use, watch_on, watch_on_true, tells_of}
 
 pub header_is : (setup : Setup) (s : Table) (r : IsShared setup s) (chunk : ℕ) → chunk < length setup.spots → get_or s.words (front_place (setup.pages + chunk)) 0 ≡ header_word setup r.front chunk
 header_is setup s r chunk inside = r.words.front_is (setup.pages + chunk) (omega arith)
@@ -50,10 +51,10 @@ same_hand roll hand chunk same in_now = record { with_none = in_now.with_none; n
 pub serviced_allowed : (setup : Setup) (s : Table) (r : IsShared setup s) (id index made : ℕ) (desk : Desk) (watch seen : Watch) (v view : ServiceView)
     → At s.views id (Service 0 made desk watch v) → IsKept setup r.front r.slots (serviced r.world view) → (IsMade desk.stage → GoesOn r.world.service view)
     → ((i : ℕ) (tale : Tale) → At desk.told i tale → IsTrue setup r.world tale → ShowsTold setup view tale)
-    → IsWatched setup (serviced r.world view) seen → IsLed setup r.roll.marks (serviced r.world view)
+    → IsWatched setup (serviced r.world view) seen → IsLed setup r.roll.marks (serviced r.world view) → view.letters ≡ r.world.service.letters
     → IsShared setup (record { words = set s.words index (get_or s.words index 0); homes = s.homes; views = set s.views id (Service 0 made desk seen view) })
-serviced_allowed setup s r id index made desk watch seen v view at kept goes shows watched led =
-    let f = r.manned.each id (Service 0 made desk watch v) at in
+serviced_allowed setup s r id index made desk watch seen v view at kept goes shows watched led same =
+    let f = r.manned.each id (Service 0 made desk watch v) at in let is = ap asked_in same in
     record {
       world = serviced r.world view;
       front = r.front;
@@ -63,8 +64,9 @@ serviced_allowed setup s r id index made desk watch seen v view at kept goes sho
       kept = kept;
       led = led;
       words = words_loaded setup s.words r.front r.slots index r.words;
+      mail = mail_by_service setup r.world (serviced r.world view) (set s.words index (get_or s.words index 0)) same refl (mail_loaded setup r.world s.words index r.mail);
       bodies = bodies_stay setup s.homes r.slots r.slots r.roll (with_service_hand r.roll 0) r.bodies (λ d. refl) (λ d. same_hand r.roll 0 d f.2);
-      manned = service_turn setup r.world (serviced r.world view) r.roll s.views id 0 0 made desk watch seen v view r.manned at (serviced_change r.world view) goes shows (λ d e. absurd (omega arith)) watched;
+      manned = service_turn setup r.world (serviced r.world view) r.roll s.views id 0 0 made desk watch seen v view r.manned at (serviced_change r.world view (omega (arith, is))) goes shows (λ d e. absurd (omega arith)) watched;
     }
 
 -- what the service sees is part of the world as it is owned now
@@ -86,7 +88,7 @@ module _ (setup : Setup) (count id made : ℕ) (desk : Desk) where
         keeps,
         tt,
         subst (λ z. IsShared setup (record { words = set s.words (front_place (spot setup chunk).page) found; homes = s.homes; views = set s.views id (Service 0 made desk seen z) })) (sym f.0)
-            (serviced_allowed setup s r id (front_place (spot setup chunk).page) made desk watch seen v r.world.service at r.kept (λ _. goes_same r.world.service) (λ i tale there true_. true_.1) (stays_found found (spot setup chunk).place (status r.world chunk) state) r.led),
+            (serviced_allowed setup s r id (front_place (spot setup chunk).page) made desk watch seen v r.world.service at r.kept (λ _. goes_same r.world.service) (λ i tale there true_. true_.1) (stays_found found (spot setup chunk).place (status r.world chunk) state) r.led refl),
         record {
           new_is = refl;
           told = λ i id_ tale content there begun untaken.
@@ -115,7 +117,7 @@ module _ (setup : Setup) (count id made : ℕ) (desk : Desk) where
               told i id_ tale content there begun (subst (λ (z : ServiceView). (taken_of z tale.place).count ≤ id_) (sym f.0) untaken),
               (head_of content, subst (λ w. IsHeader setup w tale.place id_ (head_of content)) (sym (packed_back setup header tale.place id_ (head_of content) shows)) shows),
             ))) tt
-            (led_on setup r.roll.marks r.world (serviced r.world view) (LooksMove chunk word (packed (unpacked header)) finds.found) r.led finds.there refl),
+            (led_on setup r.roll.marks r.world (serviced r.world view) (LooksMove chunk word (packed (unpacked header)) finds.found) r.led (may_look finds) refl) refl,
         record {
           peeked = refl;
           view = view;
@@ -129,6 +131,15 @@ module _ (setup : Setup) (count id made : ℕ) (desk : Desk) where
           seen = seen_now setup r.front r.slots (serviced r.world view) view kept refl;
         },
       )
+    where
+      may_look : (finds : Finds setup r.world chunk word (header_word setup r.front chunk))
+          → MayLook r.world chunk word (packed (unpacked (get_or s.words (front_place (setup.pages + chunk)) 0))) finds.found
+      may_look finds =
+          subst (λ (w : ℕ). MayLook r.world chunk word (packed (unpacked w)) finds.found) (sym (header_is setup s r chunk inside)) (record {
+            there = finds.there;
+            used = says_use setup (header_word setup r.front chunk) (status r.world chunk) (r.kept.shown.header chunk inside);
+            says = finds.written;
+          })
 
   -- ---- what was told, compared with the looks
 
@@ -140,7 +151,7 @@ module _ (setup : Setup) (count id made : ℕ) (desk : Desk) where
         keeps,
         tt,
         subst (λ z. IsShared setup (record { words = set s.words index (get_or s.words index 0); homes = s.homes; views = set s.views id (Service 0 made desk Nothing z) })) (sym f.0)
-            (serviced_allowed setup s r id index made desk watch Nothing v r.world.service at r.kept (λ _. goes_same r.world.service) (λ i tale there true_. true_.1) tt r.led),
+            (serviced_allowed setup s r id index made desk watch Nothing v r.world.service at r.kept (λ _. goes_same r.world.service) (λ i tale there true_. true_.1) tt r.led refl),
         record {
           new_is = refl;
           shown = λ i tale there. subst (λ (z : ServiceView). ShowsTold setup z tale) (sym f.0) (f.7 i tale there).1;
@@ -160,7 +171,7 @@ module _ (setup : Setup) (count id made : ℕ) (desk : Desk) where
         keeps,
         tt,
         subst (λ z. IsShared setup (record { words = set s.words (front_place (setup.pages + chunk)) header; homes = s.homes; views = set s.views id (Service 0 made desk (Known chunk word header) z) })) (sym f.0)
-            (serviced_allowed setup s r id (front_place (setup.pages + chunk)) made desk (Peeked chunk word) (Known chunk word header) v r.world.service at r.kept (λ _. goes_same r.world.service) (λ i tale there true_. true_.1) (full_header header (status r.world chunk) (f.5.complete complete) shows) r.led),
+            (serviced_allowed setup s r id (front_place (setup.pages + chunk)) made desk (Peeked chunk word) (Known chunk word header) v r.world.service at r.kept (λ _. goes_same r.world.service) (λ i tale there true_. true_.1) (full_header header (status r.world chunk) (f.5.complete complete) shows) r.led refl),
         record { peeked = refl; new_is = refl },
       )
     where
@@ -186,9 +197,21 @@ module _ (setup : Setup) (count id made : ℕ) (desk : Desk) where
             (serviced_allowed setup s r id index made desk watch Nothing v view at kept (λ _. goes_look r.world.service chunk word (packed header) None)
             (look_shows setup r.world desk chunk word (packed header) None r.kept.owned (λ i id_ tale content there begun untaken ready.
             (complete, (head_of content, subst (λ t. HasHeader setup (packed header) t) ready f.5)))) tt
-            (led_on setup r.roll.marks r.world (serviced r.world view) (LooksMove chunk word (packed header) None) r.led (λ one e. absurd cc) refl)),
+            (led_on setup r.roll.marks r.world (serviced r.world view) (LooksMove chunk word (packed header) None) r.led (record {
+              there = λ one e. absurd cc;
+              used = used_by (status r.world chunk) f.5;
+              says = λ one e. absurd cc;
+            }) refl) refl),
         record { known = refl; serves = record { new_is = refl; seen = seen_now setup r.front r.slots (serviced r.world view) (looks_at v chunk word (packed header) None) kept (ap (λ z. looks_at z chunk word (packed header) None) (sym f.0)) } },
       )
+    where
+      used_by : (is : Status) → HasHeader setup (packed header) is → SaysUse (packed header) is
+      used_by (Ready place id_ content) has = has.word_is
+      used_by Unclaimed has = absurd has
+      used_by (Rattle.chunk_plain.specs.World.Claimed k) has = absurd has
+      used_by (Rattle.chunk_plain.specs.World.Stamped k i) has = absurd has
+      used_by (Rattle.chunk_plain.specs.World.Writing k i d) has = absurd has
+      used_by (Reading k i m) has = absurd has
 
   -- the status of a chunk that is known to be complete
   pub record IsKnown (world : World) (chunk header : ℕ) : Type 0 where
@@ -197,6 +220,14 @@ module _ (setup : Setup) (count id made : ℕ) (desk : Desk) where
     pub content : Content
     pub ready : status world chunk ≡ Ready place at_id content
     pub header_is : IsHeader setup header place at_id (head_of content)
+
+  shown_by : (header : ℕ) (is : Status) → HasHeader setup header is → ShowsHeader setup header is
+  shown_by header (Ready place id_ content) has = has
+  shown_by header Unclaimed has = absurd has
+  shown_by header (Rattle.chunk_plain.specs.World.Claimed k) has = absurd has
+  shown_by header (Rattle.chunk_plain.specs.World.Stamped k i) has = absurd has
+  shown_by header (Rattle.chunk_plain.specs.World.Writing k i d) has = absurd has
+  shown_by header (Reading k i m) has = absurd has
 
   known_by : (world : World) (chunk header : ℕ) (is : Status) → status world chunk ≡ is → HasHeader setup header is → IsKnown world chunk header
   known_by world chunk header (Ready place at_id content) was has = record { place = place; at_id = at_id; content = content; ready = was; header_is = has }
@@ -241,7 +272,7 @@ module _ (setup : Setup) (count id made : ℕ) (desk : Desk) where
       let i = (unpacked header).chunk_id in
       let i_is : i ≡ n = fields_id ∙ same_id in
       let turn = service_turn setup world next r.roll s.views id 0 (hand_with chunk) made desk (Known chunk word header) (Lifted chunk place i content) v view r.manned at
-      (served_change world chunk view to c_inside (λ other has. absurd (subst (IsOf other) ready has)))
+      (served_change world chunk view to c_inside (λ other has. absurd (subst (IsOf other) ready has)) (omega arith))
       (λ _. goes_further world.service (looks_at world.service chunk word (packed (unpacked header)) None) view (goes_look world.service chunk word (packed (unpacked header)) None) (goes_take _ place chunk))
       (look_shows setup world desk chunk word (packed (unpacked header)) None r.kept.owned (λ i id_ tale content_ there begun untaken ready_.
       let shows = subst (λ t. HasHeader setup header t) ready_ f.5 in
@@ -259,9 +290,12 @@ module _ (setup : Setup) (count id made : ℕ) (desk : Desk) where
           roll = roll;
           laid = r.laid;
           kept = kept;
-          led = led_on setup r.roll.marks world next (TakesMove place chunk word (packed (unpacked header))) r.led (w_inside, c_inside, (content, ready))
+          led = led_on setup r.roll.marks world next (TakesMove place chunk word (packed (unpacked header))) r.led
+              (w_inside, c_inside, (content, ready), says_use setup header (status world chunk) (shown_by header (status world chunk) f.5), (at_.place, complete))
               (ap (λ t. served world view chunk (read_as t)) ready);
           words = words_front setup s.words r.front r.slots at_.page new (page_front setup s r chunk inside) (front_many setup s r) r.words;
+          mail = mail_by_service setup world next (set s.words (front_place at_.page) new) refl refl
+              (mail_apart setup world s.words (front_place at_.page) new (let low = page_front setup s r chunk inside in omega (arith, low)) r.mail);
           bodies = bodies_out setup s.homes r.slots r.roll roll chunk r.bodies (λ in_now. in_now.not_service refl)
               (λ d _. in_before_service r.roll (hand_with chunk) d (no_slot r.roll d f.2));
           manned = subst (λ z. IsManned setup next roll (set s.views id (Service (hand_with chunk) made desk (Lifted chunk place i content) (takes_in (looks_at z chunk word (packed (unpacked header)) None) place chunk)))) (sym f.0) turn;
@@ -293,7 +327,7 @@ module _ (setup : Setup) (count id made : ℕ) (desk : Desk) where
       let tells = tells_of setup r.front r.slots r.world chunk index word watch r.kept inside (r.words.payload_is chunk index inside less) f.5 in
       let roll = with_service_hand r.roll hand in
       let turn = service_turn setup r.world r.world r.roll s.views id hand hand made desk watch seen v r.world.service r.manned at
-      (record { service = refl; writers = refl; still = λ other d x. x }) (λ _. goes_same r.world.service) (λ i tale there true_. true_.1) (λ d e. r.manned.lifted d (f.2 ∙ e)) (watch_on_true setup r.world chunk) in (
+      (same_service r.world) (λ _. goes_same r.world.service) (λ i tale there true_. true_.1) (λ d e. r.manned.lifted d (f.2 ∙ e)) (watch_on_true setup r.world chunk) in (
         Service hand made desk seen v,
         keeps,
         tt,
@@ -306,6 +340,7 @@ module _ (setup : Setup) (count id made : ℕ) (desk : Desk) where
           kept = r.kept;
           led = r.led;
           words = words_loaded setup s.words r.front r.slots place r.words;
+          mail = mail_loaded setup r.world s.words place r.mail;
           bodies = bodies_stay setup s.homes r.slots r.slots r.roll roll r.bodies (λ d. refl) (λ d. same_hand r.roll hand d f.2);
           manned = subst (λ z. IsManned setup r.world roll (set s.views id (Service hand made desk seen z))) (sym f.0) turn;
         },

@@ -40,9 +40,6 @@ pub told_ready : (setup : Setup) (world : World) (tale : Tale) (id chunk : ℕ) 
     → At tale.begun id (Completed chunk content) → (taken_of world.service tale.place).count ≤ id → status world chunk ≡ Ready tale.place id content
 told_ready setup world tale id chunk content owned true_ at untaken = (owned.owns tale.place chunk).completed_is id content (true_.0 id chunk content at) untaken
 
-pub packed_back : (setup : Setup) (word place id : ℕ) (head : Head) → IsHeader setup word place id head → packed (unpacked word) ≡ word
-packed_back setup word place id head is = ap packed (header_reads setup word place id head is) ∙ sym is.word_is
-
 -- the look that is made now shows what was told of its chunk
 abbrev pub ShowsNow : Setup → World → Desk → (chunk word header : ℕ) → Type 0
 ShowsNow setup world desk chunk word header = (i id : ℕ) (tale : Tale) (content : Content) → At desk.told i tale → At tale.begun id (Completed chunk content)

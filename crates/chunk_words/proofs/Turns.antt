@@ -5,11 +5,12 @@ use mathlib.Core.Logic.{dite}
 use Rattle.atomic_table.proofs.Lists.{at_set, set_here, set_else}
 use Rattle.std.proofs.lemmas.List.{get_or-set_same, get_or-set_other}
 use Rattle.chunk_plain.specs.Setup.{Setup}
-use Rattle.chunk_plain.specs.Views.{At, BegunChunk, Completed, WriterView, ServiceView, newcomer}
+use Rattle.chunk_plain.specs.Views.{At, BegunChunk, Completed, WriterView, asked_in, ServiceView, newcomer}
 use Rattle.chunk_plain.specs.World.{World, Status, Unclaimed, Claimed, Stamped, Writing, Ready, Reading, status, writer}
 use Rattle.chunk_plain.specs.Steps.{moved, with_writer_view, served, serviced}
+use Rattle.chunk_plain.specs.Letters.{last_flush}
 use Rattle.chunk_plain.proofs.Lists.{changed, at_one, at_inside}
-use Rattle.chunk_words.specs.Knows.{Watch, Desk, Nothing, Peeked, Known, Lifted, Tale, Knows, Spent, Writer, Service, Pass, Report, hand_with, place_of, put}
+use Rattle.chunk_words.specs.Knows.{Watch, Desk, Nothing, Peeked, Known, Lifted, Tale, Knows, Spent, Writer, Service, Pass, Report, Notice, hand_with, place_of, put}
 use Rattle.chunk_words.specs.Rule.{Roll, IsOf, IsRead, IsStarted, IsCompleteChunk, HasHeader, IsWatched, IsMade, IsTrue, Fits, IsManned}
 use Rattle.chunk_words.specs.Told.{StaysCompleted, ShowsTold}
 use Rattle.chunk_words.specs.GoesOn.{GoesOn}
@@ -31,19 +32,22 @@ pub record IsWriterChange (world next : World) (place : ℕ) (view : WriterView)
   pub count : length next.writers ≡ length world.writers
   pub still : (chunk : ℕ) → Still place (status world chunk) (status next chunk)
   pub follows : StaysCompleted (writer world place).begun view.begun
+  pub answered : last_flush (writer world place).letters.answers ≤ last_flush view.letters.answers
 
 -- what a step of the service leaves of the world
 pub record IsServiceChange (world next : World) (view : ServiceView) : Type 0 where
   pub service : next.service ≡ view
   pub writers : next.writers ≡ world.writers
   pub still : (place chunk : ℕ) → IsOf place (status world chunk) → IsOf place (status next chunk)
+  pub asked : asked_in world.service.letters ≤ asked_in view.letters
 
 still_same : (place : ℕ) (is : Status) → Still place is is
 still_same place is = record { started = λ x. x; full = λ x. refl; read = λ x. refl; others = λ other differs x. x }
 
 pub moved_change : (world : World) (place chunk : ℕ) (view : WriterView) (is : Status) → place < length world.writers → chunk < length world.chunks
-    → Still place (status world chunk) is → StaysCompleted (writer world place).begun view.begun → IsWriterChange world (moved world place view chunk is) place view
-moved_change world place chunk view is inside_w inside_c still follows = record {
+    → Still place (status world chunk) is → StaysCompleted (writer world place).begun view.begun
+    → last_flush (writer world place).letters.answers ≤ last_flush view.letters.answers → IsWriterChange world (moved world place view chunk is) place view
+moved_change world place chunk view is inside_w inside_c still follows answered = record {
   mine = get_or-set_same world.writers place view newcomer inside_w;
   others = λ other differs. get_or-set_other world.writers place other view newcomer differs;
   service = refl;
@@ -51,34 +55,42 @@ moved_change world place chunk view is inside_w inside_c still follows = record 
   still = λ d. changed (λ t. Still place (status world d) t) world.chunks chunk d is Unclaimed inside_c
       (λ same. subst (λ e. Still place (status world e) is) (sym same) still) (λ differs. still_same place (status world d));
   follows = follows;
+  answered = answered;
 }
 
 pub noted_change : (world : World) (place : ℕ) (view : WriterView) → place < length world.writers → view.begun ≡ (writer world place).begun
-    → IsWriterChange world (with_writer_view world place view) place view
-noted_change world place view inside_w same = record {
+    → last_flush (writer world place).letters.answers ≤ last_flush view.letters.answers → IsWriterChange world (with_writer_view world place view) place view
+noted_change world place view inside_w same answered = record {
   mine = get_or-set_same world.writers place view newcomer inside_w;
   others = λ other differs. get_or-set_other world.writers place other view newcomer differs;
   service = refl;
   count = length-set world.writers place view;
   still = λ d. still_same place (status world d);
   follows = λ id chunk content at. subst (λ (l : List BegunChunk). At l id (Completed chunk content)) (sym same) at;
+  answered = answered;
 }
 
 -- nothing changes but the hand
 pub same_change : (world : World) (place : ℕ) → IsWriterChange world world place (writer world place)
-same_change world place = record { mine = refl; others = λ other differs. refl; service = refl; count = refl; still = λ d. still_same place (status world d); follows = λ id chunk content at. at }
+same_change world place = record { mine = refl; others = λ other differs. refl; service = refl; count = refl; still = λ d. still_same place (status world d); follows = λ id chunk content at. at; answered = omega arith }
 
 pub served_change : (world : World) (chunk : ℕ) (view : ServiceView) (is : Status) → chunk < length world.chunks
-    → ((place : ℕ) → IsOf place (status world chunk) → IsOf place is) → IsServiceChange world (served world view chunk is) view
-served_change world chunk view is inside_c still = record {
+    → ((place : ℕ) → IsOf place (status world chunk) → IsOf place is) → asked_in world.service.letters ≤ asked_in view.letters
+    → IsServiceChange world (served world view chunk is) view
+served_change world chunk view is inside_c still asked = record {
   service = refl;
   writers = refl;
   still = λ place d. changed (λ t. IsOf place (status world d) → IsOf place t) world.chunks chunk d is Unclaimed inside_c
       (λ same. subst (λ e. IsOf place (status world e) → IsOf place is) (sym same) (still place)) (λ differs x. x);
+  asked = asked;
 }
 
-pub serviced_change : (world : World) (view : ServiceView) → IsServiceChange world (serviced world view) view
-serviced_change world view = record { service = refl; writers = refl; still = λ place d x. x }
+pub serviced_change : (world : World) (view : ServiceView) → asked_in world.service.letters ≤ asked_in view.letters → IsServiceChange world (serviced world view) view
+serviced_change world view asked = record { service = refl; writers = refl; still = λ place d x. x; asked = asked }
+
+-- nothing changes but the hand
+pub same_service : (world : World) → IsServiceChange world world world.service
+same_service world = record { service = refl; writers = refl; still = λ place d x. x; asked = omega arith }
 
 -- what any writer completed it has still
 begun_stays : (world next : World) (place : ℕ) (view : WriterView) → IsWriterChange world next place view → (other : ℕ) → StaysCompleted (writer world other).begun (writer next other).begun
@@ -87,6 +99,15 @@ begun_stays world next place view change other id chunk content at = dite (ℕ_d
     (subst (λ (v : WriterView). At v.begun id (Completed chunk content)) (sym change.mine)
     (change.follows id chunk content (subst (λ p. At (writer world p).begun id (Completed chunk content)) same at))))
     (λ differs. subst (λ (v : WriterView). At v.begun id (Completed chunk content)) (sym (change.others other differs)) at)
+
+-- and its last answer is no older one
+answered_stays : (world next : World) (place : ℕ) (view : WriterView) → IsWriterChange world next place view → (other flush : ℕ)
+    → flush ≤ last_flush (writer world other).letters.answers → flush ≤ last_flush (writer next other).letters.answers
+answered_stays world next place view change other flush low = dite (ℕ_discrete other place)
+    (λ same. subst (λ p. flush ≤ last_flush (writer next p).letters.answers) (sym same)
+    (subst (λ (v : WriterView). flush ≤ last_flush v.letters.answers) (sym change.mine)
+    (let was = subst (λ p. flush ≤ last_flush (writer world p).letters.answers) same low in let more = change.answered in omega (arith, was, more))))
+    (λ differs. subst (λ (v : WriterView). flush ≤ last_flush v.letters.answers) (sym (change.others other differs)) low)
 
 header_stays : (setup : Setup) (header : ℕ) (was is : Status) → (IsCompleteChunk was → is ≡ was) → HasHeader setup header was → HasHeader setup header is
 header_stays setup header (Ready place id content) is same has = subst (λ t. HasHeader setup header t) (sym (same tt)) has
@@ -113,8 +134,12 @@ fits_on setup world next roll seat place hand view (Writer other held known) cha
     let differs : other ≢ place = λ same. apart (ap roll.seats (sym same) ∙ fits.1) in
     (fits.0 ∙ sym (change.others other differs), fits.1, put_other roll.hands place hand other differs ∙ fits.2, fits.3, fits.4)
 fits_on setup world next roll seat place hand view (Pass known) change joined apart fits = fits
-fits_on setup world next roll seat place hand view (Report other begun) change joined apart fits =
-    λ id chunk content at. begun_stays world next place view change other id chunk content (fits id chunk content at)
+fits_on setup world next roll seat place hand view (Report other begun flush) change joined apart fits = (
+  λ id chunk content at. begun_stays world next place view change other id chunk content (fits.0 id chunk content at),
+  answered_stays world next place view change other flush fits.1,
+)
+fits_on setup world next roll seat place hand view (Notice requests) change joined apart fits =
+    subst (λ (z : ServiceView). requests ≤ asked_in z.letters) (sym change.service) fits
 fits_on setup world next roll seat place hand view (Service held made desk watch known) change joined apart fits = (
   fits.0 ∙ sym change.service,
   fits.1,
@@ -130,6 +155,7 @@ fits_on setup world next roll seat place hand view (Service held made desk watch
   λ i tale there. let was = fits.7 i tale there in (
     λ id chunk content at. begun_stays world next place view change tale.place id chunk content (was.0 id chunk content at),
     subst (λ (z : ServiceView). ShowsTold setup z tale) (sym change.service) was.1,
+    answered_stays world next place view change tale.place tale.flush was.2,
   ),
   fits.8,
 )
@@ -179,8 +205,11 @@ served_on setup world next roll seat hand view Spent change apart fits = tt
 served_on setup world next roll seat hand view (Writer other held known) change apart fits =
     (subst (λ (l : List WriterView). known ≡ get_or l other newcomer) (sym change.writers) fits.0, fits.1, fits.2, fits.3, fits.4)
 served_on setup world next roll seat hand view (Pass known) change apart fits = fits
-served_on setup world next roll seat hand view (Report other begun) change apart fits =
-    subst (λ (l : List WriterView). StaysCompleted begun (get_or l other newcomer).begun) (sym change.writers) fits
+served_on setup world next roll seat hand view (Report other begun flush) change apart fits =
+    subst (λ (l : List WriterView). StaysCompleted begun (get_or l other newcomer).begun × (flush ≤ last_flush (get_or l other newcomer).letters.answers))
+    (sym change.writers) fits
+served_on setup world next roll seat hand view (Notice requests) change apart fits =
+    subst (λ (z : ServiceView). requests ≤ asked_in z.letters) (sym change.service) (let more = change.asked in omega (arith, fits, more))
 served_on setup world next roll seat hand view (Service held made desk watch known) change apart fits = absurd (apart fits.1)
 
 pub service_turn : (setup : Setup) (world next : World) (roll : Roll) (views : List Knows) (seat hand now made : ℕ) (desk : Desk) (watch seen : Watch) (known view : ServiceView)
@@ -223,6 +252,7 @@ service_turn setup world next roll views seat hand now made desk watch seen know
             λ i tale told. let was = fits.7 i tale told in (
               subst (λ (l : List WriterView). StaysCompleted tale.begun (get_or l tale.place newcomer).begun) (sym change.writers) was.0,
               subst (λ (z : ServiceView). ShowsTold setup z tale) (sym change.service) (shows i tale told was),
+              subst (λ (l : List WriterView). tale.flush ≤ last_flush (get_or l tale.place newcomer).letters.answers) (sym change.writers) was.2,
             ),
             fits.8,
           )))

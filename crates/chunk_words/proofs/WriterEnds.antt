@@ -1,6 +1,6 @@
 -- The last steps of a writer with a chunk, which take its slot out and put it back, and its notes.
-use Rattle.std.proofs.Common.{◌≡◌, ℕ, true, false, Option, Some, None, IsSome, IfSome, List, [], ◌∷◌, length, set, get_or, subst, sym, refl, arith, bit_or}
-use Rattle.std.proofs.lemmas.List.{set-get_or}
+use Rattle.std.proofs.Common.{◌≡◌, ℕ, true, false, Option, Some, None, IsSome, IfSome, List, [], ◌∷◌, length, set, get_or, subst, sym, refl, arith, bit_or, length-set}
+use Rattle.std.proofs.lemmas.List.{set-get_or, length-append}
 use Rattle.atomic_table.specs.Table.{Allows, keeps, takes, gives}
 use Rattle.trace_model.specs.Calls.{Call}
 use Rattle.page_geometry.specs.PageBits.{HasState, SetsState, KeepsOthers}
@@ -25,6 +25,7 @@ use Rattle.chunk_words.proofs.Standing.{words_front, words_body}
 use Rattle.chunk_words.proofs.Bodies.{put_same, with_hand, in_before, bodies_stay, bodies_out, bodies_back, body_here, body_else}
 use Rattle.chunk_words.proofs.Leads.{may_complete}
 use Rattle.chunk_words.proofs.Telling.{stays_set}
+use Rattle.chunk_words.proofs.MailWords.{mail_apart, mail_loaded, mail_by_writer}
 use Rattle.chunk_words.proofs.Turns.{Still, moved_change, noted_change, same_change, writer_turn}
 use Rattle.chunk_words.proofs.WriterMoves.{front_many, page_front, page_is, writer_inside, world_inside, chunk_inside, slot_in, hand_else, hand_none}
 
@@ -55,6 +56,7 @@ fetches_allowed setup count id k chunk i index v holding s r deep at small =
         kept = r.kept;
         led = r.led;
         words = words_loaded setup s.words r.front r.slots index r.words;
+        mail = mail_loaded setup world s.words index r.mail;
         bodies = bodies_out setup s.homes r.slots r.roll roll chunk r.bodies (λ in_now. in_now.with_none k (put_same r.roll.hands k (hand_with chunk)))
             (λ d _. in_before r.roll k (hand_with chunk) d (hand_none r.roll k d f.2));
         manned = subst (λ z. IsManned setup world roll (set s.views id (Writer k (hand_with chunk) z))) (sym f.0) turn;
@@ -91,7 +93,7 @@ completes_allowed setup count id k chunk i mask body v holding whole sets keep s
     let roll = with_hand r.roll k 0 in
     let change = moved_change world k chunk view to w_inside c_inside
     (subst (λ t. Still k t to) (sym was) (record { started = λ x. tt; full = λ x. absurd x; read = λ x. absurd x; others = λ other differs same. absurd (differs (sym same)) }))
-    (stays_set v'.begun i chunk (draft_at v' i) (Completed chunk content) holding') in
+    (stays_set v'.begun i chunk (draft_at v' i) (Completed chunk content) holding') (omega arith) in
     let turn = writer_turn setup world next r.roll s.views id k (hand_with chunk) 0 v view r.manned at change (λ d e. absurd (omega arith)) in (
       Writer k 0 (completes v chunk i (content_of k i (head_at v i) body)),
       gives,
@@ -106,6 +108,13 @@ completes_allowed setup count id k chunk i mask body v holding whole sets keep s
         led = led_on setup r.roll.marks world next (CompletesMove k chunk i content) r.led (w_inside, c_inside, holding', may) refl;
         words = words_front setup s.words r.front slots at_.page new (page_front setup s r chunk inside) (front_many setup s r)
             (words_body setup s.words r.front r.slots chunk (Some body) inside deep_slots r.words);
+        mail = mail_by_writer setup world next (set s.words (front_place at_.page) new) k view change
+            (record {
+              letters = refl;
+              begun = let same_many = length-set v'.begun i (Completed chunk content) in omega (arith, same_many);
+              calls = omega arith;
+            })
+            (mail_apart setup world s.words (front_place at_.page) new (let low = page_front setup s r chunk inside in omega (arith, low)) r.mail);
         bodies = bodies_back setup s.homes r.slots slots r.roll roll chunk (Some body) r.bodies inside here
             (λ d differs. body_else r.slots chunk d (Some body) differs)
             (λ d differs. in_before r.roll k 0 d (hand_else r.roll k chunk d f.2 differs));
@@ -121,7 +130,8 @@ calls_allowed setup count id k index call v s r deep at small =
     let inside_w = writer_inside setup s r id k 0 v at in let w_inside = world_inside setup s r id k 0 v at in
     let view = notes_call (writer world k) call in let next = with_writer_view world k view in
     let roll = with_hand r.roll k 0 in
-    let turn = writer_turn setup world next r.roll s.views id k 0 0 v view r.manned at (noted_change world k view w_inside refl) (λ d e. absurd (omega arith)) in (
+    let change = noted_change world k view w_inside refl (omega arith) in
+    let turn = writer_turn setup world next r.roll s.views id k 0 0 v view r.manned at change (λ d e. absurd (omega arith)) in (
       Writer k 0 (notes_call v call),
       keeps,
       tt,
@@ -134,6 +144,13 @@ calls_allowed setup count id k index call v s r deep at small =
         kept = call_kept setup r.front r.slots world k call r.kept inside_w;
         led = led_on setup r.roll.marks world next (CallsMove k call) r.led (w_inside) refl;
         words = words_loaded setup s.words r.front r.slots index r.words;
+        mail = mail_by_writer setup world next (set s.words index (get_or s.words index 0)) k view change
+            (record {
+              letters = refl;
+              begun = omega arith;
+              calls = let more = length-append (writer world k).calls (call ∷ []) in omega (arith, more);
+            })
+            (mail_loaded setup world s.words index r.mail);
         bodies = bodies_stay setup s.homes r.slots r.slots r.roll roll r.bodies (λ d. refl) (λ d. in_before r.roll k 0 d (hand_none r.roll k d f.2));
         manned = subst (λ z. IsManned setup next roll (set s.views id (Writer k 0 (notes_call z call)))) (sym f.0) turn;
       },

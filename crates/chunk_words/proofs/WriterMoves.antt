@@ -1,7 +1,7 @@
 -- Each step of a writer's seat keeps the rule, and tells what it does.
-use Rattle.std.proofs.Common.{◌≡◌, ◌≢◌, ℕ, ◌+◌, ◌-◌, ◌*◌, ◌<◌, ◌≤◌, ◌↔◌, ◌==◌, IsTrue, Bool, true, false, Option, Some, None, List, [], ◌∷◌, length, set, get_or, subst, sym, refl, ap, ◌∙◌, arith, bit_or}
+use Rattle.std.proofs.Common.{◌≡◌, ◌≢◌, ℕ, ◌+◌, ◌-◌, ◌*◌, ◌<◌, ◌≤◌, ◌↔◌, ◌==◌, IsTrue, Bool, true, false, Option, Some, None, List, [], ◌∷◌, length, set, get_or, subst, sym, refl, ap, ◌∙◌, arith, bit_or, length-set}
 use Rattle.std.specs.Int.{bit_at}
-use Rattle.std.proofs.lemmas.List.{get_or-set_same}
+use Rattle.std.proofs.lemmas.List.{get_or-set_same, length-append}
 use Rattle.std.proofs.lemmas.Bool.Decides.{nat_tests}
 use Rattle.atomic_table.specs.Table.{State, Allows, keeps, takes, gives}
 use Rattle.page_geometry.specs.PageBits.{HasState, SetsState, Claims as ClaimsBit, KeepsOthers, IsClaimed}
@@ -31,6 +31,7 @@ use Rattle.chunk_words.proofs.Standing.{words_front, words_payload, words_body}
 use Rattle.chunk_words.proofs.Bodies.{put_same, with_hand, in_before, bodies_stay, bodies_out, bodies_back, body_here, body_else}
 use Rattle.chunk_words.proofs.Leads.{claim_is, bit_held}
 use Rattle.chunk_words.proofs.Telling.{stays_same, stays_more, stays_set}
+use Rattle.chunk_words.proofs.MailWords.{KeepsLetters, mail_apart, payload_below, mail_by_writer}
 use Rattle.chunk_words.proofs.Turns.{Still, IsWriterChange, moved_change, noted_change, writer_turn}
 
 abbrev pub Table : Type 0
@@ -82,8 +83,13 @@ claim_change : (world : World) (place chunk found : ℕ) (won : Bool) → place 
 claim_change world place chunk found true inside_w inside_c free =
     moved_change world place chunk (claims (writer world place) chunk found true) (Claimed place) inside_w inside_c
     (subst (λ t. Still place t (Claimed place)) (sym (free refl)) (record { started = λ x. x; full = λ x. absurd x; read = λ x. absurd x; others = λ other differs x. absurd x }))
-    (stays_same (writer world place).begun)
-claim_change world place chunk found false inside_w inside_c free = noted_change world place (claims (writer world place) chunk found false) inside_w refl
+    (stays_same (writer world place).begun) (omega arith)
+claim_change world place chunk found false inside_w inside_c free = noted_change world place (claims (writer world place) chunk found false) inside_w refl (omega arith)
+
+-- a claim changes no letter
+pub claims_keep : (view : WriterView) (chunk found : ℕ) (won : Bool) → KeepsLetters view (claims view chunk found won)
+claims_keep view chunk found true = record { letters = refl; begun = omega arith; calls = omega arith }
+claims_keep view chunk found false = record { letters = refl; begun = omega arith; calls = omega arith }
 
 pub claims_allowed : (setup : Setup) (count id k chunk mask : ℕ) (v : WriterView) → chunk < length setup.spots
     → ((word : ℕ) → ClaimsBit word (bit_or word mask) (spot setup chunk).place (spot setup chunk).layout) → ((word : ℕ) → KeepsOthers word (bit_or word mask) (spot setup chunk).place)
@@ -115,6 +121,9 @@ claims_allowed setup count id k chunk mask v inside sets keep s r deep at small 
         kept = kept;
         led = led_on setup r.roll.marks world next (ClaimsMove k chunk found) r.led (w_inside, c_inside) (claim_is world k chunk found won (status world chunk) free held);
         words = words_front setup s.words r.front r.slots at_.page new (page_front setup s r chunk inside) (front_many setup s r) r.words;
+        mail = mail_by_writer setup world next (set s.words (front_place at_.page) new) k (claims (writer world k) chunk found won)
+            (claim_change world k chunk found won w_inside c_inside free) (claims_keep (writer world k) chunk found won)
+            (mail_apart setup world s.words (front_place at_.page) new (let low = page_front setup s r chunk inside in omega (arith, low)) r.mail);
         bodies = bodies_stay setup s.homes r.slots r.slots r.roll (with_hand r.roll k 0) r.bodies (λ d. refl) (λ d. in_before r.roll k 0 d (hand_none r.roll k d f.2));
         manned = subst (λ z. IsManned setup next (with_hand r.roll k 0) (set s.views id (Writer k 0 (claims z chunk found won)))) (sym f.0) turn;
       },
@@ -145,7 +154,7 @@ stamps_allowed setup count id k chunk header v inside mine unstamped is_header s
     let roll = with_hand r.roll k (hand_with chunk) in
     let change = moved_change world k chunk view is w_inside c_inside
     (subst (λ t. Still k t is) (sym was) (record { started = λ x. x; full = λ x. absurd x; read = λ x. absurd x; others = λ other differs same. absurd (differs (sym same)) }))
-    (stays_same (writer world k).begun) in
+    (stays_same (writer world k).begun) (omega arith) in
     let turn = writer_turn setup world next r.roll s.views id k 0 (hand_with chunk) v view r.manned at change
     (λ d e. let same : chunk ≡ d = omega arith in subst (λ c. IsOf k (status next c)) same (subst (IsOf k) (sym now) refl)) in (
       Writer k (hand_with chunk) (stamps v chunk),
@@ -160,6 +169,9 @@ stamps_allowed setup count id k chunk header v inside mine unstamped is_header s
         kept = kept;
         led = led_on setup r.roll.marks world next (StampsMove k chunk) r.led (w_inside, c_inside, mine', subst (λ (z : WriterView). z.stamped ≡ None) f.0 unstamped) refl;
         words = words_front setup s.words r.front r.slots (setup.pages + chunk) header (omega arith) (front_many setup s r) r.words;
+        mail = mail_by_writer setup world next (set s.words (front_place (setup.pages + chunk)) header) k view change
+            (record { letters = refl; begun = omega arith; calls = omega arith })
+            (mail_apart setup world s.words (front_place (setup.pages + chunk)) header (omega (arith, inside)) r.mail);
         bodies = bodies_out setup s.homes r.slots r.roll roll chunk r.bodies (λ in_now. in_now.with_none k (put_same r.roll.hands k (hand_with chunk)))
             (λ d _. in_before r.roll k (hand_with chunk) d (hand_none r.roll k d f.2));
         manned = subst (λ z. IsManned setup next roll (set s.views id (Writer k (hand_with chunk) (stamps z chunk)))) (sym f.0) turn;
@@ -192,7 +204,7 @@ begins_allowed setup count id k chunk mask v inside stamped sets keep s r deep a
     let roll = with_hand r.roll k 0 in
     let change = moved_change world k chunk view to w_inside c_inside
     (subst (λ t. Still k t to) (sym was) (record { started = λ x. tt; full = λ x. absurd x; read = λ x. absurd x; others = λ other differs same. absurd (differs (sym same)) }))
-    (stays_more v'.begun (Held chunk (fresh payload) ∷ [])) in
+    (stays_more v'.begun (Held chunk (fresh payload) ∷ [])) (omega arith) in
     let turn = writer_turn setup world next r.roll s.views id k (hand_with chunk) 0 v view r.manned at change (λ d e. absurd (omega arith)) in
     let room = (r.kept.shown.slot chunk inside).room in (
       Writer k 0 (begins v chunk payload),
@@ -208,6 +220,13 @@ begins_allowed setup count id k chunk mask v inside stamped sets keep s r deep a
         led = led_on setup r.roll.marks world next (BeginsMove k chunk payload) r.led (w_inside, c_inside, stamped') refl;
         words = words_body setup (set s.words (front_place at_.page) new) front r.slots chunk None inside deep_slots
             (words_front setup s.words r.front r.slots at_.page new (page_front setup s r chunk inside) (front_many setup s r) r.words);
+        mail = mail_by_writer setup world next (set s.words (front_place at_.page) new) k view change
+            (record {
+              letters = refl;
+              begun = let more = length-append v'.begun (Held chunk (fresh payload) ∷ []) in omega (arith, more);
+              calls = omega arith;
+            })
+            (mail_apart setup world s.words (front_place at_.page) new (let low = page_front setup s r chunk inside in omega (arith, low)) r.mail);
         bodies = bodies_back setup s.homes r.slots slots r.roll roll chunk None r.bodies inside (body_here r.slots chunk None (omega arith))
             (λ d differs. body_else r.slots chunk d None differs)
             (λ d differs. in_before r.roll k 0 d (hand_else r.roll k chunk d f.2 differs));
@@ -243,7 +262,7 @@ heads_allowed setup count id k chunk i header head v holding is_header follows r
     let roll = with_hand r.roll k 0 in
     let change = moved_change world k chunk view to w_inside c_inside
     (subst (λ t. Still k t to) (sym was) (record { started = λ x. tt; full = λ x. absurd x; read = λ x. absurd x; others = λ other differs same. absurd (differs (sym same)) }))
-    (stays_set v'.begun i chunk (draft_at v' i) (Held chunk draft) holding') in
+    (stays_set v'.begun i chunk (draft_at v' i) (Held chunk draft) holding') (omega arith) in
     let turn = writer_turn setup world next r.roll s.views id k 0 0 v view r.manned at change (λ d e. absurd (omega arith)) in (
       Writer k 0 (redrafts v chunk i (with_head (draft_at v i) head (ends_by v i head.count))),
       keeps,
@@ -257,6 +276,13 @@ heads_allowed setup count id k chunk i header head v holding is_header follows r
         kept = kept;
         led = led_on setup r.roll.marks world next (SetsHeaderMove k chunk i head) r.led (w_inside, c_inside, holding', may) refl;
         words = words_front setup s.words r.front r.slots (setup.pages + chunk) header (omega arith) (front_many setup s r) r.words;
+        mail = mail_by_writer setup world next (set s.words (front_place (setup.pages + chunk)) header) k view change
+            (record {
+              letters = refl;
+              begun = let same_many = length-set v'.begun i (Held chunk draft) in omega (arith, same_many);
+              calls = omega arith;
+            })
+            (mail_apart setup world s.words (front_place (setup.pages + chunk)) header (omega (arith, inside)) r.mail);
         bodies = bodies_stay setup s.homes r.slots r.slots r.roll roll r.bodies (λ d. refl) (λ d. in_before r.roll k 0 d (hand_none r.roll k d f.2));
         manned = subst (λ z. IsManned setup next roll (set s.views id (Writer k 0 (redrafts z chunk i (with_head (draft_at z i) head (ends_by z i head.count)))))) (sym f.0) turn;
       },
@@ -290,12 +316,12 @@ publishes_allowed setup count id k chunk i index word v holding less same s r de
     let draft = with_words old stored in let to = Writing k i draft in
     let view = redrafts v' chunk i draft in let next = moved world k view chunk to in
     let bytes = word_bytes old.words index word (sealed_to old.ends) same' many in
-    let kept = publish_kept setup r.front r.slots world k chunk i stored r.laid r.kept inside_w holding' (Rattle.std.proofs.Common.length-set (stored_at r.slots chunk).words index word)
+    let kept = publish_kept setup r.front r.slots world k chunk i stored r.laid r.kept inside_w holding' (length-set (stored_at r.slots chunk).words index word)
     (λ j below. ap (λ (l : List ℕ). byte_at l j) stored_is ∙ bytes j below) in
     let roll = with_hand r.roll k 0 in
     let change = moved_change world k chunk view to w_inside c_inside
     (subst (λ t. Still k t to) (sym was) (record { started = λ x. tt; full = λ x. absurd x; read = λ x. absurd x; others = λ other differs same_. absurd (differs (sym same_)) }))
-    (stays_set v'.begun i chunk old (Held chunk draft) holding') in
+    (stays_set v'.begun i chunk old (Held chunk draft) holding') (omega arith) in
     let turn = writer_turn setup world next r.roll s.views id k 0 0 v view r.manned at change (λ d e. absurd (omega arith)) in
     let deep_slots : length r.slots ≡ length setup.spots = r.kept.shown.slot_count in (
       Writer k 0 (redrafts v chunk i (with_word (draft_at v i) index word)),
@@ -310,6 +336,13 @@ publishes_allowed setup count id k chunk i index word v holding less same s r de
         kept = kept;
         led = led_on setup r.roll.marks world next (PublishesMove k chunk i index word) r.led (w_inside, c_inside, holding', record { inside = many; kept = same' }) (ap (λ l. drafted world k chunk i (with_words old l)) (sym stored_is));
         words = words_payload setup s.words r.front r.slots chunk index word inside less deep_slots r.words;
+        mail = mail_by_writer setup world next (set s.words (payload_start setup chunk + index) word) k view change
+            (record {
+              letters = refl;
+              begun = let same_many = length-set v'.begun i (Held chunk draft) in omega (arith, same_many);
+              calls = omega arith;
+            })
+            (mail_apart setup world s.words (payload_start setup chunk + index) word (payload_below setup chunk index inside less) r.mail);
         bodies = bodies_stay setup s.homes r.slots (set r.slots chunk (record (stored_at r.slots chunk) { words = stored })) r.roll roll r.bodies (words_else r.slots chunk stored (omega arith)) (λ d. in_before r.roll k 0 d (hand_none r.roll k d f.2));
         manned = subst (λ z. IsManned setup next roll (set s.views id (Writer k 0 (redrafts z chunk i (with_word (draft_at z i) index word))))) (sym f.0)
             (subst (λ (l : List ℕ). IsManned setup next roll (set s.views id (Writer k 0 (redrafts v' chunk i (with_words old l))))) stored_is turn);

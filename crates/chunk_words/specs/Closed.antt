@@ -7,6 +7,7 @@ use Rattle.page_geometry.specs.PageBits.{HasState}
 use Rattle.chunk_plain.specs.Setup.{Setup, spot}
 use Rattle.chunk_plain.specs.Views.{At, WriterView, ServiceView, taken_of}
 use Rattle.chunk_plain.specs.World.{World}
+use Rattle.chunk_plain.specs.Letters.{AreLetters}
 use Rattle.chunk_plain.specs.Owned.{held_count, IsOwned}
 use Rattle.chunk_schedules.specs.Schedules.{IsLed}
 use Rattle.chunk_words.specs.declared.host.HostTable.{HostTable}
@@ -41,7 +42,7 @@ IsUnused setup words chunk = HasState (slice_index_or words (front_place (spot s
     × (bit_at (slice_index_or words (front_place (spot setup chunk).page) 0) (CLAIM_BIT + (spot setup chunk).place) ≡ 0)
 
 -- The views that the seats had are those of one owned world: the account of all that was done. A schedule of moves leads to it from a table
--- as it is made, and from each world that the service marked.
+-- as it is made, and from each world that the service marked. Each answer that the service read was given, to a request that was made.
 abbrev pub IsAccount : Setup → (marks : List World) → List WriterView → ServiceView → Type 0
 IsAccount setup marks writers service =
-    ∥ ((world : World) × IsOwned world × IsLed setup marks world × (world.writers ≡ writers) × (world.service ≡ service)) ∥₁
+    ∥ ((world : World) × IsOwned world × IsLed setup marks world × (world.writers ≡ writers) × (world.service ≡ service) × AreLetters world) ∥₁

@@ -1,6 +1,7 @@
 -- What a seat of a table that threads share knows: a view, and what it does with it in the middle of a call.
-use Rattle.std.specs.Prelude.{ℕ, ◌+◌, ◌==◌, ◌++◌, ◌∷◌, List, [], length, if◌then◌else◌}
-use Rattle.chunk_plain.specs.Views.{Content, BegunChunk, WriterView, newcomer, ServiceView, newcomer_service}
+use Rattle.std.specs.Prelude.{ℕ, ◌+◌, ◌-◌, ◌==◌, ◌++◌, ◌∷◌, List, [], length, if◌then◌else◌}
+use Rattle.chunk_plain.specs.Views.{Content, BegunChunk, WriterView, newcomer, asked_in, ServiceView, newcomer_service}
+use Rattle.chunk_plain.specs.Letters.{last_flush, knows_request}
 use Rattle.chunk_plain.specs.World.{World}
 
 -- What the service found at one step of a call and relies on at the next one.
@@ -20,11 +21,13 @@ pub data Stage : Type 0 where
   Away : Stage
   Here : ServiceView → Stage
 
--- What a writer told the service: what it had begun. The service had looked so often by then.
+-- What a writer told the service: what it had begun, and the number in its last answer to a flush request, 0 without one. The service had
+-- looked so often by then.
 pub record Tale : Type 0 where
   pub place : ℕ
   pub looks : ℕ
   pub begun : List BegunChunk
+  pub flush : ℕ
 
 -- What the service's seat has of the other seats: the views of the writers' that it took in again, where the reading pass is, what
 -- writers told it, and the worlds of the table that it marked, in their order.
@@ -48,8 +51,10 @@ pub data Knows : Type 0 where
   Service : (hand made : ℕ) → Desk → Watch → ServiceView → Knows
   -- the reading pass's, which knows what the service knew when its last read was noted
   Pass : ServiceView → Knows
-  -- that of a tale on its way to the service: what the writer at this place had begun
-  Report : (place : ℕ) → List BegunChunk → Knows
+  -- that of a tale on its way to the service: what the writer at this place had begun, and the number in its last answer
+  Report : (place : ℕ) → List BegunChunk → (flush : ℕ) → Knows
+  -- that of a notice on its way to a writer: so many flush requests were made
+  Notice : (requests : ℕ) → Knows
 
 -- the hand that has the slot of a chunk
 abbrev pub hand_with : ℕ → ℕ
@@ -139,8 +144,9 @@ abbrev pub with_stage : Desk → Stage → Desk
 with_stage desk stage = record desk { stage = stage }
 
 -- the service has heard so much of the writer at this place
-abbrev pub with_tale : Desk → ServiceView → (place : ℕ) → List BegunChunk → Desk
-with_tale desk view place begun = record desk { told = desk.told ++ record { place = place; looks = length view.looks; begun = begun } ∷ [] }
+abbrev pub with_tale : Desk → ServiceView → (place : ℕ) → List BegunChunk → (flush : ℕ) → Desk
+with_tale desk view place begun flush =
+    record desk { told = desk.told ++ record { place = place; looks = length view.looks; begun = begun; flush = flush } ∷ [] }
 
 -- the service has marked the world that the table has now
 abbrev pub with_mark : Desk → World → Desk
@@ -182,14 +188,27 @@ abbrev pub takes_pass : Knows → Knows → Knows
 takes_pass (Service hand made desk watch view) (Pass known) = Service hand made (with_stage desk (Here known)) watch view
 takes_pass knows _ = knows
 
--- a writer tells what it has begun
+-- a writer tells what it has begun, and the number in its last answer
 abbrev pub tells : Knows → Knows
-tells knows = Report (place_of knows) (view_of knows).begun
+tells knows = Report (place_of knows) (view_of knows).begun (last_flush (view_of knows).letters.answers)
 
 -- the service has heard it
 abbrev pub hears : Knows → Knows → Knows
-hears (Service hand made desk watch view) (Report place begun) = Service hand made (with_tale desk view place begun) watch view
+hears (Service hand made desk watch view) (Report place begun flush) = Service hand made (with_tale desk view place begun flush) watch view
 hears knows _ = knows
+
+-- the reading pass says how many requests were made
+abbrev pub notice_of : Knows → Knows
+notice_of knows = Notice (asked_in (passed_of knows).letters)
+
+-- the greater of two
+abbrev pub later : ℕ → ℕ → ℕ
+later a b = a + (b - a)
+
+-- a writer has heard it
+abbrev pub hears_notice : Knows → Knows → Knows
+hears_notice (Writer place hand view) (Notice requests) = Writer place hand (knows_request view (later view.letters.known requests))
+hears_notice knows _ = knows
 
 -- a function that differs at one place
 abbrev pub put : (ℕ → ℕ) → ℕ → ℕ → ℕ → ℕ

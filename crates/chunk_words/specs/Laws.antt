@@ -13,7 +13,7 @@ use Rattle.chunk_schedules.specs.Schedules.{Leads}
 use Rattle.chunk_words.specs.Knows.{Watch, Tale, Desk, Knows, Writer, Service, Pass}
 use Rattle.chunk_words.specs.GoesOn.{GoesOn}
 use Rattle.chunk_words.specs.Told.{ShowsTold, PassesOver}
-use Rattle.chunk_words.specs.Rule.{HoldsWords, Roll, HoldsBodies, IsShared}
+use Rattle.chunk_words.specs.Rule.{HoldsWords, HoldsMail, Roll, HoldsBodies, IsShared}
 
 -- The table's words are those of chunks in a world that is owned in its eight parts and to which some schedule leads, and each writer and the service have one seat at most,
 -- whose view is that world's; and so has the reading pass.
@@ -24,6 +24,8 @@ pub record SharedOwnership (setup : Setup) (state : State (Option CommitBody) Kn
   pub slots : List Stored
   pub roll : Roll
   pub words : HoldsWords setup state.words front slots
+  -- the word of flush requests and those of the answers say what was asked and answered
+  pub mail : HoldsMail setup world state.words
   pub bodies : HoldsBodies setup state.homes slots roll
   pub parts : Ownership setup front slots world
   -- some schedule of steps leads to the world from a table as it is made

@@ -1,5 +1,5 @@
 -- What each atomic step tells the seat that makes it.
-use Rattle.std.specs.Prelude.{◌≡◌, ◌≢◌, ℕ, ◌+◌, ◌*◌, ◌/◌, ◌<◌, ◌≤◌, ◌==◌, not, true, false, Bool, Option, Some, None, List, [], ◌∷◌, length, vec_len, slice_index_or, IfSome, if◌then◌else◌}
+use Rattle.std.specs.Prelude.{◌≡◌, ◌≢◌, ℕ, ◌+◌, ◌*◌, ◌/◌, ◌%◌, ◌^◌, ◌<◌, ◌≤◌, ◌==◌, not, true, false, Bool, Option, Some, None, List, [], ◌∷◌, length, vec_len, slice_index_or, IfSome, if◌then◌else◌}
 use Rattle.std.specs.Int.{bit_at}
 use Rattle.atomic_table.specs.Table.{Me}
 use Rattle.trace_model.specs.Calls.{Call}
@@ -12,19 +12,20 @@ use Rattle.page_geometry.specs.PageBits.{HasState}
 use Rattle.trace_base.specs.declared.limits.TheConstants.{MAX_FRAGMENTS}
 use Rattle.commit_body.specs.declared.body.CommitBody.{CommitBody}
 use Rattle.chunk_plain.specs.Payload.{byte_of, byte_in, sealed_to, StoredUpTo}
-use Rattle.chunk_plain.specs.Views.{At, Head, Draft, Content, Found, Look, Noted, ServiceView, taken_of}
+use Rattle.chunk_plain.specs.Views.{At, Head, Draft, Content, Found, Look, Noted, asked_in, ServiceView, taken_of}
 use Rattle.chunk_plain.specs.World.{World}
 use Rattle.chunk_plain.specs.Steps.{claims, stamps, begins, redrafts, with_head, with_word, with_words, completes, notes_call, looks_at, takes_in, learns, lets_go, notes, notes_commit}
+use Rattle.chunk_plain.specs.Letters.{knows_request, answers_with, requests, hears_answer}
 use Rattle.chunk_plain.specs.Owned.{times, IsOwned}
 use Rattle.chunk_plain.specs.Drafts.{draft_at, head_at, ends_by, head_of}
 use Rattle.chunk_plain.specs.Shows.{IsBodyOf, content_of}
 use Rattle.chunk_plain.specs.Setup.{Setup, spot, sequence_of}
 use Rattle.chunk_plain.specs.Words.{LooksAt, call_of, event_of, committed_of}
 use Rattle.chunk_words.specs.declared.moves.Move.{Move}
-use Rattle.chunk_words.specs.declared.moves.Move.TheVariants.{Ask, Claim, Stamp, Begin, SetHeader, Publish, Fetch, Complete as CompleteStep, Call as CallStep, Peek, Find, Know, Miss, Take, Load, Learn, Lift, Release, Event, NoteRead, Recall, Mark, Commit}
+use Rattle.chunk_words.specs.declared.moves.Move.TheVariants.{Ask, Claim, Stamp, Begin, SetHeader, Publish, Fetch, Complete as CompleteStep, Call as CallStep, Peek, Find, Know, Miss, Take, Load, Learn, Lift, Release, Event, NoteRead, Recall, Mark, Commit, LearnRequest, Answer, Request, NoteRequest, ReadAnswer, Compare}
 use Rattle.chunk_words.specs.GoesOn.{GoesOn}
 use Rattle.chunk_words.specs.Told.{ShowsAllTold, TellsComplete, IsMarked}
-use Rattle.chunk_words.specs.Knows.{Watch, Nothing, Peeked, Known, Lifted, Here, Knows, Service, hand_with, made_of, desk_of, stage_of, staged, with_stage, with_mark, no_content, hand_of, view_of, place_of, service_of, watch_of, by_writer, by_service}
+use Rattle.chunk_words.specs.Knows.{Watch, Nothing, Peeked, Known, Lifted, Here, Tale, Knows, Service, hand_with, made_of, desk_of, stage_of, staged, with_stage, with_mark, no_content, hand_of, view_of, place_of, service_of, watch_of, by_writer, by_service}
 
 -- what a seat knows and has
 abbrev pub Mine : Type 0
@@ -175,6 +176,37 @@ pub record NotesRead (event : Noted) (me new : Mine) : Type 0 where
   )
   pub seen : IsSeen (notes (service_of me.0) event)
 
+-- The writer finds in the word of requests how many were made, which are no fewer than it knew of.
+pub record LearnsRequest (me : Mine) (found : ℕ) (new : Mine) : Type 0 where
+  pub rises : (view_of me.0).letters.known ≤ found
+  pub fits : found < 2 ^ 32
+  pub new_is : new ≡ (by_writer 0 (λ view. knows_request view found) me.0, [])
+
+-- it has answered
+abbrev pub GivesAnswer : (flush chunks : ℕ) → Mine → Mine → Type 0
+GivesAnswer flush chunks me new = new ≡ (by_writer 0 (λ view. answers_with view flush chunks) me.0, [])
+
+-- The service finds the last answer of the writer at this place: to a request that was made, and no older one than the writer told of.
+pub record ReadsAnswer (place : ℕ) (me : Mine) (found : ℕ) (new : Mine) : Type 0 where
+  pub asked : found / 2 ^ 32 ≤ asked_in (service_of me.0).letters
+  pub fits : found / 2 ^ 32 < 2 ^ 32
+  pub told : (i : ℕ) (tale : Tale) → At (desk_of me.0).told i tale → tale.place ≡ place → tale.flush ≤ found / 2 ^ 32
+  pub serves : Serves (λ view. hears_answer view place (found / 2 ^ 32) (found % 2 ^ 32)) me new
+
+-- A request is noted while the reading pass is with the service, as a read is.
+pub record NotesRequest (me new : Mine) : Type 0 where
+  pub goes_on : GoesOn (staged (stage_of me.0)) (service_of me.0)
+  pub new_is : new ≡ (
+    Service 0 (made_of me.0) (with_stage (desk_of me.0) (Here (requests (service_of me.0)))) Nothing (requests (service_of me.0)),
+    [],
+  )
+  pub seen : IsSeen (requests (service_of me.0))
+
+-- nothing changes, and the service's view goes on from that of the reading pass, which is with it
+pub record Compares (me new : Mine) : Type 0 where
+  pub goes_on : GoesOn (staged (stage_of me.0)) (service_of me.0)
+  pub new_is : new ≡ (by_service 0 Nothing (λ view. view) me.0, [])
+
 -- nothing changes, and the looks in the view show what was told
 pub record Recalls (setup : Setup) (me new : Mine) : Type 0 where
   pub new_is : new ≡ (by_service 0 Nothing (λ view. view) me.0, [])
@@ -263,4 +295,10 @@ After (Event event) me found new = Serves (λ view. notes view (event_of event))
 After (Recall layout) me found new = Recalls layout.now me new
 After (Mark layout) me found new = Marks layout.now me new
 After (NoteRead event) me found new = NotesRead (event_of event) me new
+After LearnRequest me found new = LearnsRequest me found new
+After (Answer flush chunks) me found new = GivesAnswer flush chunks me new
+After (Request flush) me found new = Serves (λ view. requests view) me new
+After (NoteRequest flush) me found new = NotesRequest me new
+After (ReadAnswer place) me found new = ReadsAnswer place me found new
+After Compare me found new = Compares me new
 After (Commit header payload patches) me found new = Serves (λ view. notes_commit view (committed_of header payload.now patches.now)) me new

@@ -1,6 +1,6 @@
 -- What a table keeps that threads share, between any two atomic steps of any seats: its words and slots are those of a table of one thread
 -- that keeps its world owned, and each seat's view is its part of that world.
-use Rattle.std.specs.Prelude.{◌≡◌, ◌≢◌, ℕ, ◌+◌, ◌<◌, ◌≤◌, Option, List, length, slice_index_or}
+use Rattle.std.specs.Prelude.{◌≡◌, ◌≢◌, ℕ, ◌+◌, ◌*◌, ◌^◌, ◌<◌, ◌≤◌, Option, List, length, slice_index_or}
 use mathlib.Core.Option.{some}
 use lib.ListN.{get_elem?}
 use Rattle.atomic_table.specs.Table.{State}
@@ -8,17 +8,18 @@ use Rattle.commit_body.specs.declared.body.CommitBody.{CommitBody}
 use Rattle.page_geometry.specs.declared.chunk_state.ChunkState.TheVariants.{BeingWritten, Complete}
 use Rattle.page_geometry.specs.PageBits.{HasState}
 use Rattle.chunk_plain.specs.Setup.{Setup, IsLaid, spot}
-use Rattle.chunk_plain.specs.Views.{At, WriterView, ServiceView, newcomer}
+use Rattle.chunk_plain.specs.Views.{At, Reply, WriterView, asked_in, ServiceView, newcomer}
 use Rattle.chunk_plain.specs.World.{World, Status, Claimed, Stamped, Writing, Ready, Reading, status, writer}
+use Rattle.chunk_plain.specs.Letters.{last_reply, last_flush, AreLetters}
 use Rattle.chunk_plain.specs.Drafts.{head_of}
 use Rattle.chunk_plain.specs.Stored.{Stored, stored_at}
 use Rattle.chunk_plain.specs.Shows.{IsHeader}
 use Rattle.chunk_plain.specs.Plain.{IsKept, first_world}
 use Rattle.chunk_schedules.specs.Schedules.{IsLed}
-use Rattle.chunk_words.specs.Knows.{Watch, Nothing, Peeked, Known, Lifted, Stage, Unmade, Away, Here, Tale, Desk, first_desk, Knows, Spent, Writer, Service, Pass, Report, hand_with}
+use Rattle.chunk_words.specs.Knows.{Watch, Nothing, Peeked, Known, Lifted, Stage, Unmade, Away, Here, Tale, Desk, first_desk, Knows, Spent, Writer, Service, Pass, Report, Notice, hand_with}
 use Rattle.chunk_words.specs.Told.{StaysCompleted, ShowsTold}
 use Rattle.chunk_words.specs.GoesOn.{GoesOn}
-use Rattle.chunk_words.specs.Places.{front_place, front_count, payload_start, payload_words, word_total}
+use Rattle.chunk_words.specs.Places.{front_place, front_count, payload_start, payload_words, request_place, answer_place, word_total}
 
 -- The words of the table are the page and header words in front, each at its place, and behind them the payload words of each chunk.
 -- Nothing is said of the words between those in front.
@@ -28,6 +29,18 @@ pub record HoldsWords (setup : Setup) (words front : List ℕ) (slots : List Sto
   pub count : (chunk : ℕ) → chunk < length setup.spots → length (stored_at slots chunk).words ≡ payload_words setup chunk
   pub payload_is : (chunk index : ℕ) → chunk < length setup.spots → index < payload_words setup chunk
       → slice_index_or words (payload_start setup chunk + index) 0 ≡ slice_index_or (stored_at slots chunk).words index 0
+
+-- an answer in a word: the number of the request above the number of chunks, which has 32 bits; 0 without an answer
+abbrev pub answer_word : List Reply → ℕ
+answer_word replies = last_flush replies * 2 ^ 32 + (last_reply replies).chunks
+
+-- The words of letters: that of requests has their number, and each writer's has its last answer.
+pub record HoldsMail (setup : Setup) (world : World) (words : List ℕ) : Type 0 where
+  pub letters : AreLetters world
+  pub few : asked_in world.service.letters < 2 ^ 32
+  pub request : slice_index_or words (request_place setup) 0 ≡ asked_in world.service.letters
+  pub answer : (place : ℕ) → place < length setup.writers
+      → slice_index_or words (answer_place setup place) 0 ≡ answer_word (writer world place).letters.answers
 
 -- Who sits where: the seat of each writer and of the service, whose slots are out with them, how many writers' seats were made, and how
 -- many of these the service took in again; where the reading pass is, its seat, and what it knows.
@@ -101,9 +114,10 @@ pub record HasJoined (world : World) (roll : Roll) (joined : List WriterView) : 
   pub count : length joined ≡ roll.joined
   pub each : (place : ℕ) (view : WriterView) → At joined place view → (view ≡ writer world place) × (roll.hands place ≡ 0)
 
--- What was told is so still, and the looks since show it.
+-- What was told is so still, and the looks since show it. The last answer is to this request or a later one.
 abbrev pub IsTrue : Setup → World → Tale → Type 0
 IsTrue setup world tale = StaysCompleted tale.begun (writer world tale.place).begun × ShowsTold setup world.service tale
+    × (tale.flush ≤ last_flush (writer world tale.place).letters.answers)
 
 -- there is a reading pass
 abbrev pub IsMade : Stage → Type 0
@@ -121,7 +135,9 @@ Fits setup world roll seat (Service hand made desk watch view) =
     × (roll.stage ≡ desk.stage) × ((i : ℕ) (tale : Tale) → At desk.told i tale → IsTrue setup world tale)
     × (roll.marks ≡ desk.marks)
 Fits setup world roll seat (Pass view) = (view ≡ roll.passed) × (roll.keeper ≡ seat) × (roll.stage ≡ Away)
-Fits setup world roll seat (Report place begun) = StaysCompleted begun (writer world place).begun
+Fits setup world roll seat (Report place begun flush) =
+    StaysCompleted begun (writer world place).begun × (flush ≤ last_flush (writer world place).letters.answers)
+Fits setup world roll seat (Notice requests) = requests ≤ asked_in world.service.letters
 
 -- each writer and the service have one seat, which knows its part of the world
 pub record IsManned (setup : Setup) (world : World) (roll : Roll) (views : List Knows) : Type 0 where
@@ -151,6 +167,7 @@ pub record IsShared (setup : Setup) (state : State (Option CommitBody) Knows) : 
   -- a schedule of moves leads to the world from a table as it is made, and from each world that the service marked
   pub led : IsLed setup roll.marks world
   pub words : HoldsWords setup state.words front slots
+  pub mail : HoldsMail setup world state.words
   pub bodies : HoldsBodies setup state.homes slots roll
   pub manned : IsManned setup world roll state.views
 

@@ -83,6 +83,7 @@ impl HostTable {
         let HostTable {
             layout: _,
             starts: _,
+            requests: _,
             spare: _,
             table,
         } = self;

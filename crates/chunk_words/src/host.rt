@@ -2,7 +2,7 @@
 ghost use Rattle.std.specs.Prelude.{◌≡◌, ℕ, ◌+◌, ◌^◌, ◌<◌, ◌≤◌, length, vec_len, slice_index_or};
 ghost use Rattle.trace_base.specs.declared.limits.TheConstants.{MAX_WRITERS};
 ghost use Rattle.chunk_plain.specs.Setup.{IsLaid, spot};
-ghost use Rattle.chunk_words.specs.Places.{front_place, payload_start, payload_words, spare_place, word_total};
+ghost use Rattle.chunk_words.specs.Places.{front_place, payload_start, payload_words, request_place, answer_place, spare_place, word_total};
 
 use crate::steps::{ChunkRule, Knowledge};
 use atomic_table::Table;
@@ -21,6 +21,8 @@ pub struct HostTable {
     pub(crate) layout: Layout,
     /// The first payload word of each chunk.
     pub(crate) starts: Vec<usize>,
+    /// The word of flush requests.
+    pub(crate) requests: usize,
     /// The word that notes load.
     pub(crate) spare: usize,
     pub(crate) table: Table<Option<CommitBody>, Knowledge, Layout, ChunkRule, Global>,
@@ -29,6 +31,7 @@ pub struct HostTable {
     ghost few_writers: { length layout.writers ≤ MAX_WRITERS },
     ghost word_count: { table.shared.table_id.words ≡ word_total layout },
     ghost few_words: { word_total layout < 2 ^ 60 },
+    ghost request_is: { requests ≡ request_place layout },
     ghost spare_is: { spare ≡ spare_place layout },
     ghost start_count: { vec_len starts ≡ length layout.spots },
     ghost start_is: { (chunk : ℕ) → chunk < length layout.spots → slice_index_or starts.items chunk 0 ≡ payload_start layout chunk },
@@ -72,5 +75,14 @@ impl HostTable {
         // The chunk is named for the proof alone.
         let _ = chunk;
         start + index
+    }
+
+    /// The index of the word of a writer's answers.
+    pub(crate) fn answer_index(&self, place: u16) -> usize
+        requires { place < length self.now.layout.writers }
+        ensures here { result ≡ answer_place self.now.layout place }
+        ensures inside { result < self.now.table.shared.table_id.words }
+    {
+        self.requests + LINE_WORDS * (place as usize + 1)
     }
 }

@@ -8,6 +8,7 @@
 mod close;
 mod host;
 pub mod laws;
+mod mail;
 mod make;
 mod moves;
 mod pass;

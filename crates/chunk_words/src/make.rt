@@ -8,7 +8,7 @@ ghost use Rattle.chunk_plain.specs.Views.{newcomer};
 ghost use Rattle.chunk_plain.specs.Plain.{first_world};
 ghost use Rattle.chunk_words.specs.Knows.{Knows, Service, Writer, Nothing, Watch, first_desk, made_of, desk_of, watch_of, service_of};
 ghost use Rattle.chunk_words.specs.Made.{HasStarts, HasFreeBodies, HasWriterSeats};
-ghost use Rattle.chunk_words.specs.Places.{spare_place};
+ghost use Rattle.chunk_words.specs.Places.{request_place};
 ghost use Rattle.chunk_words.specs.Seats.{IsServiceIdle};
 ghost use Rattle.chunk_words.specs.Sits.{Attends, HasNoPass};
 
@@ -52,7 +52,8 @@ impl HostTable {
         ensures no_pass { IfOk result (λ made. HasNoPass made.2) }
     {
         let layout = Layout::make(alloc, producers, writers)?;
-        let (starts, spare) = payload_starts(alloc, &layout)?;
+        let (starts, requests) = payload_starts(alloc, &layout)?;
+        let spare = requests + LINE_WORDS * (writers.len() + 1);
         let words = vec![in alloc; 0; spare + 1]?;
         let bodies = free_bodies(alloc, layout.spots())?;
         let (table, seat) = match Table::new(alloc, &words, bodies, &layout) {
@@ -62,6 +63,7 @@ impl HostTable {
         let host = HostTable {
             layout,
             starts,
+            requests,
             spare,
             table,
         };
@@ -119,12 +121,12 @@ impl HostTable {
     }
 }
 
-/// The first payload word of each chunk, and the place of the word that notes load.
+/// The first payload word of each chunk, and the place of the word of flush requests.
 fn payload_starts(alloc: Global, layout: &Layout) -> Result<(Vec<usize>, usize), AllocError>
     requires laid { IsLaid layout.now }
     requires pages { layout.now.pages < 2 ^ 32 }
     ensures starts { IfOk result (λ made. HasStarts layout.now (length layout.now.spots) made.0.items) }
-    ensures spare { IfOk result (λ made. made.1 ≡ spare_place layout.now) }
+    ensures requests { IfOk result (λ made. made.1 ≡ request_place layout.now) }
 {
     let mut starts = Vec::new(alloc);
     let mut next = layout.word_count() * LINE_WORDS;

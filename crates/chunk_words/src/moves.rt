@@ -115,4 +115,25 @@ pub enum Move<'a> {
         payload: &'a [u8],
         patches: &'a [Patch],
     },
+    /// A writer reads how many flush requests were made.
+    LearnRequest,
+    /// It stores its answer.
+    Answer {
+        flush: u32,
+        chunks: u32,
+    },
+    /// The service stores the number of the next flush request.
+    Request {
+        flush: u32,
+    },
+    /// The same, while the reading pass is with the service.
+    NoteRequest {
+        flush: u32,
+    },
+    /// The service reads the last answer of the writer at this place.
+    ReadAnswer {
+        writer: u16,
+    },
+    /// What the service knows is compared with what the reading pass knows, which is with it.
+    Compare,
 }

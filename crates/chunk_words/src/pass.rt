@@ -146,7 +146,7 @@ impl HostTable {
     }
 
     /// The service gives the reading pass back, which it has.
-    fn give_pass(&self, seat: &mut ServiceSeat) -> ChunkSeat
+    pub(crate) fn give_pass(&self, seat: &mut ServiceSeat) -> ChunkSeat
         requires seat { seat.old.seat.table_id ≡ self.now.table.shared.table_id }
         requires idle { IsServiceIdle seat.old.seat.me }
         requires here { stage_of seat.old.seat.me.0 ≡ Here (staged (stage_of seat.old.seat.me.0)) }

@@ -1,7 +1,9 @@
-//! What writers tell the service: what they have completed by now. Later looks show it, so a service
+//! What writers tell the service: what they have completed by now, and the last answer to a flush
+//! request. Later looks show it, so a service
 //! that has looked at each chunk since knows that it took all of it. And the service marks worlds, by
 //! which the schedule of all steps came.
 ghost use Rattle.std.specs.Prelude.{◌≡◌, ◌<◌, []};
+ghost use Rattle.chunk_plain.specs.Letters.{last_flush};
 ghost use Rattle.chunk_words.specs.Knows.{desk_of, service_of, view_of, with_tale};
 ghost use Rattle.chunk_words.specs.Moves.{Recalls, Marks};
 ghost use Rattle.chunk_words.specs.Seats.{IsServiceIdle};
@@ -37,13 +39,13 @@ impl Join<Knowledge> for Hears {
 }
 
 impl HostTable {
-    /// The writer tells the service what it has begun and completed.
+    /// The writer tells the service what it has begun and completed, and which answer was its last.
     pub fn tell(&self, from: &mut WriterSeat, service: &mut ServiceSeat)
         requires from { Sits self.now from.old }
         requires service { Attends self.now service.old }
         ensures told { desk_of service.new.seat.me.0
             ≡ with_tale (desk_of service.old.seat.me.0) (service_of service.old.seat.me.0) from.old.place
-            (view_of from.old.seat.me.0).begun }
+            (view_of from.old.seat.me.0).begun (last_flush (view_of from.old.seat.me.0).letters.answers) }
         ensures service_view { service_of service.new.seat.me.0 ≡ service_of service.old.seat.me.0 }
         ensures view { view_of from.new.seat.me.0 ≡ view_of from.old.seat.me.0 }
         ensures place { from.new.place ≡ from.old.place }

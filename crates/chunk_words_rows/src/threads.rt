@@ -7,7 +7,7 @@ ghost use Rattle.chunk_plain.specs.Owned.{held_count};
 ghost use Rattle.chunk_plain.specs.Meaning.{IsWriterStep};
 ghost use Rattle.chunk_words.specs.Made.{HasWriterSeats};
 ghost use Rattle.chunk_words.specs.Sits.{Sits, Attends, setup_in, known_by};
-ghost use Rattle.chunk_words_rows.specs.Fresh.{IsFreshSeat};
+ghost use Rattle.chunk_words_rows.specs.Fresh.{IsFreshSeat, IsUntouched};
 ghost use Rattle.chunk_words_rows.specs.Page.{IsOnePage, HasTaken, HasTakenOf};
 
 use chunk_plain::{ProducerSpec, Words};
@@ -74,6 +74,7 @@ pub(crate) fn make(alloc: Global) -> Result<(HostTable, Vec<WriterSeat>, Service
     ensures page { IfOk result (λ made. IsOnePage made.0) }
     ensures none_taken { IfOk result (λ made. HasTaken 0 made.2) }
     ensures neither { IfOk result (λ made. HasTakenOf 0 0 made.2) }
+    ensures untouched { IfOk result (λ made. IsUntouched made.2) }
 {
     let geometry = Geometry::new(4096, 14)?;
     let producers = [ProducerSpec { pages: 1, geometry }];

@@ -49,7 +49,7 @@ struct Counts {
 }
 
 /// The writer of a seat with which nothing was done.
-fn writer_for(host: &HostTable, seat: WriterSeat, geometry: Geometry) -> TraceWriter
+pub(crate) fn writer_for(host: &HostTable, seat: WriterSeat, geometry: Geometry) -> TraceWriter
     requires page { IsOnePage host.now }
     requires seat { Sits host.now seat }
     requires place { seat.place < 2 }
@@ -68,7 +68,7 @@ fn writer_for(host: &HostTable, seat: WriterSeat, geometry: Geometry) -> TraceWr
 }
 
 /// Writes a packet with one number.
-fn write_number<L: Ledger>(
+pub(crate) fn write_number<L: Ledger>(
     host: &HostTable,
     writer: &mut TraceWriter,
     number: u32,

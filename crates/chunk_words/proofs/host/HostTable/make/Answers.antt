@@ -1,4 +1,4 @@
-use Rattle.std.proofs.Common.{◌≡◌, ◌+◌, ◌∙◌, List, length, replicate, refl, ap, sym, subst, arith}
+use Rattle.std.proofs.Common.{◌≡◌, ◌∙◌, List, length, replicate, refl, ap, sym, subst, arith}
 use Rattle.chunk_plain.specs.declared.setup.Spot.{Spot}
 use Rattle.chunk_plain.specs.Setup.{Setup, IsLaid}
 use Rattle.chunk_plain.specs.Plain.{first_world}
@@ -18,13 +18,21 @@ payload_starts-requires-clause-pages c =
     let pages = ap (λ (s : Setup). s.pages) c.in_ok-layout.ensures in let few = few_pages c.args.producers.now c.requires.pages in
     omega (arith, pages, few, c.requires.producers)
 
-pub overflow_add-spare : goal.overflow_add-spare
-overflow_add-spare c =
+pub overflow_add-spare-2 : goal.overflow_add-spare-2
+overflow_add-spare-2 c =
     let layout = c.in_ok-layout.layout in
     let laid : IsLaid layout = subst IsLaid (sym c.in_ok-layout.ensures) (setup_laid c.args.producers.now c.args.writers.now c.requires.producers c.requires.some_page c.requires.pages) in
     let low = few_before layout (length layout.spots) laid (omega arith) in let few = laid.few in
     let pages = ap (λ (s : Setup). s.pages) c.in_ok-layout.ensures in let few_of = few_pages c.args.producers.now c.requires.pages in
-    omega (arith, low, few, c.in_ok-starts.ensures.spare, pages, few_of, c.requires.producers)
+    omega (arith, low, few, c.in_ok-starts.ensures.requests, pages, few_of, c.requires.producers, c.requires.writers)
+
+pub overflow_add-spare-3 : goal.overflow_add-spare-3
+overflow_add-spare-3 c =
+    let layout = c.in_ok-layout.layout in
+    let laid : IsLaid layout = subst IsLaid (sym c.in_ok-layout.ensures) (setup_laid c.args.producers.now c.args.writers.now c.requires.producers c.requires.some_page c.requires.pages) in
+    let low = few_before layout (length layout.spots) laid (omega arith) in let few = laid.few in
+    let pages = ap (λ (s : Setup). s.pages) c.in_ok-layout.ensures in let few_of = few_pages c.args.producers.now c.requires.pages in
+    omega (arith, low, few, c.in_ok-starts.ensures.requests, pages, few_of, c.requires.producers, c.requires.writers)
 
 pub new-requires : goal.new-requires
 new-requires c =
@@ -32,7 +40,7 @@ new-requires c =
     let laid : IsLaid layout = subst IsLaid (sym c.in_ok-layout.ensures) (setup_laid c.args.producers.now c.args.writers.now c.requires.producers c.requires.some_page c.requires.pages) in
     let free : HasFreeBodies layout.spots (length layout.spots) bodies = subst (λ (l : List Spot). HasFreeBodies l (length l) bodies) c.spots.ensures c.in_ok-bodies.ensures in
     let zeros : c.deref.result.now ≡ replicate (word_total layout) 0 = c.deref.ensures.value
-    ∙ (c.in_ok-words.ensures.items_if_clones_equal (λ y h. h) ∙ ap (λ n. replicate (n + 1) 0) c.in_ok-starts.ensures.spare) in
+    ∙ (c.in_ok-words.ensures.items_if_clones_equal (λ y h. h) ∙ ap (λ n. replicate n 0) (let many = ap (λ (s : Setup). length s.writers) c.in_ok-layout.ensures in omega (arith, many, c.in_ok-starts.ensures.requests))) in
     starts_shared layout c.deref.result.now bodies laid zeros free
 
 pub returns-clause-service : goal.returns-clause-service
