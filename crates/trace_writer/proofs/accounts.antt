@@ -4,5 +4,6 @@ pub mod Agreeing
 pub mod Calling
 pub mod Changes
 pub mod CutLaws
+pub mod Letters
 pub mod Measuring
 pub mod Possible

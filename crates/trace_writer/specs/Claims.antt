@@ -1,5 +1,7 @@
 -- What a writer's claim does to its chunks, however often it asks for those of its producer, and what it keeps of its claims.
-use Rattle.std.specs.Prelude.{◌≡◌, ℕ, ◌+◌, ◌<◌, ◌≤◌, ◌⊎◌, ⊤, None, List, [], ◌∷◌, ◌++◌}
+use Rattle.std.specs.Prelude.{◌≡◌, ℕ, ◌+◌, ◌<◌, ◌≤◌, ◌⊎◌, ⊤, Some, None, List, [], ◌∷◌, ◌++◌, slice_get}
+use Rattle.trace_base.specs.declared.policy.WriterPolicy.TheVariants.{Stalls}
+use Rattle.trace_base.specs.declared.policy.WriterSpec.{WriterSpec}
 use Rattle.trace_model.specs.Packets.{packets_of, lost_count}
 use Rattle.chunk_plain.specs.Setup.{Setup, producer_of, IsChunkOf}
 use Rattle.chunk_plain.specs.Views.{Ask, BegunChunk, Held, Completed, WriterView, fresh}
@@ -35,8 +37,7 @@ HasAsked [] chunk = ⊥
 HasAsked (ask ∷ asks) chunk = (ask.chunk ≡ chunk) ⊎ HasAsked asks chunk
 
 -- What a writer has of chunks between two calls: no claim is out, all that it asked for and all that it began are chunks of
--- its producer, and where
--- it lost a packet it has asked for each of these.
+-- its producer, and where it lost a packet it has asked for each of these. One that stalls has lost none.
 pub record KeepsClaims (setup : Setup) (place : ℕ) (view : WriterView) : Type 0 where
   pub unclaimed : view.claimed ≡ []
   pub unstamped : view.stamped ≡ None
@@ -44,3 +45,4 @@ pub record KeepsClaims (setup : Setup) (place : ℕ) (view : WriterView) : Type 
   pub own_chunks : AreOwnChunks setup (producer_of setup place) view.begun
   pub vain : 0 < lost_count (packets_of view.calls) → (chunk : ℕ) → IsChunkOf setup (producer_of setup place) chunk
       → HasAsked view.asked chunk
+  pub stalls : (spec : WriterSpec) → slice_get setup.writers place ≡ Some spec → spec.policy ≡ Stalls → lost_count (packets_of view.calls) ≡ 0

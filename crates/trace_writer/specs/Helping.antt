@@ -11,7 +11,7 @@ pub record LeavesWriters {T W S : Type 0} (means : Meaning T W S) (old new : T) 
   pub setup_stays : means.setup new ≡ means.setup old
   pub writers_stay : (seat : W) → means.sits old seat → means.sits new seat × (means.view new seat ≡ means.view old seat)
 
--- and a writer's call, with all helps that it asks for, those of the other writers' seats
+-- and a writer's call, with all helps that it asks for, those of the other writers' seats; and what the writer knows of flush requests
 pub record LeavesOthers {T W S : Type 0} (means : Meaning T W S)
     (old : T) (seat : W) (new : T) (after : W) : Type 0 where
   pub setup_stays : means.setup new ≡ means.setup old
@@ -19,6 +19,7 @@ pub record LeavesOthers {T W S : Type 0} (means : Meaning T W S)
   pub place_stays : means.place after ≡ means.place seat
   pub writers_stay : (other : W) → means.sits old other → means.place other ≢ means.place seat
       → means.sits new other × (means.view new other ≡ means.view old other)
+  pub letters_stay : (means.view new after).letters ≡ (means.view old seat).letters
 
 -- whether a writer with this policy loses its packet where it is out of chunks
 abbrev pub loses : WriterPolicy → Bool

@@ -6,7 +6,7 @@ use Rattle.chunk_plain.specs.World.{World, Unclaimed, status}
 use Rattle.claim_arbiter.specs.Claiming.{ClaimsInTurn, AllClaimed, NoneFree, lost_asks}
 use Rattle.trace_writer.specs.declared.route.Route.{Route}
 
--- The same chunks were begun. One that was held may be held still, or be completed.
+-- The same chunks were begun. One that was held may be held still, or be completed; one that was completed has what it had.
 abbrev pub KeepsChunks : List BegunChunk → List BegunChunk → Type 0
 KeepsChunks [] [] = ⊤
 KeepsChunks [] (one ∷ others) = ⊥
@@ -14,7 +14,7 @@ KeepsChunks (one ∷ others) [] = ⊥
 KeepsChunks (Held chunk head ∷ old) (Held other next ∷ new) = (other ≡ chunk) × KeepsChunks old new
 KeepsChunks (Held chunk head ∷ old) (Completed other content ∷ new) = (other ≡ chunk) × KeepsChunks old new
 KeepsChunks (Completed chunk content ∷ old) (Held other head ∷ new) = ⊥
-KeepsChunks (Completed chunk content ∷ old) (Completed other later ∷ new) = (other ≡ chunk) × KeepsChunks old new
+KeepsChunks (Completed chunk content ∷ old) (Completed other later ∷ new) = (other ≡ chunk) × (later ≡ content) × KeepsChunks old new
 
 -- none of the chunks that were begun is held
 abbrev pub NoneHeld : List BegunChunk → Type 0

@@ -44,7 +44,8 @@ use trace_base::steps::Steps;
 /// chunk, so it has to be ended by `into_seat`.
 #[derive(Debug)]
 pub struct WriterCore<S> {
-    seat: S,
+    /// For a layer whose table offers a seat more than `Words` does.
+    pub seat: S,
     pub(crate) writer: Writer,
 }
 
@@ -398,6 +399,13 @@ impl<S> WriterCore<S> {
             Some(packet) => packet.depth() as u8,
             None => 0,
         }
+    }
+
+    /// Whether the writer has stalled.
+    pub fn is_stalled(&self) -> bool
+        ensures { result ≡ is_stalled self.now }
+    {
+        crate::state::is_stalled(&self.writer.state)
     }
 
     pub fn in_packet(&self) -> bool

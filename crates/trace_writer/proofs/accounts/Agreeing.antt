@@ -207,7 +207,7 @@ agrees_dropping setup place view new before state next_id open_one later_one cou
 
 -- Behind what was written for a call
 
-stuck_seen : (site : Site) (packets : List Packet) (view new : WriterView) → new.begun ≡ view.begun → IsStuck site packets view → IsStuck site packets new
+pub stuck_seen : (site : Site) (packets : List Packet) (view new : WriterView) → new.begun ≡ view.begun → IsStuck site packets view → IsStuck site packets new
 stuck_seen site packets view new begun stuck = record {
   stalls = stuck.stalls;
   pages = stuck.pages;

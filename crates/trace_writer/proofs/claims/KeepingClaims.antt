@@ -1,9 +1,12 @@
 -- What a writer keeps of its claims over a call.
 use Rattle.std.proofs.Common.{◌≡◌, ◌∙◌, ℕ, ◌+◌, ◌<◌, ◌≤◌, ◌⊎◌, inl, inr, Bool, true, None, List, [], ◌∷◌, ◌++◌, length, refl, sym, ap, subst, arith}
+use Rattle.std.specs.Prelude.{Some, slice_get}
 use Rattle.std.proofs.lemmas.Bool.{true≢false}
+use Rattle.std.proofs.lemmas.Option.{same_Some}
 use native.Mathlib.Decide.{dec_le}
 use mathlib.Core.Logic.{dite}
 use Rattle.trace_base.specs.declared.policy.WriterPolicy.{WriterPolicy}
+use Rattle.trace_base.specs.declared.policy.WriterSpec.{WriterSpec}
 use Rattle.trace_model.specs.Calls.{Call}
 use Rattle.trace_model.specs.Packets.{packets_of, lost_count}
 use Rattle.chunk_plain.specs.Views.{Ask, BegunChunk, Held, Completed, Draft, WriterView, fresh}
@@ -41,7 +44,7 @@ chunks_kept setup producer (Held chunk head ∷ old) (Completed other content �
     (subst (λ (c : ℕ). IsChunkOf setup producer c) (sym keeps.0) own.0, chunks_kept setup producer old new keeps.1 own.1)
 chunks_kept setup producer (Completed chunk content ∷ old) (Held other next ∷ new) keeps own = absurd keeps
 chunks_kept setup producer (Completed chunk content ∷ old) (Completed other later ∷ new) keeps own =
-    (subst (λ (c : ℕ). IsChunkOf setup producer c) (sym keeps.0) own.0, chunks_kept setup producer old new keeps.1 own.1)
+    (subst (λ (c : ℕ). IsChunkOf setup producer c) (sym keeps.0) own.0, chunks_kept setup producer old new keeps.2 own.1)
 
 pub chunks_more : (setup : Setup) (producer chunk : ℕ) (head : Draft) (begun : List BegunChunk) → IsChunkOf setup producer chunk → AreOwnChunks setup producer begun
     → AreOwnChunks setup producer (begun ++ Held chunk head ∷ [])
@@ -163,6 +166,7 @@ module _ {T W S : Type 0} (means : Meaning T W S) where
         own_asks = kept.own_asks;
         own_chunks = kept.own_chunks;
         vain = λ some chunk inside. subst (λ (asks : List Ask). HasAsked asks chunk) (sym quiet.asked) (claims.vain (subst (λ (n : ℕ). 0 < n) same some) chunk inside);
+        stalls = λ spec there is. same ∙ claims.stalls spec there is;
       }
 
 module _ {H T W S : Type 0} (means : Meaning T W S) (needs : H → T → Type 0) (helps : H → T → ℕ → Bool → H → T → Type 0) where
@@ -238,11 +242,11 @@ module _ {H T W S : Type 0} (means : Meaning T W S) (needs : H → T → Type 0)
 
   -- the writer keeps what it has of its claims, if the call loses a packet only where it stops
   pub claims_kept : (there : Setup) (at : ℕ) (route : Route) (helper : H) (old : T) (seat : W) (steps : ℕ) (stopped : Bool) (noted : List Call) (stalled : Bool) (left : H) (new : T) (after : W) (later : ℕ)
-      → range_of there (producer_of there at) ≡ range_in route.arbiter
+      → range_of there (producer_of there at) ≡ range_in route.arbiter → slice_get there.writers at ≡ Some route.spec
       → IsAsked means needs helps route helper old seat steps stopped noted stalled left new after later
       → (lost_count (packets_of (means.view new after).calls) ≡ lost_count (packets_of (means.view old seat).calls)) ⊎ ((loses route.spec.policy ≡ true) × (stopped ≡ true))
       → KeepsClaims there at (means.view old seat) → KeepsClaims there at (means.view new after)
-  claims_kept there at route helper old seat steps stopped noted stalled left new after later range asked lost claims =
+  claims_kept there at route helper old seat steps stopped noted stalled left new after later range own asked lost claims =
       let on = works_keep there (producer_of there at) route range asked.works
       (record { unclaimed = claims.unclaimed; unstamped = claims.unstamped; own_asks = claims.own_asks; own_chunks = claims.own_chunks }) in
       record {
@@ -253,5 +257,11 @@ module _ {H T W S : Type 0} (means : Meaning T W S) (needs : H → T → Type 0)
         vain = λ some chunk inside. elim lost [
           | inl same ↦ on.grown chunk (claims.vain (subst (λ (n : ℕ). 0 < n) same some) chunk inside)
           | inr now ↦ on.all now.0 now.1 chunk inside
+        ];
+        stalls = λ spec here is. elim lost [
+          | inl same ↦ same ∙ claims.stalls spec here is
+          | inr now ↦
+              let one : spec ≡ route.spec = same_Some spec route.spec (sym here ∙ own) in
+              absurd (true≢false (sym now.0 ∙ ap loses (ap (λ (s : WriterSpec). s.policy) (sym one) ∙ is)))
         ];
       }

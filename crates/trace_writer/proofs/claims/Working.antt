@@ -20,7 +20,7 @@ module _ {H T W S : Type 0} (means : Meaning T W S) (needs : H → T → Type 0)
   pub leaves_own : (old : T) (seat : W) (new : T) (after : W) → IsWriterStep means old seat new after
       → LeavesOthers means old seat new after
   leaves_own old seat new after step =
-      record { setup_stays = step.setup_stays; seat_stays = step.seat_stays; place_stays = step.place_stays; writers_stay = step.writers_stay }
+      record { setup_stays = step.setup_stays; seat_stays = step.seat_stays; place_stays = step.place_stays; writers_stay = step.writers_stay; letters_stay = step.letters_stay }
 
   pub leaves_both : (old : T) (before : W) (mid : T) (between : W) (new : T) (after : W) → LeavesOthers means old before mid between
       → LeavesOthers means mid between new after → LeavesOthers means old before new after
@@ -32,6 +32,7 @@ module _ {H T W S : Type 0} (means : Meaning T W S) (needs : H → T → Type 0)
         let first = one.writers_stay other there differs in
         let second = two.writers_stay other first.0 (λ same. differs (same ∙ one.place_stays)) in
         (second.0, second.1 ∙ first.1);
+    letters_stay = two.letters_stay ∙ one.letters_stay;
   }
 
   -- a help leaves the writer's own view too
@@ -41,6 +42,7 @@ module _ {H T W S : Type 0} (means : Meaning T W S) (needs : H → T → Type 0)
     seat_stays = (leaves.writers_stay seat there).0;
     place_stays = refl;
     writers_stay = λ other stood differs. leaves.writers_stay other stood;
+    letters_stay = ap (λ (v : WriterView). v.letters) (leaves.writers_stay seat there).1;
   }
 
   -- Parts in a row

@@ -16,7 +16,7 @@ use Rattle.trace_writer.specs.OwnSteps.{KeepsChunks, NoneHeld, FreesNone}
 pub keeps_same : (begun : List BegunChunk) → KeepsChunks begun begun
 keeps_same [] = tt
 keeps_same (Held chunk head ∷ begun) = (refl, keeps_same begun)
-keeps_same (Completed chunk content ∷ begun) = (refl, keeps_same begun)
+keeps_same (Completed chunk content ∷ begun) = (refl, refl, keeps_same begun)
 
 pub keeps_both : (old mid new : List BegunChunk) → KeepsChunks old mid → KeepsChunks mid new → KeepsChunks old new
 keeps_both [] [] new one two = two
@@ -28,11 +28,12 @@ keeps_both (Held chunk head ∷ old) (Held other next ∷ mid) (Held last h ∷ 
 keeps_both (Held chunk head ∷ old) (Held other next ∷ mid) (Completed last c ∷ new) one two = (two.0 ∙ one.0, keeps_both old mid new one.1 two.1)
 keeps_both (Held chunk head ∷ old) (Completed other content ∷ mid) [] one two = absurd two
 keeps_both (Held chunk head ∷ old) (Completed other content ∷ mid) (Held last h ∷ new) one two = absurd two
-keeps_both (Held chunk head ∷ old) (Completed other content ∷ mid) (Completed last c ∷ new) one two = (two.0 ∙ one.0, keeps_both old mid new one.1 two.1)
+keeps_both (Held chunk head ∷ old) (Completed other content ∷ mid) (Completed last c ∷ new) one two = (two.0 ∙ one.0, keeps_both old mid new one.1 two.2)
 keeps_both (Completed chunk content ∷ old) (Held other next ∷ mid) new one two = absurd one
 keeps_both (Completed chunk content ∷ old) (Completed other later ∷ mid) [] one two = absurd two
 keeps_both (Completed chunk content ∷ old) (Completed other later ∷ mid) (Held last h ∷ new) one two = absurd two
-keeps_both (Completed chunk content ∷ old) (Completed other later ∷ mid) (Completed last c ∷ new) one two = (two.0 ∙ one.0, keeps_both old mid new one.1 two.1)
+keeps_both (Completed chunk content ∷ old) (Completed other later ∷ mid) (Completed last c ∷ new) one two =
+    (two.0 ∙ one.0, two.1 ∙ one.1, keeps_both old mid new one.2 two.2)
 
 pub keeps_long : (old new : List BegunChunk) → KeepsChunks old new → length new ≡ length old
 keeps_long [] [] keeps = refl
@@ -42,7 +43,7 @@ keeps_long (Completed chunk content ∷ old) [] keeps = absurd keeps
 keeps_long (Held chunk head ∷ old) (Held other next ∷ new) keeps = ap suc (keeps_long old new keeps.1)
 keeps_long (Held chunk head ∷ old) (Completed other content ∷ new) keeps = ap suc (keeps_long old new keeps.1)
 keeps_long (Completed chunk content ∷ old) (Held other next ∷ new) keeps = absurd keeps
-keeps_long (Completed chunk content ∷ old) (Completed other later ∷ new) keeps = ap suc (keeps_long old new keeps.1)
+keeps_long (Completed chunk content ∷ old) (Completed other later ∷ new) keeps = ap suc (keeps_long old new keeps.2)
 
 is_held : BegunChunk → Bool
 is_held (Held chunk head) = true
@@ -59,7 +60,7 @@ keeps_redrafted [] chunk id head next held = tt
 keeps_redrafted (Held other h ∷ begun) chunk zero head next held = (sym (ap chunk_of (first_is (Held other h) (Held chunk head) begun held)), keeps_same begun)
 keeps_redrafted (Held other h ∷ begun) chunk (suc id) head next held = (refl, keeps_redrafted begun chunk id head next held)
 keeps_redrafted (Completed other c ∷ begun) chunk zero head next held = absurd (true≢false (sym (ap is_held (first_is (Completed other c) (Held chunk head) begun held))))
-keeps_redrafted (Completed other c ∷ begun) chunk (suc id) head next held = (refl, keeps_redrafted begun chunk id head next held)
+keeps_redrafted (Completed other c ∷ begun) chunk (suc id) head next held = (refl, refl, keeps_redrafted begun chunk id head next held)
 
 -- or the chunk is completed
 pub keeps_set : (begun : List BegunChunk) (chunk id : ℕ) (head : Draft) (content : Content) → At begun id (Held chunk head) → KeepsChunks begun (set begun id (Completed chunk content))
@@ -68,7 +69,7 @@ keeps_set [] chunk id head content held = tt
 keeps_set (Held other h ∷ begun) chunk zero head content held = (sym (ap chunk_of (first_is (Held other h) (Held chunk head) begun held)), keeps_same begun)
 keeps_set (Held other h ∷ begun) chunk (suc id) head content held = (refl, keeps_set begun chunk id head content held)
 keeps_set (Completed other c ∷ begun) chunk zero head content held = absurd (true≢false (sym (ap is_held (first_is (Completed other c) (Held chunk head) begun held))))
-keeps_set (Completed other c ∷ begun) chunk (suc id) head content held = (refl, keeps_set begun chunk id head content held)
+keeps_set (Completed other c ∷ begun) chunk (suc id) head content held = (refl, refl, keeps_set begun chunk id head content held)
 
 -- completed chunks are none that is held
 pub shown_none_held : (site : Site) (id : ℕ) (begun : List BegunChunk) (pages : List Page) → ShowsPages site id begun pages → NoneHeld begun

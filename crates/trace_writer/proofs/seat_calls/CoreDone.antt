@@ -74,7 +74,7 @@ module _ {H T W S : Type 0} (means : Meaning T W S) (needs : H → T → Type 0)
   left_same helper old core there needed agrees = record {
     agrees = agrees;
     needed = needed;
-    others = record { setup_stays = refl; seat_stays = there; place_stays = refl; writers_stay = λ other stood differs. (stood, refl) };
+    others = record { setup_stays = refl; seat_stays = there; place_stays = refl; writers_stay = λ other stood differs. (stood, refl); letters_stay = refl };
     alone = λ drops. (refl, stays means old core.seat there);
   }
 
@@ -115,7 +115,7 @@ module _ {H T W S : Type 0} (means : Meaning T W S) (needs : H → T → Type 0)
               agrees = record {
                 writes = written.agrees;
                 claims = claims_kept means needs helps (means.setup old) (means.place core.seat) core.writer.route helper old core.seat steps d.0 (written_as d.0 policy call) (is_stalled after) left new after.seat later
-                    ok.writes.route.range d.1 (field_loses (means.view old core.seat) (means.view new after.seat) call change policy d.0 noted_is keeps d.1.notes) ok.claims;
+                    ok.writes.route.range ok.writes.route.spec d.1 (field_loses (means.view old core.seat) (means.view new after.seat) call change policy d.0 noted_is keeps d.1.notes) ok.claims;
                 possible = field_possible (means.view old core.seat) (means.view new after.seat) call change policy d.0 noted_is keeps possible writes d.1.notes d.2 ok.possible;
                 holds = inside_holds (means.setup old) (means.place core.seat) (means.view new after.seat) after.writer written.agrees inside;
               };
@@ -175,7 +175,7 @@ module _ {H T W S : Type 0} (means : Meaning T W S) (needs : H → T → Type 0)
             agrees = record {
               writes = agrees;
               claims = claims_kept means needs helps (means.setup old) (means.place core.seat) core.writer.route helper old core.seat steps stopped (begun_as stopped policy) (is_stalled after) left new after.seat later
-                  ok.writes.route.range d (begin_loses (means.view old core.seat) (means.view new after.seat) policy stopped d.notes) ok.claims;
+                  ok.writes.route.range ok.writes.route.spec d (begin_loses (means.view old core.seat) (means.view new after.seat) policy stopped d.notes) ok.claims;
               possible = begin_possible (means.view old core.seat) (means.view new after.seat) policy stopped none d.notes ok.possible;
               holds = λ goes. inside_holds (means.setup old) (means.place core.seat) (means.view new after.seat) after.writer agrees
                   (begins_in (means.view old core.seat) (means.view new after.seat) policy stopped (is_stalled after) d.notes d.stalls goes).0 goes;

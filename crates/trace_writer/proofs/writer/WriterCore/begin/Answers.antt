@@ -1,5 +1,6 @@
+use Rattle.std.proofs.Common.{◌∙◌, Err, None, refl, sym, ap}
 use Rattle.trace_writer.specs.Asked.{stops_with}
-use Rattle.trace_writer.proofs.seat_calls.CoreDone.{core_stays, left_begun, begun_inside}
+use Rattle.trace_writer.proofs.seat_calls.CoreDone.{refused_stalled, core_stays, left_begun, begun_inside}
 use Rattle.trace_writer.proofs.writer.WriterCore.begin.Goals as goal
 
 pub returns-clause-agrees : goal.returns-clause-agrees
@@ -34,6 +35,17 @@ returns-clause-alone g c =
       is.2,
       is.4,
     )) c.begin.ensures.done).alone
+
+pub returns-clause-refused : goal.returns-clause-refused
+returns-clause-refused g c = λ fault is.
+    let now = refused_stalled c.args.self.now None fault refl is in let stays = c.begin.ensures.stays now.stalled_is in
+    record {
+      answer_is = stays.0 ∙ ap Err (sym now.fault_is);
+      writer_stays = core_stays c.args.self.now (record { seat = c.begin.new.seat; writer = c.begin.new.writer }) stays.1 stays.3;
+      table_stays = stays.2;
+      helper_stays = stays.4;
+      steps_stay = stays.5;
+    }
 
 pub returns-clause-in_packet : goal.returns-clause-in_packet
 returns-clause-in_packet g c =
