@@ -2,4 +2,5 @@ pub mod Lent
 pub mod Asking
 pub mod Standing
 pub mod Writing
+pub mod Polling
 pub mod Laws

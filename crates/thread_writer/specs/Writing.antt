@@ -1,11 +1,12 @@
 -- The writer of a thread, as its callers see it: by the view of its seat.
-use Rattle.std.specs.Prelude.{◌≡◌, ℕ, Bool, true, false, List, ◌++◌, Option, Some, None, Result, MatchResult}
+use Rattle.std.specs.Prelude.{◌≡◌, ℕ, ◌+◌, Bool, true, false, List, ◌++◌, Option, Some, None, Result, MatchResult}
 use Rattle.atomic_table.specs.Seated.{TableId}
 use Rattle.crossbeam_utils.specs.Padded.{padded_value}
 use Rattle.trace_base.specs.declared.policy.WriterPolicy.TheVariants.{Drops}
 use Rattle.trace_model.specs.Calls.{Call}
 use Rattle.chunk_plain.specs.Meaning.{IsWriterStep}
-use Rattle.chunk_plain.specs.Views.{WriterView}
+use Rattle.chunk_plain.specs.Letters.{last_flush}
+use Rattle.chunk_plain.specs.Views.{At, Reply, WriterView}
 use Rattle.chunk_words.specs.declared.host.HostTable.{HostTable}
 use Rattle.chunk_words.specs.declared.seats.WriterSeat.{WriterSeat}
 use Rattle.chunk_words.specs.declared.shared.Shared.{Shared}
@@ -15,6 +16,7 @@ use Rattle.trace_writer.specs.declared.fault.CallFault.{CallFault}
 use Rattle.trace_writer.specs.declared.fault.CallFault.TheVariants as call_fault
 use Rattle.trace_writer.specs.declared.writer.WriterCore.{WriterCore}
 use Rattle.trace_writer.specs.Core.{CoreAgrees, is_stalled, route_of, refusal_of}
+use Rattle.trace_writer.specs.Answered.{IsAnsweredCut}
 use Rattle.trace_writer.specs.Asked.{IsAsked, LeavesAll}
 use Rattle.trace_writer.specs.OwnSteps.{IsQuiet}
 use Rattle.thread_writer.specs.declared.helper.Asks.{Asks}
@@ -30,11 +32,19 @@ core_of writer = padded_value writer.core
 abbrev pub view_in : TraceWriter → WriterView
 view_in writer = known_by (core_of writer).seat
 
--- The writer is one of this table: its seat sits there, it agrees with the view of its seat, and tells its own policy.
+-- the chunks that each of its answers to flush requests counts are a cut
+abbrev pub AnswersAreCuts : WriterCore WriterSeat → Type 0
+AnswersAreCuts core = (n : ℕ) (answer : Reply) → At (known_by core.seat).letters.answers n answer
+    → IsAnsweredCut (route_of core).payload_size (core.seat.place + 2) (known_by core.seat) answer
+
+-- The writer is one of this table: its seat sits there, it agrees with the view of its seat, and tells its own policy. It knows which flush
+-- request it answered last, and what each of its answers counts is a cut.
 pub record Writes (table : HostTable) (writer : TraceWriter) : Type 0 where
   pub seat : Sits table (core_of writer).seat
   pub agrees : CoreAgrees (setup_in table) (core_of writer).seat.place (view_in writer) (core_of writer)
   pub policy_is : writer.policy ≡ (route_of (core_of writer)).spec.policy
+  pub answered_is : writer.answered ≡ last_flush (view_in writer).letters.answers
+  pub cuts : AnswersAreCuts (core_of writer)
 
 -- A call that may ask the helper, over the lent table: what it leaves where it is refused, its answer where it isn't, and what it then did,
 -- as the same call of a writer over any table. A writer that drops leaves its helper as it was.

@@ -8,9 +8,11 @@ ghost use Rattle.trace_model.specs.Encoding.{number_field, nested_tag};
 ghost use Rattle.trace_model.specs.Packets.{begun_count, dropped_at_begin};
 ghost use Rattle.chunk_plain.specs.Histories.{completed_images};
 ghost use Rattle.chunk_plain.specs.Setup.{spot, range_of, producer_of, HasProducer, IsChunkOf};
-ghost use Rattle.chunk_plain.specs.Views.{newcomer};
+ghost use Rattle.chunk_plain.specs.Letters.{last_flush, answers_with};
+ghost use Rattle.chunk_plain.specs.Views.{newcomer, asked_in};
 ghost use Rattle.chunk_words.specs.declared.host.HostTable.{HostTable};
-ghost use Rattle.chunk_words.specs.Sits.{Sits, setup_in, known_by};
+ghost use Rattle.chunk_words.specs.Knows.{later};
+ghost use Rattle.chunk_words.specs.Sits.{Sits, Passes, setup_in, known_by, known_by_pass};
 ghost use Rattle.claim_arbiter.specs.Claiming.{range_in};
 ghost use Rattle.trace_writer.specs.declared.ids.TheConstants.{PACKET_IDS};
 ghost use Rattle.trace_writer.specs.Agreement.{counted};
@@ -19,10 +21,11 @@ ghost use Rattle.trace_writer.specs.Core.{in_packet, open_depth, field_fault, ne
 ghost use Rattle.trace_writer.specs.Core.{holds_chunk, is_stalled, route_of, begins_here, FitsHere};
 ghost use Rattle.chunk_words.specs.Named.{identity_of};
 ghost use Rattle.thread_writer.specs.Lent.{lent};
+ghost use Rattle.thread_writer.specs.Polling.{HearsAlone, IsFlushed, Polls};
 ghost use Rattle.thread_writer.specs.Writing.{core_of, view_in, Writes, IsCall, IsQuietCall};
 
 use crate::helper::{Asks, Helper};
-use chunk_words::{HostTable, Shared, WriterSeat};
+use chunk_words::{HostTable, ReadPass, Shared, WriterSeat};
 use claim_arbiter::Arbiter;
 use crossbeam_utils::CachePadded;
 use page_geometry::Geometry;
@@ -37,6 +40,8 @@ pub struct TraceWriter {
     /// For a layer that asks writers over any table, and lends this one the table of its seat.
     pub core: CachePadded<WriterCore<WriterSeat>>,
     policy: WriterPolicy,
+    /// The flush request that it answered last, 0 before the first one.
+    answered: u32,
 }
 
 impl TraceWriter {
@@ -62,6 +67,7 @@ impl TraceWriter {
         TraceWriter {
             core: CachePadded::new(WriterCore::make(seat, spec, arbiter, geometry)),
             policy,
+            answered: 0,
         }
     }
 
@@ -222,6 +228,73 @@ impl TraceWriter {
         self.core.flush(&mut shared);
     }
 
+    /// Answers the flush requests that were made since its last answer, if there are any: it flushes,
+    /// and then answers with the chunks that it has completed. The number of the newest request, and
+    /// how many chunks. Where the writer stalls nothing changes.
+    pub fn poll_flush(&mut self, table: &HostTable) -> Option<(u32, u32)>
+        requires writes { Writes table.now self.old }
+        requires none_begun { in_packet (view_in self.old) ≡ false }
+        ensures writes { Writes table.now self.new }
+        ensures stalled { is_stalled (core_of self.old) ≡ true → (result ≡ None) × (self.new ≡ self.old) }
+        ensures polls { is_stalled (core_of self.old) ≡ false → Polls result (core_of self.old) (core_of self.new) }
+        ensures in_packet { in_packet (view_in self.new) ≡ false }
+    {
+        if self.core.is_stalled() {
+            return None;
+        }
+        let flush = self.learn_requests(table);
+        if flush <= self.answered {
+            return None;
+        }
+        self.flush(table);
+        let chunks = self.answer(table, flush);
+        Some((flush, chunks))
+    }
+
+    /// Hears of the flush requests that the reading pass knows of.
+    pub fn hear(&mut self, table: &HostTable, pass: &mut ReadPass)
+        requires writes { Writes table.now self.old }
+        requires pass { Passes table.now pass.old }
+        ensures writes { Writes table.now self.new }
+        ensures pass { Passes table.now pass.new }
+        ensures known { known_by_pass pass.new ≡ known_by_pass pass.old }
+        ensures heard { (view_in self.new).letters.known
+            ≡ later (view_in self.old).letters.known (asked_in (known_by_pass pass.old).letters) }
+        ensures alone { HearsAlone (core_of self.old) (core_of self.new) }
+    {
+        table.hear(&mut self.core.seat, pass);
+    }
+
+    /// How many flush requests were made by now.
+    fn learn_requests(&mut self, table: &HostTable) -> u32
+        requires writes { Writes table.now self.old }
+        ensures writes { Writes table.now self.new }
+        ensures known { (view_in self.new).letters.known ≡ result }
+        ensures alone { HearsAlone (core_of self.old) (core_of self.new) }
+        ensures answered { self.new.answered ≡ self.old.answered }
+    {
+        table.asked(&mut self.core.seat)
+    }
+
+    /// Answers the newest request with all completed chunks, behind a flush.
+    fn answer(&mut self, table: &HostTable, flush: u32) -> u32
+        requires writes { Writes table.now self.old }
+        requires flushed { IsFlushed (view_in self.old).calls }
+        requires none_held { holds_chunk (core_of self.old) ≡ false }
+        requires known { flush ≡ (view_in self.old).letters.known }
+        requires newer { last_flush (view_in self.old).letters.answers < flush }
+        ensures writes { Writes table.now self.new }
+        ensures complete { result ≡ length (completed_images (view_in self.old).begun) }
+        ensures view { view_in self.new ≡ answers_with (view_in self.old) flush result }
+        ensures writer { (core_of self.new).writer ≡ (core_of self.old).writer }
+        ensures place { (core_of self.new).seat.place ≡ (core_of self.old).seat.place }
+    {
+        let chunks = self.completed();
+        table.answer(&mut self.core.seat, flush, chunks);
+        self.answered = flush;
+        chunks
+    }
+
     /// Chunk ids that are left.
     pub fn ids_left(&self) -> u64
         ensures { (table : HostTable) → Writes table self.now → result ≡ ID_LIMIT - length (view_in self.now).begun }
@@ -269,7 +342,11 @@ impl TraceWriter {
         requires { holds_chunk (core_of self) ≡ false }
         ensures { result ≡ (core_of self).seat }
     {
-        let TraceWriter { core, policy: _ } = self;
+        let TraceWriter {
+            core,
+            policy: _,
+            answered: _,
+        } = self;
         core.into_inner().into_seat()
     }
 
@@ -278,7 +355,11 @@ impl TraceWriter {
     pub fn give_up(self) -> WriterSeat
         ensures { result ≡ (core_of self).seat }
     {
-        let TraceWriter { core, policy: _ } = self;
+        let TraceWriter {
+            core,
+            policy: _,
+            answered: _,
+        } = self;
         core.into_inner().give_up()
     }
 }

@@ -7,7 +7,7 @@ use Rattle.trace_writer.specs.Core.{route_of}
 use Rattle.trace_writer.specs.Asked.{begun_as, stops_with}
 use Rattle.thread_writer.specs.Lent.{lent}
 use Rattle.thread_writer.specs.Writing.{IsCall}
-use Rattle.thread_writer.proofs.Calls.{same_table, call_is, asked_writes}
+use Rattle.thread_writer.proofs.Calls.{same_table, call_stays, call_is, asked_writes}
 use Rattle.thread_writer.proofs.writer.TraceWriter.begin.Goals as goal
 
 pub returns-clause-writes : goal.returns-clause-writes
@@ -17,8 +17,12 @@ returns-clause-writes g c =
     None
     (λ stopped. begun_as stopped (route_of before).spec.policy)
     did.refused (λ none. (stops_with c.begin.result, did.done none)) in
+    let stays = call_stays g.H.Helper.helps g.H.Helper.of_table (lent c.args.table) c.begin.new.table c.deref_mut.result.now c.begin.new.self c.args.help.now c.begin.new.help c.args.steps.now c.begin.new.steps c.begin.result
+    None
+    (λ stopped. begun_as stopped (route_of before).spec.policy)
+    did.refused (λ none. (stops_with c.begin.result, did.done none)) in
     asked_writes (lent c.args.table) c.begin.new.table c.args.self.now (record c.args.self.now { core = padded_with_value c.args.self.now.core c.begin.new.self })
-    before c.deref_mut.ensures.value c.requires.writes refl did.route same did.others did.agrees
+    before c.deref_mut.ensures.value c.requires.writes refl refl did.route same did.others stays did.agrees
 
 pub returns-clause-help : goal.returns-clause-help
 returns-clause-help g c =

@@ -10,7 +10,7 @@ use Rattle.trace_model.specs.Calls as call
 use Rattle.trace_writer.specs.Core.{field_fault, bytes_size}
 use Rattle.thread_writer.specs.Lent.{lent}
 use Rattle.thread_writer.specs.Writing.{IsCall}
-use Rattle.thread_writer.proofs.Calls.{same_table, some_call, asked_writes}
+use Rattle.thread_writer.proofs.Calls.{same_table, call_stays, some_call, asked_writes}
 use Rattle.thread_writer.proofs.writer.TraceWriter.bytes.Goals as goal
 
 pub returns-clause-writes : goal.returns-clause-writes
@@ -20,8 +20,12 @@ returns-clause-writes g c =
     (field_fault (known_by before.seat) c.args.field (bytes_size c.args.field c.args.times c.args.value.now))
     (λ stopped. written_as stopped (route_of before).spec.policy (call.Bytes c.args.field c.args.value.now c.args.times))
     did.refused did.done in
+    let stays = call_stays g.H.Helper.helps g.H.Helper.of_table (lent c.args.table) c.bytes.new.table c.deref_mut.result.now c.bytes.new.self c.args.help.now c.bytes.new.help c.args.steps.now c.bytes.new.steps c.bytes.result
+    (field_fault (known_by before.seat) c.args.field (bytes_size c.args.field c.args.times c.args.value.now))
+    (λ stopped. written_as stopped (route_of before).spec.policy (call.Bytes c.args.field c.args.value.now c.args.times))
+    did.refused did.done in
     asked_writes (lent c.args.table) c.bytes.new.table c.args.self.now (record c.args.self.now { core = padded_with_value c.args.self.now.core c.bytes.new.self })
-    before c.deref_mut.ensures.value c.requires.writes refl did.route same did.others did.agrees
+    before c.deref_mut.ensures.value c.requires.writes refl refl did.route same did.others stays did.agrees
 
 pub returns-clause-help : goal.returns-clause-help
 returns-clause-help g c =

@@ -10,7 +10,7 @@ use Rattle.thread_writer.proofs.writer.TraceWriter.end_nested.Goals as goal
 
 pub returns-clause-writes : goal.returns-clause-writes
 returns-clause-writes c = quiet_writes (lent c.args.table) c.end_nested.new.table c.args.self.now (record c.args.self.now { core = padded_with_value c.args.self.now.core c.end_nested.new.self })
-    c.deref_mut.result.now c.deref_mut.ensures.value c.requires.writes refl c.end_nested.ensures.route c.end_nested.ensures.quiet c.end_nested.ensures.agrees
+    c.deref_mut.result.now (Ended ∷ []) c.deref_mut.ensures.value c.requires.writes refl refl c.end_nested.ensures.route c.end_nested.ensures.stalled c.end_nested.ensures.notes c.end_nested.ensures.quiet c.end_nested.ensures.agrees
 
 pub returns-clause-call : goal.returns-clause-call
 returns-clause-call c =

@@ -10,7 +10,7 @@ use Rattle.thread_writer.proofs.writer.TraceWriter.finish.Goals as goal
 
 pub returns-clause-writes : goal.returns-clause-writes
 returns-clause-writes c = quiet_writes (lent c.args.table) c.finish.new.table c.args.self.now (record c.args.self.now { core = padded_with_value c.args.self.now.core c.finish.new.self })
-    c.deref_mut.result.now c.deref_mut.ensures.value c.requires.writes refl c.finish.ensures.route c.finish.ensures.quiet c.finish.ensures.agrees
+    c.deref_mut.result.now (Finished ∷ []) c.deref_mut.ensures.value c.requires.writes refl refl c.finish.ensures.route c.finish.ensures.stalled c.finish.ensures.notes c.finish.ensures.quiet c.finish.ensures.agrees
 
 pub returns-clause-call : goal.returns-clause-call
 returns-clause-call c =

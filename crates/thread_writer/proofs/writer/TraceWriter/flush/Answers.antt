@@ -10,7 +10,7 @@ use Rattle.thread_writer.proofs.writer.TraceWriter.flush.Goals as goal
 
 pub returns-clause-writes : goal.returns-clause-writes
 returns-clause-writes c = quiet_writes (lent c.args.table) c.flush.new.table c.args.self.now (record c.args.self.now { core = padded_with_value c.args.self.now.core c.flush.new.self })
-    c.deref_mut.result.now c.deref_mut.ensures.value c.requires.writes refl c.flush.ensures.route c.flush.ensures.quiet c.flush.ensures.agrees
+    c.deref_mut.result.now (Flushed ∷ []) c.deref_mut.ensures.value c.requires.writes refl refl c.flush.ensures.route c.flush.ensures.stalled c.flush.ensures.notes c.flush.ensures.quiet c.flush.ensures.agrees
 
 pub returns-clause-call : goal.returns-clause-call
 returns-clause-call c =

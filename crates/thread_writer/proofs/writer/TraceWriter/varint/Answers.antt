@@ -11,7 +11,7 @@ use Rattle.trace_model.specs.Encoding.{number_field}
 use Rattle.trace_writer.specs.Core.{field_fault}
 use Rattle.thread_writer.specs.Lent.{lent}
 use Rattle.thread_writer.specs.Writing.{IsCall}
-use Rattle.thread_writer.proofs.Calls.{same_table, some_call, asked_writes}
+use Rattle.thread_writer.proofs.Calls.{same_table, call_stays, some_call, asked_writes}
 use Rattle.thread_writer.proofs.writer.TraceWriter.varint.Goals as goal
 
 pub returns-clause-writes : goal.returns-clause-writes
@@ -21,8 +21,12 @@ returns-clause-writes g c =
     (field_fault (known_by before.seat) c.args.field (length (number_field c.args.field c.args.value)))
     (λ stopped. written_as stopped (route_of before).spec.policy (call.Number c.args.field c.args.value))
     did.refused did.done in
+    let stays = call_stays g.H.Helper.helps g.H.Helper.of_table (lent c.args.table) c.varint.new.table c.deref_mut.result.now c.varint.new.self c.args.help.now c.varint.new.help c.args.steps.now c.varint.new.steps c.varint.result
+    (field_fault (known_by before.seat) c.args.field (length (number_field c.args.field c.args.value)))
+    (λ stopped. written_as stopped (route_of before).spec.policy (call.Number c.args.field c.args.value))
+    did.refused did.done in
     asked_writes (lent c.args.table) c.varint.new.table c.args.self.now (record c.args.self.now { core = padded_with_value c.args.self.now.core c.varint.new.self })
-    before c.deref_mut.ensures.value c.requires.writes refl did.route same did.others did.agrees
+    before c.deref_mut.ensures.value c.requires.writes refl refl did.route same did.others stays did.agrees
 
 pub returns-clause-help : goal.returns-clause-help
 returns-clause-help g c =
