@@ -180,6 +180,13 @@ pub goes_taking : (setup : Setup) (chunk writer id : ℕ) (result : Result Taken
 goes_taking setup chunk writer id (Ok taken) old new takes finds = goes_takes setup chunk writer id taken old new takes
 goes_taking setup chunk writer id (Err found) old new takes finds = goes_looking setup chunk found.word.0 found.header old new finds.look
 
+-- a take changes no letter
+pub letters_taking : (setup : Setup) (chunk writer id : ℕ) (result : Result TakenToken NotComplete) (old new : ServiceView)
+    → IfOk result (λ taken. TakesChunk setup chunk writer id taken old new) → IfErr result (λ found. FindsOther setup chunk writer id found old new)
+    → new.letters ≡ old.letters
+letters_taking setup chunk writer id (Ok taken) old new takes finds = ap (λ (v : ServiceView). v.letters) takes.view
+letters_taking setup chunk writer id (Err found) old new takes finds = ap (λ (v : ServiceView). v.letters) finds.look.view
+
 -- a read is noted as one
 pub event_read : (noted : ServiceEvent) → IsReadEvent noted → IsReadNote (event_of noted)
 event_read (event.Read sequence limit) read = tt

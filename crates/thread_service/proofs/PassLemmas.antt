@@ -11,7 +11,7 @@ use Rattle.trace_model.specs.History.{buffers_after, records_after}
 use Rattle.chunk_plain.specs.Setup.{Setup}
 use Rattle.chunk_plain.specs.Histories.{history_of}
 use Rattle.chunk_plain.specs.Steps.{notes}
-use Rattle.chunk_plain.specs.Views.{Noted, ServiceView}
+use Rattle.chunk_plain.specs.Views.{Noted, ServiceView, asked_in}
 use Rattle.chunk_words.specs.declared.host.HostTable.{HostTable}
 use Rattle.chunk_words.specs.declared.seats.ReadPass.{ReadPass}
 use Rattle.chunk_words.specs.declared.seats.ServiceSeat.{ServiceSeat}
@@ -26,7 +26,7 @@ use Rattle.service_core.specs.Reading.{noted_read, reads_in, NotesReads, ReadsAl
 use Rattle.service_core.proofs.QuietLemmas.{adds_quiet}
 use Rattle.thread_service.specs.Passing.{KnowsReads, NoneRead, SomeRead, PassesOn}
 use Rattle.thread_service.specs.Reading.{GoesUnread, records_of, IsKnownWhole, PassReads}
-use Rattle.thread_service.proofs.GoingOn.{goes_adds, goes_unread, goes_same_history, all_front, all_back, none_of_both, noted_are_reads, knows_further, knows_read, none_more, some_more}
+use Rattle.thread_service.proofs.GoingOn.{goes_adds, goes_unread, goes_same_history, same_records, all_front, all_back, none_of_both, noted_are_reads, knows_further, knows_read, none_more, some_more}
 
 module _ (id : TableId) (passed before : ServiceView) (desk : Desk) (table : HostTable) where
   -- nothing is done yet
@@ -196,3 +196,26 @@ module _ {S : Type 0} (setup : Setup) (core : ServiceCore S) (events : List mode
             (goes_records before s.first known_view s.from_view) (goes_records pass view (known_some s) s.goes);
       } in
       elim since [ inl n ↦ none n | inr s ↦ some s ]
+
+-- The service's view went on without a read, and behind it nothing happened: the pass that knows all of it knows no read more.
+pub passes_request : {S : Type 0} (setup : Setup) (core : ServiceCore S) (passed view behind : ServiceView) → IsKnownWhole passed → GoesOn passed view
+    → history_of behind ≡ history_of view → PassReads setup core [] passed behind
+passes_request setup core passed view behind known goes same =
+    let first = first_of setup core in
+    let unread = goes_unread passed view known goes in
+    record {
+      before = history_of view;
+      goes = unread;
+      history = same ∙ sym (append-nil (history_of view));
+      buffers = inl refl;
+      records = ap (λ (es : List model.Event). records_after first es) same ∙ same_records first (history_of passed) (history_of view) unread
+          ∙ sym (append-nil (records_of setup core passed));
+    }
+
+-- since then the service made no request
+pub asked_behind : (passed before pass view : ServiceView) → view.letters ≡ before.letters → NoneRead passed before pass view ⊎ SomeRead passed before pass view
+    → asked_in pass.letters ≡ asked_in passed.letters
+asked_behind passed before pass view same since = elim since [
+  | inl n ↦ ap (λ (v : ServiceView). asked_in v.letters) n.same
+  | inr s ↦ sym s.goes.asked ∙ ap asked_in same ∙ sym s.from_view.asked ∙ s.from_pass.asked
+]

@@ -52,6 +52,7 @@ impl Service {
             → view_in self.new ≡ notes_commit (view_in self.old)
             (record { image = image_value image.now; patches = map patch_value patches.now }) }
         ensures desk { desk_in self.new ≡ desk_in self.old }
+        ensures letters { (view_in self.new).letters ≡ (view_in self.old).letters }
     {
         self.commit_at::<Brand>(table, target, image, patches)
     }
@@ -86,6 +87,7 @@ impl Service {
             → view_in self.new ≡ notes_commit (view_in self.old)
             (record { image = image_value image.now; patches = map patch_value patches.now }) }
         ensures desk { desk_in self.new ≡ N.desk }
+        ensures letters { (view_in self.new).letters ≡ (view_in self.old).letters }
     {
         let mut lent = Remembering::<N> {
             table,

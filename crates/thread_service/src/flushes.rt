@@ -1,20 +1,30 @@
-//! Flush requests, and the end of the session.
-ghost use Rattle.std.specs.Prelude.{◌≡◌, ◌+◌, ◌-◌, ◌<◌, ◌≤◌, ◌↔◌, IsTrue};
+//! Flush requests and their answers, and the end of the session. A request is one word of the table, and
+//! each writer's last answer another.
+ghost use Rattle.std.specs.Prelude.{◌≡◌, ℕ, ◌+◌, ◌-◌, ◌<◌, ◌≤◌, ◌↔◌, [], IsTrue, length};
 ghost use Rattle.session_core.specs.States.{Flush, Stop, refusal_in, answered_as};
 ghost use Rattle.session_core.specs.Sessions.{left_as, moved, requested, acknowledge_refusal, with_answer};
 ghost use Rattle.session_core.specs.declared.answers.SessionState.TheVariants.{Stopped};
+ghost use Rattle.chunk_plain.specs.Letters.{hears_answer};
+ghost use Rattle.chunk_plain.specs.Views.{At, asked_in};
 ghost use Rattle.chunk_words.specs.declared.host.HostTable.{HostTable};
+ghost use Rattle.chunk_words.specs.GoesOn.{GoesOn};
+ghost use Rattle.chunk_words.specs.Knows.{Away, Tale, Unmade, with_stage};
+ghost use Rattle.chunk_words.specs.Sits.{Passes, known_by_pass, setup_in};
 ghost use Rattle.service_core.specs.Agreement.{KeepsTaking, IsAnsweredBy};
-ghost use Rattle.thread_service.specs.Serving.{core_of, Serves, IsServing};
+ghost use Rattle.thread_service.specs.Reading.{IsKnownWhole, PassReads};
+ghost use Rattle.thread_service.specs.Requesting.{PassRequests, Requests};
+ghost use Rattle.thread_service.specs.Serving.{core_of, view_in, desk_in, Serves, IsServing, IsOnlySeat};
 
 use crate::service::Service;
-use chunk_words::{HostTable, Shared};
+use chunk_words::{HostTable, ReadPass, Shared};
 use session_core::SessionFault;
 
 impl Service {
-    /// Makes a flush request, and answers its number. The table is left as it is.
+    /// Makes a flush request where no reading pass was made, and answers its number. A refused one leaves
+    /// the table as it is.
     pub fn request_flush(&mut self, table: &HostTable) -> Result<u32, SessionFault>
         requires serves { Serves table.now self.old }
+        requires none_made { (desk_in self.old).stage ≡ Unmade }
         requires fewer { (core_of self.old).session.requests < u32.MAX }
         ensures serves { Serves table.now self.new }
         ensures answer { result
@@ -22,10 +32,80 @@ impl Service {
         ensures after { (core_of self.new).session
             ≡ left_as (refusal_in Flush (core_of self.old).session.state) (core_of self.old).session
             (requested (core_of self.old).session) }
-        ensures keeps { KeepsTaking (core_of self.old) (core_of self.new) }
+        ensures view { Requests (refusal_in Flush (core_of self.old).session.state) (view_in self.old) (view_in self.new) }
+        ensures desk { desk_in self.new ≡ desk_in self.old }
+        ensures keeps { KeepsTaking (record (core_of self.old) { seat = (core_of self.new).seat }) (core_of self.new) }
     {
         let mut lent = Shared { table };
-        self.core.request_flush(&mut lent)
+        let flush = self.core.request_flush(&mut lent)?;
+        table.ask(&mut self.core.seat, flush);
+        Ok(flush)
+    }
+
+    /// Makes a flush request with the reading pass, and answers its number: the pass knows of it then, as
+    /// it does of a read. The request comes behind all that the pass knew, and behind no read besides.
+    pub fn request_passing(
+        &mut self,
+        table: &HostTable,
+        pass: &mut ReadPass,
+    ) -> Result<u32, SessionFault>
+        requires serves { Serves table.now self.old }
+        requires pass { Passes table.now pass.old }
+        requires known { IsKnownWhole (known_by_pass pass.old) }
+        requires fewer { asked_in (known_by_pass pass.old).letters < u32.MAX }
+        ensures serves { Serves table.now self.new }
+        ensures pass { Passes table.now pass.new }
+        ensures known { IsKnownWhole (known_by_pass pass.new) }
+        ensures answer { result ≡ answered_as (refusal_in Flush (core_of self.old).session.state)
+            (asked_in (known_by_pass pass.old).letters + 1) }
+        ensures after { (core_of self.new).session
+            ≡ left_as (refusal_in Flush (core_of self.old).session.state) (core_of self.old).session
+            (requested (core_of self.old).session) }
+        ensures goes_on { GoesOn (known_by_pass pass.old) (view_in self.old) }
+        ensures view { Requests (refusal_in Flush (core_of self.old).session.state) (view_in self.old) (view_in self.new) }
+        ensures knows { PassRequests (refusal_in Flush (core_of self.old).session.state) (known_by_pass pass.old)
+            (known_by_pass pass.new) (view_in self.new) }
+        ensures passes { PassReads (setup_in table.now) (core_of self.old) [] (known_by_pass pass.old) (known_by_pass pass.new) }
+        ensures desk { with_stage (desk_in self.new) Away ≡ with_stage (desk_in self.old) Away }
+        ensures keeps { KeepsTaking (record (core_of self.old) { seat = (core_of self.new).seat }) (core_of self.new) }
+    {
+        table.compare(&mut self.core.seat, pass);
+        let mut lent = Shared { table };
+        let flush = self.core.request_flush(&mut lent)?;
+        table.note_request(&mut self.core.seat, pass, flush);
+        Ok(flush)
+    }
+
+    /// The last answer of a writer: the number of its request and how many chunks, both 0 without one. It
+    /// is to no older request than the writer told of. Writers count from 1.
+    pub fn answer_of(&mut self, table: &HostTable, writer: u16) -> (u32, u32)
+        requires serves { Serves table.now self.old }
+        requires least { 1 ≤ writer }
+        requires most { writer ≤ length (setup_in table.now).writers }
+        ensures serves { Serves table.now self.new }
+        ensures view { view_in self.new ≡ hears_answer (view_in self.old) (writer - 1) result.0 result.1 }
+        ensures asked { result.0 ≤ (core_of self.old).session.requests }
+        ensures told { (i : ℕ) (tale : Tale) → At (desk_in self.old).told i tale → tale.place ≡ writer - 1 → tale.flush ≤ result.0 }
+        ensures desk { desk_in self.new ≡ desk_in self.old }
+        ensures only { IsOnlySeat (core_of self.old) (core_of self.new) }
+    {
+        table.answered(&mut self.core.seat, writer)
+    }
+
+    /// Compares what the service knows with what the pass knows: since then it noted no read and made no
+    /// request. Nothing else changes.
+    pub fn compare(&mut self, table: &HostTable, pass: &mut ReadPass)
+        requires serves { Serves table.now self.old }
+        requires pass { Passes table.now pass.old }
+        ensures serves { Serves table.now self.new }
+        ensures pass { Passes table.now pass.new }
+        ensures goes_on { GoesOn (known_by_pass pass.old) (view_in self.old) }
+        ensures view { view_in self.new ≡ view_in self.old }
+        ensures known { known_by_pass pass.new ≡ known_by_pass pass.old }
+        ensures desk { with_stage (desk_in self.new) Away ≡ with_stage (desk_in self.old) Away }
+        ensures only { IsOnlySeat (core_of self.old) (core_of self.new) }
+    {
+        table.compare(&mut self.core.seat, pass);
     }
 
     /// A writer answered a request: it had completed so many chunks. Writers count from 1.

@@ -3,6 +3,7 @@ ghost use Rattle.std.specs.Prelude.{◌≡◌, List, ◌++◌, IfOk, OnErr, OnOk
 ghost use Rattle.byte_io.specs.Bytes.{CountsFaults, after_told};
 ghost use Rattle.trace_model.specs.Delivery.{Delivered, trace_of};
 ghost use Rattle.trace_model.specs.History as model;
+ghost use Rattle.chunk_plain.specs.Views.{asked_in};
 ghost use Rattle.chunk_words.specs.Knows.{Away, with_stage};
 ghost use Rattle.chunk_words.specs.Named.{identity_of};
 ghost use Rattle.chunk_words.specs.Sits.{Passes, setup_in, known_by_pass};
@@ -39,6 +40,8 @@ impl Service {
         ensures pass { Passes table.now pass.new }
         ensures known { IsKnownWhole (known_by_pass pass.new) }
         ensures desk { with_stage (desk_in self.new) Away ≡ with_stage (desk_in self.old) Away }
+        ensures letters { (view_in self.new).letters ≡ (view_in self.old).letters }
+        ensures asked { asked_in (known_by_pass pass.new).letters ≡ asked_in (known_by_pass pass.old).letters }
         ensures keeps { KeepsRest (setup_in table.now) (core_of self.old) (core_of self.new) }
         ensures reads { IfOk result (λ delivered. ReadsAll (setup_in table.now) (core_of self.old) buffer limit
             (view_in self.old) (view_in self.new) (O.taken out.old) (O.taken out.new) delivered) }
@@ -74,6 +77,8 @@ impl Service {
         ensures pass { Passes table.now pass.new }
         ensures known { IsKnownWhole (known_by_pass pass.new) }
         ensures desk { with_stage (desk_in self.new) Away ≡ with_stage N.desk Away }
+        ensures letters { (view_in self.new).letters ≡ (view_in self.old).letters }
+        ensures asked { asked_in (known_by_pass pass.new).letters ≡ asked_in (known_by_pass pass.old).letters }
         ensures keeps { KeepsRest (setup_in table.now) (core_of self.old) (core_of self.new) }
         ensures reads { IfOk result (λ delivered. ReadsAll (setup_in table.now) (core_of self.old) buffer limit
             (view_in self.old) (view_in self.new) (O.taken out.old) (O.taken out.new) delivered) }

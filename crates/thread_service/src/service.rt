@@ -2,6 +2,7 @@
 ghost use Rattle.std.specs.Prelude.{◌≡◌, ℕ, ◌<◌, ◌≤◌, false, All, length, IfOk};
 ghost use Rattle.trace_base.specs.declared.limits.TheConstants.{MAX_BUFFERS, MAX_PRODUCERS, MAX_PAGES};
 ghost use Rattle.chunk_plain.specs.Laying.{setup_of};
+ghost use Rattle.chunk_plain.specs.Views.{asked_in};
 ghost use Rattle.chunk_words.specs.declared.host.HostTable.{HostTable};
 ghost use Rattle.chunk_words.specs.Named.{identity_of};
 ghost use Rattle.chunk_words.specs.Sits.{Attends, setup_in, known_by_service};
@@ -30,7 +31,7 @@ pub struct Service {
 }
 
 impl Service {
-    /// A service for a seat with which nothing was taken or noted. Its session is started. All memory
+    /// A service for a seat with which nothing was taken, noted or asked for. Its session is started. All memory
     /// that it ever needs is taken here.
     pub fn make(
         alloc: Global,
@@ -50,7 +51,8 @@ impl Service {
         ensures specs { IfOk result (λ service. (core_of service).specs.items ≡ buffers.now) }
         ensures serves { IfOk result (λ service. (table : HostTable) → Attends table seat
             → setup_in table ≡ setup_of producers.now writers.now
-            → IsUnused (length writers.now) (known_by_service seat) → Serves table service) }
+            → IsUnused (length writers.now) (known_by_service seat) → asked_in (known_by_service seat).letters ≡ 0
+            → Serves table service) }
         ensures open { IfOk result (λ service. (place : ℕ) → place < length writers.now
             → is_closed (setup_of producers.now writers.now) (core_of service) place ≡ false) }
         ensures session { IfOk result (λ service. (core_of service).session
@@ -69,6 +71,7 @@ impl Service {
         ensures takes { Takes (setup_in table.now) (places_of producer 0 (setup_in table.now).writers) result
             (view_in self.old) (view_in self.new) }
         ensures desk { desk_in self.new ≡ desk_in self.old }
+        ensures letters { (view_in self.new).letters ≡ (view_in self.old).letters }
     {
         self.collect_at::<Brand>(table, producer)
     }
@@ -82,6 +85,7 @@ impl Service {
         ensures keeps { KeepsRest (setup_in table.now) (core_of self.old) (core_of self.new) }
         ensures scrapes { TakesAndScrapes (setup_in table.now) producer result (view_in self.old) (view_in self.new) }
         ensures desk { desk_in self.new ≡ desk_in self.old }
+        ensures letters { (view_in self.new).letters ≡ (view_in self.old).letters }
     {
         self.scrape_at::<Brand>(table, producer)
     }
@@ -95,6 +99,7 @@ impl Service {
         ensures closes { ClosesAll (setup_in table.now) producer (core_of self.old) (core_of self.new) }
         ensures takes { TakesAndCloses (setup_in table.now) producer result (view_in self.old) (view_in self.new) }
         ensures desk { desk_in self.new ≡ desk_in self.old }
+        ensures letters { (view_in self.new).letters ≡ (view_in self.old).letters }
     {
         self.close_at::<Brand>(table, producer)
     }
@@ -121,6 +126,7 @@ impl Service {
         ensures takes { Takes (setup_in table.now) (places_of producer 0 (setup_in table.now).writers) result
             (view_in self.old) (view_in self.new) }
         ensures desk { desk_in self.new ≡ N.desk }
+        ensures letters { (view_in self.new).letters ≡ (view_in self.old).letters }
     {
         let mut lent = Remembering::<N> {
             table,
@@ -138,6 +144,7 @@ impl Service {
         ensures keeps { KeepsRest (setup_in table.now) (core_of self.old) (core_of self.new) }
         ensures scrapes { TakesAndScrapes (setup_in table.now) producer result (view_in self.old) (view_in self.new) }
         ensures desk { desk_in self.new ≡ N.desk }
+        ensures letters { (view_in self.new).letters ≡ (view_in self.old).letters }
     {
         let mut lent = Remembering::<N> {
             table,
@@ -155,6 +162,7 @@ impl Service {
         ensures closes { ClosesAll (setup_in table.now) producer (core_of self.old) (core_of self.new) }
         ensures takes { TakesAndCloses (setup_in table.now) producer result (view_in self.old) (view_in self.new) }
         ensures desk { desk_in self.new ≡ N.desk }
+        ensures letters { (view_in self.new).letters ≡ (view_in self.old).letters }
     {
         let mut lent = Remembering::<N> {
             table,

@@ -20,6 +20,7 @@ impl Service {
         ensures serves { Serves table.now self.new }
         ensures keeps { KeepsRest (setup_in table.now) (core_of self.old) (core_of self.new) }
         ensures desk { desk_in self.new ≡ desk_in self.old }
+        ensures letters { (view_in self.new).letters ≡ (view_in self.old).letters }
         ensures takes { TakesOut (setup_in table.now) producer (view_in self.old) (view_in self.new) }
         ensures seen { (place : ℕ) → place < length (setup_in table.now).writers → producer_of (setup_in table.now) place ≡ producer
             → IsSeenOut (setup_in table.now) (length (view_in self.old).looks) place (view_in self.new) }
@@ -37,6 +38,7 @@ impl Service {
         ensures serves { Serves table.now self.new }
         ensures keeps { KeepsRest (setup_in table.now) (core_of self.old) (core_of self.new) }
         ensures desk { desk_in self.new ≡ desk_in self.old }
+        ensures letters { (view_in self.new).letters ≡ (view_in self.old).letters }
         ensures takes { TakesAllOut (setup_in table.now) producers (view_in self.old) (view_in self.new) }
         ensures seen { AreSeenOut (setup_in table.now) (length (view_in self.old).looks) producers (view_in self.new) }
     {
@@ -55,6 +57,7 @@ impl Service {
         ensures serves { Serves table.now self.new }
         ensures keeps { KeepsRest (setup_in table.now) (core_of self.old) (core_of self.new) }
         ensures desk { desk_in self.new ≡ desk_in self.old }
+        ensures letters { (view_in self.new).letters ≡ (view_in self.old).letters }
         ensures own { (view_in self.new).commits ≡ (view_in self.old).commits }
         ensures takes { TakesAllOut (setup_in table.now) (length (setup_in table.now).ranges) (view_in self.old) (view_in self.new) }
         ensures taken { (i : ℕ) (tale : Tale) → At (desk_in self.old).told i tale → IsWholeTale (setup_in table.now) (view_in self.old) tale

@@ -1,5 +1,6 @@
 //! What writers tell the service of a table that threads share.
 ghost use Rattle.std.specs.Prelude.{◌≡◌};
+ghost use Rattle.chunk_plain.specs.Letters.{last_flush};
 ghost use Rattle.chunk_words.specs.Knows.{with_tale};
 ghost use Rattle.chunk_words.specs.Sits.{Sits, setup_in, known_by};
 ghost use Rattle.chunk_words.specs.Told.{ShowsAllTold, IsMarked};
@@ -15,7 +16,8 @@ impl Service {
         requires from { Sits table.now from.old }
         ensures serves { Serves table.now self.new }
         ensures from { Sits table.now from.new }
-        ensures told { desk_in self.new ≡ with_tale (desk_in self.old) (view_in self.old) from.old.place (known_by from.old).begun }
+        ensures told { desk_in self.new ≡ with_tale (desk_in self.old) (view_in self.old) from.old.place (known_by from.old).begun
+            (last_flush (known_by from.old).letters.answers) }
         ensures view { view_in self.new ≡ view_in self.old }
         ensures only { IsOnlySeat (core_of self.old) (core_of self.new) }
         ensures writer { known_by from.new ≡ known_by from.old }

@@ -1,4 +1,5 @@
-use Rattle.std.proofs.Common.{refl}
+use Rattle.std.proofs.Common.{refl, ap}
+use Rattle.chunk_plain.specs.Views.{ServiceView}
 use Rattle.chunk_words.specs.Sits.{known_by_service}
 use Rattle.thread_service.proofs.GoingOn.{goes_looking}
 use Rattle.thread_service.proofs.PassLemmas.{passes_further}
@@ -11,4 +12,5 @@ returns-clause-step g c = record {
       (goes_looking _ _ _ _ (known_by_service c.args.seat.now) (known_by_service c.look.new.seat) c.look.ensures.view);
   writers_stay = λ other there. (there, refl);
   reads_stay = λ takes. takes;
+  letters_stay = ap (λ (v : ServiceView). v.letters) c.look.ensures.view.view;
 }

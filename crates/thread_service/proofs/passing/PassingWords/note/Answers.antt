@@ -1,4 +1,5 @@
-use Rattle.std.proofs.Common.{refl}
+use Rattle.std.proofs.Common.{refl, ap}
+use Rattle.chunk_plain.specs.Views.{ServiceView}
 use Rattle.chunk_plain.specs.Words.{event_of}
 use Rattle.chunk_words.specs.Sits.{known_by_service}
 use Rattle.thread_service.proofs.GoingOn.{event_read, goes_noting}
@@ -21,6 +22,7 @@ returns-then-is_read-clause-step g c =
           (event_read c.args.event (c.is_read.ensures.yes c.if-is_read.true)) c.requires.seat did.pass did.seat did.desk did.goes_on did.view did.known;
       writers_stay = λ other there. (there, refl);
       reads_stay = λ takes. takes;
+      letters_stay = ap (λ (v : ServiceView). v.letters) did.view;
     }
 
 pub returns-clause-step : goal.returns-clause-step
@@ -30,4 +32,5 @@ returns-clause-step g c = record {
       (goes_noting c.args.event (known_by_service c.args.seat.now) (known_by_service c.note.new.seat) (c.is_read.ensures.no c.if-is_read.false) c.note.ensures.view);
   writers_stay = λ other there. (there, refl);
   reads_stay = λ takes. takes;
+  letters_stay = ap (λ (v : ServiceView). v.letters) c.note.ensures.view;
 }

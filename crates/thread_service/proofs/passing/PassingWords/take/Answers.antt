@@ -1,6 +1,6 @@
 use Rattle.std.proofs.Common.{refl}
 use Rattle.chunk_words.specs.Sits.{known_by_service}
-use Rattle.thread_service.proofs.GoingOn.{goes_taking}
+use Rattle.thread_service.proofs.GoingOn.{goes_taking, letters_taking}
 use Rattle.thread_service.proofs.PassLemmas.{passes_further}
 use Rattle.thread_service.proofs.passing.PassingWords.take.Goals as goal
 
@@ -11,4 +11,5 @@ returns-clause-step g c = record {
       (goes_taking _ _ _ _ c.take.result (known_by_service c.args.seat.now) (known_by_service c.take.new.seat) c.take.ensures.taken c.take.ensures.other);
   writers_stay = λ other there. (there, refl);
   reads_stay = λ takes. takes;
+  letters_stay = letters_taking _ _ _ _ c.take.result (known_by_service c.args.seat.now) (known_by_service c.take.new.seat) c.take.ensures.taken c.take.ensures.other;
 }

@@ -11,6 +11,7 @@ invariant-producers l = record {
   serves : Serves l.table l.self;
   keeps : KeepsRest (setup_in l.table) (core_of l.fn.self) (core_of l.self);
   desk : desk_in l.self ≡ desk_in l.fn.self;
+  letters : (view_in l.self).letters ≡ (view_in l.fn.self).letters;
   takes : TakesAllOut (setup_in l.table) l.index (view_in l.fn.self) (view_in l.self);
   looks : (looks : List Look) × ((view_in l.self).looks ≡ (view_in l.fn.self).looks ++ looks);
   seen : AreSeenOut (setup_in l.table) (length (view_in l.fn.self).looks) l.index (view_in l.self);

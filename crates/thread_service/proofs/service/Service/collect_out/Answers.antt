@@ -24,6 +24,7 @@ rounds-preserved c =
       serves = c.collect.ensures.serves;
       keeps = keeps_both setup (core_of c.args.self.now) (core_of c.rounds.self) (core_of c.collect.new.self) i.keeps c.collect.ensures.keeps;
       desk = c.collect.ensures.desk ∙ i.desk;
+      letters = c.collect.ensures.letters ∙ i.letters;
       rounds = (
         i.rounds.0 ++ c.collect.result ∷ [],
         some_more i.rounds.0 c.collect.result i.rounds.1 c.rounds-test.true,

@@ -11,6 +11,7 @@ invariant-rounds l = record {
   serves : Serves l.table l.self;
   keeps : KeepsRest (setup_in l.table) (core_of l.initial.self) (core_of l.self);
   desk : desk_in l.self ≡ desk_in l.initial.self;
+  letters : (view_in l.self).letters ≡ (view_in l.initial.self).letters;
   rounds : (rounds : List ℕ) × All (λ taken. 0 < taken) rounds
       × TakesRounds (setup_in l.table) l.producer rounds (view_in l.initial.self) (view_in l.self);
 }

@@ -1,3 +1,5 @@
+use Rattle.std.proofs.Common.{◌∙◌, sym, ap}
+use Rattle.chunk_plain.specs.Views.{ServiceView, asked_in}
 use Rattle.chunk_words.specs.Sits.{setup_in, known_by_service}
 use Rattle.thread_service.specs.Serving.{view_in}
 use Rattle.thread_service.proofs.Standing.{agrees_seat}
@@ -8,4 +10,5 @@ returns-clause-serves c = record {
   attends = c.tell.ensures.service;
   agrees = agrees_seat (setup_in c.args.table.now) (view_in c.args.self.now) (known_by_service c.tell.new.service) c.args.self.now.core c.tell.new.service
       c.tell.ensures.service_view c.requires.serves.agrees;
+  asked = c.requires.serves.asked ∙ sym (ap (λ (v : ServiceView). asked_in v.letters) c.tell.ensures.service_view);
 }

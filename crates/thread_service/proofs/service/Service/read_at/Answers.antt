@@ -1,8 +1,9 @@
-use Rattle.std.proofs.Common.{◌∙◌, sym}
+use Rattle.std.proofs.Common.{◌∙◌, sym, ap}
+use Rattle.session_core.specs.Sessions.{SessionValue}
 use Rattle.chunk_words.specs.Sits.{setup_in, known_by_pass}
 use Rattle.thread_service.specs.Serving.{view_in}
-use Rattle.thread_service.proofs.Standing.{attends_back, passes_back}
-use Rattle.thread_service.proofs.PassLemmas.{passes_start, since_back, some_noted, known_behind, pass_reads}
+use Rattle.thread_service.proofs.Standing.{attends_back, passes_back, counts_on}
+use Rattle.thread_service.proofs.PassLemmas.{passes_start, since_back, some_noted, known_behind, pass_reads, asked_behind}
 use Rattle.thread_service.proofs.service.Service.read_at.Goals as goal
 
 pub read_buffer-read-requires-clause-serves : goal.read_buffer-read-requires-clause-serves
@@ -17,7 +18,19 @@ returns-clause-serves g c =
     record {
       attends = attends_back c.args.table.now c.read_buffer-read.new.table.table.now c.read_buffer-read.new.self.seat (on.same_table ∙ sym c.requires.table) step.setup_stays on.attends;
       agrees = c.read_buffer-read.ensures.agrees;
+      asked = counts_on c.args.self.now.core c.read_buffer-read.new.self (ap (λ (s : SessionValue). s.requests) c.read_buffer-read.ensures.keeps.fields.session) step.letters_stay
+          c.requires.serves.asked;
     }
+
+pub returns-clause-letters : goal.returns-clause-letters
+returns-clause-letters g c = c.read_buffer-read.ensures.step.letters_stay
+
+pub returns-clause-asked : goal.returns-clause-asked
+returns-clause-asked g c =
+    let passed = known_by_pass c.args.pass.now in let before = view_in c.args.self.now in
+    let pass = known_by_pass c.read_buffer-read.new.table.pass in let view = view_in (record { core = c.read_buffer-read.new.self }) in
+    asked_behind passed before pass view c.read_buffer-read.ensures.step.letters_stay
+    (since_back g.N.Start.passed g.N.Start.view pass view passed before c.requires.passed c.requires.view c.read_buffer-read.ensures.step.seat_stays.since)
 
 pub returns-clause-pass : goal.returns-clause-pass
 returns-clause-pass g c =

@@ -14,6 +14,9 @@ returns-clause-own c =
     ap (λ (v : ServiceView). v.commits) c.recall.ensures.view
     ∙ all_out_own setup c.args.producers (view_in c.args.self.now) (view_in c.collect_all_out.new.self) c.collect_all_out.ensures.takes
 
+pub returns-clause-letters : goal.returns-clause-letters
+returns-clause-letters c = ap (λ (v : ServiceView). v.letters) c.recall.ensures.view ∙ c.collect_all_out.ensures.letters
+
 pub returns-clause-takes : goal.returns-clause-takes
 returns-clause-takes c =
     let setup = setup_in c.args.table.now in
