@@ -37,6 +37,10 @@ with_place index sequence chunk_id place = record index { places = map.insert in
 abbrev pub without_place : IndexValue → ℕ → ℕ → IndexValue
 without_place index sequence chunk_id = record index { places = map.remove index.places (key_of sequence chunk_id) }
 
+-- the index with these places in place of its own
+abbrev pub with_places : FinMap nat_cmp ℕ → IndexValue → IndexValue
+with_places places index = record index { places = places }
+
 -- the sequence's chunks from this id on begin with one that is at this place
 pub record IsFirstFrom (index : IndexValue) (sequence from chunk_id place : ℕ) : Type 0 where
   pub order : from ≤ chunk_id

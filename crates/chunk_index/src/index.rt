@@ -1,10 +1,10 @@
 //! The index.
 ghost use Rattle.std.specs.Prelude.{◌≡◌, ℕ, ◌+◌, ◌<◌, ◌≤◌, ◌^◌, IfOk, IfSome, IfNone, IsSome};
 ghost use Rattle.std.specs.FinMap as map;
-ghost use Rattle.chunk_index.specs.Value.{key_of, place_of, empty_index, with_place, without_place, IsFirstFrom, HasNoneFrom};
+ghost use Rattle.chunk_index.specs.Value.{key_of, place_of, empty_index, with_place, without_place, with_places, IsFirstFrom, HasNoneFrom};
 
 use crate::least::nearer;
-use crate::room::{FIRST_ROOM, put, with_room};
+use crate::room::{FIRST_ROOM, free_all, put, put_all, with_room};
 use crate::slot::{Entry, close_hole, ends_search, find_slot, home_of, key_number, place_for};
 use std::alloc::{AllocError, Global};
 use std::marker::Model;
@@ -111,6 +111,23 @@ impl Index {
         self.slots[at] = None;
         close_hole(&mut self.slots, self.room, at);
         self.used -= 1;
+    }
+
+    /// Takes the entries of another index in place of its own. Each gets a slot anew, since the other
+    /// index may have more slots, or fewer.
+    pub fn copy_from(&mut self, other: &Index)
+        requires { map.len other.now.places ≤ self.old.capacity }
+        ensures { self.new ≡ with_places other.now.places self.old }
+    {
+        self.room = free_all(
+            &mut self.slots,
+            &mut self.wide,
+            self.room,
+            other.used,
+            self.capacity,
+        );
+        put_all(&mut self.slots, &other.slots, self.room);
+        self.used = other.used;
     }
 
     /// The least chunk id of a sequence at or above this one, with its place. Ids near ahead are tried

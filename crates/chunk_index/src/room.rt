@@ -54,11 +54,36 @@ fn widen(slots: &mut Vec<Option<Entry>>, wide: &mut Vec<Option<Entry>>, room: u3
     std::mem::swap(slots, wide);
 }
 
+/// Frees all slots, and sees to it that there is room for so many entries. Answers for how many there is.
+pub fn free_all(
+    slots: &mut Vec<Option<Entry>>,
+    wide: &mut Vec<Option<Entry>>,
+    room: u32,
+    used: u32,
+    capacity: u32,
+) -> u32
+    requires room { HasRoom room capacity slots.old.items wide.old.items (vec_capacity wide.old) }
+    requires few { used ≤ capacity }
+    ensures room { HasRoom result capacity slots.new.items wide.new.items (vec_capacity wide.new) }
+    ensures enough { used ≤ result }
+    ensures free { slots.new.items ≡ replicate (3 * result + 1) None }
+{
+    if used <= room {
+        slots.fill(None);
+        return room;
+    }
+    let Ok(()) = wide.resize(3 * capacity as usize + 1, None) else {
+        unreachable!()
+    };
+    std::mem::swap(slots, wide);
+    capacity
+}
+
 /// Puts the entries of slots into others, which are free.
-fn put_all(into: &mut [Option<Entry>], from: &[Option<Entry>], capacity: u32)
+pub fn put_all(into: &mut [Option<Entry>], from: &[Option<Entry>], capacity: u32)
     requires free { into.old ≡ replicate (3 * capacity + 1) None }
     requires once { (at other key : ℕ) → has_key key (slot from.now at) ≡ true → has_key key (slot from.now other) ≡ true → at ≡ other }
-    requires few { length (entries_of from.now) < capacity }
+    requires few { length (entries_of from.now) ≤ capacity }
     ensures size { length into.new ≡ 3 * capacity + 1 }
     ensures table { IsTable capacity into.new }
     ensures map { map_of into.new ≡ map_of from.now }
@@ -73,7 +98,7 @@ fn put_all(into: &mut [Option<Entry>], from: &[Option<Entry>], capacity: u32)
 fn put_slot(slots: &mut [Option<Entry>], from: Option<Entry>, capacity: u32)
     requires size { length slots.old ≡ 3 * capacity + 1 }
     requires table { IsTable capacity slots.old }
-    requires few { length (entries_of slots.old) < capacity }
+    requires few { (entry : Entry) → from ≡ Some entry → length (entries_of slots.old) < capacity }
     requires absent { (entry : Entry) → from ≡ Some entry → get (map_of slots.old) (entry_key entry) ≡ None }
     ensures size { length slots.new ≡ 3 * capacity + 1 }
     ensures table { IsTable capacity slots.new }

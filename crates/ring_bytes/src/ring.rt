@@ -217,6 +217,22 @@ impl Ring {
         put(&mut self.bytes, place + RECORD_HEADER_SIZE + offset, &bytes);
     }
 
+    /// Becomes what another ring of its size is. It takes no memory, and copies no more bytes than the
+    /// other one has reached.
+    pub fn copy_from(&mut self, other: &Ring)
+        requires { self.old.room ≡ other.now.room }
+        ensures { self.new ≡ other.now }
+    {
+        self.bytes.clear();
+        let Ok(()) = self.bytes.extend_from_slice(&other.bytes) else {
+            unreachable!()
+        };
+        self.reached = other.reached;
+        self.next = other.next;
+        self.clear = other.clear;
+        self.front = other.front;
+    }
+
     /// Goes to the start where a record of this size doesn't fit behind the last one.
     fn turn(&mut self, len: u32)
         requires room { len ≤ self.old.room }

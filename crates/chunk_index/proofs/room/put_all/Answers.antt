@@ -1,4 +1,4 @@
-use Rattle.std.proofs.Common.{◌<◌, ◌+◌, ◌*◌, None, length, sym, ap, subst, ◌∙◌, arith}
+use Rattle.std.proofs.Common.{◌≡◌, ◌<◌, ◌+◌, ◌*◌, [], ◌∷◌, None, length, sym, ap, subst, ◌∙◌, arith}
 use Rattle.std.proofs.lemmas.List.{length-replicate}
 use Rattle.chunk_index.specs.Slots.{slot, entry_key, entries_of, map_of, with_slot}
 use Rattle.chunk_index.specs.Table.{IsTable}
@@ -19,9 +19,12 @@ loop-at-init c =
     }
 
 pub put_slot-requires-clause-few : goal.put_slot-requires-clause-few
-put_slot-requires-clause-few c =
-    let here = c.loop-at.invariant.entries in let within = entries_within c.args.from.now c.loop-at.at in let few = c.requires.few in
-    omega arith
+put_slot-requires-clause-few c = λ entry is.
+    let from = c.args.from.now in let at = c.loop-at.at in
+    let inside : at < length from = let more = c.loop-at-test.true in omega arith in
+    let next = entries_next from at inside in
+    let one : length (entries_of (slot from at ∷ [])) ≡ 1 = ap (λ s. length (entries_of (s ∷ []))) is in
+    omega (arith, next, one, c.loop-at.invariant.entries, entries_within from (at + 1), c.requires.few)
 
 pub put_slot-requires-clause-absent : goal.put_slot-requires-clause-absent
 put_slot-requires-clause-absent c = λ entry is.
