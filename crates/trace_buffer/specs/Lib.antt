@@ -2,6 +2,7 @@ pub mod Answers
 pub mod BufferFields
 pub mod Calls
 pub mod Circle
+pub mod Clones
 pub mod Closing
 pub mod Keys
 pub mod Made

@@ -16,6 +16,8 @@ ghost use Rattle.trace_buffer.specs.Made.{sequence_of, AreDistinct, AllSmall};
 ghost use Rattle.trace_buffer.specs.Calls.{with_advance, is_lost, place_in, IsImageOf};
 ghost use Rattle.trace_buffer.specs.BufferFields.{NoPart, IsPartNear};
 
+mod copying;
+
 use crate::answers::{
     Arrived, BufferCounts, BufferSpec, Cursor, Passed, PatchFault, SequenceSpec, SequenceState,
 };

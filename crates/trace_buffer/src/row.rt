@@ -6,6 +6,7 @@ ghost use Rattle.trace_model.specs.Arrivals.{is_too_far, with_arrived};
 ghost use Rattle.trace_model.specs.Reads.{advanced};
 ghost use Rattle.trace_model.specs.Row.{horizon};
 ghost use Rattle.trace_buffer.specs.Answers.{cursor_value, turn_value, state_of};
+ghost use Rattle.trace_buffer.specs.Clones.{none_delivered};
 ghost use Rattle.trace_buffer.specs.Keys as keys;
 ghost use Rattle.trace_buffer.specs.Keys.{cursor_behind};
 
@@ -214,6 +215,31 @@ impl SequenceRow {
         ensures { self.new ≡ record self.old { final = with_number id self.old.final } }
     {
         self.finals[place_of(u64::from(id))] = true;
+    }
+
+    pub fn reset_delivered(&mut self)
+        ensures { self.new ≡ none_delivered self.old }
+    {
+        self.delivered = 0;
+    }
+
+    /// Becomes what another sequence is.
+    pub fn copy_from(&mut self, other: &SequenceRow)
+        ensures { self.new ≡ other.now }
+    {
+        self.number = other.number;
+        self.size = other.size;
+        self.base = other.base;
+        self.ahead.copy_from_slice(&other.ahead);
+        self.finals.copy_from_slice(&other.finals);
+        self.at = other.at;
+        self.passed = other.passed;
+        self.closed = other.closed;
+        self.missing = other.missing;
+        self.delivered = other.delivered;
+        self.dropped = other.dropped;
+        self.lost = other.lost;
+        self.cut = other.cut;
     }
 
     #[tactic(auto, using(crate::proofs::CircleLemmas::base_is))]

@@ -4,6 +4,7 @@ ghost use Rattle.trace_model.specs.Sequences.{fresh, is_known, sequence_in, chan
 ghost use Rattle.trace_model.specs.Arrivals.{is_too_far, with_arrived};
 ghost use Rattle.trace_model.specs.Reads.{advanced};
 ghost use Rattle.trace_buffer.specs.Answers.{cursor_value, turn_value};
+ghost use Rattle.trace_buffer.specs.Clones.{none_delivered};
 ghost use Rattle.trace_buffer.specs.Keys.{LosesAt, discarded_by};
 ghost use Rattle.trace_buffer.specs.Made.{sequence_of, AllSmall, AllTakeLeast};
 ghost use Rattle.trace_buffer.specs.BufferFields.{NumbersOnce};
@@ -128,4 +129,24 @@ pub fn advance(rows: &mut [SequenceRow], number: u32, to: Cursor, passed: Passed
     let i = find_row(rows, number);
     let row = &mut rows[i];
     row.advance(to, passed);
+}
+
+pub fn reset_delivered(rows: &mut [SequenceRow], number: u32)
+    requires known { is_known rows.old number ≡ true }
+    requires once { NumbersOnce rows.old }
+    ensures { rows.new ≡ changed_at number none_delivered rows.old }
+{
+    let i = find_row(rows, number);
+    let row = &mut rows[i];
+    row.reset_delivered();
+}
+
+/// Each sequence becomes what the other one at its place is.
+pub fn copy_rows(rows: &mut [SequenceRow], others: &[SequenceRow])
+    requires { length rows.old ≡ length others.now }
+    ensures { rows.new ≡ others.now }
+{
+    for i in 0..others.len() {
+        rows[i].copy_from(&others[i]);
+    }
 }
