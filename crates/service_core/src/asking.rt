@@ -12,7 +12,7 @@ ghost use Rattle.service_core.specs.Agreement.{IsAgreeing, ServiceAgrees, first_
 
 use crate::service::ServiceCore;
 use trace_base::limits::FIRST_SEQUENCE;
-use trace_buffer::{BufferCounts, SequenceState};
+use trace_buffer::{BufferCounts, SequenceState, TraceBuffer};
 
 impl<S> ServiceCore<S> {
     /// How many chunks were taken of a writer. Writers count from 1.
@@ -34,6 +34,18 @@ impl<S> ServiceCore<S> {
             → result ≡ counts_of (buffer_at (buffers_after (first_of setup self.now) (history_of view)) (buffer - 1)) }
     {
         self.buffers[usize::from(buffer) - 1].counts()
+    }
+
+    /// A buffer as it stands. Buffers count from 1.
+    pub fn lend(&self, buffer: u8) -> &TraceBuffer
+        requires least { 1 ≤ buffer }
+        requires most { buffer ≤ length self.now.specs.items }
+        requires agrees { IsAgreeing self.now }
+        ensures is { result.now ≡ buffer_at self.now.buffers.items (buffer - 1) }
+        ensures history { (setup : Setup) (view : ServiceView) → ServiceAgrees setup view self.now
+            → result.now ≡ buffer_at (buffers_after (first_of setup self.now) (history_of view)) (buffer - 1) }
+    {
+        &self.buffers[usize::from(buffer) - 1]
     }
 
     /// What is known of a writer's sequence.
