@@ -1,0 +1,3 @@
+pub mod CloneFields
+pub mod Clones
+pub mod Laws
