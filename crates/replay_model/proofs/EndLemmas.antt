@@ -65,11 +65,11 @@ holds_none : (packets : List Packet) (flushed : Bool) → flushed ≡ true → h
 holds_none [] flushed is = refl
 holds_none (packet ∷ older) flushed is = ap (λ (b : Bool). not (is_lost packet || b)) is ∙ ap not (or-true (is_lost packet))
 
-flushed_now : (setup : Setup) (place : ℕ) (old new : World) → Notes setup place Flushed old new → (account_of (writer new place).calls).flushed ≡ true
-flushed_now setup place old new (inl is) =
+flushed_now : (setup : Setup) (place : ℕ) (stopped : Bool) (old new : World) → Notes setup place Flushed stopped old new → (account_of (writer new place).calls).flushed ≡ true
+flushed_now setup place false old new is =
     ap (λ (calls : List Call). (account_of calls).flushed) is
     ∙ ap (λ (a : Account). a.flushed) (fold-append noted nothing_yet (writer old place).calls (Flushed ∷ []))
-flushed_now setup place old new (inr h) = absurd h.1
+flushed_now setup place true old new h = absurd h.1
 
 none_held : (setup : Setup) (place : ℕ) (view : WriterView) → Wrote setup place view → last_is_held view.begun ≡ false → held_count view.begun ≡ 0
 none_held setup place view wrote none = by_held wrote.held refl
@@ -85,7 +85,7 @@ none_held setup place view wrote none = by_held wrote.held refl
 pub flush_done : (setup : Setup) (place : ℕ) (old new : World) → Asks setup place Flushed old new → held_count (writer new place).begun ≡ 0
 flush_done setup place old new asks =
     let view : WriterView = writer new place in
-    none_held setup place view asks.wrote (asks.wrote.holds ∙ holds_none (account_of view.calls).packets (account_of view.calls).flushed (flushed_now setup place old new asks.notes))
+    none_held setup place view asks.wrote (asks.wrote.holds ∙ holds_none (account_of view.calls).packets (account_of view.calls).flushed (flushed_now setup place asks.stopped old new asks.notes))
 
 flush_keeps : (setup : Setup) (place other : ℕ) (old new : World) → Asks setup place Flushed old new → held_count (writer old other).begun ≡ 0 → held_count (writer new other).begun ≡ 0
 flush_keeps setup place other old new asks none = by_place (cases_eq other place)
@@ -175,7 +175,7 @@ takes_grow setup (place ∷ places) taken old new sorted fits takes p =
         ap (λ (v : ServiceView). (taken_of v p).count) of.view ∙ ap (λ t. t.count) (taken_other old place p of.looks of.contents differs) in
         omega (arith, kept)
 
-own_at : (setup : Setup) (producer : ℕ) (begun : List BegunChunk) (i chunk : ℕ) (content : Content) → AreOwnChunks setup producer begun → At begun i (Completed chunk content)
+pub own_at : (setup : Setup) (producer : ℕ) (begun : List BegunChunk) (i chunk : ℕ) (content : Content) → AreOwnChunks setup producer begun → At begun i (Completed chunk content)
     → IsChunkOf setup producer chunk
 own_at setup producer [] i chunk content own at = absurd (cc)
 own_at setup producer (Held other draft ∷ begun) zero chunk content own at = absurd (cc)

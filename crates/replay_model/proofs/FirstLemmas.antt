@@ -43,7 +43,7 @@ newcomer_wrote setup place small = record {
   begun = refl;
   stands = λ image e. absurd (cc);
   only = λ one other others e. absurd (cc);
-  claims = record { unclaimed = refl; unstamped = refl; own_asks = tt; own_chunks = tt; vain = λ some chunk is. absurd (omega (arith, some)) };
+  claims = record { unclaimed = refl; unstamped = refl; own_asks = tt; own_chunks = tt; vain = λ some chunk is. absurd (omega (arith, some)); stalls = λ spec there is. refl };
 }
 
 pub first_stands : (setup : Setup) → ((place : ℕ) → payload_at setup place < drop_size) → Stands setup (first_world setup)

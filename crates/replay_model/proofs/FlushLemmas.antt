@@ -1,5 +1,5 @@
 -- A flush whose chunks were taken and read settles what its writer had emitted.
-use Rattle.std.proofs.Common.{◌≡◌, ◌∙◌, ℕ, zero, suc, ◌+◌, ◌-◌, ◌*◌, ◌<◌, ◌≤◌, List, [], ◌∷◌, ◌++◌, length, map, drop, get_or, Some, refl, sym, ap, subst, arith, inl, inr, append_assoc, append-nil, length-append}
+use Rattle.std.proofs.Common.{◌≡◌, ◌∙◌, ℕ, zero, suc, ◌+◌, ◌-◌, ◌*◌, ◌<◌, ◌≤◌, Bool, true, false, List, [], ◌∷◌, ◌++◌, length, map, drop, get_or, Some, refl, sym, ap, subst, arith, inl, inr, append_assoc, append-nil, length-append}
 use Rattle.std.specs.Prelude.{slice_get}
 use Rattle.std.proofs.lemmas.Bool.{eq-eqb}
 use Rattle.std.proofs.lemmas.List.{length-map}
@@ -51,7 +51,8 @@ use Rattle.service_core.specs.Routing.{buffer_at}
 use Rattle.service_core.proofs.HistoryLemmas.{Grows}
 use Rattle.service_core.proofs.QuietLemmas.{grow_both}
 use Rattle.replay_model.specs.Acts.{Act, Ask, ReadAll}
-use Rattle.replay_model.specs.Does.{Asks, Notes, Wrote, is_shut}
+use Rattle.trace_writer.specs.Answered.{KeepsCompleted}
+use Rattle.replay_model.specs.Does.{Wrote, is_shut}
 use Rattle.replay_model.specs.Flushes.{FlushNote}
 use Rattle.replay_model.specs.FlushLaws.{begun_in, IsFlushRead, HasSettled, EveryFlushIsSettled}
 use Rattle.replay_model.specs.Plays.{Plays}
@@ -65,11 +66,13 @@ use Rattle.replay_model.proofs.OwnedLemmas.{owned_itself, learnt, named}
 use Rattle.replay_model.proofs.PageLemmas.{pages_same, begins_as}
 use Rattle.replay_model.proofs.PhaseLemmas.{history_read}
 use Rattle.replay_model.proofs.PlayedLemmas.{plays_stand, setup_writers}
-use Rattle.replay_model.proofs.PlayedOnLemmas.{plays_grow, reads_grow, HasMore, more_both, plays_more, plays_alone, arrivals_parts, lead_arrivals}
+use Rattle.replay_model.proofs.PlayedOnLemmas.{plays_grow, reads_grow, HasMore, more_both, plays_more, arrivals_parts, lead_arrivals}
 use Rattle.replay_model.proofs.ReadOutLemmas.{told_few, sum_all, IsFew, reads_has}
-use Rattle.replay_model.proofs.ScrapedLemmas.{counted}
 use Rattle.replay_model.proofs.SortedLemmas.{at_stage}
 use Rattle.replay_model.proofs.StandsLemmas.{Stands, stands_does}
+use Rattle.replay_model.proofs.StaysLemmas as stays
+use Rattle.trace_writer.proofs.holding.Answering.{keeps_on}
+use Rattle.replay_model.proofs.StaysLemmas.{plays_keeps, read_keeps}
 
 -- a read of the sequence among reads
 record IsReadAmong (q packets : ℕ) (events : List Event) : Type 0 where
@@ -109,19 +112,6 @@ sum_views each (view ∷ views) (spec ∷ specs) first long is =
     let rest = sum_views each views specs (suc first) (omega (arith, long)) (λ k. let at : suc first + k ≡ first + suc k = omega arith in ap each at ∙ is (suc k)) in
     omega (arith, here, rest)
 
--- a writer that flushes notes that alone
-pub flush_calls : (setup : Setup) (place : ℕ) (old new : World) → Asks setup place Flushed old new
-    → (writer new place).calls ≡ (writer old place).calls ++ Flushed ∷ []
-flush_calls setup place old new asks = by_notes asks.notes
-  where
-    by_notes : Notes setup place Flushed old new → (writer new place).calls ≡ (writer old place).calls ++ Flushed ∷ []
-    by_notes (inl is) = is
-    by_notes (inr is) = absurd is.1
-
--- a flush changes no packet
-pub flush_packets : (calls : List Call) → packets_of (calls ++ Flushed ∷ []) ≡ packets_of calls
-flush_packets calls = ap (λ (a : Account). a.packets) (fold-append noted nothing_yet calls (Flushed ∷ []))
-
 module _ (scenario : Parts) (setup : Setup) (is_setup : IsSetupOf scenario setup) (set_up : IsSetUp scenario.buffers scenario.producers scenario.writers)
     (acts : List Act) (asked read : World) (notes : List FlushNote) (plays : Plays setup (buffers_of scenario setup) acts (first_world setup) asked notes)
     (place : ℕ) (inside : place < length setup.writers) (flush : IsFlushRead setup (buffers_of scenario setup) place asked read) where
@@ -151,15 +141,12 @@ module _ (scenario : Parts) (setup : Setup) (is_setup : IsSetupOf scenario setup
   at_read = stands_does setup buffers (ReadAll (spec_at setup.writers place).buffer last_count) flush.reading read flush.reads flush.owned_now at_reading.0
 
   abbrev then : Wrote setup place (writer flush.answered place)
-  then = at_answered.wrote place inside
+  then = flush.answers.wrote
 
   abbrev now : Wrote setup place (writer read place)
   now = at_read.wrote place inside
 
-  -- ---- calls
-
-  calls_then : (writer flush.answered place).calls ≡ before ++ Flushed ∷ []
-  calls_then = flush_calls setup place asked flush.answered flush.answers
+  -- ---- what the writer has still
 
   calls_on : HasMore (writer flush.answered place).calls (writer read place).calls
   calls_on =
@@ -168,8 +155,13 @@ module _ (scenario : Parts) (setup : Setup) (is_setup : IsSetupOf scenario setup
       (plays_more setup buffers flush.onward flush.taken flush.reading flush.later place flush.goes_on) in
       (on.0, ap (λ (ws : List WriterView). (get_or ws place newcomer).calls) flush.reads.writers ∙ on.1)
 
-  calls_now : (writer read place).calls ≡ before ++ Flushed ∷ calls_on.0
-  calls_now = calls_on.1 ∙ ap (λ (cs : List Call). cs ++ calls_on.0) calls_then ∙ append_assoc before (Flushed ∷ []) calls_on.0
+  keeps : KeepsCompleted (writer flush.answered place).begun (writer read place).begun
+  keeps =
+      keeps_on (writer flush.answered place).begun (writer flush.reading place).begun (writer read place).begun
+      (keeps_on (writer flush.answered place).begun (writer flush.taken place).begun (writer flush.reading place).begun
+      (plays_keeps setup buffers flush.between flush.answered flush.taken flush.notes place flush.takes)
+      (plays_keeps setup buffers flush.onward flush.taken flush.reading flush.later place flush.goes_on))
+      (read_keeps setup buffers (spec_at setup.writers place).buffer last_count flush.reading read place flush.reads)
 
   -- ---- pages
 
@@ -179,22 +171,8 @@ module _ (scenario : Parts) (setup : Setup) (is_setup : IsSetupOf scenario setup
   abbrev pages_now : List Page
   pages_now = now.cut.cut.pages
 
-  cut_then : CutsInto size (packets_of before) pages_then
-  cut_then =
-      subst (λ (ps : List Packet). CutsInto size ps pages_then) (ap packets_of calls_then ∙ flush_packets before) then.cut.cut.cut
-
   many_then : length (completed_images (writer flush.answered place).begun) ≡ length pages_then
-  many_then =
-      let none = flush_done setup place asked flush.answered flush.answers in
-      let all = counted (writer flush.answered place).begun in
-      let begun = then.begun in
-      let images = ap (λ (xs : List Image). length xs) then.cut.cut.images_are in
-      let both = length-append (completed_images (writer flush.answered place).begun) then.held in
-      let long = images_long (sequence_of place) 0 pages_then in
-      omega (arith, none, all, begun, images, both, long)
-
-  view_same : writer flush.taken place ≡ writer flush.answered place
-  view_same = plays_alone setup buffers flush.between flush.answered flush.taken flush.notes place flush.takes flush.alone
+  many_then = stays.many_then setup place asked flush.answered read flush.answers flush.owned_then now flush.owned_now keeps calls_on
 
   come_then : length pages_then ≤ length (taken_of flush.taken.service place).contents
   come_then =
@@ -215,42 +193,15 @@ module _ (scenario : Parts) (setup : Setup) (is_setup : IsSetupOf scenario setup
       (reads_grow setup buffers (spec_at setup.writers place).buffer last_count flush.reading read flush.reads at_reading.0)
 
   -- what the service took stays in its view
-  stays : (service : ServiceView) → Grows flush.taken.service service → (i : ℕ) (content : Content) → slice_get (taken_of flush.taken.service place).contents i ≡ Some content
+  taken_stays : (service : ServiceView) → Grows flush.taken.service service → (i : ℕ) (content : Content) → slice_get (taken_of flush.taken.service place).contents i ≡ Some content
       → slice_get (taken_of service place).contents i ≡ Some content
-  stays service grows i content there =
+  taken_stays service grows i content there =
       let e = back in
       sym (ap (λ (p : ℕ). slice_get (taken_of service p).contents i) e)
       ∙ grows.contents (place + 2) i content (ap (λ (p : ℕ). slice_get (taken_of flush.taken.service p).contents i) e ∙ there)
 
-  page_stays : (i : ℕ) (page : Page) → slice_get pages_then i ≡ Some page → slice_get pages_now i ≡ Some page
-  page_stays i page get =
-      let low = slice_get_within pages_then i page get in
-      let come = come_then in
-      let content = some_there (taken_of flush.taken.service place).contents i (omega (arith, low, come)) in
-      let was = learnt flush.taken (owned_itself flush.taken at_taken.1) place i content.0 (elem_at (taken_of flush.taken.service place).contents i content.0 content.1) in
-      let was_there : At (writer flush.answered place).begun i (Completed was.0 content.0) =
-      subst (λ (v : WriterView). At v.begun i (Completed was.0 content.0)) view_same was.1 in
-      let own = page_of size place i was.0 (writer flush.answered place) then.held then.cut content.0 was_there
-      (named flush.answered (owned_itself flush.answered flush.owned_then) place i was.0 content.0 was_there) in
-      let kept = stays read.service grows_to_read i content.0 content.1 in
-      let is = learnt read (owned_itself read flush.owned_now) place i content.0 (elem_at (taken_of read.service place).contents i content.0 kept) in
-      let later = page_of size place i is.0 (writer read place) now.held now.cut content.0 is.1 (named read (owned_itself read flush.owned_now) place i is.0 content.0 is.1) in
-      let first : own.page ≡ page = same_Some own.page page (sym own.get ∙ get) in
-      let same : later.page ≡ own.page =
-      pages_same size (place + 2) i later.page own.page now.cut.small
-      (full_at size pages_now i later.page (are_full size pages_now now.cut.cut.cut.full) later.get)
-      (full_at size pages_then i own.page (are_full size pages_then then.cut.cut.cut.full) own.get)
-      (sym later.image ∙ own.image) (sym later.patches ∙ own.patches) in
-      later.get ∙ ap (λ (p : Page). Some p) (same ∙ first)
-
   is_flushed : IsFlushed size (writer read place).calls pages_now before pages_then
-  is_flushed = record {
-    behind = calls_on.0;
-    calls_are = calls_now;
-    more = drop (length pages_then) pages_now;
-    pages_are = begins_as pages_then pages_now page_stays;
-    cut = cut_then;
-  }
+  is_flushed = stays.is_flushed setup place asked flush.answered read flush.answers flush.owned_then now flush.owned_now keeps calls_on
 
   -- ---- the buffer
 
@@ -358,7 +309,7 @@ module _ (scenario : Parts) (setup : Setup) (is_setup : IsSetupOf scenario setup
         all_stay zero low = omega arith
         all_stay (suc n) low =
             let content = some_there (taken_of flush.taken.service place).contents n (omega (arith, low)) in
-            slice_get_within (taken_of flush.reading.service place).contents n content.0 (stays flush.reading.service grows_to_reading n content.0 content.1)
+            slice_get_within (taken_of flush.reading.service place).contents n content.0 (taken_stays flush.reading.service grows_to_reading n content.0 content.1)
 
     has_settled : HasSettled scenario setup place asked read
     has_settled =

@@ -9,6 +9,7 @@ pub mod FinishLemmas
 pub mod FirstLemmas
 pub mod FlushLemmas
 pub mod FrontLemmas
+pub mod LateLemmas
 pub mod LosesLemmas
 pub mod LostLemmas
 pub mod NoneLostLemmas
@@ -27,4 +28,5 @@ pub mod ScrapedLemmas
 pub mod SortedLemmas
 pub mod SpecLemmas
 pub mod StandsLemmas
+pub mod StaysLemmas
 pub mod WholeLemmas

@@ -40,10 +40,10 @@ written_lost Flushed = refl
 
 -- ---- acts and calls
 
-notes_written : (setup : Setup) (place : ℕ) (call : Call) (old new : World) → Notes setup place call old new
+notes_written : (setup : Setup) (place : ℕ) (call : Call) (stopped : Bool) (old new : World) → Notes setup place call stopped old new
     → written_calls (writer new place).calls ≡ written_calls (writer old place).calls ++ written_calls (call ∷ [])
-notes_written setup place call old new (inl is) = ap written_calls is ∙ written_append (writer old place).calls (call ∷ [])
-notes_written setup place call old new (inr h) =
+notes_written setup place call false old new is = ap written_calls is ∙ written_append (writer old place).calls (call ∷ [])
+notes_written setup place call true old new h =
     ap written_calls h.0 ∙ written_append (writer old place).calls (dropped_call call)
     ∙ ap (λ (cs : List Call). written_calls (writer old place).calls ++ cs) (written_lost call)
 
@@ -67,7 +67,7 @@ asks_written setup place other call old new asks = by_place (cases_eq place othe
     by_place (inl same) =
         let here : written_calls (writer new place).calls ≡ written_calls (writer old place).calls ++ written_calls (call ∷ []) =
         subst (λ (p : ℕ). written_calls (writer new p).calls ≡ written_calls (writer old p).calls ++ written_calls (call ∷ [])) (sym same)
-        (notes_written setup other call old new asks.notes) in
+        (notes_written setup other call asks.stopped old new asks.notes) in
         here ∙ ap (λ (b : Bool). written_calls (writer old place).calls ++ written_calls (cond b (call ∷ []) [])) (sym (eq-eqb other place (sym same)))
     by_place (inr differs) =
         same_writer old new place (works_others setup other old new asks.works place differs)

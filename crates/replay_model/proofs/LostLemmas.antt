@@ -94,17 +94,17 @@ OnlyLosersLose setup world = (place : ℕ) → 0 < lost_count (packets_of (write
 asks_keep : (setup : Setup) (place : ℕ) (call : Call) (old new : World) → Asks setup place call old new → keeps_call call ≡ true → OnlyLosersLose setup old → OnlyLosersLose setup new
 asks_keep setup place call old new asks keeps only other some = by_place (cases_eq other place)
   where
-    here : Notes setup place call old new → 0 < lost_count (packets_of (writer new place).calls) → loses (policy_of setup place) ≡ true
-    here (inl is) more =
+    here : (stopped : Bool) → Notes setup place call stopped old new → 0 < lost_count (packets_of (writer new place).calls) → loses (policy_of setup place) ≡ true
+    here false is more =
         let same : lost_count (packets_of (writer new place).calls) ≡ lost_count (packets_of (writer old place).calls) =
         ap (λ (calls : List Call). lost_count (packets_of calls)) is ∙ lost_more (writer old place).calls call keeps in
         only place (omega (arith, more, same))
-    here (inr h) more = h.2
+    here true h more = h.2
 
     by_place : (other ≡ place) ⊎ (other ≡ place → ⊥) → loses (policy_of setup other) ≡ true
     by_place (inl same) =
         subst (λ (p : ℕ). loses (policy_of setup p) ≡ true) (sym same)
-        (here asks.notes (subst (λ (p : ℕ). 0 < lost_count (packets_of (writer new p).calls)) same some))
+        (here asks.stopped asks.notes (subst (λ (p : ℕ). 0 < lost_count (packets_of (writer new p).calls)) same some))
     by_place (inr differs) =
         only other (subst (λ (view : WriterView). 0 < lost_count (packets_of view.calls)) (works_others setup place old new asks.works other differs) some)
 

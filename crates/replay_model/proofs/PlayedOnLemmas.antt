@@ -3,10 +3,11 @@ use Rattle.std.proofs.Common.{◌≡◌, ◌≢◌, ◌∙◌, ℕ, suc, ◌+◌
 use Rattle.std.specs.Prelude.{◌==◌, slice_get, MatchBool}
 use Rattle.std.specs.List.{flat_map}
 use Rattle.std.proofs.lemmas.Bool.{cases_eq, eq-eqb, eqb-true}
+use Rattle.std.proofs.lemmas.List.Sums.{fold-append}
 use Rattle.trace_base.proofs.Choices.{match_either}
 use Rattle.trace_model.specs.Buffers.{Buffer}
 use Rattle.trace_model.specs.Calls.{Call, Flushed}
-use Rattle.trace_model.specs.Packets.{packets_of, is_writing}
+use Rattle.trace_model.specs.Packets.{Account, packets_of, nothing_yet, noted, is_writing}
 use Rattle.trace_model.specs.Reading.{Reading, Fragments, Unreadable, reading_of}
 use Rattle.trace_model.specs.History as model
 use Rattle.trace_model.specs.History.{Event, buffers_after}
@@ -29,14 +30,13 @@ use Rattle.service_core.proofs.HistoryLemmas.{Grows}
 use Rattle.service_core.proofs.TakingLemmas.{took_grows, looked_grows}
 use Rattle.service_core.proofs.QuietLemmas.{grow_both}
 use Rattle.replay_model.specs.Acts.{Act, Ask, Request, Answer, Collect, Scrape, CloseProducer, ReadAll}
-use Rattle.replay_model.specs.Does.{Does, Collects, Works, Alone, Helped, Asked, Asks, Notes, Wrote, dropped_call, is_shut}
+use Rattle.replay_model.specs.Does.{Does, LeavesRest, Collects, Tries, Gains, Again, Ends, Works, Alone, Helped, Tried, Lost, Asks, Notes, Wrote, dropped_call, is_shut}
 use Rattle.replay_model.specs.Flushes.{FlushNote}
-use Rattle.replay_model.specs.FlushLaws.{LeaveAlone}
 use Rattle.replay_model.specs.Plays.{Plays}
 use Rattle.replay_model.proofs.FinishLemmas.{arrives_one}
 use Rattle.replay_model.proofs.OwnedLemmas.{owned_itself, named, learnt}
 use Rattle.replay_model.proofs.SortedLemmas.{IsSorted, Among, sorted_took, shut_took, open_places_fit}
-use Rattle.replay_model.proofs.StandsLemmas.{Stands, stands_does, sorted_collects, works_others}
+use Rattle.replay_model.proofs.StandsLemmas.{Stands, stands_does, sorted_collects, own_sorted, tries_sorted, works_others}
 
 -- ---- what the service has
 
@@ -62,18 +62,41 @@ collects_grow : (setup : Setup) (producer : ℕ) (old new : World) → IsSorted 
 collects_grow setup producer old new sorted collects =
     takes_grow setup (places_of producer 0 setup.writers) collects.taken old.service new.service sorted (open_places_fit setup producer old.service collects.opened) collects.takes
 
-works_grow : (setup : Setup) (place : ℕ) {call : Call} (old new : World) → Works setup place call old new → IsSorted setup old.service → Grows old.service new.service
-works_grow setup place old new (Alone _ _ leaves) sorted = subst (Grows old.service) (sym leaves.service) (grows_same old.service)
-works_grow setup place old new (Helped _ asking freed _ may stalls leaves out collects owned some rest) sorted =
-    let asked : IsSorted setup asking.service = subst (IsSorted setup) (sym leaves.service) sorted in
-    let one : Grows old.service freed.service =
-    subst (λ (v : ServiceView). Grows v freed.service) leaves.service (collects_grow setup _ asking freed asked collects) in
-    grow_both old.service freed.service new.service one (works_grow setup place freed new rest (sorted_collects setup _ asking freed asked collects))
-works_grow setup place old new (Asked _ asking freed _ tries may policy leaves vain collects owned rest) sorted =
-    let asked : IsSorted setup asking.service = subst (IsSorted setup) (sym leaves.service) sorted in
-    let one : Grows old.service freed.service =
-    subst (λ (v : ServiceView). Grows v freed.service) leaves.service (collects_grow setup _ asking freed asked collects) in
-    grow_both old.service freed.service new.service one (works_grow setup place freed new rest (sorted_collects setup _ asking freed asked collects))
+own_grows : {place : ℕ} (old new : World) → LeavesRest place old new → Grows old.service new.service
+own_grows old new leaves = subst (Grows old.service) (sym leaves.service) (grows_same old.service)
+
+-- own steps, and a taking behind them
+own_collects : (setup : Setup) (producer : ℕ) {place : ℕ} (old asking freed : World) → LeavesRest place old asking → IsSorted setup old.service
+    → Collects setup producer asking freed → Grows old.service freed.service
+own_collects setup producer old asking freed leaves sorted collects =
+    grow_both old.service asking.service freed.service (own_grows old asking leaves)
+    (collects_grow setup producer asking freed (own_sorted setup old asking leaves sorted) collects)
+
+tries_grow : (setup : Setup) (place : ℕ) {left : ℕ} {stopped : Bool} (old new : World) → Tries setup place left stopped old new → IsSorted setup old.service
+    → Grows old.service new.service
+tries_grow setup place old new (Gains left chunk _ _ leaves claims) sorted = own_grows old new leaves
+tries_grow setup place old new (Again left stopped _ asking freed _ round vain collects owned rest) sorted =
+    grow_both old.service freed.service new.service (own_collects setup _ old asking freed round.leaves sorted collects)
+    (tries_grow setup place freed new rest (sorted_collects setup _ asking freed (own_sorted setup old asking round.leaves sorted) collects))
+tries_grow setup place old new (Ends _ _ round vain) sorted = own_grows old new round.leaves
+
+works_grow : (setup : Setup) (place : ℕ) {call : Call} {stopped : Bool} (old new : World) → Works setup place call stopped old new → IsSorted setup old.service
+    → Grows old.service new.service
+works_grow setup place old new (Alone _ _ leaves) sorted = own_grows old new leaves
+works_grow setup place old new (Helped stopped _ before asking freed _ may stalls leaves round out collects owned some rest) sorted =
+    let here : IsSorted setup before.service = own_sorted setup old before leaves sorted in
+    grow_both old.service before.service new.service (own_grows old before leaves)
+    (grow_both before.service freed.service new.service (own_collects setup _ before asking freed round.leaves here collects)
+    (works_grow setup place freed new rest (sorted_collects setup _ asking freed (own_sorted setup before asking round.leaves here) collects)))
+works_grow setup place old new (Tried stopped _ before gained _ tries may policy leaves tried rest) sorted =
+    let here : IsSorted setup before.service = own_sorted setup old before leaves sorted in
+    grow_both old.service before.service new.service (own_grows old before leaves)
+    (grow_both before.service gained.service new.service (tries_grow setup place before gained tried here)
+    (works_grow setup place gained new rest (tries_sorted setup place before gained tried here)))
+works_grow setup place old new (Lost _ before last _ may losing leaves tried ends asked) sorted =
+    grow_both old.service before.service new.service (own_grows old before leaves)
+    (grow_both before.service last.service new.service (tries_grow setup place before last tried (own_sorted setup old before leaves sorted))
+    (own_grows last new ends))
 
 answer_grows : (setup : Setup) (place : ℕ) (old new : World) (b : Bool) → MatchBool b (new ≡ old) (Asks setup place Flushed old new) → IsSorted setup old.service
     → Grows old.service new.service
@@ -123,16 +146,30 @@ pub more_both : (old mid new : List Call) → HasMore old mid → HasMore mid ne
 more_both old mid new one two =
     (one.0 ++ two.0, two.1 ∙ ap (λ (cs : List Call). cs ++ two.0) one.1 ∙ append_assoc old one.0 two.0)
 
-notes_more : (setup : Setup) (place : ℕ) (call : Call) (old new : World) → Notes setup place call old new → HasMore (writer old place).calls (writer new place).calls
-notes_more setup place call old new (inl is) = (call ∷ [], is)
-notes_more setup place call old new (inr is) = (dropped_call call, is.0)
+notes_more : (setup : Setup) (place : ℕ) (call : Call) (stopped : Bool) (old new : World) → Notes setup place call stopped old new
+    → HasMore (writer old place).calls (writer new place).calls
+notes_more setup place call false old new is = (call ∷ [], is)
+notes_more setup place call true old new is = (dropped_call call, is.0)
+
+-- a writer that flushes notes that alone
+pub flush_calls : (setup : Setup) (place : ℕ) (old new : World) → Asks setup place Flushed old new
+    → (writer new place).calls ≡ (writer old place).calls ++ Flushed ∷ []
+flush_calls setup place old new asks = by_notes asks.stopped asks.notes
+  where
+    by_notes : (stopped : Bool) → Notes setup place Flushed stopped old new → (writer new place).calls ≡ (writer old place).calls ++ Flushed ∷ []
+    by_notes false is = is
+    by_notes true is = absurd is.1
+
+-- a flush changes no packet
+pub flush_packets : (calls : List Call) → packets_of (calls ++ Flushed ∷ []) ≡ packets_of calls
+flush_packets calls = ap (λ (a : Account). a.packets) (fold-append noted nothing_yet calls (Flushed ∷ []))
 
 asks_more : (setup : Setup) (place p : ℕ) (call : Call) (old new : World) → Asks setup place call old new → HasMore (writer old p).calls (writer new p).calls
 asks_more setup place p call old new asks = by_place (cases_eq p place)
   where
     by_place : (p ≡ place) ⊎ (p ≡ place → ⊥) → HasMore (writer old p).calls (writer new p).calls
     by_place (inl same) =
-        subst (λ (n : ℕ). HasMore (writer old n).calls (writer new n).calls) (sym same) (notes_more setup place call old new asks.notes)
+        subst (λ (n : ℕ). HasMore (writer old n).calls (writer new n).calls) (sym same) (notes_more setup place call asks.stopped old new asks.notes)
     by_place (inr differs) =
         no_more (writer old p).calls (writer new p).calls (ap (λ (v : WriterView). v.calls) (works_others setup place old new asks.works p differs))
 
@@ -161,6 +198,13 @@ plays_more setup buffers (act ∷ acts) old new notes p plays =
     (plays_more setup buffers acts plays.0 new plays.1 p plays.5)
 
 -- ---- a writer that is left alone
+
+-- the acts ask nothing of the writer at this place
+abbrev pub LeaveAlone : (place : ℕ) → List Act → Type 0
+LeaveAlone place [] = Unit {0}
+LeaveAlone place (Ask other call ∷ acts) = (other ≢ place) × LeaveAlone place acts
+LeaveAlone place (Answer other ∷ acts) = (other ≢ place) × LeaveAlone place acts
+LeaveAlone place (act ∷ acts) = LeaveAlone place acts
 
 same_view : (old new : World) (p : ℕ) → new.writers ≡ old.writers → writer new p ≡ writer old p
 same_view old new p same = ap (λ (ws : List WriterView). get_or ws p newcomer) same

@@ -36,7 +36,7 @@ use Rattle.service_core.specs.Agreement.{spec_at, no_writer}
 use Rattle.replay_model.specs.Acts.{Act, Ask, Request, Answer, Collect, ReadAll}
 use Rattle.replay_model.specs.Does.{Asks}
 use Rattle.replay_model.specs.Flushes.{FlushNote}
-use Rattle.replay_model.specs.FlushLaws.{LeaveAlone, begun_in, IsFlushRead, HasSettled, EveryRequestIsSettled}
+use Rattle.replay_model.specs.FlushLaws.{begun_in, IsFlushRead, HasSettled, EveryRequestIsSettled}
 use Rattle.replay_model.specs.Plays.{Plays}
 use Rattle.replay_model.specs.Played.{IsSetupOf, buffers_of, first_buffer}
 use Rattle.replay_model.specs.Schedule.{open_producers, open_places, acts_of, acts_from}
@@ -44,14 +44,14 @@ use Rattle.replay_model.proofs.AccountLemmas.{many_writers}
 use Rattle.replay_model.proofs.BalanceLemmas.{each_is}
 use Rattle.replay_model.proofs.EndLemmas.{IsSplit, plays_split, flush_done, producer_open}
 use Rattle.replay_model.proofs.FirstLemmas.{small_payload, first_stands}
-use Rattle.replay_model.proofs.FlushLemmas.{flush_packets, flush_calls, sum_views, every_flush_is_settled}
+use Rattle.replay_model.proofs.FlushLemmas.{sum_views, every_flush_is_settled}
 use Rattle.replay_model.proofs.LosesLemmas.{lines_lose}
 use Rattle.replay_model.proofs.ReadOutLemmas.{begun_sum}
 use Rattle.replay_model.proofs.NoneLostLemmas.{large_sizes, as_many}
 use Rattle.replay_model.proofs.PhaseLemmas.{collect_phase}
 use Rattle.replay_model.proofs.PlayLemmas.{plays_both}
 use Rattle.replay_model.proofs.PlayedLemmas.{plays_stand, setup_writers}
-use Rattle.replay_model.proofs.PlayedOnLemmas.{plays_alone}
+use Rattle.replay_model.proofs.PlayedOnLemmas.{LeaveAlone, flush_packets, flush_calls, plays_alone}
 use Rattle.replay_model.proofs.ScrapedLemmas.{counted}
 use Rattle.replay_model.proofs.SortedLemmas.{Among}
 use Rattle.replay_model.proofs.StandsLemmas.{Stands, stands_does}
@@ -134,7 +134,7 @@ map_split f (x ∷ xs) ys = ap (λ (acts : List Act). f x ∷ acts) (map_split f
 
 -- ---- a writer that flushes
 
-match_false : (P Q : Type 0) (b : Bool) → b ≡ false → MatchBool b P Q → Q
+pub match_false : (P Q : Type 0) (b : Bool) → b ≡ false → MatchBool b P Q → Q
 match_false P Q true e h = absurd (cc)
 match_false P Q false e h = h
 
@@ -152,7 +152,7 @@ settled_same scenario setup place asked other read same settled =
     }
 
 -- what a flushed writer has begun is what its packets take at most
-flushed_few : (setup : Setup) (place : ℕ) (old new : World) → Asks setup place Flushed old new → is_writing (packets_of (writer old place).calls) ≡ false → 7 < payload_at setup place
+pub flushed_few : (setup : Setup) (place : ℕ) (old new : World) → Asks setup place Flushed old new → is_writing (packets_of (writer old place).calls) ≡ false → 7 < payload_at setup place
     → length (writer new place).begun ≤ most_chunks (payload_at setup place) (emissions_of (writer old place).calls)
 flushed_few setup place old new asks ended large =
     let size : ℕ = payload_at setup place in
@@ -180,7 +180,7 @@ module _ (scenario : Parts) (setup : Setup) (is_setup : IsSetupOf scenario setup
   is_writer : IsWriter scenario.buffers scenario.producers (spec_at setup.writers place)
   is_writer = each_is (IsWriter scenario.buffers scenario.producers) scenario.writers place (spec_at setup.writers place) set_up.are_writers writer_there
 
-  large : 7 < payload_at setup place
+  pub large : 7 < payload_at setup place
   large =
       let least = large_sizes is_setup.specs ((spec_at setup.writers place).producer - 1)
       (as_many scenario.producers is_setup.specs ((spec_at setup.writers place).producer - 1) is_writer.of_producer is_setup.made is_writer.producer_is) in
@@ -194,6 +194,19 @@ module _ (scenario : Parts) (setup : Setup) (is_setup : IsSetupOf scenario setup
       let low = slice_get_within scenario.producers ((spec_at setup.writers place).producer - 1) is_writer.of_producer is_writer.producer_is in
       subst (λ (n : ℕ). Among n (open_producers before 1 scenario.producers)) at
       (producer_open before 1 scenario.producers ((spec_at setup.writers place).producer - 1) low (ap (is_closed_by before) at ∙ opened))
+
+  -- no more packets are begun than there are lines
+  pub begun_few : (lines : List NumberedLine) (world : World) (notes : List FlushNote) → Plays setup (buffers_of scenario setup) (acts_from scenario [] lines) (first_world setup) world notes
+      → begun_in world.writers ≤ length lines
+  begun_few lines world notes plays =
+      let stands = plays_stand setup buffers (acts_from scenario [] lines) (first_world setup) world notes plays (first_stands setup (small_payload scenario setup is_setup)) ∣ first_owned setup ∣₁ in
+      let sum = sum_views (λ p. begun_count (calls_asked (suc p) lines)) world.writers setup.writers 0 (many_writers setup world stands.1 stands.0)
+      (λ k.
+      let up : 0 + k ≡ k = omega arith in
+      ap (λ (p : ℕ). begun_count (calls_asked (suc p) lines)) up
+      ∙ sym (losses_change_no_shape (calls_asked (suc k) lines) (writer world k).calls (lines_lose scenario setup buffers lines world notes plays k)).begun) in
+      let most = begun_sum lines setup.writers in
+      omega (arith, sum, most)
 
   module _ (acts : List Act) (asked : World) (notes : List FlushNote) (plays : Plays setup buffers acts (first_world setup) asked notes) where
     at_asked : Stands setup asked × ∥ IsOwned asked ∥₁
@@ -274,18 +287,8 @@ module _ (scenario : Parts) (setup : Setup) (is_setup : IsSetupOf scenario setup
     whole = plays_split setup buffers (acts_from scenario [] before) _ (first_world setup) world notes
         (subst (λ (acts : List Act). Plays setup buffers acts (first_world setup) world notes) all_acts plays)
 
-    -- no more packets are begun than there are lines
     few_begun : begun_in world.writers ≤ length (before ++ (request ∷ (between ++ (last ∷ []))))
-    few_begun =
-        let all : List NumberedLine = before ++ (request ∷ (between ++ (last ∷ []))) in
-        let stands = plays_stand setup buffers (acts_from scenario [] all) (first_world setup) world notes plays (first_stands setup (small_payload scenario setup is_setup)) ∣ first_owned setup ∣₁ in
-        let sum = sum_views (λ p. begun_count (calls_asked (suc p) all)) world.writers setup.writers 0 (many_writers setup world stands.1 stands.0)
-        (λ k.
-        let up : 0 + k ≡ k = omega arith in
-        ap (λ (p : ℕ). begun_count (calls_asked (suc p) all)) up
-        ∙ sym (losses_change_no_shape (calls_asked (suc k) all) (writer world k).calls (lines_lose scenario setup buffers all world notes plays k)).begun) in
-        let lines = begun_sum all setup.writers in
-        omega (arith, sum, lines)
+    few_begun = begun_few (before ++ (request ∷ (between ++ (last ∷ [])))) world notes plays
 
     pub settled : length (before ++ (request ∷ (between ++ (last ∷ [])))) ≤ last_count → is_writing (packets_of (calls_asked (suc place) before)) ≡ false
         → most_chunks (payload_at setup place) (emissions_of (calls_asked (suc place) before)) ≤ ID_LIMIT
@@ -334,7 +337,6 @@ module _ (scenario : Parts) (setup : Setup) (is_setup : IsSetupOf scenario setup
               owned_then = firsts.second.3;
               between = map Answer among.others ++ map Collect (open_producers before 1 scenario.producers);
               notes = taking.notes;
-              alone = answers_alone place among.others (map Collect (open_producers before 1 scenario.producers)) apart (collects_alone place (open_producers before 1 scenario.producers));
               takes = taking.first;
               met = taken_met (acts_from scenario [] before ++ (Request ∷ map Answer among.first)) firsts.mid _ up_to firsts.second.0 taking.mid among.others
                   (open_producers before 1 scenario.producers) taking.notes asks firsts.second.3 ended_now ids_now apart (among_open before opened) taking.first;

@@ -14,7 +14,7 @@ use Rattle.chunk_plain.specs.Owned.{IsOwned}
 use Rattle.service_core.specs.Reading.{reads_in}
 use Rattle.service_core.specs.Taking.{places_of}
 use Rattle.replay_model.specs.Acts.{Act, Ask, Request, Answer, Collect, Scrape, CloseProducer, ReadAll}
-use Rattle.replay_model.specs.Does.{Does, Collects, Closes, Works, Alone, Helped, Asked, Asks, Wrote, AreOpen}
+use Rattle.replay_model.specs.Does.{Does, LeavesRest, Collects, Closes, Tries, Gains, Again, Ends, Works, Alone, Helped, Tried, Lost, Asks, Wrote, AreOpen}
 use Rattle.replay_model.proofs.SortedLemmas.{IsSorted, sorted_takes, sorted_closes, sorted_reads, open_places_fit}
 use Rattle.replay_model.proofs.ScrapedLemmas.{sorted_scrapes}
 
@@ -29,26 +29,49 @@ sorted_closed setup producer old new sorted closes =
     let opened : AreOpen setup producer between = λ place inside mine. mid.1 (place + 2) ∙ closes.opened place inside mine in
     subst (IsSorted setup) (sym closes.closes.view) (sorted_closes setup producer between mid.0 opened)
 
--- a writer's work leaves the other writers, and the notes in order
-pub works_others : (setup : Setup) (place : ℕ) {call : Call} (old new : World) → Works setup place call old new → (other : ℕ) → other ≢ place → writer new other ≡ writer old other
-works_others setup place old new (Alone _ _ leaves) other differs = leaves.writers other differs
-works_others setup place old new (Helped _ asking freed _ may stalls leaves out collects owned some rest) other differs =
-    works_others setup place freed new rest other differs
-    ∙ ap (λ (ws : List WriterView). get_or ws other newcomer) collects.writers
-    ∙ leaves.writers other differs
-works_others setup place old new (Asked _ asking freed _ tries may policy leaves vain collects owned rest) other differs =
-    works_others setup place freed new rest other differs
-    ∙ ap (λ (ws : List WriterView). get_or ws other newcomer) collects.writers
-    ∙ leaves.writers other differs
+-- a taking leaves all writers
+taken_others : (setup : Setup) (producer : ℕ) (old new : World) → Collects setup producer old new → (other : ℕ) → writer new other ≡ writer old other
+taken_others setup producer old new collects other = ap (λ (ws : List WriterView). get_or ws other newcomer) collects.writers
 
-pub works_sorted : (setup : Setup) (place : ℕ) {call : Call} (old new : World) → Works setup place call old new → IsSorted setup old.service → IsSorted setup new.service
-works_sorted setup place old new (Alone _ _ leaves) sorted = subst (IsSorted setup) (sym leaves.service) sorted
-works_sorted setup place old new (Helped _ asking freed _ may stalls leaves out collects owned some rest) sorted =
+-- a writer's work leaves the other writers, and the notes in order
+tries_others : (setup : Setup) (place : ℕ) {left : ℕ} {stopped : Bool} (old new : World) → Tries setup place left stopped old new → (other : ℕ) → other ≢ place
+    → writer new other ≡ writer old other
+tries_others setup place old new (Gains left chunk _ _ leaves claims) other differs = leaves.writers other differs
+tries_others setup place old new (Again left stopped _ asking freed _ round vain collects owned rest) other differs =
+    tries_others setup place freed new rest other differs ∙ taken_others setup _ asking freed collects other ∙ round.leaves.writers other differs
+tries_others setup place old new (Ends _ _ round vain) other differs = round.leaves.writers other differs
+
+pub works_others : (setup : Setup) (place : ℕ) {call : Call} {stopped : Bool} (old new : World) → Works setup place call stopped old new → (other : ℕ) → other ≢ place
+    → writer new other ≡ writer old other
+works_others setup place old new (Alone _ _ leaves) other differs = leaves.writers other differs
+works_others setup place old new (Helped stopped _ before asking freed _ may stalls leaves round out collects owned some rest) other differs =
+    works_others setup place freed new rest other differs ∙ taken_others setup _ asking freed collects other
+    ∙ round.leaves.writers other differs ∙ leaves.writers other differs
+works_others setup place old new (Tried stopped _ before gained _ tries may policy leaves tried rest) other differs =
+    works_others setup place gained new rest other differs ∙ tries_others setup place before gained tried other differs ∙ leaves.writers other differs
+works_others setup place old new (Lost _ before last _ may losing leaves tried ends asked) other differs =
+    ends.writers other differs ∙ tries_others setup place before last tried other differs ∙ leaves.writers other differs
+
+pub own_sorted : (setup : Setup) {place : ℕ} (old new : World) → LeavesRest place old new → IsSorted setup old.service → IsSorted setup new.service
+own_sorted setup old new leaves sorted = subst (IsSorted setup) (sym leaves.service) sorted
+
+pub tries_sorted : (setup : Setup) (place : ℕ) {left : ℕ} {stopped : Bool} (old new : World) → Tries setup place left stopped old new → IsSorted setup old.service
+    → IsSorted setup new.service
+tries_sorted setup place old new (Gains left chunk _ _ leaves claims) sorted = own_sorted setup old new leaves sorted
+tries_sorted setup place old new (Again left stopped _ asking freed _ round vain collects owned rest) sorted =
+    tries_sorted setup place freed new rest (sorted_collects setup _ asking freed (own_sorted setup old asking round.leaves sorted) collects)
+tries_sorted setup place old new (Ends _ _ round vain) sorted = own_sorted setup old new round.leaves sorted
+
+pub works_sorted : (setup : Setup) (place : ℕ) {call : Call} {stopped : Bool} (old new : World) → Works setup place call stopped old new → IsSorted setup old.service
+    → IsSorted setup new.service
+works_sorted setup place old new (Alone _ _ leaves) sorted = own_sorted setup old new leaves sorted
+works_sorted setup place old new (Helped stopped _ before asking freed _ may stalls leaves round out collects owned some rest) sorted =
     works_sorted setup place freed new rest
-    (sorted_collects setup _ asking freed (subst (IsSorted setup) (sym leaves.service) sorted) collects)
-works_sorted setup place old new (Asked _ asking freed _ tries may policy leaves vain collects owned rest) sorted =
-    works_sorted setup place freed new rest
-    (sorted_collects setup _ asking freed (subst (IsSorted setup) (sym leaves.service) sorted) collects)
+    (sorted_collects setup _ asking freed (own_sorted setup before asking round.leaves (own_sorted setup old before leaves sorted)) collects)
+works_sorted setup place old new (Tried stopped _ before gained _ tries may policy leaves tried rest) sorted =
+    works_sorted setup place gained new rest (tries_sorted setup place before gained tried (own_sorted setup old before leaves sorted))
+works_sorted setup place old new (Lost _ before last _ may losing leaves tried ends asked) sorted =
+    own_sorted setup last new ends (tries_sorted setup place before last tried (own_sorted setup old before leaves sorted))
 
 -- Each writer has written what it was asked for, and the notes on each sequence are in order.
 pub record Stands (setup : Setup) (world : World) : Type 0 where

@@ -1,5 +1,5 @@
 -- What each act makes of a world. Looks of the service are free, and what each chunk is used for follows from the views by ownership.
-use Rattle.std.specs.Prelude.{◌≡◌, ◌≢◌, ℕ, ◌+◌, ◌<◌, ◌⊎◌, ◌==◌, Bool, true, false, None, List, [], ◌∷◌, ◌++◌, length, MatchBool}
+use Rattle.std.specs.Prelude.{◌≡◌, ◌≢◌, ℕ, zero, suc, ◌+◌, ◌<◌, ◌==◌, Bool, true, false, None, List, [], ◌∷◌, ◌++◌, length, MatchBool}
 use Rattle.std.specs.List.{flat_map, list_any}
 use Rattle.trace_base.specs.declared.policy.WriterPolicy.{WriterPolicy}
 use Rattle.trace_base.specs.declared.policy.WriterPolicy.TheVariants.{Drops, Stalls, StallsThenDrops}
@@ -10,12 +10,14 @@ use Rattle.trace_model.specs.Images.{Image}
 use Rattle.trace_model.specs.Packets.{packets_of, account_of, is_writing}
 use Rattle.chunk_plain.specs.Owned.{IsOwned}
 use Rattle.chunk_plain.specs.Setup.{Setup, range_of, producer_of, sequence_of}
+use Rattle.chunk_plain.specs.Views as views
 use Rattle.chunk_plain.specs.Views.{Look, Noted, Closed, ServiceView, WriterView}
 use Rattle.chunk_plain.specs.World.{World, writer}
 use Rattle.chunk_plain.specs.Histories.{completed_images, history_of}
-use Rattle.claim_arbiter.specs.Claiming.{NoneFree}
+use Rattle.claim_arbiter.specs.Claiming.{NoneFree, AllClaimed, ClaimsInTurn, lost_asks}
 use Rattle.world_model.specs.FirstBuffers.{payload_at}
 use Rattle.world_model.specs.Accounts.{HasCut}
+use Rattle.trace_writer.specs.Answered.{KeepsCompleted}
 use Rattle.trace_writer.specs.Asked.{begun_as, written_as}
 use Rattle.trace_writer.specs.Claims.{AreOwnChunks, KeepsClaims}
 use Rattle.trace_writer.specs.Core.{last_is_held, holds_newest}
@@ -90,10 +92,12 @@ pub record Reads (setup : Setup) (buffers : List Buffer) (buffer limit : ℕ) (o
 abbrev pub policy_of : Setup → (place : ℕ) → WriterPolicy
 policy_of setup place = (spec_at setup.writers place).policy
 
--- steps of the writer at this place change nothing of the other writers and of the service
+-- Steps of the writer at this place change nothing of the other writers and of the service, and take back none of its claims.
 pub record LeavesRest (place : ℕ) (old new : World) : Type 0 where
   pub writers : (other : ℕ) → other ≢ place → writer new other ≡ writer old other
   pub service : new.service ≡ old.service
+  pub more : List views.Ask
+  pub asked : (writer new place).asked ≡ (writer old place).asked ++ more
 
 -- no chunk of the producer is free
 abbrev pub HasNoFreeChunk : Setup → (producer : ℕ) → World → Type 0
@@ -122,32 +126,66 @@ pub record IsOut (setup : Setup) (place : ℕ) (world : World) : Type 0 where
   pub vain : IsVainIn setup place world
   pub none_held : NoneHeld (writer world place).begun
 
--- Steps of the writer and, in a call that may need a chunk, the taking of its producer's complete chunks: where the writer is one that
--- stalls and is out of chunks, and this takes some; or where it is one that asks so often and then drops, and its round of claims was in
--- vain, whatever this takes.
-pub data Works (setup : Setup) (place : ℕ) (call : Call) : World → World → Type 0 where
-  Alone : (old new : World) → LeavesRest place old new → Works setup place call old new
-  Helped : (old asking freed new : World) → MayNeedChunk call → policy_of setup place ≡ Stalls → LeavesRest place old asking
+-- One whole round of claims in vain, and no call is noted: the writer at this place asks for each chunk of its producer, once each and in
+-- rising order, and finds each claimed.
+pub record GoesRound (setup : Setup) (place : ℕ) (old new : World) : Type 0 where
+  pub leaves : LeavesRest place old new
+  -- the page words that its claims found
+  pub words : List ℕ
+  pub count_is : length words ≡ (range_of setup (producer_of setup place)).count
+  pub claimed : AllClaimed setup (range_of setup (producer_of setup place)).first words
+  pub asked : (writer new place).asked
+      ≡ (writer old place).asked ++ lost_asks (length (writer old place).calls) (range_of setup (producer_of setup place)).first words
+  pub calls : (writer new place).calls ≡ (writer old place).calls
+
+-- how often a writer with this policy asks for a help, for one chunk, before it loses its packet
+abbrev pub asks_for : WriterPolicy → ℕ
+asks_for Drops = 0
+asks_for Stalls = 0
+asks_for (StallsThenDrops tries) = tries
+
+-- The writer at this place tries for one chunk, with so many asks left: behind a round of claims in vain its producer's complete chunks
+-- are taken, and it claims again, whatever that took. It gets a chunk (false), or the round behind its last ask was in vain too (true).
+pub data Tries (setup : Setup) (place : ℕ) : ℕ → Bool → World → World → Type 0 where
+  Gains : (left chunk : ℕ) (old new : World) → LeavesRest place old new
+      → ClaimsInTurn setup (range_of setup (producer_of setup place)).first (range_of setup (producer_of setup place)).count chunk
+      (writer old place) (writer new place) → Tries setup place left false old new
+  Again : (left : ℕ) (stopped : Bool) (old asking freed new : World) → GoesRound setup place old asking → IsVainIn setup place asking
+      → Collects setup (producer_of setup place) asking freed → ∥ IsOwned freed ∥₁ → Tries setup place left stopped freed new
+      → Tries setup place (suc left) stopped old new
+  Ends : (old new : World) → GoesRound setup place old new → IsVainIn setup place new → Tries setup place zero true old new
+
+-- What a call is done by: steps of the writer and, where the call may need a chunk, the taking of its producer's complete chunks, each
+-- behind a round of claims in vain of its own. Where the writer is one that stalls and is out of chunks, this takes some. Where it is one
+-- that asks so often and then drops, it is for a chunk that it then gets, behind so many asks at most. It stops (true) where its policy is
+-- to lose the packet, and all its tries for one chunk were in vain; behind them it claims no more.
+pub data Works (setup : Setup) (place : ℕ) (call : Call) : Bool → World → World → Type 0 where
+  Alone : (old new : World) → LeavesRest place old new → Works setup place call false old new
+  Helped : (stopped : Bool) (old before asking freed new : World) → MayNeedChunk call → policy_of setup place ≡ Stalls
+      → LeavesRest place old before → GoesRound setup place before asking
       → IsOut setup place asking → Collects setup (producer_of setup place) asking freed → ∥ IsOwned freed ∥₁
-      → freed.service.events ≢ asking.service.events → Works setup place call freed new → Works setup place call old new
-  Asked : (old asking freed new : World) (tries : ℕ) → MayNeedChunk call → policy_of setup place ≡ StallsThenDrops tries → LeavesRest place old asking
-      → IsVainIn setup place asking → Collects setup (producer_of setup place) asking freed → ∥ IsOwned freed ∥₁
-      → Works setup place call freed new → Works setup place call old new
+      → freed.service.events ≢ asking.service.events → Works setup place call stopped freed new → Works setup place call stopped old new
+  Tried : (stopped : Bool) (old before gained new : World) (tries : ℕ) → MayNeedChunk call → policy_of setup place ≡ StallsThenDrops tries
+      → LeavesRest place old before → Tries setup place tries false before gained → Works setup place call stopped gained new
+      → Works setup place call stopped old new
+  Lost : (old before last new : World) → MayNeedChunk call → loses (policy_of setup place) ≡ true → LeavesRest place old before
+      → Tries setup place (asks_for (policy_of setup place)) true before last → LeavesRest place last new
+      → (writer new place).asked ≡ (writer last place).asked → Works setup place call true old new
 
 -- what is noted where no chunk is free: the packet is dropped at its begin, or given up
 abbrev pub dropped_call : Call → List Call
 dropped_call (Begun kept) = begun_as true Drops
 dropped_call call = written_as true Drops call
 
--- The call is noted; or that the packet is lost, by a writer that drops, or that asks so often and then drops, in a call that may need a
--- chunk and only where none is free: behind one whole round of its claims in vain, or one more than it asks for helps, which are the last
--- claims of this call.
-abbrev pub Notes : Setup → (place : ℕ) → Call → World → World → Type 0
-Notes setup place call old new =
-    ((writer new place).calls ≡ (writer old place).calls ++ call ∷ [])
-    ⊎ (((writer new place).calls ≡ (writer old place).calls ++ dropped_call call)
+-- The call is noted (false); or that the packet is lost (true), by a writer that drops, or that asks so often and then drops, in a call
+-- that may need a chunk and only where none is free: behind one whole round of its claims in vain, or one more than it asks for helps,
+-- which are the last claims of this call.
+abbrev pub Notes : Setup → (place : ℕ) → Call → Bool → World → World → Type 0
+Notes setup place call false old new = (writer new place).calls ≡ (writer old place).calls ++ call ∷ []
+Notes setup place call true old new =
+    ((writer new place).calls ≡ (writer old place).calls ++ dropped_call call)
     × MayNeedChunk call × (loses (policy_of setup place) ≡ true) × HasNoFreeChunk setup (producer_of setup place) new
-    × LosesBehind setup (range_of setup (producer_of setup place)) (rounds_for (policy_of setup place)) (writer old place) (writer new place))
+    × LosesBehind setup (range_of setup (producer_of setup place)) (rounds_for (policy_of setup place)) (writer old place) (writer new place)
 
 -- What a writer has written, between two calls: its chunks are a cut of its packets, in which all stands that it was asked to write of the
 -- newest one, unless that is lost; it holds its newest chunk exactly where its newest packet isn't lost and no flush came behind it, and
@@ -162,10 +200,13 @@ pub record Wrote (setup : Setup) (place : ℕ) (view : WriterView) : Type 0 wher
   pub only : (one other : Image) (others : List Image) → held ≡ one ∷ other ∷ others → ⊥
   pub claims : KeepsClaims setup place view
 
--- the writer at this place is asked for a call, and does it
+-- The writer at this place is asked for a call, and does it: its packet is lost exactly where it stopped for want of a chunk, and what it had
+-- completed stays.
 pub record Asks (setup : Setup) (place : ℕ) (call : Call) (old new : World) : Type 0 where
-  pub works : Works setup place call old new
-  pub notes : Notes setup place call old new
+  pub stopped : Bool
+  pub works : Works setup place call stopped old new
+  pub notes : Notes setup place call stopped old new
+  pub keeps : KeepsCompleted (writer old place).begun (writer new place).begun
   pub wrote : Wrote setup place (writer new place)
 
 -- ---- all acts

@@ -1,6 +1,6 @@
 -- What a flush promises to who asks for it: once as many chunks of a writer are taken as it had completed when it flushed, the next read of
 -- its buffer without limit settles what became of each packet that it had emitted by then.
-use Rattle.std.specs.Prelude.{◌≡◌, ◌≢◌, ℕ, suc, ◌+◌, ◌<◌, ◌≤◌, false, List, [], ◌∷◌, ◌++◌, length, ⊤}
+use Rattle.std.specs.Prelude.{◌≡◌, ℕ, suc, ◌+◌, ◌<◌, ◌≤◌, true, false, List, [], ◌∷◌, ◌++◌, length}
 use Rattle.trace_model.specs.Buffers.{Buffer}
 use Rattle.trace_model.specs.Calls.{Flushed}
 use Rattle.trace_model.specs.Causes.{fixed_after}
@@ -21,32 +21,25 @@ use Rattle.world_model.specs.FirstBuffers.{payload_at}
 use Rattle.scenario_text.specs.declared.scenario.NumberedLine.{NumberedLine}
 use Rattle.scenario_text.specs.declared.scenario.LineKind.TheVariants as line
 use Rattle.scenario_text.specs.Scenario.{Parts}
-use Rattle.scenario_text.specs.Accepted.{calls_asked, is_closed_by}
+use Rattle.scenario_text.specs.Accepted.{calls_asked, is_closed_by, line_calls}
 use Rattle.scenario_text.specs.Limits.{IsSetUp}
 use Rattle.service_core.specs.Agreement.{spec_at}
-use Rattle.replay_model.specs.Acts.{Act, Ask, Answer}
+use Rattle.replay_model.specs.Acts.{Act, asks}
 use Rattle.replay_model.specs.Does.{Asks, Reads}
 use Rattle.replay_model.specs.Flushes.{FlushNote}
 use Rattle.replay_model.specs.Plays.{Plays}
 use Rattle.replay_model.specs.Played.{IsSetupOf, buffers_of, first_buffer}
-use Rattle.replay_model.specs.Schedule.{acts_from}
+use Rattle.replay_model.specs.Schedule.{acts_from, is_due}
 use Rattle.replay_model.specs.Written.{HasWritten}
-
--- the acts ask nothing of the writer at this place
-abbrev pub LeaveAlone : (place : ℕ) → List Act → Type 0
-LeaveAlone place [] = ⊤
-LeaveAlone place (Ask other call ∷ acts) = (other ≢ place) × LeaveAlone place acts
-LeaveAlone place (Answer other ∷ acts) = (other ≢ place) × LeaveAlone place acts
-LeaveAlone place (act ∷ acts) = LeaveAlone place acts
 
 -- how many packets these writers have begun
 abbrev pub begun_in : List WriterView → ℕ
 begun_in [] = 0
 begun_in (view ∷ views) = begun_count view.calls + begun_in views
 
--- The writer at this place flushes between two packets, as it does for an answer, for a line and at the end. Before it is asked for
--- anything more, as many chunks of it are taken as it has completed then: so an answer to a flush request is met. Whatever is done then,
--- its buffer is read without limit at last.
+-- The writer at this place flushes between two packets, as it does for an answer, for a line and at the end. At some time behind it as many
+-- chunks of it are taken as it had completed then, whatever it is asked for meanwhile: so an answer to a flush request is met. Whatever is
+-- done then, its buffer is read without limit at last.
 pub record IsFlushRead (setup : Setup) (buffers : List Buffer) (place : ℕ) (asked read : World) : Type 0 where
   pub answered : World
   pub taken : World
@@ -56,7 +49,6 @@ pub record IsFlushRead (setup : Setup) (buffers : List Buffer) (place : ℕ) (as
   pub owned_then : ∥ IsOwned answered ∥₁
   pub between : List Act
   pub notes : List FlushNote
-  pub alone : LeaveAlone place between
   pub takes : Plays setup buffers between answered taken notes
   pub met : length (completed_images (writer answered place).begun) ≤ (taken_of taken.service place).count
   pub onward : List Act
@@ -64,6 +56,23 @@ pub record IsFlushRead (setup : Setup) (buffers : List Buffer) (place : ℕ) (as
   pub goes_on : Plays setup buffers onward taken reading later
   pub reads : Reads setup buffers (spec_at setup.writers place).buffer last_count reading read
   pub owned_now : ∥ IsOwned read ∥₁
+
+-- What a writer had cut when it flushed stays cut so, whatever is done later: its calls by then are the first ones, and the first of its
+-- pages, as many as it had completed chunks then, are a cut of the packets that it had emitted by then.
+pub record StaysCut (setup : Setup) (place : ℕ) (asked answered last : World) : Type 0 where
+  pub wrote : HasWritten setup place (writer last place)
+  pub pages : List Page
+  pub count_is : length pages ≡ length (completed_images (writer answered place).begun)
+  pub flushed : IsFlushed (payload_at setup place) (writer last place).calls wrote.cut.cut.pages (writer asked place).calls pages
+
+-- So it is wherever acts lead behind a flush, of a scenario's set-up: behind an answer to a flush request in particular, which names how
+-- many chunks its writer had completed.
+abbrev pub EveryFlushStaysCut : Type 0
+EveryFlushStaysCut = (scenario : Parts) (setup : Setup) → IsSetupOf scenario setup
+    → (acts later : List Act) (asked answered last : World) (notes more : List FlushNote)
+    → Plays setup (buffers_of scenario setup) acts (first_world setup) asked notes
+    → (place : ℕ) → place < length setup.writers → Asks setup place Flushed asked answered → ∥ IsOwned answered ∥₁
+    → Plays setup (buffers_of scenario setup) later answered last more → StaysCut setup place asked answered last
 
 -- In the world behind the read, the outcome is fixed of each packet that the writer had begun when it flushed, and it had finished all of
 -- them: the packet is delivered, in a record of that world's history, or absent under one cause. Where a packet stands is said by the pages
@@ -101,3 +110,21 @@ EveryRequestIsSettled = (scenario : Parts) (setup : Setup) → IsSetupOf scenari
     → (asked : World) × (earlier : List FlushNote)
     × Plays setup (buffers_of scenario setup) (acts_from scenario [] before) (first_world setup) asked earlier
     × HasSettled scenario setup place asked world
+
+-- A writer that has a packet begun at a line `q` answers behind the line `e` that ends it. It may then write on: once a line `c` for its
+-- producer, and later a line `r` for its buffer without a limit, were played, each packet is settled that it had emitted at its answer.
+-- What the lines up to `e` ask of the writer takes no more chunks than it has ids.
+abbrev pub EveryLateAnswerIsSettled : Type 0
+EveryLateAnswerIsSettled = (scenario : Parts) (setup : Setup) → IsSetupOf scenario setup
+    → IsSetUp scenario.buffers scenario.producers scenario.writers
+    → (before between onward : List NumberedLine) (end collect last : NumberedLine) (world : World) (notes : List FlushNote)
+    → Plays setup (buffers_of scenario setup) (acts_from scenario [] (before ++ (end ∷ (between ++ (collect ∷ (onward ++ (last ∷ []))))))) (first_world setup)
+    world notes
+    → (place : ℕ) → place < length setup.writers → end.what ≡ line.End (suc place) → is_due (suc place) before ≡ true
+    → collect.what ≡ line.Collect (producer_of setup place) → last.what ≡ line.Read (spec_at setup.writers place).buffer last_count
+    → length (before ++ (end ∷ (between ++ (collect ∷ (onward ++ (last ∷ [])))))) ≤ last_count
+    → is_writing (packets_of (calls_asked (suc place) (before ++ end ∷ []))) ≡ false
+    → most_chunks (payload_at setup place) (emissions_of (calls_asked (suc place) (before ++ end ∷ []))) ≤ ID_LIMIT
+    → (asked : World) × (earlier : List FlushNote)
+    × Plays setup (buffers_of scenario setup) (acts_from scenario [] before ++ asks place (line_calls (suc place) (line.End (suc place)))) (first_world setup)
+    asked earlier × HasSettled scenario setup place asked world

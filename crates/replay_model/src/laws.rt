@@ -1,7 +1,7 @@
 //! Laws on what acts make of a world, and on what a scenario's acts lead to: contracts of functions with
 //! nothing to do.
 ghost use Rattle.replay_model.specs.Laws.{NothingPlaysNothing, WritersWrote, WritersLose, ReplaysAreAccounts, EveryReplayIsFaithful, EveryFrontIsFaithful};
-ghost use Rattle.replay_model.specs.FlushLaws.{EveryFlushIsSettled, EveryRequestIsSettled};
+ghost use Rattle.replay_model.specs.FlushLaws.{EveryFlushStaysCut, EveryFlushIsSettled, EveryRequestIsSettled, EveryLateAnswerIsSettled};
 ghost use Rattle.replay_model.specs.Laws.{EveryReportIsBalanced, EveryReportCountsPackets, EnoughLosesNothing, EveryEnoughReplayIsComplete};
 
 /// No acts lead from a world to itself.
@@ -57,6 +57,12 @@ pub fn every_report_counts_packets()
     ensures { EveryReportCountsPackets }
 {}
 
+/// What a writer had cut when it flushed stays cut so, whatever is done later: the first of its pages,
+/// as many as it had completed then, are a cut of the packets that it had emitted by then.
+pub fn every_flush_stays_cut()
+    ensures { EveryFlushStaysCut }
+{}
+
 /// Once as many chunks of a writer are taken as it had completed when it flushed, the next read of its
 /// buffer without limit fixes the outcome of each packet that it had emitted by then.
 pub fn every_flush_is_settled()
@@ -68,4 +74,10 @@ pub fn every_flush_is_settled()
 /// none of it was begun.
 pub fn every_request_is_settled()
     ensures { EveryRequestIsSettled }
+{}
+
+/// And behind a line that ends a packet in which a request came, then a line that collects its producer,
+/// whatever its writer was asked for between, and later one that reads its buffer without limit.
+pub fn every_late_answer_is_settled()
+    ensures { EveryLateAnswerIsSettled }
 {}

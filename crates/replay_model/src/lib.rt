@@ -8,7 +8,8 @@ mod laws;
 
 pub use laws::{
     enough_loses_nothing, every_enough_replay_is_complete, every_flush_is_settled,
-    every_front_is_faithful, every_replay_is_faithful, every_report_counts_packets,
-    every_report_is_balanced, every_request_is_settled, nothing_plays_nothing,
-    replays_are_accounts, writers_lose, writers_wrote,
+    every_flush_stays_cut, every_front_is_faithful, every_late_answer_is_settled,
+    every_replay_is_faithful, every_report_counts_packets, every_report_is_balanced,
+    every_request_is_settled, nothing_plays_nothing, replays_are_accounts, writers_lose,
+    writers_wrote,
 };
